@@ -1,0 +1,36 @@
+//! A count that only proofs read: it takes no memory, and it has no greatest value.
+//!
+//! A device counts its failures, so that a caller can see that an error was the device's own. A failure has to raise
+//! the count strictly, which no machine integer can promise; this one can.
+#![tactic(auto)]
+
+ghost use Rattle.std.specs.Prelude.{◌≡◌, ℕ, ◌+◌};
+ghost use Rattle.std.specs.Borrow.{ftrue};
+
+use std::marker::Model;
+
+/// How often something has happened, for instance how often a device has failed.
+#[derive(Drop)]
+pub struct Count {
+    pub ghost n: { ℕ },
+}
+
+impl Model for Count {
+    ghost also_owns = { λ _. ftrue };
+}
+
+impl Count {
+    /// The count of something that has not happened yet.
+    pub fn new() -> Count
+        ensures { result.n ≡ 0 }
+    {
+        Count {}
+    }
+
+    /// The count once it has happened one more time.
+    pub fn after(_before: &Count) -> Count
+        ensures { result.n ≡ _before.now.n + 1 }
+    {
+        Count {}
+    }
+}
