@@ -1,0 +1,12 @@
+pub mod Choices
+pub mod Copies
+pub mod Declaring
+pub mod DistinctNames
+pub mod Empty
+pub mod Entering
+pub mod Lists
+pub mod Lookups
+pub mod MemberLists
+pub mod Sets
+pub mod Texts
+pub mod Words

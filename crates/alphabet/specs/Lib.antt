@@ -1,0 +1,9 @@
+pub mod AlphabetErrors
+pub mod Elements
+pub mod Events
+pub mod EventSets
+pub mod Names
+pub mod Naming
+pub mod Channels
+pub mod Stored
+pub mod Tables

@@ -1,0 +1,42 @@
+//! Why a channel isn't declared.
+
+ghost use Rattle.std.specs.Prelude.{◌≡◌};
+ghost use Rattle.alphabet.specs.AlphabetErrors.{code_of, word_of};
+
+use thiserror::Error;
+
+/// Why a channel isn't declared. The text is the number and the word.
+#[derive(Clone, Copy, Debug, PartialEq, Eq, Error)]
+#[error("{} {}", self.code(), self.word())]
+pub enum AlphabetError {
+    /// A channel of this name is declared already.
+    Redeclared,
+    /// The alphabet would have more than 256 events.
+    TooManyEvents,
+    /// A growth was refused.
+    Memory,
+}
+
+impl AlphabetError {
+    /// The fault's number.
+    pub fn code(&self) -> u8
+        ensures { result ≡ code_of self.now }
+    {
+        match self {
+            AlphabetError::Redeclared => 5,
+            AlphabetError::TooManyEvents => 8,
+            AlphabetError::Memory => 40,
+        }
+    }
+
+    /// The fault's word.
+    pub fn word(&self) -> &'static str
+        ensures { result.now ≡ word_of self.now }
+    {
+        match self {
+            AlphabetError::Redeclared => "redeclared",
+            AlphabetError::TooManyEvents => "events",
+            AlphabetError::Memory => "memory",
+        }
+    }
+}

@@ -1,0 +1,219 @@
+//! Sets of events.
+
+ghost use Rattle.std.specs.Prelude.{◌≡◌, ◌↔◌, ◌&&◌, ◌||◌, not, true, false, IsTrue, nat_eq, MatchOption};
+ghost use Rattle.std.specs.Iterator.{YieldsFirst, item_count};
+ghost use Rattle.std.specs.Cmp.Rules.{comparing};
+ghost use Rattle.std.proofs.Common.{rules};
+ghost use Rattle.alphabet.specs.Events.{Event, ev, is_event, is_numbered_below};
+ghost use Rattle.alphabet.specs.Channels.{event_count};
+ghost use Rattle.alphabet.specs.EventSets.{member, members, IsFirst};
+
+use crate::events::Event;
+use crate::table::Alphabet;
+use std::alloc::Allocator;
+use std::fmt;
+use std::marker::Model;
+
+/// A set of events and tick. It takes no memory beside itself, and no call on it does.
+#[derive(Clone, Copy)]
+pub struct EventSet {
+    /// The events with numbers from 0 to 127, a bit for each.
+    low: u128,
+    /// The events with numbers from 128 to 255.
+    high: u128,
+    tick: bool,
+}
+
+impl Model for EventSet {
+    ghost use Rattle.std.specs.Prelude.{ℕ, ◌+◌, ◌*◌, ◌/◌, ◌%◌, ◌^◌, ◌<◌, cond, nat_eq};
+
+    ghost Value = { ℕ };
+
+    ghost view = { λ s. (s.high * 2 ^ 128 + s.low) * 2 ^ 1 + cond s.tick 1 0 };
+
+    ghost invariant = { λ s. s.low < 2 ^ 128 };
+
+    ghost inverse = { λ n. record { low = n / 2 % 2 ^ 128; high = n / 2 / 2 ^ 128; tick = nat_eq (n % 2) 1 } };
+}
+
+impl EventSet {
+    /// The set of nothing.
+    pub fn empty() -> EventSet
+        ensures { (x : Event) → member result x ≡ false }
+    {
+        EventSet {
+            low: 0,
+            high: 0,
+            tick: false,
+        }
+    }
+
+    /// Sigma: all events of the alphabet, without tick.
+    pub fn all<A: Allocator>(alphabet: &Alphabet<A>) -> EventSet
+        ensures { (x : Event) → member result x ≡ is_numbered_below (event_count alphabet.now) x }
+    {
+        let mut set = EventSet::empty();
+        for number in 0..alphabet.len() {
+            set = set.with(Event::Of(number as u8));
+        }
+        set
+    }
+
+    /// Whether the event is in the set.
+    pub fn contains(&self, event: Event) -> bool
+        ensures { result ≡ member self.now event }
+    {
+        match event {
+            Event::Tick => self.tick,
+            Event::Of(number) => {
+                if number < 128 {
+                    (self.low >> number) & 1 == 1
+                } else {
+                    (self.high >> (number - 128)) & 1 == 1
+                }
+            }
+        }
+    }
+
+    /// The set and this event.
+    pub fn with(self, event: Event) -> EventSet
+        ensures { (x : Event) → member result x ≡ (is_event event x || member self x) }
+    {
+        match event {
+            Event::Tick => EventSet {
+                low: self.low,
+                high: self.high,
+                tick: true,
+            },
+            Event::Of(number) => self.with_number(number),
+        }
+    }
+
+    /// The set and the event of Sigma with this number.
+    fn with_number(self, number: u8) -> EventSet
+        ensures { (x : Event) → member result x ≡ (is_event (ev number) x || member self x) }
+    {
+        if number < 128 {
+            return EventSet {
+                low: self.low | (1 << number),
+                high: self.high,
+                tick: self.tick,
+            };
+        }
+        EventSet {
+            low: self.low,
+            high: self.high | (1 << (number - 128)),
+            tick: self.tick,
+        }
+    }
+
+    /// What is in either set.
+    pub fn union(self, other: EventSet) -> EventSet
+        ensures { (x : Event) → member result x ≡ (member self x || member other x) }
+    {
+        EventSet {
+            low: self.low | other.low,
+            high: self.high | other.high,
+            tick: self.tick | other.tick,
+        }
+    }
+
+    /// What is in this set and not in the other.
+    pub fn minus(self, other: EventSet) -> EventSet
+        ensures { (x : Event) → member result x ≡ (member self x && not (member other x)) }
+    {
+        EventSet {
+            low: self.low & !other.low,
+            high: self.high & !other.high,
+            tick: self.tick & !other.tick,
+        }
+    }
+
+    /// Whether nothing is in the set.
+    pub fn is_empty(&self) -> bool
+        ensures { IsTrue result ↔ ((x : Event) → member self.now x ≡ false) }
+    {
+        *self == EventSet::empty()
+    }
+
+    /// Whether all of this set is in the other.
+    pub fn is_within(&self, other: &EventSet) -> bool
+        ensures { IsTrue result ↔ ((x : Event) → IsTrue (member self.now x) → IsTrue (member other.now x)) }
+    {
+        self.minus(*other).is_empty()
+    }
+
+    /// The members in alphabet order: the events by their numbers, and then tick.
+    pub fn iter(&self) -> Members
+        ensures { result ≡ self.now }
+    {
+        Members { left: *self }
+    }
+
+    /// The first of the members.
+    fn first(&self) -> Option<Event>
+        ensures { MatchOption result ((x : Event) → member self.now x ≡ false) (IsFirst self.now) }
+    {
+        if self.low != 0 {
+            return Some(Event::Of(self.low.trailing_zeros() as u8));
+        }
+        if self.high != 0 {
+            return Some(Event::Of((128 + self.high.trailing_zeros()) as u8));
+        }
+        self.tick.then_some(Event::Tick)
+    }
+}
+
+impl PartialEq for EventSet {
+    ghost eq = { nat_eq };
+
+    ghost laws = { Prim.search (comparing, rules) };
+
+    fn eq(&self, other: &EventSet) -> bool {
+        self.low == other.low && self.high == other.high && self.tick == other.tick
+    }
+}
+
+impl Eq for EventSet {
+    ghost laws = { Prim.search rules };
+}
+
+/// The members of a set in alphabet order, tick last.
+#[derive(Clone, Copy, Debug)]
+pub struct Members {
+    left: EventSet,
+}
+
+impl Model for Members {
+    ghost use Rattle.std.specs.Prelude.{ℕ};
+
+    ghost Value = { ℕ };
+
+    ghost view = { λ m. m.left };
+
+    ghost inverse = { λ n. record { left = n } };
+}
+
+impl Iterator for Members {
+    type Item = Event;
+
+    ghost next_gives = { YieldsFirst members };
+
+    ghost remaining = { item_count members };
+
+    fn next(&mut self) -> Option<Event> {
+        match self.left.first() {
+            None => None,
+            Some(event) => {
+                self.left = self.left.minus(EventSet::empty().with(event));
+                Some(event)
+            }
+        }
+    }
+}
+
+impl fmt::Debug for EventSet {
+    fn fmt<W: fmt::Write>(&self, f: &mut fmt::Formatter<W>) -> fmt::Result {
+        f.debug_set().entries(self.iter()).finish()
+    }
+}

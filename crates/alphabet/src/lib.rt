@@ -1,0 +1,17 @@
+//! The events that a specification speaks of: their names, their numbers, and sets of them.
+#![tactic(auto)]
+
+mod alphabet_error;
+mod event_set;
+mod events;
+mod field_value;
+mod naming;
+mod table;
+#[cfg(test)]
+mod tests;
+
+pub use alphabet_error::AlphabetError;
+pub use event_set::{EventSet, Members};
+pub use events::{Event, Report};
+pub use field_value::{Field, Value};
+pub use table::{Alphabet, SIGMA_LIMIT};
