@@ -1,0 +1,12 @@
+pub mod Bools
+pub mod Monotone
+pub mod Decide
+pub mod SoundTraces
+pub mod SoundFailures
+pub mod CompleteTraces
+pub mod CompleteFailures
+pub mod Reached
+pub mod Bodies
+pub mod Closed
+pub mod Consequences
+pub mod Examples

@@ -1,0 +1,13 @@
+pub mod Events
+pub mod Traces
+pub mod Proc
+pub mod Meaning
+pub mod Steps
+pub mod Verdict
+pub mod Sizes
+pub mod Same
+pub mod SameLaws
+pub mod Limits
+pub mod Codes
+pub mod Specs
+pub mod Examples

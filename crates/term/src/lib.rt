@@ -1,0 +1,11 @@
+//! Terms of CSP, and what they mean.
+#![tactic(auto)]
+
+pub mod laws;
+mod spec;
+mod terms;
+#[cfg(test)]
+mod tests;
+
+pub use spec::Spec;
+pub use terms::Term;
