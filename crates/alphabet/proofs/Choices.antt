@@ -1,8 +1,8 @@
 -- The ways to take a value of each field: how many there are, and which stands at a number.
-use Rattle.std.proofs.Common.{◌≡◌, ℕ, zero, suc, ◌+◌, ◌-◌, ◌*◌, ◌/◌, ◌%◌, ◌^◌, ◌<◌, ◌≤◌, min, List, [], ◌∷◌, ◌++◌, map, length, get_or, take, drop, refl, sym, ap, ◌∙◌, subst, inl, inr, arith, append_assoc, append-nil}
+use Rattle.std.proofs.Common.{◌≡◌, ℕ, zero, suc, ◌+◌, ◌-◌, ◌*◌, ◌/◌, ◌%◌, ◌^◌, ◌<◌, ◌≤◌, min, List, [], ◌∷◌, ◌++◌, map, length, get_or, take, drop, refl, sym, ap, ◌∙◌, inl, inr, arith, append_assoc, append-nil}
 use Rattle.std.proofs.lemmas.Bool.{cases_lt}
 use Rattle.std.proofs.lemmas.List.{length-append, length-map, get_or_append_left, get_or-append-add, get_or-map, take_more, drop_all}
-use Rattle.std.proofs.Math.Nat.{mul_comm, mul_assoc, zero-mul, suc-mul, mul-zero, le-mul_of_pos_right, mul-div_cancel, mul-div_cancel_left, div-lt_iff_lt-mul, mod-lt, div-add-mod'}
+use Rattle.std.proofs.Math.Nat.{mul_assoc, zero-mul, suc-mul, mul-zero, le-mul_of_pos_right, mul-div_cancel_left, div-lt_iff_lt-mul, mod-lt, div-add-mod'}
 use Rattle.std.proofs.Math.Seq.{drop-cons}
 use Rattle.std.specs.List.{flat_map}
 use Rattle.alphabet.specs.Channels.{FieldValue, Values, Channel, Parts, choices, value_text, dotted, event_text, channel_events}

@@ -1,20 +1,20 @@
 -- The names of an alphabet's events: no two are the same, and none is tick's.
-use Rattle.std.proofs.Common.{◌≡◌, ◌≢◌, ◌⊎◌, ℕ, zero, suc, ◌+◌, ◌<◌, ◌≤◌, Bool, true, false, not, ◌&&◌, ◌||◌, nat_eq, List, [], ◌∷◌, ◌++◌, map, refl, sym, ap, ◌∙◌, subst, inl, inr, arith, ℤ, pos, negsuc, int_lt, nat_lt}
+use Rattle.std.proofs.Common.{◌≡◌, ℕ, true, false, not, nat_eq, List, [], ◌∷◌, ◌++◌, map, refl, sym, ap, ◌∙◌, subst, arith, pos, negsuc, nat_lt}
 use Rattle.std.proofs.lemmas.Bool.{false≢true, not-true}
 use Rattle.std.proofs.lemmas.Bool.Decides.{nat_tests}
 use Rattle.std.proofs.lemmas.List.{map-append}
 use Rattle.std.proofs.lemmas.Map.Text.{is_eq-slice_cmp}
 use Rattle.std.specs.declared.cmp.Ordering.{Ordering}
 use Rattle.std.specs.declared.cmp.Ordering.TheVariants.{Less, Equal, Greater}
-use Rattle.std.specs.List.{flat_map, list_any, list_all}
+use Rattle.std.specs.List.{flat_map, list_all}
 use Rattle.std.specs.Ordering.{nat_cmp, is_lt, is_eq}
 use Rattle.std.specs.Cmp.Lexicographic.{pointwise, slice_cmp, bytes_decides}
 use Rattle.alphabet.specs.Names.{is_letter, is_name, tick_name}
-use Rattle.alphabet.specs.Channels.{FieldValue, number, constant, Values, Channel, Parts, value_text, dotted, event_text, choices, channel_events, events, names, is_below, is_rising, is_value, is_field, is_in_range, is_declared, are_distinct, IsAlphabet}
+use Rattle.alphabet.specs.Channels.{FieldValue, number, constant, Values, Channel, Parts, dotted, event_text, choices, channel_events, events, names, is_below, is_rising, is_value, is_field, is_in_range, is_declared, are_distinct, IsAlphabet}
 use Rattle.alphabet.specs.Naming.{own_names}
 use Rattle.alphabet.specs.Elements.{In, here, there, Distinct}
-use Rattle.alphabet.proofs.Lists.{In-append, In-map, In-under_map, In-flat_map, Distinct-append, Distinct-map, and-left, and-right, all-In, none-In}
-use Rattle.alphabet.proofs.Texts.{NoDot, IsPlain, ArePlain, no_dot_name, first_of_name, same_front, same_values}
+use Rattle.alphabet.proofs.Lists.{In-map, In-under_map, In-flat_map, Distinct-append, Distinct-map, and-left, and-right, all-In, none-In}
+use Rattle.alphabet.proofs.Texts.{IsPlain, ArePlain, no_dot_name, first_of_name, same_front, same_values}
 
 -- ---- the ways to take a value of each field
 

@@ -3,16 +3,15 @@ use Rattle.std.proofs.Common.{◌≡◌, ℕ, Bool, true, false, ◌||◌, nat_e
 use Rattle.std.proofs.lemmas.Bool.{false≢true}
 use Rattle.std.proofs.lemmas.List.{map-append}
 use Rattle.std.specs.declared.vec.Vec.{Vec}
-use Rattle.std.specs.List.{list_any, list_all}
 use Rattle.std.specs.Map.{lookup}
 use Rattle.std.specs.Cmp.Lexicographic.{pointwise}
 use Rattle.indexmap.specs.IndexMap.{insert_entry}
 use Rattle.alphabet.specs.declared.field_value.Value.{Value}
-use Rattle.alphabet.specs.Channels.{Values, Channel, names, is_declared, IsAlphabet}
+use Rattle.alphabet.specs.Channels.{Values, Channel, is_declared}
 use Rattle.alphabet.specs.Naming.{own_names}
 use Rattle.alphabet.specs.Elements.{Distinct}
 use Rattle.alphabet.specs.Stored.{field_of, channel_of}
-use Rattle.alphabet.specs.Tables.{declared_channels, stored_names, HasNames}
+use Rattle.alphabet.specs.Tables.{declared_channels, HasNames}
 use Rattle.alphabet.proofs.DistinctNames.{names_distinct}
 use Rattle.alphabet.proofs.Declaring.{IsNext, names-push, alphabet-push}
 

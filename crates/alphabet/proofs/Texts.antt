@@ -1,12 +1,12 @@
 -- The texts of values: none has a dot, and different values have different texts.
-use Rattle.std.proofs.Common.{◌≡◌, ◌≢◌, ◌⊎◌, ℕ, zero, suc, ◌+◌, ◌/◌, ◌%◌, ◌^◌, ◌<◌, ◌≤◌, ℤ, pos, negsuc, Bool, true, false, not, ◌&&◌, ◌||◌, nat_eq, nat_le, nat_lt, if◌then◌else◌, List, [], ◌∷◌, ◌++◌, refl, sym, ap, ◌∙◌, inl, inr, arith}
-use Rattle.std.proofs.lemmas.Bool.{eqb-true, leb-true, ltb-true, false≢true}
+use Rattle.std.proofs.Common.{◌≡◌, ◌≢◌, ℕ, suc, ◌+◌, ◌%◌, ◌^◌, ◌<◌, ℤ, pos, negsuc, Bool, true, false, not, ◌&&◌, nat_eq, nat_le, if◌then◌else◌, List, [], ◌∷◌, ◌++◌, refl, sym, ap, ◌∙◌, inl, inr, arith}
+use Rattle.std.proofs.lemmas.Bool.{eqb-true, ltb-true, false≢true}
 use Rattle.std.proofs.lemmas.Bool.Decides.{leb_tells}
 use Rattle.std.proofs.lemmas.Fmt.{decimal_by_steps, signed_decimal_injective}
 use lib.Signed.{mag}
 use Rattle.std.specs.Fmt.{decimal, signed_decimal}
-use Rattle.std.specs.List.{list_any, list_all}
-use Rattle.alphabet.specs.Names.{is_letter, is_digit, is_word_byte, is_name, is_name_rest, is_kept_word}
+use Rattle.std.specs.List.{list_all}
+use Rattle.alphabet.specs.Names.{is_letter, is_word_byte, is_name, is_name_rest, is_kept_word}
 use Rattle.alphabet.specs.Channels.{FieldValue, number, constant, Values, value_text, dotted, is_value, is_in_range}
 use Rattle.alphabet.proofs.Lists.{and-left, and-right}
 

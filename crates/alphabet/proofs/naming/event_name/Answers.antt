@@ -1,6 +1,6 @@
-use Rattle.std.proofs.Common.{◌≡◌, ◌<◌, ◌≤◌, ◌/◌, ◌++◌, ◌∷◌, [], map, drop, length, get_or, ap, ◌∙◌, sym, arith}
+use Rattle.std.proofs.Common.{◌≡◌, ◌<◌, ◌/◌, ◌++◌, ◌∷◌, [], map, length, get_or, ap, ◌∙◌, sym, arith}
 use Rattle.std.proofs.lemmas.List.{length-map, get_or-map}
-use Rattle.alphabet.specs.Channels.{choices, dotted, value_text}
+use Rattle.alphabet.specs.Channels.{value_text}
 use Rattle.alphabet.specs.Stored.{value_of, field_of, channel_of}
 use Rattle.alphabet.proofs.Choices.{turn_pos, turn_stride, turn_stride_pos, turn_in_field, turn_in_rest, turn_text, turns_done, own_name_at}
 use Rattle.alphabet.proofs.naming.event_name.Goals as goal

@@ -1,4 +1,4 @@
-use Rattle.std.proofs.Common.{◌≡◌, map, length, min, take, ap, ◌∙◌, sym, arith}
+use Rattle.std.proofs.Common.{map, min, ap, ◌∙◌, sym, arith}
 use Rattle.std.proofs.lemmas.List.{length-map, take_all}
 use Rattle.alphabet.specs.Stored.{value_of, field_of}
 use Rattle.alphabet.proofs.Choices.{ways, total_step, length-choices}

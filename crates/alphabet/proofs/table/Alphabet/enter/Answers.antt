@@ -1,8 +1,8 @@
-use Rattle.std.proofs.Common.{◌≡◌, ◌≤◌, ◌+◌, ◌++◌, ◌∷◌, [], map, length, nat_eq, false, sym, ap, ◌∙◌, subst, arith}
+use Rattle.std.proofs.Common.{◌≡◌, ◌++◌, ◌∷◌, [], nat_eq, false, sym, ap, ◌∙◌, subst, arith}
 use Rattle.std.specs.Cmp.Lexicographic.{pointwise}
 use Rattle.indexmap.specs.IndexMap.{insert_entry}
-use Rattle.alphabet.specs.Channels.{choices, is_declared, event_count}
-use Rattle.alphabet.specs.Stored.{field_of, channel_of}
+use Rattle.alphabet.specs.Channels.{is_declared}
+use Rattle.alphabet.specs.Stored.{channel_of}
 use Rattle.alphabet.specs.Tables.{declared_channels, stored_names}
 use Rattle.alphabet.proofs.Declaring.{IsNext}
 use Rattle.alphabet.proofs.Entering.{on_ok, channels-insert, names_fresh, tables-push}

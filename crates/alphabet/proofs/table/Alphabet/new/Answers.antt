@@ -1,4 +1,3 @@
-use Rattle.std.proofs.Common.{◌≡◌, refl}
 use Rattle.alphabet.proofs.Empty.{nothing_named}
 use Rattle.alphabet.proofs.table.Alphabet.new.Goals as goal
 

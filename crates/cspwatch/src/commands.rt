@@ -1,0 +1,50 @@
+//! The command line.
+use clap::{Arg, ArgAction, ArgMatches, Command, Error};
+use std::alloc::{AllocError, Global};
+use std::convert::AsStr;
+
+/// What the words ask for.
+#[derive(Clone, Copy, Debug, PartialEq, Eq)]
+pub(crate) enum Wish<'a> {
+    /// To judge the reports on standard input by the process of the script in the file `spec`.
+    Check { spec: &'a str, process: &'a str },
+}
+
+fn word<'a>(alloc: Global, id: &'a str, help: &'a str) -> Arg<'a> {
+    Arg::new(alloc, id)
+        .required(true)
+        .action(ArgAction::Set)
+        .help(help)
+}
+
+fn check_command<'a>(alloc: Global) -> Result<Command<'a>, AllocError> {
+    Command::new(alloc, "check")
+        .about("Judges the reports on standard input, and answers on standard output")
+        .arg(word(alloc, "SPEC", "The file of the script"))?
+        .arg(word(alloc, "PROCESS", "The process of the script to judge by"))
+}
+
+fn command<'a>(alloc: Global) -> Result<Command<'a>, AllocError> {
+    Command::new(alloc, "cspwatch")
+        .about("Judges reports of running components against a CSP specification")
+        .subcommand_required(true)
+        .subcommand(check_command(alloc)?)
+}
+
+fn wish_of<'a>(matches: &ArgMatches<'a>) -> Option<Wish<'a>> {
+    let (_, inner) = matches.subcommand()?;
+    Some(Wish::Check {
+        spec: inner.get_str("SPEC")?,
+        process: inner.get_str("PROCESS")?,
+    })
+}
+
+/// Reads the words, the first of which is the program's name. What `clap` takes has both words of `check`, but no
+/// clause here says so: `Ok(None)` stands for their want.
+pub(crate) fn read_words<'a, S: AsStr>(
+    alloc: Global,
+    words: &'a [S],
+) -> Result<Option<Wish<'a>>, Error> {
+    let matches = command(alloc)?.try_get_matches_from(words)?;
+    Ok(wish_of(&matches))
+}

@@ -1,0 +1,4 @@
+pub mod Tallies
+pub mod Requests
+pub mod Replies
+pub mod Talks

@@ -1,0 +1,4 @@
+pub mod TraceAfter
+pub mod Plain
+pub mod Follows
+pub mod Monitors

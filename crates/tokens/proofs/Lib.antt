@@ -1,0 +1,10 @@
+pub mod Lists
+pub mod Tables
+pub mod Comments
+pub mod Names
+pub mod Known
+pub mod Marks
+pub mod Words
+pub mod Complete
+pub mod Sound
+pub mod Whole

@@ -1,0 +1,23 @@
+//! The tokens of a script.
+#![tactic(auto)]
+
+mod comment;
+mod error;
+mod keyword;
+mod law;
+mod mark;
+mod part;
+mod reserved;
+mod script;
+mod symbol;
+mod token;
+
+pub use error::{ScriptError, ScriptErrorKind};
+pub use keyword::Keyword;
+pub use law::one_token_list;
+pub use script::{MAX_SCRIPT_LEN, end_line, scan};
+pub use symbol::Symbol;
+pub use token::{Token, Word};
+
+#[cfg(test)]
+mod tests;

@@ -1,0 +1,23 @@
+//! Tokens.
+
+use crate::keyword::Keyword;
+use crate::symbol::Symbol;
+use std::alloc::Allocator;
+
+/// A token without its place.
+#[derive(Debug, Drop, PartialEq, Eq)]
+pub enum Word<A: Allocator> {
+    /// The bytes of a name.
+    Name(Vec<u8, A>),
+    /// A number, at most 1,000,000.
+    Number(u32),
+    Keyword(Keyword),
+    Symbol(Symbol),
+}
+
+/// A token and the line that it stands on, from 1.
+#[derive(Debug, Drop, PartialEq, Eq)]
+pub struct Token<A: Allocator> {
+    pub word: Word<A>,
+    pub line: u32,
+}

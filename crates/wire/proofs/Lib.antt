@@ -1,0 +1,4 @@
+pub mod KnownLemmas
+pub mod OfferLemmas
+pub mod RefusalLemmas
+pub mod TalkLemmas

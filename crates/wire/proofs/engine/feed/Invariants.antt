@@ -1,0 +1,21 @@
+use Rattle.std.proofs.Common.{◌≡◌, ◌++◌, List, ℕ, length}
+use Rattle.alphabet.specs.Channels.{event_count}
+use Rattle.wire.specs.Replies.{LineReplies}
+use Rattle.wire.specs.Talks.{Open, IsShort}
+use Rattle.wire.proofs.engine.feed.Given as goal
+
+-- the front of the block was heard, and the rest is still to come
+abbrev pub invariant-loop-line : goal.invariant-loop-line
+invariant-loop-line g l = record {
+  front : List ℕ;
+  block : l.bytes ≡ front ++ l.rest;
+  talk : Open (LineReplies g.J.Judge.reports g.J.Judge.statuses g.J.Judge.nexts l.alphabet)
+      l.fn.judge l.judge (g.W.Sink.contents l.fn.writer) (g.W.Sink.contents l.writer)
+      (l.fn.desk.begun.items ++ front) l.desk.begun.items;
+  events : g.J.Judge.event_count l.judge ≡ g.J.Judge.event_count l.fn.judge;
+  begun : IsShort l.desk.begun.items;
+  steady : g.W.Sink.failures l.writer ≡ g.W.Sink.failures l.fn.writer;
+}
+
+abbrev pub decreases-loop-line : goal.decreases-loop-line
+decreases-loop-line g l = length l.rest

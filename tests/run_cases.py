@@ -1,0 +1,123 @@
+#!/usr/bin/env python3
+"""Runs the cases of tests/cases over the built program, and compares what it wrote and its exit status.
+
+    tests/run_cases.py [--program FILE] [--only TEXT] [FILE ..]
+
+Without --program the program is crates/cspwatch/out/cspwatch, without a FILE all files of tests/cases are run.
+tests/README.md has the form of a case. The last line is `N passed, M failed`; the status is 0 where none failed.
+"""
+import argparse
+import concurrent.futures
+import json
+import os
+import subprocess
+import sys
+import tempfile
+
+HERE = os.path.dirname(os.path.abspath(__file__))
+PROGRAM = os.path.join(os.path.dirname(HERE), "crates", "cspwatch", "out", "cspwatch")
+SECONDS = 120
+
+
+def octets(content):
+    """The bytes of a content: text with a character for each byte, [text, times], or a list of contents."""
+    if isinstance(content, str):
+        return content.encode("latin-1")
+    if len(content) == 2 and isinstance(content[1], int):
+        return octets(content[0]) * content[1]
+    return b"".join(octets(part) for part in content)
+
+
+def lines(contents):
+    return b"".join(octets(content) + b"\n" for content in contents)
+
+
+def shown(data):
+    return repr(data if len(data) <= 300 else data[:300] + b"..")
+
+
+def words(case):
+    if "args" in case:
+        return [os.fsdecode(octets(word)) for word in case["args"]]
+    return ["check", "p.csp", os.fsdecode(octets(case.get("process", "P")))]
+
+
+def run(case, program, folder):
+    """What the program wrote on its output and its errors, and its status."""
+    for name, content in case.get("files", {}).items():
+        with open(os.path.join(folder, name), "wb") as file:
+            file.write(octets(content))
+    if "script" in case:
+        with open(os.path.join(folder, "p.csp"), "wb") as file:
+            file.write(octets(case["script"]))
+    given = octets(case["input_bytes"]) if "input_bytes" in case else lines(case.get("input", []))
+    ends = {"stdout": subprocess.PIPE, "stderr": subprocess.PIPE}
+    opened = []
+    if case.get("stdin") == "failing":
+        # A read of this file's front fails.
+        opened.append(open("/proc/self/mem", "rb", buffering=0))
+        ends["stdin"] = opened[-1]
+    else:
+        ends["input"] = given
+    if case.get("output") == "full":
+        opened.append(open("/dev/full", "wb"))
+        ends["stdout"] = opened[-1]
+    try:
+        done = subprocess.run([program] + words(case), cwd=folder, timeout=SECONDS, **ends)
+    finally:
+        for file in opened:
+            file.close()
+    return done.stdout or b"", done.stderr, done.returncode
+
+
+def problems_of(case, program):
+    with tempfile.TemporaryDirectory(prefix="case-") as folder:
+        try:
+            out, err, status = run(case, program, folder)
+        except subprocess.TimeoutExpired:
+            return ["took more than %d seconds" % SECONDS]
+    problems = []
+    for name, got in (("stdout", out), ("stderr", err)):
+        if name in case and got != lines(case[name]):
+            problems.append("%s is %s, wanted %s" % (name, shown(got), shown(lines(case[name]))))
+        wanted = case.get(name + "_any")
+        if wanted is not None and bool(got) != wanted:
+            problems.append("%s is %s" % (name, shown(got)))
+    if status != case["status"]:
+        problems.append("status is %s, wanted %s" % (status, case["status"]))
+    return problems
+
+
+def cases_of(files):
+    for path in files:
+        with open(path, encoding="utf-8") as file:
+            for case in json.load(file):
+                yield "%s: %s" % (os.path.splitext(os.path.basename(path))[0], case["name"]), case
+
+
+def main():
+    parser = argparse.ArgumentParser(description=__doc__.split("\n")[0])
+    parser.add_argument("--program", default=PROGRAM)
+    parser.add_argument("--only", default="", help="only the cases whose name has this text")
+    parser.add_argument("files", nargs="*")
+    options = parser.parse_args()
+    program = os.path.abspath(options.program)
+    if not os.access(program, os.X_OK):
+        print("%s: there is no such program; `rt ci` builds it" % program)
+        print("0 passed, 1 failed")
+        return 1
+    folder = os.path.join(HERE, "cases")
+    files = options.files or [os.path.join(folder, name) for name in sorted(os.listdir(folder)) if name.endswith(".json")]
+    cases = [(name, case) for name, case in cases_of(files) if options.only in name]
+    failed = 0
+    with concurrent.futures.ThreadPoolExecutor(max_workers=4) as pool:
+        for (name, _), problems in zip(cases, pool.map(lambda c: problems_of(c[1], program), cases)):
+            failed += bool(problems)
+            for problem in problems:
+                print("%s: %s" % (name, problem))
+    print("%d passed, %d failed" % (len(cases) - failed, failed))
+    return 1 if failed else 0
+
+
+if __name__ == "__main__":
+    sys.exit(main())
