@@ -1,17 +1,16 @@
 -- Talks one after another.
-use Rattle.std.proofs.Common.{◌≡◌, ◌≢◌, ◌∙◌, ◌<◌, ◌≤◌, ◌+◌, ℕ, zero, suc, List, [], ◌∷◌, ◌++◌, length, take, drop, get_or, Option, Some, None, Result, Ok, Err, true, false, refl, sym, ap, subst, append_assoc, inl, inr, ◌⊎◌, arith, codes}
+use Rattle.std.proofs.Common.{◌≡◌, ◌≢◌, ◌∙◌, ◌<◌, ◌≤◌, ◌+◌, ℕ, zero, suc, List, [], ◌∷◌, ◌++◌, length, take, drop, Option, Some, None, Result, Ok, Err, refl, sym, ap, subst, append_assoc, inl, inr, ◌⊎◌, arith, codes}
 use Rattle.std.proofs.lemmas.List.{append-nil, length-append, take-append-drop, length-take-le}
-use Rattle.std.proofs.Math.Seq.{take-append-add}
 use Rattle.std.specs.List.{AllByRecursion}
 use Rattle.std.specs.Result.{OnOk, OnErr}
-use Rattle.std.specs.Io.KnownBytes.{Appends, Consumes, Keeps, IsAtEnd}
+use Rattle.std.specs.Io.KnownBytes.{Appends, Consumes}
 use Rattle.wire.specs.Requests.{Lacks}
 use Rattle.wire.specs.Talks.{joined, IsHeard, IsShort, IsLong, Talk, Open, HasQuit, IsTooLong, IsCutOff, Hears, Serves}
 use Rattle.wire.specs.declared.engine.End.{End}
 use Rattle.wire.specs.declared.engine.End.TheVariants.{Quit, Input, Line}
 use Rattle.wire.specs.declared.engine.WireError.{WireError}
 use Rattle.wire.specs.declared.engine.WireError.TheVariants.{Read, Write, Memory}
-use Rattle.wire.proofs.KnownLemmas.{appends_none, appends_more, appends_same, consumes_none, consumes_more}
+use Rattle.wire.proofs.KnownLemmas.{appends_none, appends_more, appends_same}
 
 pub joined-append : (a b : List (List ℕ)) → joined (a ++ b) ≡ joined a ++ joined b
 joined-append [] b = refl

@@ -1,3 +1,4 @@
+pub mod Ends
 pub mod Requests
 pub mod Replies
 pub mod Talks

@@ -14,6 +14,7 @@ use crate::replies::{add, answer};
 use alphabet::Alphabet;
 use std::alloc::{AllocError, Allocator};
 use std::sync::Wait;
+use thiserror::Error;
 
 /// How a connection ended.
 #[derive(Clone, Copy, Debug, PartialEq, Eq)]
@@ -27,13 +28,16 @@ pub enum End {
 }
 
 /// Why a connection was given up.
-#[derive(Clone, Copy, Debug, PartialEq, Eq)]
+#[derive(Clone, Copy, Debug, PartialEq, Eq, Error)]
 pub enum WireError {
     /// A read failed.
+    #[error("cannot read")]
     Read,
     /// A write or a flush failed.
+    #[error("cannot write")]
     Write,
-    /// There was no memory to begin with.
+    /// There was no memory to begin with. Nothing was read or written.
+    #[error("{}", Fault::Memory)]
     Memory,
 }
 
@@ -208,7 +212,10 @@ fn feed<W: Sink, J: Judge, A: Allocator, B: Allocator>(
     }
 }
 
-/// Answers the lines of a connection until a Q, the end of the input, a line that is too long, or a fault.
+/// Answers the lines of a connection until a Q, the end of the input, a line that is too long, or a fault. The judge has the
+/// alphabet that is handed in. Room for a begun line and for every reply but that of `N` is made first, and `Memory` comes
+/// then alone; an `N` for which there is no memory is answered so. Each reply is one write where the writer takes it whole,
+/// and is flushed. Cost: each byte is looked at once to find the line's end; a line that lies whole in one read isn't copied.
 pub fn serve<T: Wait, R: Source, W: Sink, J: Judge, A: Allocator, B: Allocator + Clone + Drop>(
     rt: &T,
     alloc: B,
@@ -220,6 +227,7 @@ pub fn serve<T: Wait, R: Source, W: Sink, J: Judge, A: Allocator, B: Allocator +
     requires { J.event_count judge.old ≡ event_count alphabet.now }
     ensures serves { Serves (LineReplies J.reports J.statuses J.nexts alphabet.now)
         judge.old judge.new (R.left reader.old) (R.left reader.new) (W.contents writer.old) (W.contents writer.new) result }
+    ensures events { J.event_count judge.new ≡ J.event_count judge.old }
     ensures reader_failed { IsErrOf result WireError.Read → R.failures reader.old < R.failures reader.new }
     ensures writer_failed { IsErrOf result WireError.Write → W.failures writer.old < W.failures writer.new }
 {

@@ -1,5 +1,6 @@
 //! Any reader and any writer of std, as ends of the engine.
 ghost use Rattle.std.specs.Prelude.{◌≡◌};
+ghost use Rattle.wire.specs.Ends.{inner_of, failures_of};
 
 use crate::ends::{Sink, SinkFault, Source, SourceFault};
 use count::Count;
@@ -13,9 +14,10 @@ pub struct Plain<T> {
 }
 
 impl<T> Plain<T> {
+    /// The reader or writer, which has not failed yet.
     pub fn new(inner: T) -> Plain<T>
-        ensures inner { result.inner ≡ inner }
-        ensures failures { result.failures.n ≡ 0 }
+        ensures inner { inner_of result ≡ inner }
+        ensures failures { failures_of result ≡ 0 }
     {
         Plain {
             inner,
@@ -25,7 +27,7 @@ impl<T> Plain<T> {
 
     /// The reader or the writer.
     pub fn into_inner(self) -> T
-        ensures { result ≡ self.inner }
+        ensures { result ≡ inner_of self }
     {
         let Plain { inner, failures: _ } = self;
         inner
@@ -33,9 +35,9 @@ impl<T> Plain<T> {
 }
 
 impl<T: Read> Source for Plain<T> {
-    ghost left = { λ p. T.remaining p.inner };
+    ghost left = { λ p. T.remaining (inner_of p) };
 
-    ghost failures = { λ p. p.failures.n };
+    ghost failures = { λ p. failures_of p };
 
     fn read(&mut self, buffer: &mut [u8]) -> Result<usize, SourceFault> {
         match self.inner.read(buffer) {
@@ -49,9 +51,9 @@ impl<T: Read> Source for Plain<T> {
 }
 
 impl<T: Write> Sink for Plain<T> {
-    ghost contents = { λ p. T.contents p.inner };
+    ghost contents = { λ p. T.contents (inner_of p) };
 
-    ghost failures = { λ p. p.failures.n };
+    ghost failures = { λ p. failures_of p };
 
     fn write(&mut self, bytes: &[u8]) -> Result<usize, SinkFault> {
         match self.inner.write(bytes) {

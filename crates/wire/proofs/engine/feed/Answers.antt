@@ -1,5 +1,5 @@
 -- A block is heard line by line, and its rest stays begun.
-use Rattle.std.proofs.Common.{◌≡◌, ◌≢◌, ◌∙◌, ◌+◌, ◌<◌, ◌≤◌, ◌++◌, [], ◌∷◌, List, ℕ, length, arith, sym, ap, subst, append_assoc, Ok, Err, Some, None}
+use Rattle.std.proofs.Common.{◌≢◌, ◌∙◌, ◌+◌, ◌<◌, ◌++◌, [], ◌∷◌, length, subst, append_assoc, Ok, Err, Some, None}
 use Rattle.std.proofs.lemmas.List.{append-nil, length-append}
 use Rattle.wire.specs.Requests.{Lacks}
 use Rattle.wire.specs.Talks.{Open, Hears}

@@ -1,8 +1,8 @@
 -- A line that is whole is answered, and one that is too long ends the connection.
-use Rattle.std.proofs.Common.{◌≡◌, ◌≢◌, ◌∙◌, ◌+◌, ◌<◌, ◌≤◌, ◌++◌, [], ◌∷◌, List, ℕ, length, take, arith, sym, ap, subst, append_assoc, codes}
+use Rattle.std.proofs.Common.{◌≡◌, ◌≢◌, ◌+◌, ◌<◌, ◌≤◌, ◌++◌, [], ◌∷◌, length, take, arith, sym, ap, subst, append_assoc, codes}
 use Rattle.std.proofs.lemmas.List.{length-append}
 use Rattle.wire.specs.Requests.{Lacks}
-use Rattle.wire.specs.Talks.{IsShort, Open, HasQuit, IsCutOff, Hears}
+use Rattle.wire.specs.Talks.{Open, HasQuit, IsCutOff, Hears}
 use Rattle.wire.specs.Replies.{LineReplies}
 use Rattle.wire.proofs.KnownLemmas.{appends_same}
 use Rattle.wire.proofs.TalkLemmas.{all_append, all_short, open_line, has_quit, cut_line, hears_long}

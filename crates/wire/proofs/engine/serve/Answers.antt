@@ -1,5 +1,5 @@
-use Rattle.std.proofs.Common.{rules, ◌≡◌, ◌∙◌, ◌+◌, ◌-◌, ◌≤◌, ◌++◌, [], ◌∷◌, List, ℕ, length, take, drop, get_or, arith, sym, ap, subst, refl, Ok, Err, Some, None}
-use Rattle.wire.specs.Talks.{Open, Hears, Serves}
+use Rattle.std.proofs.Common.{◌∙◌, ◌+◌, ◌-◌, ◌++◌, take, Ok, Err, Some, None}
+use Rattle.wire.specs.Talks.{Hears}
 use Rattle.wire.specs.Replies.{LineReplies}
 use Rattle.wire.proofs.KnownLemmas.{consumes_more}
 use Rattle.wire.proofs.TalkLemmas.{open_then, hears_then, serves_end, serves_err}
