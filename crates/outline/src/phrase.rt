@@ -3,9 +3,6 @@
 use std::alloc::{AllocError, Allocator};
 use tokens::{Keyword, ScriptError, ScriptErrorKind, Symbol, Token, Word};
 
-/// The most brackets that may be open at once.
-const MOST_OPEN: usize = 250;
-
 /// A name, and the line on which it stands.
 #[derive(Clone, Copy, Debug)]
 pub(crate) struct Named<'t> {
