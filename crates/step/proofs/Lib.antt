@@ -1,0 +1,9 @@
+pub mod Lists
+pub mod Parts
+pub mod ActList
+pub mod HidList
+pub mod Labelled
+pub mod Offered
+pub mod Rest
+pub mod Renamed
+pub mod Settling

@@ -1,0 +1,36 @@
+-- Steps by their labels.
+use Rattle.std.specs.Prelude.{◌≡◌, ◌<◌, ℕ, Bool, false, ◌||◌, ◌↔◌, List, [], ◌∷◌, ◌++◌, nat_lt}
+use Rattle.alphabet.specs.declared.events.Event.TheVariants.{Tick as tick, Of as ev}
+use Rattle.term.specs.Traces.{In}
+use Rattle.term.specs.Proc.{Proc, stop}
+use Rattle.term.specs.Steps.{Act, Hid, Ticks}
+use Rattle.term.specs.Sizes.{depth}
+use Rattle.term.specs.Limits.{deepest_state}
+use Rattle.step.specs.declared.targets.Label.{Label}
+use Rattle.step.specs.declared.targets.Label.TheVariants as label
+use Rattle.step.specs.Targets.{acts, hids, ticks, where_}
+
+-- P has a step with this label to Q, where B has the bodies.
+abbrev pub Step : (ℕ → Proc) → Proc → Label → Proc → Type 0
+Step B P label.Tau Q = Hid B P Q
+Step B P (label.Event tick) Q = Ticks P × (Q ≡ stop)
+Step B P (label.Event (ev a)) Q = Act P a Q
+
+-- The new list is the old one and behind it just the targets of the steps, in any order, one perhaps twice.
+abbrev pub AppendsTargets : (ℕ → Proc) → Proc → Label → List Proc → List Proc → Type 0
+AppendsTargets B P l old new = (found : List Proc) × (new ≡ old ++ found) × ((Q : Proc) → In Q found ↔ Step B P l Q)
+
+-- Some target of the steps is deeper than a state may be.
+abbrev pub HasDeepTarget : (ℕ → Proc) → Proc → Label → Type 0
+HasDeepTarget B P l = (Q : Proc) × Step B P l Q × (deepest_state < depth Q)
+
+-- The targets as a list, where Sigma has n events.
+abbrev pub targets : ℕ → (ℕ → Proc) → Proc → Label → List Proc
+targets n B P label.Tau = hids n B P
+targets n B P (label.Event tick) = where_ (ticks P) (stop ∷ [])
+targets n B P (label.Event (ev a)) = acts P a
+
+-- One of the processes is deeper than a state may be.
+abbrev pub some_deep : List Proc → Bool
+some_deep [] = false
+some_deep (P ∷ ps) = nat_lt deepest_state (depth P) || some_deep ps
