@@ -5,7 +5,7 @@ ghost use Rattle.alphabet.specs.Events.{Event};
 ghost use Rattle.alphabet.specs.EventSets.{member};
 ghost use Rattle.std.specs.List.{list_all};
 ghost use Rattle.alphabet.specs.Names.{is_name};
-ghost use Rattle.alphabet.specs.Channels.{event_count, name_of, place_of, IsEvent, choices, is_field, is_declared, are_apart};
+ghost use Rattle.alphabet.specs.Channels.{event_count, name_of, place_of, IsEvent, IsAlphabet, choices, is_field, is_declared, are_apart};
 ghost use Rattle.alphabet.specs.Stored.{field_of, channel_of};
 
 use crate::alphabet_error::AlphabetError;
@@ -78,7 +78,8 @@ impl<A: Allocator> Alphabet<A> {
 
     /// How many channels there are.
     pub fn channels(&self) -> usize
-        ensures { result ≡ length self.now }
+        ensures count { result ≡ length self.now }
+        ensures sound { IsAlphabet self.now }
     {
         self.channels.len()
     }

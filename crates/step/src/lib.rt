@@ -6,6 +6,8 @@ mod events;
 mod hidden;
 mod looks;
 mod targets;
+#[cfg(test)]
+mod tests;
 
 pub use looks::{can_tick, is_stable, offers};
 pub use targets::{DEEPEST_STATE, Label, StepFault, steps};
