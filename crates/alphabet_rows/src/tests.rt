@@ -60,10 +60,7 @@ struct Outcome<A: Allocator> {
 }
 
 // Declares the channel `c` with these fields behind the channel `a`.
-fn declared<A: Allocator + Copy>(
-    alloc: A,
-    counts: &[u32],
-) -> Result<Outcome<A>, AlphabetError> {
+fn declared<A: Allocator + Copy>(alloc: A, counts: &[u32]) -> Result<Outcome<A>, AlphabetError> {
     let Ok(fields) = fields(alloc, counts) else {
         return Err(AlphabetError::Memory);
     };

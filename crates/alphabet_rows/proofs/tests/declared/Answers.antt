@@ -1,4 +1,4 @@
-use Rattle.std.proofs.Common.{◌∷◌, [], map, codes, ap, ◌∙◌}
+use Rattle.std.proofs.Common.{map, codes, ap, ◌∙◌}
 use Rattle.std.specs.List.{list_all}
 use Rattle.alphabet.specs.Stored.{field_of, channel_of}
 use Rattle.alphabet_rows.specs.Numbers.{is_number}
