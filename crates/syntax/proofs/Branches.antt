@@ -1,0 +1,161 @@
+-- What the branches of the code show, on plain lists.
+use Rattle.std.proofs.Common.{◌≡◌, ℕ, zero, suc, ◌-◌, ◌<◌, ◌≤◌, List, [], ◌∷◌, ◌++◌, Bool, true, false, Option, Some, None, Result, refl, sym, ap, subst, ◌∙◌, arith, ◌⊎◌, inl, inr}
+use Rattle.std.specs.Prelude.{nat_lt}
+use Rattle.std.proofs.lemmas.Bool.{lt-ltb, le-ltb}
+use Rattle.tokens.specs.Lexeme.{Lexeme}
+use Rattle.tokens.specs.declared.error.ScriptErrorKind.{ScriptErrorKind}
+use Rattle.tokens.specs.declared.error.ScriptErrorKind.TheVariants as errors
+use Rattle.tokens.specs.declared.error.ScriptError.{ScriptError}
+use Rattle.syntax.specs.declared.operator.Operator.{Operator}
+use Rattle.syntax.specs.declared.piece.Fields.{Fields}
+use Rattle.syntax.specs.declared.piece.Kind.{Kind}
+use Rattle.syntax.specs.declared.piece.Place.{Place}
+use Rattle.syntax.specs.declared.piece.Place.TheVariants as places
+use Rattle.syntax.specs.declared.piece.Start.{Start}
+use Rattle.syntax.specs.declared.piece.Piece.{Piece}
+use Rattle.syntax.specs.declared.form.Form.{Form}
+use Rattle.syntax.specs.declared.form.Form.TheVariants as forms
+use Rattle.syntax.specs.Operators.{behind}
+use Rattle.syntax.specs.Grammar.{Syntax, Node, height_of}
+use Rattle.syntax.specs.Parsing.{◌>>=◌, Fails, Gives, Found, Row, Reader, syntaxes, last_is_open, another, others_on, others, row, back, front, turned, node_of, node_on, node, next_operator, may_begin, grown, climb_on, climb, reads, reader}
+use Rattle.syntax.proofs.Steps.{inside_none, inside_step}
+
+abbrev pub some_found : Syntax → List Lexeme → Option Found
+some_found t rest = Some (t, rest)
+
+abbrev pub some_row : List Syntax → List Lexeme → Option Row
+some_row ts rest = Some (ts, rest)
+
+-- ---- failing
+
+pub fails_as : {Y : Type 0} (k : ScriptErrorKind) (r s : Option Y) → r ≡ s → Fails k s → Fails k r
+fails_as {Y = Y} k r s e f = subst (λ (o : Option Y). Fails k o) (sym e) f
+
+pub fails_deep : {Y : Type 0} (k : ScriptErrorKind) (r : Option Y) → k ≡ errors.TooDeep → r ≡ None → Fails k r
+fails_deep k r e f = subst (λ (k : ScriptErrorKind). Fails k r) (sym e) f
+
+pub fails_by : {X Y : Type 0} (k : ScriptErrorKind) (a : Option X) (r : Option Y) → (a ≡ None → r ≡ None) → Fails k a → Fails k r
+fails_by errors.Memory a r f h = tt
+fails_by _ a r f h = f h
+
+pub gives_as : {X Y : Type 0} (view : X → Y) (result : Result X ScriptError) (r s : Option Y) → r ≡ s → Gives view result s → Gives view result r
+gives_as {Y = Y} view result r s e g = subst (λ (o : Option Y). Gives view result o) (sym e) g
+
+-- ---- places
+
+pub inside_fails : (b r t : ℕ) (place : Place) (k : Kind) (toks : List Lexeme) → place ≡ places.Inside → b ≡ 0 → reader b r t place k toks ≡ None
+inside_fails b r t place k toks e z = ap (λ (p : Place). reader b r t p k toks) e ∙ inside_none b r k toks z
+
+pub inside_reads : (b r t : ℕ) (place : Place) (k : Kind) (toks : List Lexeme) → place ≡ places.Inside → (b ≡ 0 → ⊥) → reader b r t place k toks ≡ reads (b - 1) r 4 k toks
+inside_reads b r t place k toks e z = ap (λ (p : Place). reader b r t p k toks) e ∙ inside_step b r k toks (omega (arith, z))
+
+-- ---- further parts
+
+pub others_stop : (part : List Lexeme → Option Found) (start : Start) (n : ℕ) (parts : List Syntax) (toks : List Lexeme) (greedy : Bool) → greedy ≡ last_is_open parts → None ≡ another start greedy toks → others part start n parts toks ≡ some_row parts toks
+unfolding others
+others_stop part start zero parts toks greedy g e = refl
+others_stop part start (suc n) parts toks greedy g e =
+    ap (others_on part (others part start n) parts toks) (ap (λ (b : Bool). another start b toks) (sym g) ∙ sym e)
+
+pub others_done : (part : List Lexeme → Option Found) (start : Start) (n : ℕ) (parts : List Syntax) (toks : List Lexeme) → n ≡ 0 → others part start n parts toks ≡ some_row parts toks
+unfolding others
+others_done part start n parts toks e = ap (λ (n : ℕ). others part start n parts toks) e
+
+pub others_turn : (part : List Lexeme → Option Found) (start : Start) (n : ℕ) (parts : List Syntax) (toks begin : List Lexeme) (greedy : Bool) → 0 < n → greedy ≡ last_is_open parts → Some begin ≡ another start greedy toks → others part start n parts toks ≡ (part begin >>= λ x. others part start (n - 1) (parts ++ x.0 ∷ []) x.1)
+unfolding others
+others_turn part start zero parts toks begin greedy h g e = absurd (omega (arith, h))
+others_turn part start (suc n) parts toks begin greedy h g e =
+    let k : n ≡ suc n - 1 = omega arith in
+    ap (others_on part (others part start n) parts toks) (ap (λ (b : Bool). another start b toks) (sym g) ∙ sym e)
+    ∙ ap (λ (m : ℕ). part begin >>= λ x. others part start m (parts ++ x.0 ∷ []) x.1) k
+
+pub others_fail : (part : List Lexeme → Option Found) (start : Start) (n : ℕ) (parts : List Syntax) (toks begin : List Lexeme) (greedy : Bool) → 0 < n → greedy ≡ last_is_open parts → Some begin ≡ another start greedy toks → part begin ≡ None → others part start n parts toks ≡ None
+others_fail part start n parts toks begin greedy h g e f =
+    others_turn part start n parts toks begin greedy h g e ∙ ap (λ (o : Option Found). o >>= λ x. others part start (n - 1) (parts ++ x.0 ∷ []) x.1) f
+
+pub others_next : (part : List Lexeme → Option Found) (start : Start) (n m : ℕ) (parts new : List Syntax) (toks begin rest : List Lexeme) (t : Syntax) (greedy : Bool) → 0 < n → m ≡ n - 1 → greedy ≡ last_is_open parts → Some begin ≡ another start greedy toks → part begin ≡ some_found t rest → new ≡ parts ++ t ∷ [] → others part start m new rest ≡ others part start n parts toks
+others_next part start n m parts new toks begin rest t greedy h less g e f is =
+    ap (λ (m : ℕ). others part start m new rest) less
+    ∙ ap (λ (ts : List Syntax). others part start (n - 1) ts rest) is
+    ∙ sym (others_turn part start n parts toks begin greedy h g e ∙ ap (λ (o : Option Found). o >>= λ x. others part start (n - 1) (parts ++ x.0 ∷ []) x.1) f)
+
+-- ---- nodes
+
+pub node_row : (read : Reader) (opening : Bool) (m : Fields) (f g : Form) (toks rest : List Lexeme) (first second : List Piece) (none ps : List Syntax) → first ≡ front f → none ≡ [] → row read opening first none toks ≡ some_row ps rest → g ≡ turned f rest → second ≡ back m g → node read opening m f toks ≡ (row read opening second ps rest >>= node_of g)
+unfolding node
+node_row read opening m f g toks rest first second none ps e1 e2 e3 e4 e5 =
+    ap (λ (r : Option Row). r >>= λ y. node_on read opening m (turned f y.1) y)
+    (ap (λ (qs : List Piece). row read opening qs [] toks) (sym e1) ∙ ap (λ (xs : List Syntax). row read opening first xs toks) (sym e2) ∙ e3)
+    ∙ ap (λ (h : Form). node_on read opening m h (ps, rest)) (sym e4)
+    ∙ ap (λ (qs : List Piece). row read opening qs ps rest >>= node_of g) (sym e5)
+
+pub node_is : (read : Reader) (opening : Bool) (m : Fields) (f g : Form) (toks rest last : List Lexeme) (first second : List Piece) (none ps qs : List Syntax) (t : Syntax) → first ≡ front f → none ≡ [] → row read opening first none toks ≡ some_row ps rest → g ≡ turned f rest → second ≡ back m g → row read opening second ps rest ≡ some_row qs last → t ≡ Node g (syntaxes qs) → node read opening m f toks ≡ some_found t last
+node_is read opening m f g toks rest last first second none ps qs t e1 e2 e3 e4 e5 e6 e7 =
+    node_row read opening m f g toks rest first second none ps e1 e2 e3 e4 e5
+    ∙ ap (λ (r : Option Row). r >>= node_of g) e6
+    ∙ ap (λ (u : Syntax). some_found u last) (sym e7)
+
+pub node_fails : (k : ScriptErrorKind) (read : Reader) (opening : Bool) (m : Fields) (f g : Form) (toks rest : List Lexeme) (first second : List Piece) (none ps : List Syntax) → first ≡ front f → none ≡ [] → row read opening first none toks ≡ some_row ps rest → g ≡ turned f rest → second ≡ back m g → Fails k (row read opening second ps rest) → Fails k (node read opening m f toks)
+node_fails k read opening m f g toks rest first second none ps e1 e2 e3 e4 e5 h =
+    fails_by k (row read opening second ps rest) (node read opening m f toks)
+    (λ e. node_row read opening m f g toks rest first second none ps e1 e2 e3 e4 e5 ∙ ap (λ (r : Option Row). r >>= node_of g) e) h
+
+-- ---- operators
+
+pub grown_row : (read : Reader) (opening : Bool) (op : Operator) (left : Syntax) (toks : List Lexeme) (ps : List Piece) (parts : List Syntax) → ps ≡ behind op → parts ≡ left ∷ [] → grown read opening op left toks ≡ (row read opening ps parts toks >>= node_of (forms.Operation op))
+unfolding grown
+grown_row read opening op left toks ps parts e1 e2 =
+    ap (λ (qs : List Piece). row read opening qs (left ∷ []) toks >>= node_of (forms.Operation op)) (sym e1)
+    ∙ ap (λ (xs : List Syntax). row read opening ps xs toks >>= node_of (forms.Operation op)) (sym e2)
+
+pub grown_is : (read : Reader) (opening : Bool) (op : Operator) (left t : Syntax) (toks last : List Lexeme) (ps : List Piece) (parts qs : List Syntax) → ps ≡ behind op → parts ≡ left ∷ [] → row read opening ps parts toks ≡ some_row qs last → t ≡ Node (forms.Operation op) (syntaxes qs) → grown read opening op left toks ≡ some_found t last
+grown_is read opening op left t toks last ps parts qs e1 e2 e3 e4 =
+    grown_row read opening op left toks ps parts e1 e2
+    ∙ ap (λ (r : Option Row). r >>= node_of (forms.Operation op)) e3
+    ∙ ap (λ (u : Syntax). some_found u last) (sym e4)
+
+pub grown_fails : (k : ScriptErrorKind) (read : Reader) (opening : Bool) (op : Operator) (left : Syntax) (toks : List Lexeme) (ps : List Piece) (parts : List Syntax) → ps ≡ behind op → parts ≡ left ∷ [] → Fails k (row read opening ps parts toks) → Fails k (grown read opening op left toks)
+grown_fails k read opening op left toks ps parts e1 e2 h =
+    fails_by k (row read opening ps parts toks) (grown read opening op left toks)
+    (λ e. grown_row read opening op left toks ps parts e1 e2 ∙ ap (λ (r : Option Row). r >>= node_of (forms.Operation op)) e) h
+
+abbrev pub some_operator : Operator → List Lexeme → Option (Operator × List Lexeme)
+some_operator op rest = Some (op, rest)
+
+abbrev pub no_operator : Option (Operator × List Lexeme)
+no_operator = None
+
+pub climb_ends : (read : Reader) (opening : Bool) (room l turns : ℕ) (left : Syntax) (toks : List Lexeme) → no_operator ≡ next_operator l left toks → climb read opening room l turns left toks ≡ some_found left toks
+unfolding climb
+climb_ends read opening room l zero left toks e = ap (climb_on read opening (λ p t. None) 0 left toks) (sym e)
+climb_ends read opening room l (suc n) left toks e = ap (climb_on read opening (climb read opening room l n) room left toks) (sym e)
+
+too_high : (read : Reader) (opening : Bool) (go : Syntax → List Lexeme → Option Found) (room : ℕ) (left : Syntax) (toks : List Lexeme) (op : Operator) (rest : List Lexeme) → room ≤ height_of left → climb_on read opening go room left toks (some_operator op rest) ≡ None
+too_high read opening go room left toks op rest h = let low : nat_lt (height_of left) room ≡ false = le-ltb _ _ h in rw low refl
+
+pub climb_high : (read : Reader) (opening : Bool) (room l turns height : ℕ) (left : Syntax) (toks : List Lexeme) (op : Operator) (rest : List Lexeme) → height ≡ height_of left → some_operator op rest ≡ next_operator l left toks → ((turns ≡ 0) ⊎ ((turns ≡ 0 → ⊥) × (room ≤ height))) → climb read opening room l turns left toks ≡ None
+unfolding climb
+climb_high read opening room l zero height left toks op rest i e w =
+    ap (climb_on read opening (λ p t. None) 0 left toks) (sym e) ∙ too_high read opening (λ p t. None) 0 left toks op rest (omega arith)
+climb_high read opening room l (suc n) height left toks op rest i e (inl z) = absurd (omega (arith, z))
+climb_high read opening room l (suc n) height left toks op rest i e (inr w) =
+    ap (climb_on read opening (climb read opening room l n) room left toks) (sym e) ∙ too_high read opening (climb read opening room l n) room left toks op rest (omega (arith, w.1, i))
+
+-- one turn, where the operator may be there
+pub climb_turn : (read : Reader) (opening : Bool) (room l turns height : ℕ) (left : Syntax) (toks : List Lexeme) (op : Operator) (rest : List Lexeme) → height ≡ height_of left → some_operator op rest ≡ next_operator l left toks → (turns ≡ 0 → ⊥) → height < room → true ≡ may_begin opening op → climb read opening room l turns left toks ≡ (grown read opening op left rest >>= λ y. climb read opening room l (turns - 1) y.0 y.1)
+unfolding climb
+climb_turn read opening room l zero height left toks op rest i e z h m = absurd (z refl)
+climb_turn read opening room l (suc n) height left toks op rest i e z h m =
+    let low : nat_lt (height_of left) room ≡ true = lt-ltb _ _ (omega (arith, h, i)) in
+    let may : may_begin opening op ≡ true = sym m in
+    let k : n ≡ suc n - 1 = omega arith in
+    ap (climb_on read opening (climb read opening room l n) room left toks) (sym e)
+    ∙ rw low (rw may (ap (λ (m : ℕ). grown read opening op left rest >>= λ y. climb read opening room l m y.0 y.1) k))
+
+pub climb_shut : (read : Reader) (opening : Bool) (room l turns height : ℕ) (left : Syntax) (toks : List Lexeme) (op : Operator) (rest : List Lexeme) → height ≡ height_of left → some_operator op rest ≡ next_operator l left toks → (turns ≡ 0 → ⊥) → height < room → false ≡ may_begin opening op → climb read opening room l turns left toks ≡ None
+unfolding climb
+climb_shut read opening room l zero height left toks op rest i e z h m = absurd (z refl)
+climb_shut read opening room l (suc n) height left toks op rest i e z h m =
+    let low : nat_lt (height_of left) room ≡ true = lt-ltb _ _ (omega (arith, h, i)) in
+    let may : may_begin opening op ≡ false = sym m in
+    ap (climb_on read opening (climb read opening room l n) room left toks) (sym e) ∙ rw low (rw may refl)

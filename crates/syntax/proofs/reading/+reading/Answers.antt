@@ -1,0 +1,113 @@
+use Rattle.std.proofs.Common.{arith, ◌≡◌, ◌+◌, ◌-◌, ◌++◌, ◌∷◌, [], ℕ, List, Option, length, ap, sym, ◌∙◌}
+use Rattle.std.proofs.lemmas.List.{length-map}
+use Rattle.std.proofs.Math.Nat.{max-le}
+use Rattle.std.proofs.lemmas.Result.{err_from_is_err_and}
+use Rattle.tokens.specs.Lexeme.{lexeme, lexemes}
+use Rattle.syntax.specs.Grammar.{Syntax}
+use Rattle.syntax.specs.Parsing.{◌>>=◌, reader, may_open, climb, others, Found}
+use Rattle.syntax.specs.View.{shape, shapes}
+use Rattle.syntax.proofs.Branches.{fails_deep, fails_by, gives_as, inside_fails, inside_reads, others_stop, others_done, others_next, others_fail, node_is, node_fails, grown_is, grown_fails, climb_ends, climb_high, climb_turn, climb_shut}
+use Rattle.syntax.proofs.reading.+reading.Goals as goal
+
+pub climb-returns-then-turns-eq0-clause-read : goal.climb-returns-then-turns-eq0-clause-read
+climb-returns-then-turns-eq0-clause-read g t c =
+    fails_deep c.too_deep.result.kind _ c.too_deep.ensures
+    (climb_high (reader c.args.limits.brackets (c.args.limits.room - 1) 4) (may_open c.args.limits.brackets) c.args.limits.room c.args.limit c.args.turns c.args.left.height (shape c.args.left.tree) (lexemes c.args.tokens.now) c.in-Some.operator (lexemes c.in-Some.rest.now) c.args.left.is_height c.in-Some.ensures c.then-turns-eq0.either)
+
+pub climb-returns-then-not-may_begin-clause-read : goal.climb-returns-then-not-may_begin-clause-read
+climb-returns-then-not-may_begin-clause-read g t c =
+    fails_deep c.too_deep-then-not-may_begin.result.kind _ c.too_deep-then-not-may_begin.ensures
+    (climb_shut (reader c.args.limits.brackets (c.args.limits.room - 1) 4) (may_open c.args.limits.brackets) c.args.limits.room c.args.limit c.args.turns c.args.left.height (shape c.args.left.tree) (lexemes c.args.tokens.now) c.in-Some.operator (lexemes c.in-Some.rest.now) c.args.left.is_height c.in-Some.ensures c.if-turns-eq0.false c.if-left-limits.false c.if-not-may_begin.ensures)
+
+pub climb-returns-in_err-grown-in-Some-clause-read : goal.climb-returns-in_err-grown-in-Some-clause-read
+climb-returns-in_err-grown-in-Some-clause-read g t c =
+    let read = reader c.args.limits.brackets (c.args.limits.room - 1) 4 in
+    let p = err_from_is_err_and c.from_residual.result c.from_residual.ensures.1 in
+    rw (p.1, p.2)
+    (fails_by c.in_err-grown-in-Some.field-0.0.kind _ _
+    (λ e. climb_turn read (may_open c.args.limits.brackets) c.args.limits.room c.args.limit c.args.turns c.args.left.height (shape c.args.left.tree) (lexemes c.args.tokens.now) c.in-Some.operator (lexemes c.in-Some.rest.now) c.args.left.is_height c.in-Some.ensures c.if-turns-eq0.false c.if-left-limits.false c.if-not-may_begin.ensures
+    ∙ ap (λ (o : Option Found). o >>= λ y. climb read (may_open c.args.limits.brackets) c.args.limits.room c.args.limit (c.args.turns - 1) y.0 y.1) e)
+    c.in_err-grown-in-Some.ensures.read)
+
+pub climb-returns-in-None-clause-read : goal.climb-returns-in-None-clause-read
+climb-returns-in-None-clause-read g t c =
+    climb_ends (reader c.args.limits.brackets (c.args.limits.room - 1) 4) (may_open c.args.limits.brackets) c.args.limits.room c.args.limit c.args.turns (shape c.args.left.tree) (lexemes c.args.tokens.now) c.in-None.ensures
+
+pub climb-returns-in_ok-grown-in-Some-clause-read : goal.climb-returns-in_ok-grown-in-Some-clause-read
+climb-returns-in_ok-grown-in-Some-clause-read g t c =
+    let read = reader c.args.limits.brackets (c.args.limits.room - 1) 4 in
+    gives_as _ c.climb.result _ _
+    (climb_turn read (may_open c.args.limits.brackets) c.args.limits.room c.args.limit c.args.turns c.args.left.height (shape c.args.left.tree) (lexemes c.args.tokens.now) c.in-Some.operator (lexemes c.in-Some.rest.now) c.args.left.is_height c.in-Some.ensures c.if-turns-eq0.false c.if-left-limits.false c.if-not-may_begin.ensures
+    ∙ ap (λ (o : Option Found). o >>= λ y. climb read (may_open c.args.limits.brackets) c.args.limits.room c.args.limit (c.args.turns - 1) y.0 y.1) c.in_ok-grown-in-Some.ensures.read)
+    c.climb.ensures.read
+
+pub grown-returns-in_err-parts-2-clause-read : goal.grown-returns-in_err-parts-2-clause-read
+grown-returns-in_err-parts-2-clause-read g t c =
+    let p = err_from_is_err_and c.from_residual-in_err-parts-2.result c.from_residual-in_err-parts-2.ensures.1 in
+    let one : shapes c.in_ok-parts.parts.trees.items ≡ shape c.args.left.tree ∷ [] = c.in_ok-parts.ensures.0 ∙ ap (λ (xs : List Syntax). xs ++ shape c.args.left.tree ∷ []) c.in_ok-new.ensures.0 in
+    rw (p.1, p.2)
+    (grown_fails c.in_err-parts-2.field-0.0.kind (reader c.args.limits.brackets (c.args.limits.room - 1) 4) (may_open c.args.limits.brackets) c.args.operator (shape c.args.left.tree) (lexemes c.args.tokens.now) c.behind.result.now (shapes c.in_ok-parts.parts.trees.items) c.behind.ensures.pieces one c.in_err-parts-2.ensures.read)
+
+pub grown-returns-clause-read : goal.grown-returns-clause-read
+grown-returns-clause-read g t c =
+    let one : shapes c.in_ok-parts.parts.trees.items ≡ shape c.args.left.tree ∷ [] = c.in_ok-parts.ensures.0 ∙ ap (λ (xs : List Syntax). xs ++ shape c.args.left.tree ∷ []) c.in_ok-new.ensures.0 in
+    grown_is (reader c.args.limits.brackets (c.args.limits.room - 1) 4) (may_open c.args.limits.brackets) c.args.operator (shape c.args.left.tree) (shape c.node.result.tree) (lexemes c.args.tokens.now) (lexemes c.in_ok-parts-2.rest.now) c.behind.result.now (shapes c.in_ok-parts.parts.trees.items) (shapes c.in_ok-parts-2.parts.trees.items) c.behind.ensures.pieces one c.in_ok-parts-2.ensures.read c.node.ensures.shape
+
+pub node-returns-in_err-parts-2-clause-read : goal.node-returns-in_err-parts-2-clause-read
+node-returns-in_err-parts-2-clause-read g t c =
+    let p = err_from_is_err_and c.from_residual-in_err-parts-2.result c.from_residual-in_err-parts-2.ensures.1 in
+    rw (p.1, p.2)
+    (node_fails c.in_err-parts-2.field-0.0.kind (reader c.args.limits.brackets c.args.limits.room c.args.limits.layers) (may_open c.args.limits.brackets) c.args.fields c.args.form c.turned-form.result (lexemes c.args.tokens.now) (lexemes c.in_ok-parts.rest.now) c.front.result.now c.back.result.now (shapes c.in_ok-none.none.trees.items) (shapes c.in_ok-parts.parts.trees.items) c.front.ensures.pieces c.in_ok-none.ensures.0 c.in_ok-parts.ensures.read c.turned-form.ensures c.back.ensures.pieces c.in_err-parts-2.ensures.read)
+
+pub node-returns-clause-read : goal.node-returns-clause-read
+node-returns-clause-read g t c =
+    node_is (reader c.args.limits.brackets c.args.limits.room c.args.limits.layers) (may_open c.args.limits.brackets) c.args.fields c.args.form c.turned-form.result (lexemes c.args.tokens.now) (lexemes c.in_ok-parts.rest.now) (lexemes c.in_ok-parts-2.rest.now) c.front.result.now c.back.result.now (shapes c.in_ok-none.none.trees.items) (shapes c.in_ok-parts.parts.trees.items) (shapes c.in_ok-parts-2.parts.trees.items) (shape c.node.result.tree) c.front.ensures.pieces c.in_ok-none.ensures.0 c.in_ok-parts.ensures.read c.turned-form.ensures c.back.ensures.pieces c.in_ok-parts-2.ensures.read c.node.ensures.shape
+
+pub others-returns-in-None-clause-read : goal.others-returns-in-None-clause-read
+others-returns-in-None-clause-read g t c =
+    let L = length c.args.tokens.now in
+    let item = reader c.args.limits.brackets c.args.limits.room c.args.limits.layers c.args.place c.args.kind in
+    ap (λ (k : ℕ). others item c.args.start k (shapes c.args.front.trees.items) (lexemes c.args.tokens.now)) (length-map c.args.tokens.now lexeme)
+    ∙ sym c.loop.invariant.read
+    ∙ others_stop item c.args.start (L - c.loop.counter) (shapes c.loop.parts.trees.items) (lexemes c.loop.rest.now) c.loop.parts.greedy c.loop.parts.is_greedy c.in-None.ensures
+
+pub others-returns-in_err-one-in-Some-clause-read : goal.others-returns-in_err-one-in-Some-clause-read
+others-returns-in_err-one-in-Some-clause-read g t c =
+    let L = length c.args.tokens.now in
+    let item = reader c.args.limits.brackets c.args.limits.room c.args.limits.layers c.args.place c.args.kind in
+    let p = err_from_is_err_and c.from_residual.result c.from_residual.ensures.1 in
+    rw (p.1, p.2)
+    (fails_by c.in_err-one-in-Some.field-0.0.kind _ _
+    (λ e. ap (λ (k : ℕ). others item c.args.start k (shapes c.args.front.trees.items) (lexemes c.args.tokens.now)) (length-map c.args.tokens.now lexeme)
+    ∙ sym c.loop.invariant.read
+    ∙ others_fail item c.args.start (L - c.loop.counter) (shapes c.loop.parts.trees.items) (lexemes c.loop.rest.now) (lexemes c.in-Some.begin.now) c.loop.parts.greedy (omega (arith, c.loop-test.true)) c.loop.parts.is_greedy c.in-Some.ensures e)
+    c.in_err-one-in-Some.ensures.read)
+
+pub others-returns-clause-read : goal.others-returns-clause-read
+others-returns-clause-read g t c =
+    let L = length c.args.tokens.now in
+    let item = reader c.args.limits.brackets c.args.limits.room c.args.limits.layers c.args.place c.args.kind in
+    ap (λ (k : ℕ). others item c.args.start k (shapes c.args.front.trees.items) (lexemes c.args.tokens.now)) (length-map c.args.tokens.now lexeme)
+    ∙ sym c.loop.invariant.read
+    ∙ others_done item c.args.start (L - c.loop.counter) (shapes c.loop.parts.trees.items) (lexemes c.loop.rest.now) (omega (arith, c.loop-test.false))
+
+pub part-returns-then-limits-eq0-clause-read : goal.part-returns-then-limits-eq0-clause-read
+part-returns-then-limits-eq0-clause-read g t c =
+    fails_deep c.too_deep.result.kind _ c.too_deep.ensures
+    (inside_fails c.args.limits.brackets c.args.limits.room c.args.limits.layers c.args.place c.args.kind (lexemes c.args.tokens.now) c.in-Inside.is c.if-limits-eq0.true)
+
+pub part-returns-else-limits-eq0-clause-read : goal.part-returns-else-limits-eq0-clause-read
+part-returns-else-limits-eq0-clause-read g t c =
+    gives_as _ c.read-in-Inside.result _ _
+    (inside_reads c.args.limits.brackets c.args.limits.room c.args.limits.layers c.args.place c.args.kind (lexemes c.args.tokens.now) c.in-Inside.is c.if-limits-eq0.false)
+    c.read-in-Inside.ensures.read
+
+pub others-loop-preserved : goal.others-loop-preserved
+others-loop-preserved g t c =
+    let L = length c.args.tokens.now in
+    let item = reader c.args.limits.brackets c.args.limits.room c.args.limits.layers c.args.place c.args.kind in
+    let new : shapes c.in_ok-parts-in-Some.parts.trees.items ≡ shapes c.loop.parts.trees.items ++ shape c.in_ok-one-in-Some.one.tree ∷ [] = c.in_ok-parts-in-Some.ensures.0 in
+    record {
+      read = others_next item c.args.start (L - c.loop.counter) (L - (c.loop.counter + 1)) (shapes c.loop.parts.trees.items) (shapes c.in_ok-parts-in-Some.parts.trees.items) (lexemes c.loop.rest.now) (lexemes c.in-Some.begin.now) (lexemes c.in_ok-one-in-Some.behind.now) (shape c.in_ok-one-in-Some.one.tree) c.loop.parts.greedy (omega (arith, c.loop-test.true)) (omega arith) c.loop.parts.is_greedy c.in-Some.ensures c.in_ok-one-in-Some.ensures.read new ∙ c.loop.invariant.read;
+      high = omega (arith, c.in_ok-parts-in-Some.ensures.1, max-le c.loop.invariant.high c.in_ok-one-in-Some.ensures.high);
+    }

@@ -1,0 +1,5 @@
+pub mod Operators
+pub mod Rules
+pub mod Grammar
+pub mod Parsing
+pub mod View

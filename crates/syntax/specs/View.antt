@@ -1,0 +1,18 @@
+-- Trees without where they lie in memory and without their lines.
+use Rattle.std.specs.Prelude.{List, map}
+use Rattle.syntax.specs.declared.tree.Tree.{Tree, Row_of-Tree, end_of-Tree, more_of-Tree}
+use Rattle.syntax.specs.declared.tree.Tree.TheVariants as trees
+use Rattle.syntax.specs.Grammar.{Syntax, Called, Numeral, Node, Syntaxes, NoSyntax, MoreSyntax}
+
+abbrev mutual
+  pub shape : {A : Type 0} → Tree A → Syntax
+  shape (trees.Name line text) = Called text.items
+  shape (trees.Number line value) = Numeral value
+  shape (trees.Node' line form n row) = Node form (row_shapes row)
+
+  pub row_shapes : {A : Type 0} {m : _} → Row_of-Tree A m → Syntaxes
+  row_shapes end_of-Tree = NoSyntax
+  row_shapes (more_of-Tree t rest) = MoreSyntax (shape t) (row_shapes rest)
+
+abbrev pub shapes : {A : Type 0} → List (Tree A) → List Syntax
+shapes ts = map shape ts

@@ -1,0 +1,21 @@
+//! The syntax trees of scripts.
+#![tactic(auto)]
+
+mod ahead;
+mod fault;
+mod form;
+mod limits;
+mod operator;
+mod parts;
+mod piece;
+mod reading;
+mod script;
+mod tree;
+
+pub use form::Form;
+pub use operator::Operator;
+pub use script::parse;
+pub use tree::Tree;
+
+#[cfg(test)]
+mod tests;
