@@ -20,7 +20,7 @@ pub enum Value<A: Allocator> {
 pub type Field<A> = Vec<Value<A>, A>;
 
 impl<A: Allocator + Copy> Value<A> {
-    /// A copy in memory of `alloc`.
+    /// A copy in memory of `alloc`. Costs the name's length.
     pub fn try_clone(&self, alloc: A) -> Result<Value<A>, AllocError>
         ensures same { IfOk result (λ copy. value_of copy ≡ value_of self.now) }
         ensures ranged { IsTrue (is_in_range (value_of self.now)) }

@@ -49,7 +49,7 @@ impl<A: Allocator> Model for Alphabet<A> {
 }
 
 impl<A: Allocator + Copy> Alphabet<A> {
-    /// An alphabet without channels. Takes no memory.
+    /// An alphabet without channels. Takes no memory. Constant cost.
     pub fn new(alloc: A) -> Alphabet<A>
         ensures { result ≡ [] }
     {
@@ -61,7 +61,7 @@ impl<A: Allocator + Copy> Alphabet<A> {
 }
 
 impl<A: Allocator> Alphabet<A> {
-    /// How many events there are, tick not counted.
+    /// How many events there are, tick not counted. Constant cost.
     pub fn len(&self) -> usize
         ensures count { result ≡ event_count self.now }
         ensures limit { result ≤ 256 }
@@ -69,14 +69,14 @@ impl<A: Allocator> Alphabet<A> {
         self.names.len()
     }
 
-    /// Whether there are no events, tick not counted.
+    /// Whether there are no events, tick not counted. Constant cost.
     pub fn is_empty(&self) -> bool
         ensures { IsTrue result ↔ (event_count self.now ≡ 0) }
     {
         self.names.is_empty()
     }
 
-    /// How many channels there are.
+    /// How many channels there are. Constant cost.
     pub fn channels(&self) -> usize
         ensures count { result ≡ length self.now }
         ensures sound { IsAlphabet self.now }
@@ -117,7 +117,7 @@ impl<A: Allocator> Alphabet<A> {
         }
     }
 
-    /// The event at this place. Places count from 1 in alphabet order, and tick's is behind the last event's.
+    /// The event at this place. Places count from 1 in alphabet order, and tick's is behind the last event's. Constant cost.
     pub fn at(&self, place: usize) -> Option<Event>
         ensures { (x : Event) → (result ≡ Some x) ↔ (IsEvent self.now x × (place_of self.now x ≡ place)) }
     {
@@ -131,7 +131,7 @@ impl<A: Allocator> Alphabet<A> {
         Some(Event::Of((place - 1) as u8))
     }
 
-    /// The event's place. The event is one of the alphabet's, or tick.
+    /// The event's place. The event is one of the alphabet's, or tick. Constant cost.
     pub fn place(&self, event: Event) -> usize
         requires { IsEvent self.now event }
         ensures { result ≡ place_of self.now event }
@@ -142,7 +142,7 @@ impl<A: Allocator> Alphabet<A> {
         }
     }
 
-    /// The channel declared at this place, counted from 0: its name and its fields.
+    /// The channel declared at this place, counted from 0: its name and its fields. Constant cost.
     pub fn channel(&self, index: usize) -> Option<(&[u8], &[Field<A>])>
         ensures found { IsSome result ↔ (index < length self.now) }
         ensures value { IfSome result (λ c. slice_get self.now index ≡ Some (channel_of c.0.now c.1.now)) }
