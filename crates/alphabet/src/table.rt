@@ -1,17 +1,18 @@
 //! Alphabets: channels with fields, and the numbered names of their events.
 
-ghost use Rattle.std.specs.Prelude.{◌≡◌, false, map, Err, ℕ, ◌+◌, ◌<◌, ◌≤◌, ◌↔◌, ◌++◌, [], ◌∷◌, length, IsSome, IfSome, IfOk, OnOk, OnErr, IsTrue, Some, slice_get, vec_len, vec_capacity, nat_lt};
-ghost use Rattle.alphabet.specs.Events.{Event};
+ghost use Rattle.std.specs.Prelude.{◌≡◌, false, map, Err, ℕ, ◌+◌, ◌<◌, ◌≤◌, ◌↔◌, ◌++◌, [], ◌∷◌, length, IsSome, IfSome, IfOk, OnOk, OnErr, IsTrue, Some, slice_get, vec_len, vec_capacity, nat_lt, take, leb};
+ghost use Rattle.alphabet.specs.Events.{Event, ev};
 ghost use Rattle.alphabet.specs.EventSets.{member};
 ghost use Rattle.std.specs.List.{list_all};
 ghost use Rattle.alphabet.specs.Names.{is_name};
 ghost use Rattle.alphabet.specs.Channels.{event_count, name_of, place_of, IsEvent, IsAlphabet, choices, is_field, is_declared, are_apart};
-ghost use Rattle.alphabet.specs.Stored.{field_of, channel_of};
+ghost use Rattle.alphabet.specs.EventParts.{parts_of, parts_at, value_in};
+ghost use Rattle.alphabet.specs.Stored.{value_of, field_of, channel_of};
 
 use crate::alphabet_error::AlphabetError;
 use crate::events::Event;
-use crate::field_value::{Field, clone_fields};
-use crate::naming::{add_names, event_total};
+use crate::field_value::{Field, Value, clone_fields};
+use crate::naming::{add_names, chosen, event_total};
 use indexmap::{IndexMap, IndexSet};
 use std::alloc::{AllocError, Allocator};
 use std::hash::{BuildHasherDefault, FoldHasher};
@@ -33,6 +34,8 @@ pub struct Alphabet<A: Allocator> {
     channels: IndexMap<Vec<u8, A>, Vec<Field<A>, A>, Hashing, A>,
     /// The names of the events, each at its number.
     names: IndexSet<Vec<u8, A>, Hashing, A>,
+    /// For each channel the number of its first event.
+    firsts: Vec<usize, A>,
 }
 
 impl<A: Allocator> Model for Alphabet<A> {
@@ -41,11 +44,11 @@ impl<A: Allocator> Model for Alphabet<A> {
 
     ghost Value = { List Channel };
 
-    ghost use Rattle.alphabet.specs.Tables.{declared_channels, stored_names, HasNames};
+    ghost use Rattle.alphabet.specs.Tables.{declared_channels, stored_names, HasTables};
 
     ghost view = { λ a. declared_channels a.channels.entries };
 
-    ghost invariant = { λ a. HasNames (declared_channels a.channels.entries) (stored_names a.names.keys) };
+    ghost invariant = { λ a. HasTables (declared_channels a.channels.entries) (stored_names a.names.keys) a.firsts.items };
 }
 
 impl<A: Allocator + Copy> Alphabet<A> {
@@ -56,6 +59,7 @@ impl<A: Allocator + Copy> Alphabet<A> {
         Alphabet {
             channels: IndexMap::new(alloc),
             names: IndexSet::new(alloc),
+            firsts: Vec::new(alloc),
         }
     }
 }
@@ -150,6 +154,77 @@ impl<A: Allocator> Alphabet<A> {
         let (name, fields) = self.channels.get_index(index)?;
         Some((name.as_slice(), fields.as_slice()))
     }
+
+    /// How many events the channels before this one have, which is the number of its first event.
+    fn first_of(&self, channel: usize) -> usize
+        ensures { result ≡ event_count (take channel self.now) }
+    {
+        match self.firsts.get(channel) {
+            Some(first) => *first,
+            None => self.len(),
+        }
+    }
+
+    /// The number of the channel that has the event with this number.
+    fn holder(&self, number: usize) -> usize
+        requires { number < event_count self.now }
+        ensures there { result < length self.now }
+        ensures first { event_count (take result self.now) ≤ number }
+        ensures next { number < event_count (take (result + 1) self.now) }
+    {
+        let begun = self.firsts.as_slice().partition_point(
+            |first: &usize| -> bool
+                ensures { result ≡ leb first.now number }
+            { *first <= number },
+        );
+        begun - 1
+    }
+
+    /// Where the event stands: the number of its channel, and its place among that channel's events, both counted from 0;
+    /// nothing for tick. The event is one of the alphabet's, or tick. Costs a search by halves in the channels.
+    pub fn channel_of(&self, event: Event) -> Option<(usize, usize)>
+        requires { IsEvent self.now event }
+        ensures found { IsSome result ↔ IsSome (parts_of self.now event) }
+        ensures parts { IfSome result (λ at. parts_at self.now at.0 at.1 ≡ parts_of self.now event) }
+    {
+        match event {
+            Event::Tick => None,
+            Event::Of(number) => {
+                let number = number as usize;
+                let channel = self.holder(number);
+                Some((channel, number - self.first_of(channel)))
+            }
+        }
+    }
+
+    /// The event at this place among the events of this channel, both counted from 0. Constant cost.
+    pub fn event_at(&self, channel: usize, place: usize) -> Option<Event>
+        ensures found { IsSome result ↔ IsSome (parts_at self.now channel place) }
+        ensures parts { IfSome result (λ e. parts_of self.now e ≡ parts_at self.now channel place) }
+        ensures number { IfSome result (λ e. e ≡ ev (event_count (take channel self.now) + place)) }
+    {
+        if channel >= self.channels.len() {
+            return None;
+        }
+        let first = self.first_of(channel);
+        if place >= self.first_of(channel + 1) - first {
+            return None;
+        }
+        Some(Event::Of((first + place) as u8))
+    }
+
+    /// The value that the event has in this field, counted from 0; nothing where its channel has no such field, and for
+    /// tick. The event is one of the alphabet's, or tick. Costs a search by halves in the channels, and a turn for each
+    /// field up to this one.
+    pub fn value(&self, event: Event, field: usize) -> Option<&Value<A>>
+        requires { IsEvent self.now event }
+        ensures found { IsSome result ↔ IsSome (value_in self.now event field) }
+        ensures value { IfSome result (λ v. value_in self.now event field ≡ Some (value_of v.now)) }
+    {
+        let (channel, place) = self.channel_of(event)?;
+        let (_, fields) = self.channels.get_index(channel)?;
+        chosen(fields, event_total(fields), place, field)
+    }
 }
 
 impl<A: Allocator + Copy> Alphabet<A> {
@@ -197,8 +272,11 @@ impl<A: Allocator + Copy> Alphabet<A> {
         let name = Vec::from_slice(alloc, channel)?;
         let copies = clone_fields(fields, alloc)?;
         self.channels.reserve(1)?;
+        self.firsts.reserve(1)?;
+        let first = self.names.len();
         add_names(&mut self.names, channel, fields, total)?;
         let _entered = self.channels.insert(name, copies);
+        let _begun = self.firsts.push(first);
         Ok(())
     }
 }
