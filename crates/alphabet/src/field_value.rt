@@ -8,7 +8,7 @@ ghost use Rattle.alphabet.specs.Stored.{value_of, field_of};
 use std::alloc::{AllocError, Allocator};
 
 /// A value of a field.
-#[derive(Debug, Drop)]
+#[derive(Debug, Drop, PartialEq, Eq)]
 pub enum Value<A: Allocator> {
     /// A number, written in decimal.
     Number(i64),
