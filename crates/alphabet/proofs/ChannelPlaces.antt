@@ -1,12 +1,12 @@
 -- Where the events of each channel begin, and what stands there.
-use Rattle.std.proofs.Common.{◌≡◌, ℕ, zero, suc, ◌+◌, ◌-◌, ◌<◌, ◌≤◌, true, false, leb, leb-true, leb-false, is_some, inl, inr, List, [], ◌∷◌, ◌++◌, take, length, get_or, slice_get, option_and_then, Some, None, refl, sym, ap, ◌∙◌, subst, arith}
-use Rattle.std.proofs.lemmas.List.{map-append, length-append, length-map, take_more, take_all}
+use Rattle.std.proofs.Common.{◌≡◌, ℕ, zero, suc, ◌+◌, ◌-◌, ◌<◌, ◌≤◌, true, false, leb, leb-true, leb-false, is_some, inl, inr, List, [], ◌∷◌, ◌++◌, take, length, get_or, slice_get, option_and_then, Some, None, refl, sym, ap, ◌∙◌, subst, arith, Option, IfSome}
+use Rattle.std.proofs.lemmas.List.{map-append, length-append, length-map, take_more, take_all, get_or-map}
 use Rattle.std.proofs.lemmas.Option.{none-some, same_Some, slice_get-get_or, slice_get_within, slice_get_past, get_or_from_slice_get}
 use Rattle.std.proofs.lemmas.Bool.{false≢true, cases_lt}
 use Rattle.std.specs.List.{flat_map}
 use Rattle.std.specs.List.Sorted.{IsNonDecreasingBy, IsPartitionPoint}
-use Rattle.alphabet.specs.Events.{ev}
-use Rattle.alphabet.specs.Channels.{Values, Channel, Parts, names, events, channel_events, event_text, event_count, choices}
+use Rattle.alphabet.specs.Events.{Event, tick, ev}
+use Rattle.alphabet.specs.Channels.{Values, Channel, Parts, names, events, channel_events, event_text, event_count, choices, name_of}
 use Rattle.alphabet.specs.EventParts.{parts_of, parts_at}
 use Rattle.alphabet.specs.Naming.{own_names}
 use Rattle.alphabet.specs.Tables.{first_numbers}
@@ -143,6 +143,19 @@ count_within (c ∷ cs) (suc i) = omega (arith, event_count-cons c cs, event_cou
 
 pub is_made : (cs : List Channel) (k : ℕ) → k < event_count cs → is_some (parts_of cs (ev k)) ≡ true
 is_made cs k h = ap is_some (slice_get-get_or (events cs) k nothing (omega (arith, event_count-is cs)))
+
+named_at : (cs : List Channel) (k : ℕ) (p : Parts) → slice_get (events cs) k ≡ Some p → name_of cs (ev k) ≡ event_text p
+unfolding names
+named_at cs k p at = get_or-map event_text (events cs) k p [] (slice_get_within (events cs) k p at) ∙ ap event_text (get_or_from_slice_get (events cs) k p p at)
+
+-- an event is named by what it is made of
+pub named_by_parts : (cs : List Channel) (e : Event) → IfSome (parts_of cs e) (λ p. name_of cs e ≡ event_text p)
+named_by_parts cs tick = tt
+named_by_parts cs (ev k) = by (slice_get (events cs) k) refl
+  where
+    by : (o : Option Parts) → slice_get (events cs) k ≡ o → IfSome o (λ p. name_of cs (ev k) ≡ event_text p)
+    by None e = tt
+    by (Some p) e = named_at cs k p e
 
 -- the channel at i
 module _ (cs : List Channel) (i : ℕ) (h : i < length cs) where

@@ -5,7 +5,7 @@ ghost use Rattle.alphabet.specs.Events.{Event, ev};
 ghost use Rattle.alphabet.specs.EventSets.{member};
 ghost use Rattle.std.specs.List.{list_all};
 ghost use Rattle.alphabet.specs.Names.{is_name};
-ghost use Rattle.alphabet.specs.Channels.{event_count, name_of, place_of, IsEvent, IsAlphabet, choices, is_field, is_declared, are_apart};
+ghost use Rattle.alphabet.specs.Channels.{event_count, event_text, name_of, place_of, IsEvent, IsAlphabet, choices, is_field, is_declared, are_apart};
 ghost use Rattle.alphabet.specs.EventParts.{parts_of, parts_at, value_in};
 ghost use Rattle.alphabet.specs.Stored.{value_of, field_of, channel_of};
 
@@ -88,8 +88,8 @@ impl<A: Allocator> Alphabet<A> {
         self.channels.len()
     }
 
-    /// The event with this name. Only the exact name of an event serves, and `_tick` for termination. Costs one look-up by
-    /// the name's hash.
+    /// The event with this name. Only the exact name of an event serves, and `_tick` for termination. Costs the
+    /// name's length, and one look-up by its hash. Takes no memory.
     pub fn event(&self, name: &[u8]) -> Option<Event>
         ensures { (x : Event) → (result ≡ Some x) ↔ (IsEvent self.now x × (name_of self.now x ≡ name.now)) }
     {
@@ -186,6 +186,7 @@ impl<A: Allocator> Alphabet<A> {
         requires { IsEvent self.now event }
         ensures found { IsSome result ↔ IsSome (parts_of self.now event) }
         ensures parts { IfSome result (λ at. parts_at self.now at.0 at.1 ≡ parts_of self.now event) }
+        ensures text { IfSome (parts_of self.now event) (λ p. name_of self.now event ≡ event_text p) }
     {
         match event {
             Event::Tick => None,
@@ -214,8 +215,8 @@ impl<A: Allocator> Alphabet<A> {
     }
 
     /// The value that the event has in this field, counted from 0; nothing where its channel has no such field, and for
-    /// tick. The event is one of the alphabet's, or tick. Costs a search by halves in the channels, and a turn for each
-    /// field up to this one.
+    /// tick. The event is one of the alphabet's, or tick. Costs a search by halves in the channels, and two turns for each
+    /// of the channel's fields at most.
     pub fn value(&self, event: Event, field: usize) -> Option<&Value<A>>
         requires { IsEvent self.now event }
         ensures found { IsSome result ↔ IsSome (value_in self.now event field) }
@@ -232,8 +233,8 @@ impl<A: Allocator + Copy> Alphabet<A> {
     /// twice, the names are names of the language, and no constant has a channel's name.
     ///
     /// Answers `Redeclared` where a channel has the name, else `TooManyEvents` where there would be more than 256 events,
-    /// else `Memory` where a growth is refused; the alphabet is then as before. Costs a copy of the fields, and one
-    /// look-up for each new event.
+    /// else `Memory` where a growth is refused; the alphabet is then as before. Costs a copy of the fields, and for each
+    /// new event its name's length and one look-up; a refusal as `TooManyEvents` costs one product for each field.
     pub fn declare(&mut self, channel: &[u8], fields: &[Field<A>]) -> Result<(), AlphabetError>
         requires named { IsTrue (is_name channel.now) }
         requires in_order { IsTrue (list_all is_field (map field_of fields.now)) }
