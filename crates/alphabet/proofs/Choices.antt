@@ -1,5 +1,5 @@
 -- The ways to take a value of each field: how many there are, and which stands at a number.
-use Rattle.std.proofs.Common.{◌≡◌, ℕ, zero, suc, ◌+◌, ◌-◌, ◌*◌, ◌/◌, ◌%◌, ◌^◌, ◌<◌, ◌≤◌, min, List, [], ◌∷◌, ◌++◌, map, length, get_or, take, drop, refl, sym, ap, ◌∙◌, inl, inr, arith, append_assoc, append-nil}
+use Rattle.std.proofs.Common.{◌≡◌, ℕ, zero, suc, ◌+◌, ◌-◌, ◌*◌, ◌/◌, ◌%◌, ◌^◌, ◌<◌, ◌≤◌, min, List, [], ◌∷◌, ◌++◌, map, length, get_or, slice_get, Some, take, drop, refl, sym, ap, ◌∙◌, inl, inr, arith, append_assoc, append-nil}
 use Rattle.std.proofs.lemmas.Bool.{cases_lt}
 use Rattle.std.proofs.lemmas.List.{length-append, length-map, get_or_append_left, get_or-append-add, get_or-map, take_more, drop_all}
 use Rattle.std.proofs.Math.Nat.{mul_assoc, zero-mul, suc-mul, mul-zero, le-mul_of_pos_right, mul-div_cancel_left, div-lt_iff_lt-mul, mod-lt, div-add-mod'}
@@ -144,14 +144,17 @@ module _ {K : Type 0} (f : K → Values) (xs : List K) (i : ℕ) (x : K) (h : i 
     pub turn_in_rest : left % (stride / n) < stride / n
     turn_in_rest = mod-lt left turn_stride_pos
 
+    -- the choice is the value of this field and the choice of the others
+    pub turn_choice : (v : FieldValue) → v ≡ get_or (f x) (left / (stride / n)) v → get_or (choices (drop i (map f xs))) left [] ≡ v ∷ get_or (choices (drop (i + 1) (map f xs))) (left % (stride / n)) []
+    turn_choice v at =
+        ap (λ y. get_or (choices y) left []) fields_from
+        ∙ choice_at (f x) (drop (i + 1) (map f xs)) stride left all_here some v
+        ∙ rw (← turn_stride) (ap (λ y. y ∷ get_or (choices (drop (i + 1) (map f xs))) (left % (stride / n)) []) (sym at))
+
     pub turn_text : (name name' : List ℕ) (v : FieldValue) → v ≡ get_or (f x) (left / (stride / n)) v → name' ≡ (name ++ 46 ∷ []) ++ value_text v →
         name' ++ dotted (get_or (choices (drop (i + 1) (map f xs))) (left % (stride / n)) []) ≡ name ++ dotted (get_or (choices (drop i (map f xs))) left [])
     turn_text name name' v at grown =
-        let here : get_or (choices (drop i (map f xs))) left [] ≡ v ∷ get_or (choices (drop (i + 1) (map f xs))) (left % (stride / n)) [] =
-        ap (λ y. get_or (choices y) left []) fields_from
-        ∙ choice_at (f x) (drop (i + 1) (map f xs)) stride left all_here some v
-        ∙ rw (← turn_stride) (ap (λ y. y ∷ get_or (choices (drop (i + 1) (map f xs))) (left % (stride / n)) []) (sym at)) in
-        rw (grown, here) (append_assoc (name ++ 46 ∷ []) (value_text v) (dotted (get_or (choices (drop (i + 1) (map f xs))) (left % (stride / n)) [])) ∙ append_assoc name (46 ∷ []) (value_text v ++ dotted (get_or (choices (drop (i + 1) (map f xs))) (left % (stride / n)) [])))
+        rw (grown, turn_choice v at) (append_assoc (name ++ 46 ∷ []) (value_text v) (dotted (get_or (choices (drop (i + 1) (map f xs))) (left % (stride / n)) [])) ∙ append_assoc name (46 ∷ []) (value_text v ++ dotted (get_or (choices (drop (i + 1) (map f xs))) (left % (stride / n)) [])))
 
 -- no field is left
 pub turns_done : (fs : List Values) (i stride left : ℕ) (name text : List ℕ) → length fs ≤ i → stride ≡ length (choices (drop i fs)) → left < stride → name ++ dotted (get_or (choices (drop i fs)) left []) ≡ text → name ≡ text
@@ -161,3 +164,16 @@ turns_done fs i stride left name text h all some e =
     let first : left ≡ 0 = omega arith in
     let last : get_or (choices (drop i fs)) left [] ≡ [] = ap (λ y. get_or (choices y) left []) none ∙ ap (λ y. get_or (choices []) y []) first in
     sym (append-nil name) ∙ ap (λ y. name ++ dotted y) (sym last) ∙ e
+
+-- the element where the rest of a list begins, and the rest behind it
+pub dropped_at : {A : Type 0} (i : ℕ) (xs ys : List A) (x : A) → drop i xs ≡ x ∷ ys → slice_get xs i ≡ Some x
+dropped_at zero [] ys x e = absurd (cc)
+dropped_at zero (y ∷ xs) ys x e = let f : y ≡ x = cc in ap Some f
+dropped_at (suc i) [] ys x e = absurd (cc)
+dropped_at (suc i) (y ∷ xs) ys x e = dropped_at i xs ys x e
+
+pub dropped_more : {A : Type 0} (i : ℕ) (xs ys : List A) (x : A) → drop i xs ≡ x ∷ ys → drop (suc i) xs ≡ ys
+dropped_more zero [] ys x e = absurd (cc)
+dropped_more zero (y ∷ xs) ys x e = cc
+dropped_more (suc i) [] ys x e = absurd (cc)
+dropped_more (suc i) (y ∷ xs) ys x e = dropped_more i xs ys x e

@@ -1,5 +1,5 @@
 -- The tables of an alphabet with one channel more.
-use Rattle.std.proofs.Common.{◌≡◌, ℕ, Bool, true, false, ◌||◌, nat_eq, List, [], ◌∷◌, ◌++◌, map, cond, Option, Some, is_some, Result, Ok, Err, IsOk, OnOk, refl, sym, ap, ◌∙◌, subst}
+use Rattle.std.proofs.Common.{◌≡◌, ℕ, ◌+◌, length, arith, Bool, true, false, ◌||◌, nat_eq, List, [], ◌∷◌, ◌++◌, map, cond, Option, Some, is_some, Result, Ok, Err, IsOk, OnOk, is_ok, if◌then◌else◌, refl, sym, ap, ◌∙◌, subst}
 use Rattle.std.proofs.lemmas.Bool.{false≢true}
 use Rattle.std.proofs.lemmas.List.{map-append}
 use Rattle.std.specs.declared.vec.Vec.{Vec}
@@ -7,13 +7,14 @@ use Rattle.std.specs.Map.{lookup}
 use Rattle.std.specs.Cmp.Lexicographic.{pointwise}
 use Rattle.indexmap.specs.IndexMap.{insert_entry}
 use Rattle.alphabet.specs.declared.field_value.Value.{Value}
-use Rattle.alphabet.specs.Channels.{Values, Channel, is_declared}
+use Rattle.alphabet.specs.Channels.{Values, Channel, event_count, is_declared}
 use Rattle.alphabet.specs.Naming.{own_names}
 use Rattle.alphabet.specs.Elements.{Distinct}
 use Rattle.alphabet.specs.Stored.{field_of, channel_of}
-use Rattle.alphabet.specs.Tables.{declared_channels, HasNames}
+use Rattle.alphabet.specs.Tables.{declared_channels, first_numbers, HasTables}
 use Rattle.alphabet.proofs.DistinctNames.{names_distinct}
 use Rattle.alphabet.proofs.Declaring.{IsNext, names-push, alphabet-push}
+use Rattle.alphabet.proofs.ChannelPlaces.{first_numbers-push}
 
 abbrev Entries : Type 0 → Type 0
 Entries A = List (Vec ℕ A × Vec (Vec (Value A) A) A)
@@ -46,6 +47,10 @@ pub on_ok : {T E : Type 0} (r : Result T E) (P : Type 0) → IsOk r → OnOk r P
 on_ok (Ok x) P i h = h
 on_ok (Err e) P i h = absurd (false≢true i)
 
+-- a push that had room
+pub pushed : {T E X : Type 0} (r : Result T E) (xs held ys : List X) (x : X) → IsOk r → held ≡ xs → ys ≡ (if is_ok r then held ++ x ∷ [] else held) → ys ≡ xs ++ x ∷ []
+pushed r xs held ys x ok same e = e ∙ ap (λ b. if b then held ++ x ∷ [] else held) ok ∙ ap (λ zs. zs ++ x ∷ []) same
+
 same_channel : (m n : List ℕ) (fs gs : List Values) → m ≡ n → fs ≡ gs → ◌≡◌ {A = Channel} (record { name = m; fields = fs }) (record { name = n; fields = gs })
 same_channel m n fs gs e f = λ i. record { name = e i; fields = f i }
 
@@ -58,16 +63,18 @@ channels-insert old es new k v n fs same name fields none e =
     ∙ ap (λ c. declared_channels old ++ c ∷ []) (same_channel k.items n (map field_of v.items) (map field_of fs) name fields)
 
 -- the new names are none of those that are there
-pub names_fresh : (cs : List Channel) (c : Channel) (stored : List (List ℕ)) → HasNames cs stored → IsNext cs c → Distinct (stored ++ own_names c)
-names_fresh cs c stored h n =
+pub names_fresh : (cs : List Channel) (c : Channel) (stored : List (List ℕ)) (firsts : List ℕ) → HasTables cs stored firsts → IsNext cs c → Distinct (stored ++ own_names c)
+names_fresh cs c stored firsts h n =
     subst Distinct
     (names-push cs c ∙ ap (λ ns. ns ++ own_names c) (sym h.listed))
     (names_distinct (cs ++ c ∷ []) (alphabet-push cs c h.sound n))
 
-pub tables-push : (cs new : List Channel) (c : Channel) (stored grown : List (List ℕ)) → HasNames cs stored → IsNext cs c → new ≡ cs ++ c ∷ [] → grown ≡ stored ++ own_names c → HasNames new grown
-tables-push cs new c stored grown h n e f =
-    subst (λ ds. HasNames ds grown) (sym e)
+pub tables-push : (cs new : List Channel) (c : Channel) (stored grown : List (List ℕ)) (firsts longer : List ℕ) (first : ℕ) → HasTables cs stored firsts → IsNext cs c → new ≡ cs ++ c ∷ [] → grown ≡ stored ++ own_names c → first ≡ length stored → longer ≡ firsts ++ first ∷ [] → HasTables new grown longer
+tables-push cs new c stored grown firsts longer first h n e f l g =
+    let begins : first ≡ 0 + event_count cs = omega (arith, l, ap length h.listed) in
+    subst (λ ds. HasTables ds grown longer) (sym e)
     (record {
       listed = f ∙ ap (λ ns. ns ++ own_names c) h.listed ∙ sym (names-push cs c);
+      begun = g ∙ ap (λ xs. xs ++ first ∷ []) h.begun ∙ ap (λ m. first_numbers 0 cs ++ m ∷ []) begins ∙ sym (first_numbers-push 0 cs c);
       sound = alphabet-push cs c h.sound n;
     })

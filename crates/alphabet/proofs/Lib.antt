@@ -1,9 +1,11 @@
+pub mod ChannelPlaces
 pub mod Choices
 pub mod Copies
 pub mod Declaring
 pub mod DistinctNames
 pub mod Empty
 pub mod Entering
+pub mod EventValues
 pub mod Lists
 pub mod Lookups
 pub mod MemberLists

@@ -5,5 +5,6 @@ pub mod EventSets
 pub mod Names
 pub mod Naming
 pub mod Channels
+pub mod EventParts
 pub mod Stored
 pub mod Tables

@@ -18,7 +18,7 @@ pub enum AlphabetError {
 }
 
 impl AlphabetError {
-    /// The fault's number.
+    /// The fault's number. Constant cost.
     pub fn code(&self) -> u8
         ensures { result ≡ code_of self.now }
     {
@@ -29,7 +29,7 @@ impl AlphabetError {
         }
     }
 
-    /// The fault's word.
+    /// The fault's word. Constant cost.
     pub fn word(&self) -> &'static str
         ensures { result.now ≡ word_of self.now }
     {

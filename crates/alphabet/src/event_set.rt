@@ -37,7 +37,7 @@ impl Model for EventSet {
 }
 
 impl EventSet {
-    /// The set of nothing.
+    /// The set of nothing. Constant cost.
     pub fn empty() -> EventSet
         ensures { (x : Event) → member result x ≡ false }
     {
@@ -48,7 +48,7 @@ impl EventSet {
         }
     }
 
-    /// Sigma: all events of the alphabet, without tick.
+    /// Sigma: all events of the alphabet, without tick. Costs a turn for each event.
     pub fn all<A: Allocator>(alphabet: &Alphabet<A>) -> EventSet
         ensures { (x : Event) → member result x ≡ is_numbered_below (event_count alphabet.now) x }
     {
@@ -59,7 +59,7 @@ impl EventSet {
         set
     }
 
-    /// Whether the event is in the set.
+    /// Whether the event is in the set. Constant cost.
     pub fn contains(&self, event: Event) -> bool
         ensures { result ≡ member self.now event }
     {
@@ -75,7 +75,7 @@ impl EventSet {
         }
     }
 
-    /// The set and this event.
+    /// The set and this event. Constant cost.
     pub fn with(self, event: Event) -> EventSet
         ensures { (x : Event) → member result x ≡ (is_event event x || member self x) }
     {
@@ -107,7 +107,7 @@ impl EventSet {
         }
     }
 
-    /// What is in either set.
+    /// What is in either set. Constant cost.
     pub fn union(self, other: EventSet) -> EventSet
         ensures { (x : Event) → member result x ≡ (member self x || member other x) }
     {
@@ -118,7 +118,7 @@ impl EventSet {
         }
     }
 
-    /// What is in this set and not in the other.
+    /// What is in this set and not in the other. Constant cost.
     pub fn minus(self, other: EventSet) -> EventSet
         ensures { (x : Event) → member result x ≡ (member self x && not (member other x)) }
     {
@@ -129,21 +129,21 @@ impl EventSet {
         }
     }
 
-    /// Whether nothing is in the set.
+    /// Whether nothing is in the set. Constant cost.
     pub fn is_empty(&self) -> bool
         ensures { IsTrue result ↔ ((x : Event) → member self.now x ≡ false) }
     {
         *self == EventSet::empty()
     }
 
-    /// Whether all of this set is in the other.
+    /// Whether all of this set is in the other. Constant cost.
     pub fn is_within(&self, other: &EventSet) -> bool
         ensures { IsTrue result ↔ ((x : Event) → IsTrue (member self.now x) → IsTrue (member other.now x)) }
     {
         self.minus(*other).is_empty()
     }
 
-    /// The members in alphabet order: the events by their numbers, and then tick.
+    /// The members in alphabet order: the events by their numbers, and then tick. Constant cost; so has each next member.
     pub fn iter(&self) -> Members
         ensures { result ≡ self.now }
     {

@@ -8,7 +8,7 @@ ghost use Rattle.alphabet.specs.Stored.{value_of, field_of};
 use std::alloc::{AllocError, Allocator};
 
 /// A value of a field.
-#[derive(Debug, Drop)]
+#[derive(Debug, Drop, PartialEq, Eq)]
 pub enum Value<A: Allocator> {
     /// A number, written in decimal.
     Number(i64),
@@ -20,7 +20,7 @@ pub enum Value<A: Allocator> {
 pub type Field<A> = Vec<Value<A>, A>;
 
 impl<A: Allocator + Copy> Value<A> {
-    /// A copy in memory of `alloc`.
+    /// A copy in memory of `alloc`. Costs the name's length.
     pub fn try_clone(&self, alloc: A) -> Result<Value<A>, AllocError>
         ensures same { IfOk result (λ copy. value_of copy ≡ value_of self.now) }
         ensures ranged { IsTrue (is_in_range (value_of self.now)) }

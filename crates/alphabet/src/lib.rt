@@ -5,6 +5,7 @@ mod alphabet_error;
 mod event_set;
 mod events;
 mod field_value;
+mod names;
 mod naming;
 mod table;
 #[cfg(test)]
@@ -14,4 +15,5 @@ pub use alphabet_error::AlphabetError;
 pub use event_set::{EventSet, Members};
 pub use events::{Event, Report};
 pub use field_value::{Field, Value};
+pub use names::is_name;
 pub use table::{Alphabet, SIGMA_LIMIT};

@@ -1,6 +1,6 @@
 //! The names of a channel's events, one after another.
 
-ghost use Rattle.std.specs.Prelude.{◌≡◌, ◌+◌, ◌<◌, ◌≤◌, ◌++◌, [], ◌∷◌, true, false, min, map, length, IfOk, OnOk, OnErr, slice_index_or};
+ghost use Rattle.std.specs.Prelude.{◌≡◌, ◌+◌, ◌<◌, ◌≤◌, ◌++◌, [], ◌∷◌, true, false, min, map, length, IfOk, OnOk, OnErr, ◌↔◌, IsSome, IfSome, Some, slice_get, slice_index_or};
 ghost use Rattle.std.specs.List.{list_all};
 ghost use Rattle.alphabet.specs.Channels.{choices, value_text, dotted, channel_events, event_text, is_in_range};
 ghost use Rattle.alphabet.specs.Stored.{value_of, field_of, channel_of};
@@ -83,6 +83,30 @@ fn add_name<A: Allocator + Copy>(
     let name = event_name(*names.allocator(), channel, fields, total, number)?;
     names.insert(name)?;
     Ok(())
+}
+
+/// The value that the event with this number among the channel's `total` events has in this field.
+pub fn chosen<A: Allocator>(
+    fields: &[Field<A>],
+    total: usize,
+    number: usize,
+    field: usize,
+) -> Option<&Value<A>>
+    requires all { total ≡ length (choices (map field_of fields.now)) }
+    requires within { number < total }
+    ensures found { IsSome result ↔ (field < length fields.now) }
+    ensures value { IfSome result (λ v. slice_get (slice_index_or (choices (map field_of fields.now)) number []) field ≡ Some (value_of v.now)) }
+{
+    let mut stride = total;
+    let mut left = number;
+    for (place, values) in fields.iter().enumerate() {
+        stride /= values.len();
+        if place == field {
+            return Some(&values[left / stride]);
+        }
+        left %= stride;
+    }
+    None
 }
 
 /// Puts the names of all events of a channel behind the others, or leaves the table as it was.

@@ -1,17 +1,18 @@
 //! Alphabets: channels with fields, and the numbered names of their events.
 
-ghost use Rattle.std.specs.Prelude.{◌≡◌, false, map, Err, ℕ, ◌+◌, ◌<◌, ◌≤◌, ◌↔◌, ◌++◌, [], ◌∷◌, length, IsSome, IfSome, IfOk, OnOk, OnErr, IsTrue, Some, slice_get, vec_len, vec_capacity, nat_lt};
-ghost use Rattle.alphabet.specs.Events.{Event};
+ghost use Rattle.std.specs.Prelude.{◌≡◌, false, map, Err, ℕ, ◌+◌, ◌<◌, ◌≤◌, ◌↔◌, ◌++◌, [], ◌∷◌, length, IsSome, IfSome, IfOk, OnOk, OnErr, IsTrue, Some, slice_get, vec_len, vec_capacity, nat_lt, take, leb};
+ghost use Rattle.alphabet.specs.Events.{Event, ev};
 ghost use Rattle.alphabet.specs.EventSets.{member};
 ghost use Rattle.std.specs.List.{list_all};
 ghost use Rattle.alphabet.specs.Names.{is_name};
-ghost use Rattle.alphabet.specs.Channels.{event_count, name_of, place_of, IsEvent, IsAlphabet, choices, is_field, is_declared, are_apart};
-ghost use Rattle.alphabet.specs.Stored.{field_of, channel_of};
+ghost use Rattle.alphabet.specs.Channels.{event_count, event_text, name_of, place_of, IsEvent, IsAlphabet, choices, is_field, is_declared, are_apart};
+ghost use Rattle.alphabet.specs.EventParts.{parts_of, parts_at, value_in};
+ghost use Rattle.alphabet.specs.Stored.{value_of, field_of, channel_of};
 
 use crate::alphabet_error::AlphabetError;
 use crate::events::Event;
-use crate::field_value::{Field, clone_fields};
-use crate::naming::{add_names, event_total};
+use crate::field_value::{Field, Value, clone_fields};
+use crate::naming::{add_names, chosen, event_total};
 use indexmap::{IndexMap, IndexSet};
 use std::alloc::{AllocError, Allocator};
 use std::hash::{BuildHasherDefault, FoldHasher};
@@ -33,6 +34,8 @@ pub struct Alphabet<A: Allocator> {
     channels: IndexMap<Vec<u8, A>, Vec<Field<A>, A>, Hashing, A>,
     /// The names of the events, each at its number.
     names: IndexSet<Vec<u8, A>, Hashing, A>,
+    /// For each channel the number of its first event.
+    firsts: Vec<usize, A>,
 }
 
 impl<A: Allocator> Model for Alphabet<A> {
@@ -41,27 +44,28 @@ impl<A: Allocator> Model for Alphabet<A> {
 
     ghost Value = { List Channel };
 
-    ghost use Rattle.alphabet.specs.Tables.{declared_channels, stored_names, HasNames};
+    ghost use Rattle.alphabet.specs.Tables.{declared_channels, stored_names, HasTables};
 
     ghost view = { λ a. declared_channels a.channels.entries };
 
-    ghost invariant = { λ a. HasNames (declared_channels a.channels.entries) (stored_names a.names.keys) };
+    ghost invariant = { λ a. HasTables (declared_channels a.channels.entries) (stored_names a.names.keys) a.firsts.items };
 }
 
 impl<A: Allocator + Copy> Alphabet<A> {
-    /// An alphabet without channels. Takes no memory.
+    /// An alphabet without channels. Takes no memory. Constant cost.
     pub fn new(alloc: A) -> Alphabet<A>
         ensures { result ≡ [] }
     {
         Alphabet {
             channels: IndexMap::new(alloc),
             names: IndexSet::new(alloc),
+            firsts: Vec::new(alloc),
         }
     }
 }
 
 impl<A: Allocator> Alphabet<A> {
-    /// How many events there are, tick not counted.
+    /// How many events there are, tick not counted. Constant cost.
     pub fn len(&self) -> usize
         ensures count { result ≡ event_count self.now }
         ensures limit { result ≤ 256 }
@@ -69,14 +73,14 @@ impl<A: Allocator> Alphabet<A> {
         self.names.len()
     }
 
-    /// Whether there are no events, tick not counted.
+    /// Whether there are no events, tick not counted. Constant cost.
     pub fn is_empty(&self) -> bool
         ensures { IsTrue result ↔ (event_count self.now ≡ 0) }
     {
         self.names.is_empty()
     }
 
-    /// How many channels there are.
+    /// How many channels there are. Constant cost.
     pub fn channels(&self) -> usize
         ensures count { result ≡ length self.now }
         ensures sound { IsAlphabet self.now }
@@ -84,8 +88,8 @@ impl<A: Allocator> Alphabet<A> {
         self.channels.len()
     }
 
-    /// The event with this name. Only the exact name of an event serves, and `_tick` for termination. Costs one look-up by
-    /// the name's hash.
+    /// The event with this name. Only the exact name of an event serves, and `_tick` for termination. Costs the
+    /// name's length, and one look-up by its hash. Takes no memory.
     pub fn event(&self, name: &[u8]) -> Option<Event>
         ensures { (x : Event) → (result ≡ Some x) ↔ (IsEvent self.now x × (name_of self.now x ≡ name.now)) }
     {
@@ -117,7 +121,7 @@ impl<A: Allocator> Alphabet<A> {
         }
     }
 
-    /// The event at this place. Places count from 1 in alphabet order, and tick's is behind the last event's.
+    /// The event at this place. Places count from 1 in alphabet order, and tick's is behind the last event's. Constant cost.
     pub fn at(&self, place: usize) -> Option<Event>
         ensures { (x : Event) → (result ≡ Some x) ↔ (IsEvent self.now x × (place_of self.now x ≡ place)) }
     {
@@ -131,7 +135,7 @@ impl<A: Allocator> Alphabet<A> {
         Some(Event::Of((place - 1) as u8))
     }
 
-    /// The event's place. The event is one of the alphabet's, or tick.
+    /// The event's place. The event is one of the alphabet's, or tick. Constant cost.
     pub fn place(&self, event: Event) -> usize
         requires { IsEvent self.now event }
         ensures { result ≡ place_of self.now event }
@@ -142,13 +146,85 @@ impl<A: Allocator> Alphabet<A> {
         }
     }
 
-    /// The channel declared at this place, counted from 0: its name and its fields.
+    /// The channel declared at this place, counted from 0: its name and its fields. Constant cost.
     pub fn channel(&self, index: usize) -> Option<(&[u8], &[Field<A>])>
         ensures found { IsSome result ↔ (index < length self.now) }
         ensures value { IfSome result (λ c. slice_get self.now index ≡ Some (channel_of c.0.now c.1.now)) }
     {
         let (name, fields) = self.channels.get_index(index)?;
         Some((name.as_slice(), fields.as_slice()))
+    }
+
+    /// How many events the channels before this one have, which is the number of its first event.
+    fn first_of(&self, channel: usize) -> usize
+        ensures { result ≡ event_count (take channel self.now) }
+    {
+        match self.firsts.get(channel) {
+            Some(first) => *first,
+            None => self.len(),
+        }
+    }
+
+    /// The number of the channel that has the event with this number.
+    fn holder(&self, number: usize) -> usize
+        requires { number < event_count self.now }
+        ensures there { result < length self.now }
+        ensures first { event_count (take result self.now) ≤ number }
+        ensures next { number < event_count (take (result + 1) self.now) }
+    {
+        let begun = self.firsts.as_slice().partition_point(
+            |first: &usize| -> bool
+                ensures { result ≡ leb first.now number }
+            { *first <= number },
+        );
+        begun - 1
+    }
+
+    /// Where the event stands: the number of its channel, and its place among that channel's events, both counted from 0;
+    /// nothing for tick. The event is one of the alphabet's, or tick. Costs a search by halves in the channels.
+    pub fn channel_of(&self, event: Event) -> Option<(usize, usize)>
+        requires { IsEvent self.now event }
+        ensures found { IsSome result ↔ IsSome (parts_of self.now event) }
+        ensures parts { IfSome result (λ at. parts_at self.now at.0 at.1 ≡ parts_of self.now event) }
+        ensures text { IfSome (parts_of self.now event) (λ p. name_of self.now event ≡ event_text p) }
+    {
+        match event {
+            Event::Tick => None,
+            Event::Of(number) => {
+                let number = number as usize;
+                let channel = self.holder(number);
+                Some((channel, number - self.first_of(channel)))
+            }
+        }
+    }
+
+    /// The event at this place among the events of this channel, both counted from 0. Constant cost.
+    pub fn event_at(&self, channel: usize, place: usize) -> Option<Event>
+        ensures found { IsSome result ↔ IsSome (parts_at self.now channel place) }
+        ensures parts { IfSome result (λ e. parts_of self.now e ≡ parts_at self.now channel place) }
+        ensures number { IfSome result (λ e. e ≡ ev (event_count (take channel self.now) + place)) }
+    {
+        if channel >= self.channels.len() {
+            return None;
+        }
+        let first = self.first_of(channel);
+        if place >= self.first_of(channel + 1) - first {
+            return None;
+        }
+        Some(Event::Of((first + place) as u8))
+    }
+
+    /// The value that the event has in this field, counted from 0; nothing where its channel has no such field, and for
+    /// tick. The event is one of the alphabet's, or tick. Costs a search by halves in the channels, and two turns for each
+    /// of the channel's fields at most.
+    pub fn value(&self, event: Event, field: usize) -> Option<&Value<A>>
+        requires { IsEvent self.now event }
+        ensures found { IsSome result ↔ IsSome (value_in self.now event field) }
+        ensures value { IfSome result (λ v. value_in self.now event field ≡ Some (value_of v.now)) }
+    {
+        let (channel, place) = self.channel_of(event)?;
+        let (_, fields) = self.channels.get_index(channel)?;
+        chosen(fields, event_total(fields), place, field)
     }
 }
 
@@ -157,8 +233,8 @@ impl<A: Allocator + Copy> Alphabet<A> {
     /// twice, the names are names of the language, and no constant has a channel's name.
     ///
     /// Answers `Redeclared` where a channel has the name, else `TooManyEvents` where there would be more than 256 events,
-    /// else `Memory` where a growth is refused; the alphabet is then as before. Costs a copy of the fields, and one
-    /// look-up for each new event.
+    /// else `Memory` where a growth is refused; the alphabet is then as before. Costs a copy of the fields, and for each
+    /// new event its name's length and one look-up; a refusal as `TooManyEvents` costs one product for each field.
     pub fn declare(&mut self, channel: &[u8], fields: &[Field<A>]) -> Result<(), AlphabetError>
         requires named { IsTrue (is_name channel.now) }
         requires in_order { IsTrue (list_all is_field (map field_of fields.now)) }
@@ -197,8 +273,11 @@ impl<A: Allocator + Copy> Alphabet<A> {
         let name = Vec::from_slice(alloc, channel)?;
         let copies = clone_fields(fields, alloc)?;
         self.channels.reserve(1)?;
+        self.firsts.reserve(1)?;
+        let first = self.names.len();
         add_names(&mut self.names, channel, fields, total)?;
         let _entered = self.channels.insert(name, copies);
+        let _begun = self.firsts.push(first);
         Ok(())
     }
 }

@@ -6,7 +6,7 @@ ghost use Rattle.alphabet.specs.Channels.{is_field, number};
 ghost use Rattle.alphabet.specs.Stored.{value_of, field_of};
 ghost use Rattle.alphabet_rows.specs.Numbers.{is_number};
 
-use alphabet::{Alphabet, AlphabetError, Event, Field, Value};
+use alphabet::{Alphabet, AlphabetError, Event, EventSet, Field, Value};
 use refusing::Refusing;
 use std::alloc::{AllocError, Allocator};
 use std::test::Fail;
@@ -90,6 +90,8 @@ fn a_full_alphabet_and_one_more(rt: HostRuntime) -> Result<(), Fail> {
     assert_eq!(rt; full.alphabet.event(b"c.0"), Some(Event::Of(1)));
     assert_eq!(rt; full.alphabet.event(b"c.254"), Some(Event::Of(255)));
     assert_eq!(rt; full.alphabet.event(b"c.255"), None);
+    let sigma = EventSet::all(&full.alphabet);
+    assert!(rt; sigma.contains(Event::Of(255)) && !sigma.contains(Event::TICK));
     // one event more; two fields of 16 values; five fields whose events no number of 64 bits counts
     let counts: [&[u32]; 3] = [&[256], &[16, 16], &[65_536, 65_536, 65_536, 65_536, 65_536]];
     for beyond in counts {
