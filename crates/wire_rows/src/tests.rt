@@ -1,5 +1,5 @@
 // Each row's expected replies are worked by hand from the line protocol.
-ghost use Rattle.std.specs.Prelude.{None};
+ghost use Rattle.std.specs.Prelude.{◌≡◌, None, []};
 
 use alphabet::{Alphabet, Event, EventSet, Report, Value};
 use count::Count;
@@ -9,7 +9,8 @@ use std::cell::Cell;
 use std::io;
 use std::test::Fail;
 use wire::{
-    End, Fault, Judge, Plain, Receipt, Source, SourceFault, Status, Summary, WireError, serve,
+    End, Fault, Judge, Plain, Receipt, Sink, SinkFault, Source, SourceFault, Status, Summary,
+    WireError, serve,
 };
 
 // The channel `d` with a field of 0, 1 and 2.
@@ -171,6 +172,66 @@ fn each_reply_is_flushed(rt: HostRuntime) -> Result<(), Fail> {
     let Telling { taken, waits: _ } = writer.into_inner();
     let text = b"N d.0 _tick\nS 0 0 0 0 open\nERR 10 command\nOK 1\nBYE\n";
     assert!(rt; taken.as_slice() == text.as_slice());
+    Ok(())
+}
+
+// A writer that gathers what it takes until it is flushed.
+#[derive(Drop)]
+struct Gathering {
+    gathered: Vec<u8>,
+    handed_on: Vec<u8>,
+    failures: Count,
+}
+
+impl Sink for Gathering {
+    ghost contents = { λ _. None };
+
+    ghost has_handed_on = { λ g. g.gathered.items ≡ [] };
+
+    ghost failures = { λ g. g.failures.n };
+
+    fn write(&mut self, bytes: &[u8]) -> Result<usize, SinkFault> {
+        if self.gathered.extend_from_slice(bytes).is_err() {
+            self.failures = Count::after(&self.failures);
+            return Err(SinkFault);
+        }
+        Ok(bytes.len())
+    }
+
+    fn flush(&mut self) -> Result<(), SinkFault> {
+        if self.handed_on.extend_from_slice(&self.gathered).is_err() {
+            self.failures = Count::after(&self.failures);
+            return Err(SinkFault);
+        }
+        self.gathered.clear();
+        Ok(())
+    }
+}
+
+#[test]
+fn nothing_waits_at_the_end(rt: HostRuntime) -> Result<(), Fail> {
+    let alphabet = digits(rt.alloc())?;
+    assert_eq!(rt; alphabet.len(), 3);
+    let mut reader = Plain::new(b"E d.0\nx\nE d".as_slice());
+    let mut writer = Gathering {
+        gathered: Vec::new(rt.alloc()),
+        handed_on: Vec::new(rt.alloc()),
+        failures: Count::new(),
+    };
+    let mut judge = AllButOne { judged: 0 };
+    let end = serve(
+        &rt,
+        rt.alloc(),
+        &mut reader,
+        &mut writer,
+        &mut judge,
+        &alphabet,
+    );
+    if end != Err(WireError::Write) {
+        prove!(writer.gathered.is_empty());
+    }
+    assert!(rt; end == Ok(End::Input));
+    assert!(rt; writer.handed_on.as_slice() == b"OK 1\nERR 10 command\n".as_slice());
     Ok(())
 }
 
