@@ -1,7 +1,6 @@
 //! Reads small scripts: channels without fields, and one process of `STOP`, prefix and external choice.
 #![tactic(auto)]
 
-mod naming;
 mod phrase;
 mod script;
 

@@ -6,9 +6,8 @@ ghost use Rattle.monitor.specs.Plain.{IsPlain};
 ghost use Rattle.alphabet.specs.Channels.{IsEvent, event_count};
 ghost use Rattle.outline.specs.Plain.{HasNoFields};
 
-use crate::naming::is_name;
 use crate::phrase::{Named, Phrase, expected, misplaced, read_phrase};
-use alphabet::{Alphabet, AlphabetError, Event, Field};
+use alphabet::{Alphabet, AlphabetError, Event, Field, is_name};
 use std::alloc::Allocator;
 use term::{Spec, Term};
 use tokens::{Keyword, ScriptError, ScriptErrorKind, Symbol, Token, Word, end_line, scan};

@@ -29,9 +29,13 @@ pub trait Source {
         ensures failed { OnErr result (failures self.old < failures self.new) };
 }
 
-/// Where bytes go. It may tell the bytes that it holds, and it counts its failures. A write that takes nothing is a failure.
+/// Where bytes go. It may tell the bytes that it holds, and that it has handed them on, and it counts its failures. A write that
+/// takes nothing is a failure.
 pub trait Sink {
     ghost contents: { Self → Option (List ℕ) };
+
+    /// All that it took has been handed on.
+    ghost has_handed_on: { Self → Type 0 } = { λ _. Unit {0} };
 
     ghost failures: { Self → ℕ };
 
@@ -47,6 +51,7 @@ pub trait Sink {
     /// Hands on what was taken.
     fn flush(&mut self) -> Result<(), SinkFault>
         ensures bytes { Keeps (contents self.old) (contents self.new) }
+        ensures handed_on { OnOk result (has_handed_on self.new) }
         ensures steady { OnOk result (failures self.new ≡ failures self.old) }
         ensures failed { OnErr result (failures self.old < failures self.new) };
 }

@@ -71,6 +71,7 @@ fn make_desk<B: Allocator + Clone>(alloc: B) -> Result<Desk<B>, AllocError>
 // Sends all of the text, or a beginning of it.
 fn send<W: Sink>(writer: &mut W, text: &[u8]) -> Result<(), SinkFault>
     ensures ok { OnOk result (Appends (W.contents writer.old) (W.contents writer.new) text.now) }
+    ensures handed_on { OnOk result (W.has_handed_on writer.new) }
     ensures cut { OnErr result ((n : ℕ) × Appends (W.contents writer.old) (W.contents writer.new) (take n text.now)) }
     ensures steady { OnOk result (W.failures writer.new ≡ W.failures writer.old) }
     ensures failed { OnErr result (W.failures writer.old < W.failures writer.new) }
@@ -85,6 +86,7 @@ fn send<W: Sink>(writer: &mut W, text: &[u8]) -> Result<(), SinkFault>
 /// Tells a fault on a connection that has no judge.
 pub fn refuse<W: Sink>(writer: &mut W, fault: Fault) -> Result<(), SinkFault>
     ensures ok { OnOk result (Appends (W.contents writer.old) (W.contents writer.new) (fault_text fault)) }
+    ensures handed_on { OnOk result (W.has_handed_on writer.new) }
     ensures cut { OnErr result ((n : ℕ) × Appends (W.contents writer.old) (W.contents writer.new) (take n (fault_text fault))) }
     ensures failed { OnErr result (W.failures writer.old < W.failures writer.new) }
 {
@@ -94,6 +96,7 @@ pub fn refuse<W: Sink>(writer: &mut W, fault: Fault) -> Result<(), SinkFault>
 // Replies to a line that is too long, which ends the connection.
 fn cut_off<W: Sink>(writer: &mut W) -> Result<Option<End>, WireError>
     ensures ok { OnOk result (Appends (W.contents writer.old) (W.contents writer.new) (codes "ERR 12 line\n")) }
+    ensures handed_on { OnOk result (W.has_handed_on writer.new) }
     ensures cut { OnErr result ((n : ℕ) × Appends (W.contents writer.old) (W.contents writer.new) (take n (codes "ERR 12 line\n"))) }
     ensures steady { OnOk result (W.failures writer.new ≡ W.failures writer.old) }
     ensures failed { OnErr result (W.failures writer.old < W.failures writer.new) }
@@ -150,6 +153,7 @@ fn hear_line<W: Sink, J: Judge, A: Allocator, B: Allocator>(
     ensures hears { Hears (LineReplies J.reports J.statuses J.nexts alphabet.now)
         judge.old judge.new (W.contents writer.old) (W.contents writer.new)
         (desk.old.begun.items ++ (piece.now ++ 10 ∷ [])) desk.new.begun.items result }
+    ensures handed_on { OnOk result (W.has_handed_on writer.new) }
     ensures events { J.event_count judge.new ≡ J.event_count judge.old }
     ensures steady { OnOk result (W.failures writer.new ≡ W.failures writer.old) }
     ensures failed { OnErr result (W.failures writer.old < W.failures writer.new) }
@@ -192,6 +196,7 @@ fn feed<W: Sink, J: Judge, A: Allocator, B: Allocator>(
     ensures hears { Hears (LineReplies J.reports J.statuses J.nexts alphabet.now)
         judge.old judge.new (W.contents writer.old) (W.contents writer.new)
         (desk.old.begun.items ++ bytes.now) desk.new.begun.items result }
+    ensures handed_on { W.has_handed_on writer.old → OnOk result (W.has_handed_on writer.new) }
     ensures events { J.event_count judge.new ≡ J.event_count judge.old }
     ensures steady { OnOk result (W.failures writer.new ≡ W.failures writer.old) }
     ensures failed { OnErr result (W.failures writer.old < W.failures writer.new) }
@@ -215,7 +220,8 @@ fn feed<W: Sink, J: Judge, A: Allocator, B: Allocator>(
 /// Answers the lines of a connection until a Q, the end of the input, a line that is too long, or a fault. The judge has the
 /// alphabet that is handed in. Room for a begun line and for every reply but that of `N` is made first, and `Memory` comes
 /// then alone; an `N` for which there is no memory is answered so. Each reply is one write where the writer takes it whole,
-/// and is flushed. Cost: each byte is looked at once to find the line's end; a line that lies whole in one read isn't copied.
+/// and is flushed: where nothing waited in the writer before, no reply waits there afterwards, save where a write or a flush
+/// failed. Cost: each byte is looked at once to find the line's end; a line that lies whole in one read isn't copied.
 pub fn serve<T: Wait, R: Source, W: Sink, J: Judge, A: Allocator, B: Allocator + Clone + Drop>(
     rt: &T,
     alloc: B,
@@ -227,6 +233,7 @@ pub fn serve<T: Wait, R: Source, W: Sink, J: Judge, A: Allocator, B: Allocator +
     requires { J.event_count judge.old ≡ event_count alphabet.now }
     ensures serves { Serves (LineReplies J.reports J.statuses J.nexts alphabet.now)
         judge.old judge.new (R.left reader.old) (R.left reader.new) (W.contents writer.old) (W.contents writer.new) result }
+    ensures handed_on { W.has_handed_on writer.old → result ≢ Err WireError.Write → W.has_handed_on writer.new }
     ensures events { J.event_count judge.new ≡ J.event_count judge.old }
     ensures reader_failed { IsErrOf result WireError.Read → R.failures reader.old < R.failures reader.new }
     ensures writer_failed { IsErrOf result WireError.Write → W.failures writer.old < W.failures writer.new }

@@ -31,6 +31,7 @@ loop-line-preserved g c =
       talk = subst (λ v. Open Says j k old new v d) (append_assoc first so_far.front piece) talk;
       events = c.in-Ok-None.ensures.events ∙ so_far.events;
       begun = talk.5;
+      handed_on = λ before. c.in-Ok-None.ensures.handed_on;
       steady = c.in-Ok-None.ensures.steady ∙ so_far.steady;
     }
 

@@ -14,6 +14,7 @@ invariant-loop-line g l = record {
       (l.fn.desk.begun.items ++ front) l.desk.begun.items;
   events : g.J.Judge.event_count l.judge ≡ g.J.Judge.event_count l.fn.judge;
   begun : IsShort l.desk.begun.items;
+  handed_on : g.W.Sink.has_handed_on l.fn.writer → g.W.Sink.has_handed_on l.writer;
   steady : g.W.Sink.failures l.writer ≡ g.W.Sink.failures l.fn.writer;
 }
 

@@ -29,6 +29,7 @@ pieces-preserved g c =
       talk = (talk.0 ++ piece, took, open_now);
       events = c.in-Ok-None.ensures.events ∙ c.pieces.invariant.events;
       begun = open_now.5;
+      handed_on = λ before. c.in-Ok-None.ensures.handed_on (c.pieces.invariant.handed_on before);
       reader_steady = c.in-Ok-read.ensures.steady ∙ c.pieces.invariant.reader_steady;
       writer_steady = c.in-Ok-None.ensures.steady ∙ c.pieces.invariant.writer_steady;
     }

@@ -12,6 +12,7 @@ invariant-pieces g l = record {
       l.fn.judge l.judge (g.W.Sink.contents l.fn.writer) (g.W.Sink.contents l.writer) heard l.desk.begun.items);
   events : g.J.Judge.event_count l.judge ≡ g.J.Judge.event_count l.fn.judge;
   begun : IsShort l.desk.begun.items;
+  handed_on : g.W.Sink.has_handed_on l.fn.writer → g.W.Sink.has_handed_on l.writer;
   reader_steady : g.R.Source.failures l.reader ≡ g.R.Source.failures l.fn.reader;
   writer_steady : g.W.Sink.failures l.writer ≡ g.W.Sink.failures l.fn.writer;
 }
