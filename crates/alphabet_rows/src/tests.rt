@@ -105,19 +105,6 @@ fn a_full_alphabet_and_one_more(rt: HostRuntime) -> Result<(), Fail> {
 }
 
 #[test]
-fn a_field_without_values(rt: HostRuntime) -> Result<(), Fail> {
-    let Ok(after) = declared(rt.alloc(), &[3, 0]) else {
-        return Err(AllocError.into());
-    };
-    assert!(rt; after.answer.is_ok());
-    assert_eq!(rt; after.alphabet.channels(), 2);
-    assert_eq!(rt; after.alphabet.len(), 1);
-    assert_eq!(rt; after.alphabet.event_at(0, 0), Some(Event::Of(0)));
-    assert_eq!(rt; after.alphabet.event_at(1, 0), None);
-    Ok(())
-}
-
-#[test]
 fn each_refused_request(rt: HostRuntime) -> Result<(), Fail> {
     let mut refused = 0u64;
     for which in 1..100u64 {
