@@ -1,7 +1,11 @@
 pub mod Branches
 pub mod Climbed
 pub mod Climbing
+pub mod Forms
 pub mod Lists
+pub mod Noded
+pub mod Spelled
 pub mod Sound
 pub mod Steps
 pub mod Table
+pub mod Texts
