@@ -148,6 +148,8 @@ fn deep_rows(rt: HostRuntime) -> Result<(), AllocError> {
         row_of("{", "STOP", "}", 250, "2: 9 depth"),
         row_of("c.(", "STOP", ")", 249, "ok"),
         row_of("c.(", "STOP", ")", 250, "2: 9 depth"),
+        row_of("[] x:(", "STOP", ") @ x", 249, "ok"),
+        row_of("[] x:(", "STOP", ") @ x", 250, "2: 9 depth"),
         row_of("", "x", "+ x", 249, "ok"),
         row_of("", "x", "+ x", 250, "2: 9 depth"),
         row_of("- ", "x", "", 249, "ok"),
