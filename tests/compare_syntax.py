@@ -5,7 +5,7 @@
 
 REFERENCE is a folder with the package `cspref`, a reader in Python that was written apart from this one. The texts are
 made from the seed: valid ones, ones that were damaged at one place or several, and ones at the limits of heights and
-brackets. `tests/trees/main.rt` is run by `rt try` in a folder of its own, once for all texts. Each difference is
+brackets. `tests/trees/main.rt` is run by `rt try` (or by what the variable RT names) in a folder of its own. Each difference is
 printed; the exit status is 1 where there is one. Where both find a text too deep, their lines may differ: this reader
 tells the first token with which every tree is too high, the reference the next one in some forms.
 """
@@ -19,6 +19,8 @@ import sys
 import tempfile
 
 TOP = os.path.dirname(os.path.dirname(os.path.abspath(__file__)))
+# `rt try` gives a program two minutes, and runs it with checks.
+BATCH = 2_500
 WORDS = {1: "byte", 2: "token", 3: "expected", 7: "range", 9: "depth", 10: "large", 11: "unsupported"}
 
 
@@ -307,15 +309,21 @@ def own_answers(texts):
         shutil.copy(os.path.join(TOP, "tests", "trees", "main.rt"), os.path.join(crates, "trees", "src"))
         with open(os.path.join(folder, "crates.txt"), "w") as out:
             out.write("tokens: thiserror\nsyntax: tokens\ntrees: syntax tokens\n")
-        lines = "".join(text.hex() + "\n" for text in texts)
-        command = os.environ.get("RT", "rt").split() + ["try"]
-        room = lambda: resource.setrlimit(resource.RLIMIT_STACK, (1 << 30, resource.getrlimit(resource.RLIMIT_STACK)[1]))
-        run = subprocess.run(command, cwd=os.path.join(crates, "trees"), input=lines.encode(), stdout=subprocess.PIPE,
-                             preexec_fn=room)
-        answers = run.stdout.decode().split("\n")
-        if len(answers) < len(texts):
-            sys.exit("no answers: %s" % answers[-3:])
-        return answers[:len(texts)]
+        out = []
+        for start in range(0, len(texts), BATCH):
+            out += answers_of(os.path.join(crates, "trees"), texts[start:start + BATCH])
+        return out
+
+
+def answers_of(folder, texts):
+    lines = "".join(text.hex() + "\n" for text in texts)
+    command = os.environ.get("RT", "rt").split() + ["try"]
+    stack = lambda: resource.setrlimit(resource.RLIMIT_STACK, (1 << 30, resource.getrlimit(resource.RLIMIT_STACK)[1]))
+    run = subprocess.run(command, cwd=folder, input=lines.encode(), stdout=subprocess.PIPE, preexec_fn=stack)
+    answers = run.stdout.decode().split("\n")
+    if len(answers) < len(texts):
+        sys.exit("no answers: %s" % answers[-3:])
+    return answers[:len(texts)]
 
 
 def main():
