@@ -1,6 +1,9 @@
 pub mod Branches
 pub mod Climbed
 pub mod Climbing
+pub mod Complete
+pub mod CompleteExamples
+pub mod CompleteFollow
 pub mod Lists
 pub mod Sound
 pub mod Steps
