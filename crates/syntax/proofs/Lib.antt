@@ -1,9 +1,11 @@
 pub mod Branches
 pub mod Climbed
 pub mod Climbing
-pub mod Complete
 pub mod CompleteExamples
+pub mod CompleteFirst
 pub mod CompleteFollow
+pub mod CompleteGoal
+pub mod CompleteRow
 pub mod Lists
 pub mod Sound
 pub mod Steps

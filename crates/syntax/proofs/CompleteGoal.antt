@@ -65,3 +65,8 @@ Comes t = (b r layers l m n : ℕ) (rest : List Lexeme) → l ≤ 16 → level_i
 
 abbrev pub IsScriptOf : List Lexeme → Syntax → Type 0
 IsScriptOf toks t = (is_script t ≡ true) × Fits t × (height_of t ≤ 250) × (nesting t ≤ 250) × (toks ≡ flat t)
+
+-- every part of it is read where it stands, and every phrase of them comes to its end
+abbrev pub AllRead : Syntaxes → Type 0
+AllRead NoSyntax = Unit {0}
+AllRead (MoreSyntax t ts) = (IsRead t × Comes t) × AllRead ts
