@@ -1,5 +1,5 @@
 -- Where the tokens are those of a rule's parts, the pieces of the rule read them.
-use Rattle.std.proofs.Common.{◌≡◌, ℕ, zero, suc, ◌+◌, ◌-◌, ◌<◌, ◌≤◌, List, [], ◌∷◌, ◌++◌, length, max, Bool, true, false, cond, not, Option, Some, None, refl, sym, ap, subst, ◌∙◌, append_assoc, arith, ◌&&◌, ◌||◌}
+use Rattle.std.proofs.Common.{◌≡◌, ℕ, zero, suc, ◌+◌, ◌-◌, ◌<◌, ◌≤◌, List, [], ◌∷◌, ◌++◌, length, max, Bool, true, false, cond, not, Option, Some, None, refl, sym, ap, subst, ◌∙◌, append_assoc, arith, ◌&&◌, ◌||◌, ◌⊎◌, inl, inr}
 use Rattle.std.specs.Prelude.{nat_le}
 use Rattle.std.proofs.lemmas.Bool.{leb-true}
 use Rattle.std.proofs.lemmas.List.{append-nil, length-append}
@@ -31,6 +31,7 @@ use Rattle.syntax.proofs.Lists.{open_push}
 use Rattle.syntax.proofs.CompleteFollow.{quiet, calm, declares, Behind, NoSign, Follows, closes, closes_follows}
 use Rattle.syntax.proofs.CompleteFirst.{spelled_sign, spelled_open, fits_sign, fits_open, field_first, field_some, declaration_first, declaration_some, both_true}
 use Rattle.syntax.proofs.CompleteGoal.{rank, is_read_kind, IsRead, Comes, AllRead}
+use Rattle.syntax.proofs.CompleteTall.{tall, has_room}
 
 -- ---- parts as a list
 
@@ -174,7 +175,7 @@ spelled_more place k start ps u us rest =
     let s = spell us (pieces.Others place k start ∷ ps) in
     append_assoc (before start) (flat u ++ s) rest ∙ ap (λ (xs : List Lexeme). before start ++ xs) (append_assoc (flat u) s rest)
 
-count_length : (place : Place) (k : Kind) (start : Start) (ps : List Piece) (ts : Syntaxes) (rest : List Lexeme) → continues k start ≡ true → FitAll ts (pieces.Others place k start ∷ ps) → how_many ts ≤ length (spell ts (pieces.Others place k start ∷ ps) ++ rest)
+pub count_length : (place : Place) (k : Kind) (start : Start) (ps : List Piece) (ts : Syntaxes) (rest : List Lexeme) → continues k start ≡ true → FitAll ts (pieces.Others place k start ∷ ps) → how_many ts ≤ length (spell ts (pieces.Others place k start ∷ ps) ++ rest)
 count_length place k start ps NoSyntax rest e fits = omega arith
 count_length place k start ps (MoreSyntax u us) rest e fits =
     let s = spell us (pieces.Others place k start ∷ ps) ++ rest in
@@ -192,7 +193,7 @@ next_follows place k start ps rest front u (MoreSyntax v vs) e fits takes apart 
     (continued k start (is_open u) v _ e fits.1.0 fits.0 (both_true (takes_field (fields_at start) v) (takes_fields (fields_at start) vs) takes).0
     (λ w. sym (open_push front u) ∙ apart_shut (wants_shut start) (front ++ u ∷ []) v vs apart w))
 
-pub others_complete : (b r n : ℕ) (place : Place) (k : Kind) (start : Start) (ps : List Piece) (rest : List Lexeme) → 0 < r → continues k start ≡ true → is_read_kind k ≡ true → ranked place n k ≡ true → NoMore start (spell_signs ps ++ rest) → (ts : Syntaxes) (front : List Syntax) (m : ℕ) → AllRead ts → FitAll ts (pieces.Others place k start ∷ ps) → takes_fields (fields_at start) ts ≡ true → highest ts ≤ r → nests ts (pieces.Others place k start ∷ ps) ≤ b → how_many ts ≤ m → Apart (wants_shut start) front ts → (is_last ts ≡ false → Follows k (last_open ts) (spell_signs ps ++ rest)) → others (reader b r n place k) start m front (spell ts (pieces.Others place k start ∷ ps) ++ rest) ≡ some_row (front ++ listed ts) (spell_signs ps ++ rest)
+pub others_complete : (b r n : ℕ) (place : Place) (k : Kind) (start : Start) (ps : List Piece) (rest : List Lexeme) → (tall k ≡ true) ⊎ (0 < r) → continues k start ≡ true → is_read_kind k ≡ true → ranked place n k ≡ true → NoMore start (spell_signs ps ++ rest) → (ts : Syntaxes) (front : List Syntax) (m : ℕ) → AllRead ts → FitAll ts (pieces.Others place k start ∷ ps) → takes_fields (fields_at start) ts ≡ true → highest ts ≤ r → nests ts (pieces.Others place k start ∷ ps) ≤ b → how_many ts ≤ m → Apart (wants_shut start) front ts → (is_last ts ≡ false → Follows k (last_open ts) (spell_signs ps ++ rest)) → others (reader b r n place k) start m front (spell ts (pieces.Others place k start ∷ ps) ++ rest) ≡ some_row (front ++ listed ts) (spell_signs ps ++ rest)
 unfolding spell spell_signs takes_fields nests nests_part
 others_complete b r n place k start ps rest positive e kind rank none NoSyntax front m read fits takes high nested count apart f =
     others_stop (reader b r n place k) start m front (spell_signs ps ++ rest) (last_is_open front) refl (sym (none (last_is_open front)))
@@ -203,8 +204,9 @@ others_complete b r n place k start ps rest positive e kind rank none (MoreSynta
     let s = spell us (pieces.Others place k start ∷ ps) ++ rest in
     let t = both_true (takes_field (fields_at start) u) (takes_fields (fields_at start) us) takes in
     let apart' = apart_next (wants_shut start) front u us apart in
+    let low : height_of u ≤ r = omega (arith, high, le-max_left (height_of u) (highest us)) in
     let first : part (flat u ++ s) ≡ some_found u s =
-        part_read b r n place k u s read.0.0 kind fits.1.0 positive (omega (arith, high, le-max_left (height_of u) (highest us))) (omega (arith, nested, le-max_left (within place (nesting u)) (nests us (pieces.Others place k start ∷ ps)))) rank
+        part_read b r n place k u s read.0.0 kind fits.1.0 (has_room r k u positive kind fits.1.0 fits.0 low) low (omega (arith, nested, le-max_left (within place (nesting u)) (nests us (pieces.Others place k start ∷ ps)))) rank
         (next_follows place k start ps rest front u us e fits.1.1 t.1 apart' (f refl)) in
     ap (others part start (suc m) front) (spelled_more place k start ps u us rest)
     ∙ sym (others_next part start (suc m) m front (front ++ u ∷ []) (before start ++ (flat u ++ s)) (flat u ++ s) s u (last_is_open front) (omega arith) (omega arith) refl
@@ -294,7 +296,7 @@ none_left : (t : Syntax) (others : List Piece → Type 0) → FitsPart t others 
 none_left t others h = h
 
 -- what stands behind a part ends it
-part_follows : (place : Place) (k : Kind) (ps : List Piece) (t : Syntax) (ts : Syntaxes) (front : List Syntax) (o : Bool) (rest : List Lexeme) → joins k ps ≡ true → FitAll ts ps → Tail (pieces.Part place k ∷ ps) o rest → Opened (MoreSyntax t ts) o → Apart (shutting ps) (front ++ t ∷ []) ts → Follows k (is_open t) (spell ts ps ++ rest)
+pub part_follows : (place : Place) (k : Kind) (ps : List Piece) (t : Syntax) (ts : Syntaxes) (front : List Syntax) (o : Bool) (rest : List Lexeme) → joins k ps ≡ true → FitAll ts ps → Tail (pieces.Part place k ∷ ps) o rest → Opened (MoreSyntax t ts) o → Apart (shutting ps) (front ++ t ∷ []) ts → Follows k (is_open t) (spell ts ps ++ rest)
 unfolding joins ends_with last_open spell spell_signs shutting
 part_follows place k [] t NoSyntax front o rest e fits tail opened apart = subst (λ (b : Bool). Follows k b rest) (sym (opened refl)) tail
 part_follows place k [] t (MoreSyntax u us) front o rest e fits tail opened apart = absurd (none_left u (FitAll us) fits.1)
@@ -349,9 +351,20 @@ taken_any starts.Dot (MoreSyntax t ts) e = taken_any starts.Dot ts e
 taken_any starts.Any NoSyntax e = refl
 taken_any starts.Any (MoreSyntax t ts) e = taken_any starts.Any ts e
 
+-- each part of the rule is tall
+unfoldable pub tall_pieces : List Piece → Bool
+tall_pieces [] = true
+tall_pieces (pieces.Part place k ∷ ps) = tall k && tall_pieces ps
+tall_pieces (pieces.Others place k start ∷ ps) = tall k && tall_pieces ps
+tall_pieces (p ∷ ps) = tall_pieces ps
+
+room_part : (k : Kind) (ps : List Piece) (r : ℕ) → ((tall k && tall_pieces ps) ≡ true) ⊎ (0 < r) → ((tall k ≡ true) ⊎ (0 < r)) × ((tall_pieces ps ≡ true) ⊎ (0 < r))
+room_part k ps r (inl e) = let b = both_true (tall k) (tall_pieces ps) e in (inl b.0, inl b.1)
+room_part k ps r (inr h) = (inr h, inr h)
+
 -- the tokens of a rule's parts, and what may stand behind them, are read as these parts
-pub row_complete : (b r n : ℕ) (ps : List Piece) (o : Bool) (rest : List Lexeme) (ts : Syntaxes) (front : List Syntax) → 0 < r → linked n ps ≡ true → (opens_any ps ≡ true → 0 < b) → AllRead ts → FitAll ts ps → highest ts ≤ r → nests ts ps ≤ b → Apart (shutting ps) front ts → Tail ps o rest → Opened ts o → row (reader b r n) (may_open b) ps front (spell ts ps ++ rest) ≡ some_row (front ++ listed ts) rest
-unfolding row step linked spell spell_signs spell_part flat nests nests_part is_called name_at shutting
+pub row_complete : (b r n : ℕ) (ps : List Piece) (o : Bool) (rest : List Lexeme) (ts : Syntaxes) (front : List Syntax) → (tall_pieces ps ≡ true) ⊎ (0 < r) → linked n ps ≡ true → (opens_any ps ≡ true → 0 < b) → AllRead ts → FitAll ts ps → highest ts ≤ r → nests ts ps ≤ b → Apart (shutting ps) front ts → Tail ps o rest → Opened ts o → row (reader b r n) (may_open b) ps front (spell ts ps ++ rest) ≡ some_row (front ++ listed ts) rest
+unfolding row step linked spell spell_signs spell_part flat nests nests_part is_called name_at shutting tall_pieces
 row_complete b r n [] o rest NoSyntax front positive e opens read fits high nested apart tail opened = ap (λ (xs : List Syntax). some_row xs rest) (sym (append-nil front))
 row_complete b r n [] o rest (MoreSyntax t ts) front positive e opens read fits high nested apart tail opened = absurd (none_left t (FitAll ts) fits.1)
 row_complete b r n (pieces.Sign s ∷ ps) o rest ts front positive e opens read fits high nested apart tail opened =
@@ -376,12 +389,14 @@ row_complete b r n (pieces.Part place k ∷ ps) o rest (MoreSyntax t ts) front p
     let e3 = both_true (joins k ps) (linked n ps) e2.1 in
     let s = spell ts ps ++ rest in
     let apart' = apart_next (shutting ps) front t ts apart in
+    let room = room_part k ps r positive in
+    let low : height_of t ≤ r = omega (arith, high, le-max_left (height_of t) (highest ts)) in
     let first : reader b r n place k (flat t ++ s) ≡ some_found t s =
-        part_read b r n place k t s read.0.0 e1.0 fits.1.0 positive (omega (arith, high, le-max_left (height_of t) (highest ts))) (omega (arith, nested, le-max_left (within place (nesting t)) (nests ts ps))) e2.0
+        part_read b r n place k t s read.0.0 e1.0 fits.1.0 (has_room r k t room.0 e1.0 fits.1.0 fits.0 low) low (omega (arith, nested, le-max_left (within place (nesting t)) (nests ts ps))) e2.0
         (part_follows place k ps t ts front o rest e3.0 fits.1.1 tail opened apart') in
     ap (row (reader b r n) (may_open b) (pieces.Part place k ∷ ps) front) (append_assoc (flat t) (spell ts ps) rest)
     ∙ ap (λ (x : Option Found). found_row (reader b r n) (may_open b) ps (x >>= put front)) first
-    ∙ row_complete b r n ps o rest ts (front ++ t ∷ []) positive e3.1 opens read.1 fits.1.1 (omega (arith, high, le-max_right (height_of t) (highest ts))) (omega (arith, nested, le-max_right (within place (nesting t)) (nests ts ps))) apart' (tail_part place k ps o rest tail) (opened_next t ts o opened)
+    ∙ row_complete b r n ps o rest ts (front ++ t ∷ []) room.1 e3.1 opens read.1 fits.1.1 (omega (arith, high, le-max_right (height_of t) (highest ts))) (omega (arith, nested, le-max_right (within place (nesting t)) (nests ts ps))) apart' (tail_part place k ps o rest tail) (opened_next t ts o opened)
     ∙ ap (λ (xs : List Syntax). some_row xs rest) (append_assoc front (t ∷ []) (listed ts))
 row_complete b r n (pieces.Others place k start ∷ ps) o rest ts front positive e opens read fits high nested apart tail opened =
     let e1 = both_true (is_read_kind k) (ranked place n k && (continues k start && (not (is_fields start) && (ends_with k start ps && only_signs ps)))) e in
@@ -391,6 +406,6 @@ row_complete b r n (pieces.Others place k start ∷ ps) o rest ts front positive
     let e5 = both_true (ends_with k start ps) (only_signs ps) e4.1 in
     let behind = others_tail place k start ps o rest e5.0 tail in
     ap (found_row (reader b r n) (may_open b) ps)
-    (others_complete b r n place k start ps rest positive e3.0 e1.0 e2.0 behind.1 ts front _ read fits (taken_any start ts e4.0) high nested (count_length place k start ps ts rest e3.0 fits) apart
+    (others_complete b r n place k start ps rest (room_part k ps r positive).0 e3.0 e1.0 e2.0 behind.1 ts front _ read fits (taken_any start ts e4.0) high nested (count_length place k start ps ts rest e3.0 fits) apart
         (λ l. subst (λ (x : Bool). Follows k x (spell_signs ps ++ rest)) (sym (opened l)) behind.0))
     ∙ signs_read (reader b r n) (may_open b) ps (front ++ listed ts) rest e5.1

@@ -4,8 +4,13 @@ pub mod Climbing
 pub mod CompleteExamples
 pub mod CompleteFirst
 pub mod CompleteFollow
+pub mod CompleteForms
 pub mod CompleteGoal
+pub mod CompleteNamed
+pub mod CompleteNode
+pub mod CompleteOperand
 pub mod CompleteRow
+pub mod CompleteTall
 pub mod Lists
 pub mod Sound
 pub mod Steps
