@@ -172,6 +172,15 @@ declares_none s (Kept k ∷ rest) e = refl
 declares_none s (Number n ∷ rest) e = refl
 declares_none s (Sign t ∷ rest) e = absurd cc
 
+pub fieldless_dot : (toks : List Lexeme) → begins_field fields.Any toks ≡ false → NoSign symbols.Dot toks
+unfolding begins_field after is_sign
+fieldless_dot (Sign symbols.Dot ∷ rest) e = absurd cc
+fieldless_dot [] e = refl
+fieldless_dot (Name n ∷ rest) e = refl
+fieldless_dot (Number n ∷ rest) e = refl
+fieldless_dot (Kept k ∷ rest) e = refl
+fieldless_dot (Sign s ∷ rest) e = refl
+
 -- ---- a part that is not open asks for less
 
 pub behind_shut : (m : Fields) (o : Bool) (rest : List Lexeme) → Behind m o rest → Behind m false rest

@@ -64,7 +64,7 @@ none_there : (t : Syntax) (others : List Piece → Type 0) → FitsPart t others
 none_there t others h = h
 
 pub phrase_begins : (f : Form) (ts : Syntaxes) (rest : List Lexeme) → is_operation f ≡ false → nat_le (form_level f) 16 ≡ true → Fits (Node f ts) → calm rest ≡ true → phrase_form (flat (Node f ts) ++ rest) ≡ some_form (first_form f)
-unfolding form_level flat rule phrase_form keyword_form symbol_form named_form events_form spell spell_signs spell_part is
+unfolding form_level flat rule phrase_form keyword_form symbol_form named_form brace_form events_form spell spell_signs spell_part is
 phrase_begins forms.Stop ts rest o e h c = first_sign (Begins forms.Stop) ts _ _ rest refl
 phrase_begins forms.Skip ts rest o e h c = first_sign (Begins forms.Skip) ts _ _ rest refl
 phrase_begins forms.Events ts rest o e h c = first_sign (Begins forms.Events) ts _ _ rest refl
@@ -106,7 +106,7 @@ phrase_begins f ts rest o e h c = absurd cc
 -- ---- what a field gives, fields and declarations
 
 abbrev BeginsAs : (List Lexeme → Option Form) → Form → List Lexeme → Type 0
-BeginsAs as f toks = as toks ≡ some_form f
+BeginsAs found f toks = found toks ≡ some_form f
 
 pub value_begins : (f : Form) (ts : Syntaxes) (rest : List Lexeme) → is_value (Node f ts) ≡ true → Fits (Node f ts) → value_form (flat (Node f ts) ++ rest) ≡ some_form f
 unfolding is_value flat rule value_form
@@ -121,7 +121,7 @@ input_calm n (Sign symbols.Colon ∷ rest) e = absurd cc
 input_calm n toks e = refl
 
 pub field_begins : (f : Form) (ts : Syntaxes) (rest : List Lexeme) → is_field (Node f ts) ≡ true → Fits (Node f ts) → calm rest ≡ true → field_form (flat (Node f ts) ++ rest) ≡ some_form f
-unfolding is_field flat rule field_form input_form spell spell_signs spell_part
+unfolding is_field is_called flat rule field_form input_form spell spell_signs spell_part
 field_begins forms.Dotted ts rest e h c = first_sign (BeginsAs field_form forms.Dotted) ts _ _ rest refl
 field_begins forms.Output ts rest e h c = first_sign (BeginsAs field_form forms.Output) ts _ _ rest refl
 field_begins forms.Input (MoreSyntax (Called n) NoSyntax) rest e h c = ap some_form (input_calm n rest c)

@@ -88,27 +88,27 @@ behind_fields n (MoreSyntax u us) m rest h e = (h.0, refl, h.2)
 
 pub event_node : (b r : ℕ) (m : Fields) (ts : Syntaxes) (rest : List Lexeme) → AllRead ts → Fits (Node forms.Event ts) → takes m (Node forms.Event ts) ≡ true → highest ts ≤ r → nesting (Node forms.Event ts) ≤ b → Behind m (is_open (Node forms.Event ts)) rest → node (reader b r 4) (may_open b) m forms.Event (flat (Node forms.Event ts) ++ rest) ≡ some_found (Node forms.Event ts) rest
 unfolding takes nesting nests nests_part rule is_called
-event_node b r m (MoreSyntax (Called n) us) rest read fits takes high nested h =
-    node_event b r m n us rest read.1 fits takes (omega (arith, high, le-max_right 0 (highest us))) nested h.1 (behind_fields n us m rest h)
-event_node b r m (MoreSyntax (Numeral n) us) rest read fits takes high nested h = absurd (no fits.1.1.0)
-event_node b r m (MoreSyntax (Node f vs) us) rest read fits takes high nested h = absurd (no fits.1.1.0)
-event_node b r m NoSyntax rest read fits takes high nested h = absurd (no fits.1)
+event_node b r m (MoreSyntax (Called n) us) rest read fits taken high nested h =
+    node_event b r m n us rest read.1 fits taken (omega (arith, high, le-max_right 0 (highest us))) nested h.1 (behind_fields n us m rest h)
+event_node b r m (MoreSyntax (Numeral n) us) rest read fits taken high nested h = absurd (no fits.1.1.0)
+event_node b r m (MoreSyntax (Node f vs) us) rest read fits taken high nested h = absurd (no fits.1.1.0)
+event_node b r m NoSyntax rest read fits taken high nested h = absurd (no fits.1)
 
 -- ---- phrases and atoms
 
 pub phrase_node : (b r n : ℕ) (m : Fields) (f : Form) (ts : Syntaxes) (rest : List Lexeme) → is_operation f ≡ false → nat_le (form_level f) 16 ≡ true → AllRead ts → Fits (Node f ts) → takes m (Node f ts) ≡ true → height_of (Node f ts) ≤ suc r → nesting (Node f ts) ≤ b → Behind m (is_open (Node f ts)) rest → Loose f ts rest → node (pick (reader b r 4) (reader b (suc r) n) (is_heavy (first_form f))) (may_open b) m (first_form f) (flat (Node f ts) ++ rest) ≡ some_found (Node f ts) rest
 unfolding is_heavy nesting form_level
-phrase_node b r n m forms.Event ts rest o e read fits takes high nested h l = event_node b r m ts rest read fits takes (omega (arith, high)) nested h
-phrase_node b r n m forms.Set ts rest o e read fits takes high nested h l = node_set b r m ts rest read fits (omega (arith, high)) nested
-phrase_node b r n m forms.Range ts rest o e read fits takes high nested h l = node_range b r m ts rest read fits (omega (arith, high)) nested
-phrase_node b r n m forms.Channels ts rest o e read fits takes high nested h l = absurd (loose e)
+phrase_node b r n m forms.Event ts rest o e read fits taken high nested h l = event_node b r m ts rest read fits taken (omega (arith, high)) nested h
+phrase_node b r n m forms.Set ts rest o e read fits taken high nested h l = node_set b r m ts rest read fits (omega (arith, high)) nested
+phrase_node b r n m forms.Range ts rest o e read fits taken high nested h l = node_range b r m ts rest read fits (omega (arith, high)) nested
+phrase_node b r n m forms.Channels ts rest o e read fits taken high nested h l = absurd (loose e)
   where
     loose : nat_le (form_level forms.Channels) 16 ≡ true → ⊥
-    loose e = omega (arith, leb-true _ _ e)
-phrase_node b r n m forms.ChannelsWithFields ts rest o e read fits takes high nested h l = absurd (loose e)
+    loose e = omega (arith, leb-true (form_level forms.Channels) 16 e)
+phrase_node b r n m forms.ChannelsWithFields ts rest o e read fits taken high nested h l = absurd (loose e)
   where
     loose : nat_le (form_level forms.ChannelsWithFields) 16 ≡ true → ⊥
-    loose e = omega (arith, leb-true _ _ e)
-phrase_node b r n m (forms.Operation op) ts rest o e read fits takes high nested h l = absurd cc
-phrase_node b r n m f ts rest o e read fits takes high nested h l =
+    loose e = omega (arith, leb-true (form_level forms.ChannelsWithFields) 16 e)
+phrase_node b r n m (forms.Operation op) ts rest o e read fits taken high nested h l = absurd cc
+phrase_node b r n m f ts rest o e read fits taken high nested h l =
     node_of_simple b r n m f ts rest refl (light_phrase n f e) read fits high nested (phrase_tail m f ts rest refl e h l) (is_heavy f) refl

@@ -9,6 +9,7 @@ pub mod CompleteGoal
 pub mod CompleteNamed
 pub mod CompleteNode
 pub mod CompleteOperand
+pub mod CompleteParts
 pub mod CompleteRow
 pub mod CompleteTall
 pub mod Lists
