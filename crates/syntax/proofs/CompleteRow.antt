@@ -327,12 +327,12 @@ signs_read read may (pieces.Sign s ∷ ps) front rest e =
     ap (λ (o : Option (List Lexeme)). found_row read may ps (o >>= keep front)) (after_sign s (spell_signs ps ++ rest)) ∙ signs_read read may ps front rest e
 signs_read read may (p ∷ ps) front rest e = absurd cc
 
-fewer_nests : (ts : Syntaxes) (s : Signs) (ps : List Piece) → nests ts ps ≤ nests ts (pieces.Sign s ∷ ps)
+pub fewer_nests : (ts : Syntaxes) (s : Signs) (ps : List Piece) → nests ts ps ≤ nests ts (pieces.Sign s ∷ ps)
 unfolding nests nests_part
 fewer_nests NoSyntax s ps = omega arith
 fewer_nests (MoreSyntax t ts) s ps = omega arith
 
-fewer_nests_open : (ts : Syntaxes) (s : Symbol) (ps : List Piece) → nests ts ps ≤ nests ts (pieces.Open s ∷ ps)
+pub fewer_nests_open : (ts : Syntaxes) (s : Symbol) (ps : List Piece) → nests ts ps ≤ nests ts (pieces.Open s ∷ ps)
 unfolding nests nests_part
 fewer_nests_open NoSyntax s ps = at (opens_any ps)
   where

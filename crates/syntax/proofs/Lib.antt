@@ -1,6 +1,7 @@
 pub mod Branches
 pub mod Climbed
 pub mod Climbing
+pub mod Complete
 pub mod CompleteExamples
 pub mod CompleteFirst
 pub mod CompleteFollow
@@ -9,6 +10,7 @@ pub mod CompleteGoal
 pub mod CompleteNamed
 pub mod CompleteNode
 pub mod CompleteOperand
+pub mod CompleteOperation
 pub mod CompleteParts
 pub mod CompleteRow
 pub mod CompleteTall
