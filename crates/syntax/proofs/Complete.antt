@@ -15,6 +15,7 @@ use Rattle.syntax.specs.declared.form.Form.TheVariants as forms
 use Rattle.syntax.specs.Operators.{right_limit, level}
 use Rattle.syntax.specs.Rules.{rule, form_level, is_heavy}
 use Rattle.syntax.specs.Grammar.{Syntax, Called, Numeral, Node, Syntaxes, NoSyntax, MoreSyntax, flat, height_of, highest, nesting, is, is_open, is_event, is_value, is_numeral, is_field, is_generator, is_generators, is_pair, is_called, is_names, is_constants, is_field_sets, is_declaration, is_script, level_in, takes, Fits, FitAll, FitsPart}
+use Rattle.syntax.specs.Script.{IsScript}
 use Rattle.syntax.specs.Parsing.{◌>>=◌, Found, operand, go_on, read_in, climb, reader, may_open, reads, is_alone, numeral_at, number_at, name_at, may_be_number, ended, whole}
 use Rattle.syntax.proofs.Branches.{some_found}
 use Rattle.syntax.proofs.Climbing.{Stops, stops_tighter, climb_stops}
@@ -22,7 +23,7 @@ use Rattle.syntax.proofs.Steps.{reads_suc}
 use Rattle.syntax.proofs.Table.{operator_row}
 use Rattle.syntax.proofs.CompleteFollow.{Behind, Follows}
 use Rattle.syntax.proofs.CompleteFirst.{is_operation}
-use Rattle.syntax.proofs.CompleteGoal.{rank, is_read_kind, IsRead, Comes, AllRead, edge, spine, start, IsScriptOf}
+use Rattle.syntax.proofs.CompleteGoal.{rank, is_read_kind, IsRead, Comes, AllRead, edge, spine, start}
 use Rattle.syntax.proofs.CompleteTall.{IsTall, is_tall}
 use Rattle.syntax.proofs.CompleteParts.{first, Meets, ReadFirst, phrase_read_first, atom_read_first, event_read_first, value_read_first, field_read_first, generator_read_first, generators_read_first, pair_read_first, names_read_first, constants_read_first, field_sets_read_first, declaration_read_first, script_read_first}
 use Rattle.syntax.proofs.CompleteOperation.{comes_operation}
@@ -191,12 +192,12 @@ mutual
 
 -- ---- whole scripts
 
--- the tokens of a script's tree within the limits are read as that tree
-pub whole_complete : (toks : List Lexeme) (t : Syntax) → IsScriptOf toks t → whole toks ≡ Some t
+-- the tokens of a script's tree are read as that tree
+pub whole_is : (toks : List Lexeme) (t : Syntax) → IsScript toks t → whole toks ≡ Some t
 unfolding whole ended is is_read_kind rank
-whole_complete toks t h =
-    let read : reads 250 250 4 kinds.Script (flat t ++ []) ≡ some_found t [] = (complete t h.1).0 250 250 4 kinds.Script [] refl h.0 (omega arith) h.2 h.3 (omega arith) refl in
-    ap whole h.4
+whole_is toks t h =
+    let read : reads 250 250 4 kinds.Script (flat t ++ []) ≡ some_found t [] = (complete t h.fits).0 250 250 4 kinds.Script [] refl h.kind (omega arith) h.high h.nested (omega arith) refl in
+    ap whole h.spelled
     ∙ ap (λ (xs : List Lexeme). reads 250 250 4 kinds.Script xs >>= ended) (sym (append-nil (flat t)))
     ∙ ap (λ (o : Option Found). o >>= ended) read
 
@@ -207,5 +208,5 @@ same_tree : (t u : Syntax) → some_tree t ≡ some_tree u → t ≡ u
 same_tree t u e = cc
 
 -- tokens are those of one script's tree at most
-pub one_tree : (toks : List Lexeme) (t u : Syntax) → IsScriptOf toks t → IsScriptOf toks u → t ≡ u
-one_tree toks t u h j = same_tree t u (sym (whole_complete toks t h) ∙ whole_complete toks u j)
+pub one_tree : (toks : List Lexeme) (t u : Syntax) → IsScript toks t → IsScript toks u → t ≡ u
+one_tree toks t u h j = same_tree t u (sym (whole_is toks t h) ∙ whole_is toks u j)

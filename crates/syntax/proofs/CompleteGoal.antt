@@ -11,7 +11,7 @@ use Rattle.syntax.specs.declared.piece.Fields.TheVariants as fields
 use Rattle.syntax.specs.declared.form.Form.{Form}
 use Rattle.syntax.specs.declared.form.Form.TheVariants as forms
 use Rattle.syntax.specs.Operators.{level, left_limit, right_limit}
-use Rattle.syntax.specs.Grammar.{Syntax, Called, Numeral, Node, Syntaxes, NoSyntax, MoreSyntax, flat, height_of, nesting, is, is_script, is_open, level_in, Fits}
+use Rattle.syntax.specs.Grammar.{Syntax, Called, Numeral, Node, Syntaxes, NoSyntax, MoreSyntax, flat, height_of, nesting, is, is_open, level_in, Fits}
 use Rattle.syntax.specs.Parsing.{◌>>=◌, Found, reads, reader, may_open, operand, climb, whole}
 use Rattle.syntax.proofs.Branches.{some_found}
 use Rattle.syntax.proofs.Climbing.{Stops}
@@ -62,9 +62,6 @@ start b r layers l turns toks = operand (reader b r 4) (reader b (suc r) layers)
 -- what begins with a phrase's tokens comes to the point where the phrase was read, and reading goes on behind it
 abbrev pub Comes : Syntax → Type 0
 Comes t = (b r layers l m n : ℕ) (rest : List Lexeme) → l ≤ 16 → level_in t ≤ l → height_of t ≤ suc r → nesting t ≤ b → Behind fields.Any (is_open t) rest → Stops (edge t) rest → m ≡ spine t + n → start b r layers l m (flat t ++ rest) ≡ climb (reader b r 4) (may_open b) (suc r) l n t rest
-
-abbrev pub IsScriptOf : List Lexeme → Syntax → Type 0
-IsScriptOf toks t = (is_script t ≡ true) × Fits t × (height_of t ≤ 250) × (nesting t ≤ 250) × (toks ≡ flat t)
 
 -- every part of it is read where it stands, and every phrase of them comes to its end
 abbrev pub AllRead : Syntaxes → Type 0

@@ -14,7 +14,11 @@ pub mod CompleteOperation
 pub mod CompleteParts
 pub mod CompleteRow
 pub mod CompleteTall
+pub mod Forms
 pub mod Lists
+pub mod Noded
 pub mod Sound
+pub mod Spelled
 pub mod Steps
 pub mod Table
+pub mod Texts

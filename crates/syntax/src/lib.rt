@@ -4,6 +4,7 @@
 mod ahead;
 mod fault;
 mod form;
+mod left_out;
 mod limits;
 mod operator;
 mod parts;
