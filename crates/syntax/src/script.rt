@@ -16,7 +16,7 @@ use tokens::{ScriptError, ScriptErrorKind, Token, end_line, scan};
 /// The first token that can't go on as a script is told: `Expected` where the grammar wants another, or at the end of
 /// the text, and `TooDeep` where every tree is higher than 250 or has more than 250 brackets open at once. `Memory` is
 /// told on line 1. The time grows with the number of tokens.
-#[tactic(auto, using(crate::proofs::Branches::fails_none, crate::proofs::Climbing::climb_goes, crate::proofs::Table::ends_before))]
+#[tactic(auto, using(crate::proofs::Branches::fails_none, crate::proofs::CompleteExamples::a_script_read, crate::proofs::Complete::one_tree))]
 pub(crate) fn read_script<A: Allocator + Clone + Drop>(
     alloc: &A,
     tokens: &[Token<A>],
