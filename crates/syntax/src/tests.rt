@@ -15,7 +15,7 @@ const ROWS: &str = "\
 channel a, b, c$P = a -> b -> P$ => ok
 channel a$P = a -> (STOP$ => 3: 3 expected
 channel a$P = (a) -> STOP$ => 2: 3 expected
-P = a -> STOP [> b -> STOP => 1: 11 unsupported
+channel a, b$P = a -> STOP [> b -> STOP$ => 2: 11 unsupported
 P = x<-1 => 1: 3 expected
 P = x < -1 & STOP => ok
 P = 1 == 2 == 3 => 1: 3 expected
