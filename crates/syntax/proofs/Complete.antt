@@ -15,8 +15,10 @@ use Rattle.syntax.specs.declared.form.Form.TheVariants as forms
 use Rattle.syntax.specs.Operators.{right_limit, level}
 use Rattle.syntax.specs.Rules.{rule, form_level, is_heavy}
 use Rattle.syntax.specs.Grammar.{Syntax, Called, Numeral, Node, Syntaxes, NoSyntax, MoreSyntax, flat, height_of, highest, nesting, is, is_open, is_event, is_value, is_numeral, is_field, is_generator, is_generators, is_pair, is_called, is_names, is_constants, is_field_sets, is_declaration, is_script, level_in, takes, Fits, FitAll, FitsPart}
+use Rattle.tokens.specs.declared.error.ScriptErrorKind.{ScriptErrorKind}
+use Rattle.tokens.specs.declared.error.ScriptErrorKind.TheVariants as errors
 use Rattle.syntax.specs.Script.{IsScript}
-use Rattle.syntax.specs.Parsing.{◌>>=◌, Found, operand, go_on, read_in, climb, reader, may_open, reads, is_alone, numeral_at, number_at, name_at, may_be_number, ended, whole}
+use Rattle.syntax.specs.Parsing.{◌>>=◌, Fails, Found, operand, go_on, read_in, climb, reader, may_open, reads, is_alone, numeral_at, number_at, name_at, may_be_number, ended, whole}
 use Rattle.syntax.proofs.Branches.{some_found}
 use Rattle.syntax.proofs.Climbing.{Stops, stops_tighter, climb_stops}
 use Rattle.syntax.proofs.Steps.{reads_suc}
@@ -210,3 +212,17 @@ same_tree t u e = cc
 -- tokens are those of one script's tree at most
 pub one_tree : (toks : List Lexeme) (t u : Syntax) → IsScript toks t → IsScript toks u → t ≡ u
 one_tree toks t u h j = same_tree t u (sym (whole_is toks t h) ∙ whole_is toks u j)
+
+-- ---- what a reader of scripts answers
+
+-- the tree that is read is the script's one tree
+pub tree_is : (toks : List Lexeme) (t u : Syntax) → whole toks ≡ Some u → IsScript toks t → u ≡ t
+tree_is toks t u e h = same_tree u t (sym e ∙ whole_is toks t h)
+
+none_read : (o : Option Syntax) (t : Syntax) → o ≡ None → o ≡ Some t → ⊥
+none_read o t e f = cc
+
+-- where a script is not read, memory has run out
+pub memory_only : (k : ScriptErrorKind) (toks : List Lexeme) (t : Syntax) → Fails k (whole toks) → IsScript toks t → k ≡ errors.Memory
+memory_only errors.Memory toks t f h = refl
+memory_only k toks t f h = absurd (none_read (whole toks) t f (whole_is toks t h))

@@ -2,7 +2,6 @@ pub mod Branches
 pub mod Climbed
 pub mod Climbing
 pub mod Complete
-pub mod CompleteExamples
 pub mod CompleteFirst
 pub mod CompleteFollow
 pub mod CompleteForms

@@ -1,6 +1,8 @@
 //! The tree of a script.
-ghost use Rattle.std.specs.Prelude.{◌≡◌, IfOk};
+ghost use Rattle.std.specs.Prelude.{◌≡◌, IfOk, MatchResult};
+ghost use Rattle.tokens.specs.declared.error.ScriptErrorKind.TheVariants.{Memory};
 ghost use Rattle.tokens.specs.Lexeme.{lexemes};
+ghost use Rattle.syntax.specs.Grammar.{Syntax};
 ghost use Rattle.syntax.specs.Script.{HasTree, IsScript};
 ghost use Rattle.syntax.specs.Parsing.{Gives, whole as whole_of};
 ghost use Rattle.syntax.specs.View.{shape};
@@ -16,7 +18,7 @@ use tokens::{ScriptError, ScriptErrorKind, Token, end_line, scan};
 /// The first token that can't go on as a script is told: `Expected` where the grammar wants another, or at the end of
 /// the text, and `TooDeep` where every tree is higher than 250 or has more than 250 brackets open at once. `Memory` is
 /// told on line 1. The time grows with the number of tokens.
-#[tactic(auto, using(crate::proofs::Branches::fails_none, crate::proofs::CompleteExamples::a_script_read, crate::proofs::Complete::one_tree))]
+#[tactic(auto, using(crate::proofs::Branches::fails_none))]
 pub(crate) fn read_script<A: Allocator + Clone + Drop>(
     alloc: &A,
     tokens: &[Token<A>],
@@ -24,6 +26,7 @@ pub(crate) fn read_script<A: Allocator + Clone + Drop>(
 ) -> Result<Tree<A>, ScriptError>
     ensures read { Gives shape result (whole_of (lexemes tokens.now)) }
     ensures found { IfOk result (λ tree. IsScript (lexemes tokens.now) (shape tree)) }
+    ensures only { (t : Syntax) → IsScript (lexemes tokens.now) t → MatchResult result (λ tree. shape tree ≡ t) (λ e. e.kind ≡ Memory) }
 {
     match whole(alloc, tokens) {
         Ok(tree) => Ok(tree),
@@ -45,6 +48,9 @@ pub(crate) fn read_script<A: Allocator + Clone + Drop>(
 pub fn parse<A: Allocator + Clone + Drop>(alloc: A, text: &[u8]) -> Result<Tree<A>, ScriptError>
     // The tree that is read is one that the text has.
     ensures found { IfOk result (λ tree. HasTree text.now (shape tree)) }
+
+    // A tree that the text has is read, and no other, unless memory runs out.
+    ensures only { (t : Syntax) → HasTree text.now t → MatchResult result (λ tree. shape tree ≡ t) (λ e. e.kind ≡ Memory) }
 {
     let tokens = scan(alloc.clone()?, text)?;
     read_script(&alloc, &tokens, end_line(text))
