@@ -1,5 +1,5 @@
 #!/usr/bin/env python3
-"""Compares the trees and faults of `syntax::parse` with those of a second reader of the language, on generated texts.
+"""Compares the trees, their lines and the faults of `syntax::parse` with those of a second reader of the language, on generated texts.
 
     compare_syntax.py REFERENCE [SEED] [COUNT]
 
@@ -220,8 +220,8 @@ class Texts:
 
 # ---- the reference's answer, in the form of this reader's
 
-def marked(form, parts):
-    return "(%s)" % " ".join([form] + parts)
+def marked(form, parts, line=None):
+    return "(%s)" % " ".join([form if line is None else "%s@%d" % (form, line)] + parts)
 
 
 OPERATIONS = {"*": "Times", "%": "Remainder", "+": "Plus", "-": "Minus", "and": "And", "or": "Or", "prefix": "Prefix",
@@ -244,45 +244,45 @@ def field(part):
 
 
 def shown(node):
-    form, parts = node.form, node.parts
+    form, parts, line = node.form, node.parts, node.line
     if form == "number":
-        return "#%d" % parts[0]
+        return "#%d@%d" % (parts[0], line)
     if form == "name":
-        return marked("Event", [parts[0]])
+        return marked("Event", [parts[0]], line)
     if form == "event":
-        return marked("Event", [parts[0]] + [field(part) for part in parts[1]])
+        return marked("Event", [parts[0]] + [field(part) for part in parts[1]], line)
     if form == "compare":
-        return marked("Operation(%s)" % COMPARED[parts[0]], [shown(parts[1]), shown(parts[2])])
+        return marked("Operation(%s)" % COMPARED[parts[0]], [shown(parts[1]), shown(parts[2])], line)
     if form == "rename":
         pairs = [marked("Pair", [shown(left), shown(right)]) for left, right in parts[1]]
-        return marked("Operation(Renaming)", [shown(parts[0])] + pairs)
+        return marked("Operation(Renaming)", [shown(parts[0])] + pairs, line)
     if form in OPERATIONS:
-        return marked("Operation(%s)" % OPERATIONS[form], [shown(part) for part in parts])
+        return marked("Operation(%s)" % OPERATIONS[form], [shown(part) for part in parts], line)
     if form == "call":
-        return marked("Call", [parts[0]] + [shown(part) for part in parts[1]])
+        return marked("Call", [parts[0]] + [shown(part) for part in parts[1]], line)
     if form == "list":
-        return marked("Set", [shown(part) for part in parts[0]])
+        return marked("Set", [shown(part) for part in parts[0]], line)
     if form == "productions":
-        return marked("Productions" if parts[0] else "NoProductions", [shown(part) for part in parts[0]])
+        return marked("Productions" if parts[0] else "NoProductions", [shown(part) for part in parts[0]], line)
     if form == "replicated":
         generators = [marked("Generator", [name, shown(within)]) for name, _, within in parts[1]]
-        return marked(REPLICATED[parts[0]], [marked("Generators", generators), shown(parts[2])])
-    return marked(PLAIN[form], [shown(part) for part in parts])
+        return marked(REPLICATED[parts[0]], [marked("Generators", generators), shown(parts[2])], line)
+    return marked(PLAIN[form], [shown(part) for part in parts], line)
 
 
 def declared(declaration):
-    parts = declaration.parts
+    parts, line = declaration.parts, declaration.line
     if declaration.form == "channel":
         names = marked("Names", [name for name, _ in parts[0]])
         if not parts[1]:
-            return marked("Channels", [names])
-        return marked("ChannelsWithFields", [names, marked("FieldSets", [shown(part) for part in parts[1]])])
+            return marked("Channels", [names], line)
+        return marked("ChannelsWithFields", [names, marked("FieldSets", [shown(part) for part in parts[1]])], line)
     if declaration.form == "datatype":
-        return marked("Datatype", [parts[0][0], marked("Constants", [name for name, _ in parts[1]])])
+        return marked("Datatype", [parts[0][0], marked("Constants", [name for name, _ in parts[1]])], line)
     if parts[1] is None:
-        return marked("Definition", [parts[0][0], shown(parts[2])])
+        return marked("Definition", [parts[0][0], shown(parts[2])], line)
     names = marked("Names", [name for name, _ in parts[1]])
-    return marked("DefinitionWithParameters", [parts[0][0], names, shown(parts[2])])
+    return marked("DefinitionWithParameters", [parts[0][0], names, shown(parts[2])], line)
 
 
 def reference_answer(parse, fault, text):
@@ -292,10 +292,15 @@ def reference_answer(parse, fault, text):
         return "%d: %d %s" % (found.line, found.code, WORDS[found.code])
 
 
+LISTS = "Script|Names|Constants|FieldSets|Generators|Generator|Pair|Dotted|Output|Input|RestrictedInput"
+
+
 def alike(answer):
-    """What the reference's tree doesn't keep: the sign before a field's value, and that a number was written with `-`."""
+    """Without what the reference's tree doesn't keep: the lines of lists, pairs and fields, the sign before a field's
+    value, and that a number was written with `-`."""
+    answer = re.sub(r"\((%s)@\d+" % LISTS, r"(\1", answer)
     answer = re.sub(r"\((?:Dotted|Output) ", "(Given ", answer)
-    return re.sub(r"\(NegativeNumber #(\d+)\)", lambda m: "#%d" % -int(m.group(1)), answer)
+    return re.sub(r"\(NegativeNumber@(\d+) #(\d+)@\d+\)", lambda m: "#%d@%s" % (-int(m.group(2)), m.group(1)), answer)
 
 
 # ---- runs
