@@ -26,8 +26,8 @@ use Rattle.syntax.specs.Parsing.{◌>>=◌, Found, Row, Reader, syntaxes, is_sig
 use Rattle.syntax.proofs.Sound.{only_signs}
 use Rattle.syntax.proofs.Branches.{some_found, some_row, node_is}
 use Rattle.syntax.proofs.Climbing.{Stops}
+use Rattle.syntax.proofs.CompleteBools.{false_true, both_true, and_true, or_true}
 use Rattle.syntax.proofs.CompleteFollow.{quiet, quiet_symbol, quiet_keyword, calm, declares, Behind, NoSign, Follows, closes, quiet_phrase, declares_quiet, declares_none}
-use Rattle.syntax.proofs.CompleteFirst.{both_true}
 use Rattle.syntax.proofs.CompleteGoal.{rank, is_read_kind, IsRead, Comes, AllRead, edge}
 use Rattle.syntax.proofs.CompleteTall.{tall}
 use Rattle.syntax.proofs.CompleteRow.{listed, syntaxes_listed, NoMore, Apart, linked, ranked, joins, continues, separates, ends_with, halts, wants_shut, is_fields, shutting, Tail, Opened, tall_pieces, row_complete}
@@ -114,10 +114,6 @@ simple_back m forms.ChannelsWithFields e = absurd cc
 simple_back m (forms.Operation op) e = absurd cc
 simple_back m f e = refl
 
-or_true : (b : Bool) → (b || true) ≡ true
-or_true true = refl
-or_true false = refl
-
 apart_rule : (f : Form) (ts : Syntaxes) → is_simple f ≡ true → may_stand f ts ≡ true → Apart (shutting (rule f)) [] ts
 unfolding shutting wants_shut rule may_stand
 apart_rule forms.Event ts e h n = absurd cc
@@ -126,9 +122,6 @@ apart_rule forms.FieldSets ts e h n = (or_true (is_last ts), h)
 apart_rule f ts e h n = absurd cc
 
 -- ---- brackets
-
-no : false ≡ true → ⊥
-no e = cc
 
 unfoldable pub has_inside : List Piece → Bool
 has_inside [] = false
@@ -143,9 +136,9 @@ inside_nests (pieces.Sign s ∷ ps) NoSyntax e h = inside_nests ps NoSyntax e h
 inside_nests (pieces.Sign s ∷ ps) (MoreSyntax t ts) e h = inside_nests ps (MoreSyntax t ts) e h
 inside_nests (pieces.Open s ∷ ps) NoSyntax e h = omega arith
 inside_nests (pieces.Open s ∷ ps) (MoreSyntax t ts) e h = inside_nests ps (MoreSyntax t ts) e h
-inside_nests (pieces.Name ∷ ps) NoSyntax e h = absurd (no h)
+inside_nests (pieces.Name ∷ ps) NoSyntax e h = absurd (false_true h)
 inside_nests (pieces.Name ∷ ps) (MoreSyntax t ts) e h = inside_nests ps ts e h.1.1
-inside_nests (pieces.Part place k ∷ ps) NoSyntax e h = absurd (no h)
+inside_nests (pieces.Part place k ∷ ps) NoSyntax e h = absurd (false_true h)
 inside_nests (pieces.Part places.Inside k ∷ ps) (MoreSyntax t ts) e h = omega (arith, le-max_left (suc (nesting t)) (nests ts ps))
 inside_nests (pieces.Part places.Outside k ∷ ps) (MoreSyntax t ts) e h = omega (arith, inside_nests ps ts e h.1.1, le-max_right (nesting t) (nests ts ps))
 inside_nests (pieces.Others place k start ∷ ps) ts e h = absurd cc
@@ -169,9 +162,6 @@ opens_rule (forms.Operation op) ts e h o = absurd cc
 opens_rule f ts e h o = absurd cc
 
 -- ---- layers
-
-and_true : (a b : Bool) → a ≡ true → b ≡ true → (a && b) ≡ true
-and_true a b e f = ap (λ (x : Bool). x && b) e ∙ f
 
 ranked_more : (m n : ℕ) (place : Place) (k : Kind) → m ≤ n → ranked place m k ≡ true → ranked place n k ≡ true
 unfolding ranked

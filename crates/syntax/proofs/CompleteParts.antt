@@ -18,20 +18,15 @@ use Rattle.syntax.specs.Parsing.{Found, after, begins_field, another, number_at,
 use Rattle.syntax.proofs.Branches.{some_found}
 use Rattle.syntax.proofs.Climbing.{Stops}
 use Rattle.syntax.proofs.Table.{operator_row}
+use Rattle.syntax.proofs.CompleteBools.{both_true}
 use Rattle.syntax.proofs.CompleteFollow.{quiet, calm, declares, Behind, NoSign, Follows, quiet_behind, quiet_phrase, declares_quiet, declares_none, fieldless_dot}
-use Rattle.syntax.proofs.CompleteFirst.{both_true, is_operation, leads, rule_first}
+use Rattle.syntax.proofs.CompleteFirst.{is_operation, leads, rule_first}
 use Rattle.syntax.proofs.CompleteGoal.{AllRead, edge, rank}
-use Rattle.syntax.proofs.CompleteRow.{NoMore, Tail, true_false}
+use Rattle.syntax.proofs.CompleteRow.{NoMore, Tail}
 use Rattle.syntax.proofs.CompleteNode.{below, is_simple, node_of_simple}
 use Rattle.syntax.proofs.CompleteNamed.{node_channels, node_channels_with_fields}
-use Rattle.syntax.proofs.CompleteForms.{first_form, heavy_first, operand_is, phrase_at, no_number, value_begins, field_begins, declaration_begins}
+use Rattle.syntax.proofs.CompleteForms.{first_form, some_form, heavy_first, operand_is, phrase_at, no_number, value_begins, field_begins, declaration_begins}
 use Rattle.syntax.proofs.CompleteOperand.{Loose, phrase_node, event_node}
-
-no : false ≡ true → ⊥
-no e = cc
-
-abbrev some_form : Form → Option Form
-some_form f = Some f
 
 -- what is read first, where parts of this height have this many layers below them
 abbrev pub first : ℕ → ℕ → ℕ → Kind → List Lexeme → Option Found

@@ -24,12 +24,13 @@ use Rattle.syntax.specs.declared.piece.Piece.{Piece}
 use Rattle.syntax.specs.declared.piece.Piece.TheVariants as pieces
 use Rattle.syntax.specs.Grammar.{Syntax, Called, Numeral, Node, Syntaxes, NoSyntax, MoreSyntax, sign_lexeme, before, flat, spell, spell_signs, spell_part, height_of, highest, nesting, nests, nests_part, within, opens_any, is, is_field, is_declaration, is_called, is_open, is_last, last_open, takes_field, takes_fields, shut, Fits, FitAll, FitsPart, needs_none}
 use Rattle.syntax.specs.Parsing.{◌>>=◌, Found, Row, Reader, syntaxes, is_sign, after, name_at, begins_field, another, last_is_open, others_on, others, put, keep, step, row, reads, inside, reader, may_open}
-use Rattle.syntax.proofs.Sound.{some_of, only_signs}
+use Rattle.syntax.proofs.Sound.{some_of, only_signs, spell_sign, spell_open}
 use Rattle.syntax.proofs.Branches.{some_found, some_row, others_stop, others_next}
 use Rattle.syntax.proofs.Steps.{may_open_some, inside_step}
 use Rattle.syntax.proofs.Lists.{open_push}
-use Rattle.syntax.proofs.CompleteFollow.{quiet, calm, declares, Behind, NoSign, Follows, closes, closes_follows}
-use Rattle.syntax.proofs.CompleteFirst.{spelled_sign, spelled_open, fits_sign, fits_open, field_first, field_some, declaration_first, declaration_some, both_true}
+use Rattle.syntax.proofs.CompleteBools.{true_false, both_true}
+use Rattle.syntax.proofs.CompleteFollow.{quiet, no_sign, calm, declares, Behind, NoSign, Follows, closes, closes_follows}
+use Rattle.syntax.proofs.CompleteFirst.{fits_sign, fits_open, field_first, field_some, declaration_first, declaration_some}
 use Rattle.syntax.proofs.CompleteGoal.{rank, is_read_kind, IsRead, Comes, AllRead}
 use Rattle.syntax.proofs.CompleteTall.{tall, has_room}
 
@@ -57,9 +58,6 @@ is_sign_itself (signs.Keyword k) = true_same keyword_type k k refl
 pub after_sign : (s : Signs) (rest : List Lexeme) → after s (sign_lexeme s ∷ rest) ≡ some_of rest
 unfolding after
 after_sign s rest = ap (λ (b : Bool). cond b (some_of rest) None) (is_sign_itself s)
-
-pub true_false : (b : Bool) → b ≡ true → b ≡ false → ⊥
-true_false b e f = cc
 
 -- ---- one part in its place
 
@@ -264,17 +262,9 @@ shutting [] = false
 shutting (pieces.Others place k start ∷ ps) = wants_shut start
 shutting (p ∷ ps) = shutting ps
 
-not_sign : (s : Symbol) (x : Lexeme) (toks : List Lexeme) → not (is_sign (signs.Symbol s) x) ≡ true → after (signs.Symbol s) (x ∷ toks) ≡ None
-unfolding after
-not_sign s x toks e = at (is_sign (signs.Symbol s) x) e
-  where
-    at : (b : Bool) → not b ≡ true → cond b (some_of toks) None ≡ None
-    at true e = absurd cc
-    at false e = refl
-
 halted : (start : Start) (s : Signs) (rest : List Lexeme) → halts start s ≡ true → NoMore start (sign_lexeme s ∷ rest)
 unfolding halts another
-halted (starts.Behind s) t rest e o = not_sign s (sign_lexeme t) rest e
+halted (starts.Behind s) t rest e o = no_sign s (sign_lexeme t) rest e
 halted start t rest e o = absurd cc
 
 -- behind further parts
@@ -292,7 +282,7 @@ Opened ts o = is_last ts ≡ false → last_open ts ≡ o
 opened_next : (t : Syntax) (ts : Syntaxes) (o : Bool) → Opened (MoreSyntax t ts) o → Opened ts o
 opened_next t ts o h l = sym (later_open t ts l) ∙ h refl
 
-none_left : (t : Syntax) (others : List Piece → Type 0) → FitsPart t others [] → ⊥
+pub none_left : (t : Syntax) (others : List Piece → Type 0) → FitsPart t others [] → ⊥
 none_left t others h = h
 
 -- what stands behind a part ends it
@@ -301,7 +291,7 @@ unfolding joins ends_with last_open spell spell_signs shutting
 part_follows place k [] t NoSyntax front o rest e fits tail opened apart = subst (λ (b : Bool). Follows k b rest) (sym (opened refl)) tail
 part_follows place k [] t (MoreSyntax u us) front o rest e fits tail opened apart = absurd (none_left u (FitAll us) fits.1)
 part_follows place k (pieces.Sign s ∷ ps) t ts front o rest e fits tail opened apart =
-    subst (λ (xs : List Lexeme). Follows k (is_open t) (xs ++ rest)) (sym (spelled_sign ts s ps)) (closes_follows k s (is_open t) (spell ts ps ++ rest) e)
+    subst (λ (xs : List Lexeme). Follows k (is_open t) (xs ++ rest)) (sym (spell_sign ts s ps)) (closes_follows k s (is_open t) (spell ts ps ++ rest) e)
 part_follows place k (pieces.Others p j start ∷ []) t NoSyntax front o rest e fits tail opened apart =
     subst (λ (b : Bool). Follows k b rest) (sym (opened refl)) tail.0
 part_follows place k (pieces.Others p j start ∷ (pieces.Sign s ∷ ps)) t NoSyntax front o rest e fits tail opened apart =
@@ -368,11 +358,11 @@ unfolding row step linked spell spell_signs spell_part flat nests nests_part is_
 row_complete b r n [] o rest NoSyntax front positive e opens read fits high nested apart tail opened = ap (λ (xs : List Syntax). some_row xs rest) (sym (append-nil front))
 row_complete b r n [] o rest (MoreSyntax t ts) front positive e opens read fits high nested apart tail opened = absurd (none_left t (FitAll ts) fits.1)
 row_complete b r n (pieces.Sign s ∷ ps) o rest ts front positive e opens read fits high nested apart tail opened =
-    ap (row (reader b r n) (may_open b) (pieces.Sign s ∷ ps) front) (ap (λ (xs : List Lexeme). xs ++ rest) (spelled_sign ts s ps))
+    ap (row (reader b r n) (may_open b) (pieces.Sign s ∷ ps) front) (ap (λ (xs : List Lexeme). xs ++ rest) (spell_sign ts s ps))
     ∙ ap (λ (x : Option (List Lexeme)). found_row (reader b r n) (may_open b) ps (x >>= keep front)) (after_sign s (spell ts ps ++ rest))
     ∙ row_complete b r n ps o rest ts front positive e opens read (fits_sign ts s ps fits) high (omega (arith, nested, fewer_nests ts s ps)) apart tail opened
 row_complete b r n (pieces.Open s ∷ ps) o rest ts front positive e opens read fits high nested apart tail opened =
-    ap (row (reader b r n) (may_open b) (pieces.Open s ∷ ps) front) (ap (λ (xs : List Lexeme). xs ++ rest) (spelled_open ts s ps))
+    ap (row (reader b r n) (may_open b) (pieces.Open s ∷ ps) front) (ap (λ (xs : List Lexeme). xs ++ rest) (spell_open ts s ps))
     ∙ ap (λ (may : Bool). found_row (reader b r n) (may_open b) ps (cond may (after (signs.Symbol s) (Sign s ∷ (spell ts ps ++ rest)) >>= keep front) None)) (may_open_some b (opens refl))
     ∙ ap (λ (x : Option (List Lexeme)). found_row (reader b r n) (may_open b) ps (x >>= keep front)) (after_sign (signs.Symbol s) (spell ts ps ++ rest))
     ∙ row_complete b r n ps o rest ts front positive e (λ any. opens refl) read (fits_open ts s ps fits) high (omega (arith, nested, fewer_nests_open ts s ps)) apart tail opened
