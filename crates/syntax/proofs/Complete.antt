@@ -1,34 +1,30 @@
 -- A tree that fits and is within the limits, spelled by its tokens and followed by what ends it, is what is read there.
-use Rattle.std.proofs.Common.{◌≡◌, ℕ, zero, suc, ◌+◌, ◌-◌, ◌<◌, ◌≤◌, List, [], ◌∷◌, ◌++◌, max, Bool, true, false, Option, Some, None, refl, sym, ap, ◌∙◌, arith}
-use Rattle.std.specs.Prelude.{nat_le}
+use Rattle.std.proofs.Common.{◌≡◌, ℕ, zero, suc, ◌-◌, ◌<◌, ◌≤◌, List, [], ◌∷◌, ◌++◌, Bool, true, false, Option, Some, None, refl, sym, ap, ◌∙◌, arith}
 use Rattle.std.proofs.lemmas.Bool.{leb-true, le-leb}
 use Rattle.std.proofs.lemmas.List.{append-nil}
 use Rattle.std.proofs.Math.Nat.{le-max_left}
-use Rattle.tokens.specs.Lexeme.{Lexeme, Name, Number}
-use Rattle.syntax.specs.declared.piece.Fields.TheVariants as fields
+use Rattle.tokens.specs.Lexeme.{Lexeme}
 use Rattle.syntax.specs.declared.piece.Kind.{Kind}
 use Rattle.syntax.specs.declared.piece.Kind.TheVariants as kinds
 use Rattle.syntax.specs.declared.piece.Piece.{Piece}
 use Rattle.syntax.specs.declared.piece.Piece.TheVariants as pieces
 use Rattle.syntax.specs.declared.form.Form.{Form}
 use Rattle.syntax.specs.declared.form.Form.TheVariants as forms
-use Rattle.syntax.specs.Operators.{right_limit, level}
 use Rattle.syntax.specs.Rules.{rule, form_level, is_heavy}
-use Rattle.syntax.specs.Grammar.{Syntax, Called, Numeral, Node, Syntaxes, NoSyntax, MoreSyntax, flat, height_of, highest, nesting, is, is_open, is_event, is_value, is_numeral, is_field, is_generator, is_generators, is_pair, is_called, is_names, is_constants, is_field_sets, is_declaration, is_script, level_in, takes, Fits, FitAll, FitsPart}
+use Rattle.syntax.specs.Grammar.{Syntax, Called, Numeral, Node, Syntaxes, NoSyntax, MoreSyntax, flat, height_of, highest, nesting, is, is_open, is_event, is_value, is_numeral, is_field, is_generator, is_generators, is_pair, is_called, is_names, is_constants, is_field_sets, is_declaration, is_script, level_in, Fits, FitAll, FitsPart}
 use Rattle.tokens.specs.declared.error.ScriptErrorKind.{ScriptErrorKind}
 use Rattle.tokens.specs.declared.error.ScriptErrorKind.TheVariants as errors
 use Rattle.syntax.specs.Script.{IsScript}
 use Rattle.syntax.specs.Parsing.{◌>>=◌, Fails, Found, operand, go_on, read_in, climb, reader, may_open, reads, is_alone, numeral_at, number_at, name_at, may_be_number, ended, whole}
 use Rattle.syntax.proofs.Branches.{some_found}
-use Rattle.syntax.proofs.Climbing.{Stops, stops_tighter, climb_stops}
+use Rattle.syntax.proofs.Climbing.{stops_tighter, climb_stops}
 use Rattle.syntax.proofs.Steps.{reads_suc}
 use Rattle.syntax.proofs.Table.{operator_row}
 use Rattle.syntax.proofs.CompleteBools.{false_true}
-use Rattle.syntax.proofs.CompleteFollow.{Behind, Follows}
+use Rattle.syntax.proofs.CompleteFollow.{Follows}
 use Rattle.syntax.proofs.CompleteFirst.{is_operation}
 use Rattle.syntax.proofs.CompleteGoal.{rank, is_read_kind, IsRead, Comes, AllRead, edge, spine, start}
-use Rattle.syntax.proofs.CompleteTall.{IsTall, is_tall}
-use Rattle.syntax.proofs.CompleteParts.{first, Meets, ReadFirst, phrase_read_first, atom_read_first, event_read_first, value_read_first, field_read_first, generator_read_first, generators_read_first, pair_read_first, names_read_first, constants_read_first, field_sets_read_first, declaration_read_first, script_read_first}
+use Rattle.syntax.proofs.CompleteParts.{first, phrase_read_first, atom_read_first, event_read_first, value_read_first, field_read_first, generator_read_first, generators_read_first, pair_read_first, names_read_first, constants_read_first, field_sets_read_first, declaration_read_first, script_read_first}
 use Rattle.syntax.proofs.CompleteOperation.{comes_operation}
 
 -- ---- a phrase that is no operation comes to its end

@@ -1,26 +1,22 @@
 -- The token that a part begins with.
-use Rattle.std.proofs.Common.{◌≡◌, ℕ, zero, suc, ◌+◌, ◌<◌, ◌≤◌, List, [], ◌∷◌, ◌++◌, length, Bool, true, false, cond, Option, Some, None, refl, sym, ap, subst, ◌∙◌, append_assoc, arith, ◌&&◌}
+use Rattle.std.proofs.Common.{◌≡◌, ℕ, ◌<◌, ◌≤◌, List, ◌∷◌, ◌++◌, length, Bool, true, false, None, refl, sym, ap, subst, ◌∙◌, append_assoc, arith}
 use Rattle.std.specs.Prelude.{nat_le}
 use Rattle.std.proofs.lemmas.Bool.{leb-true, le-leb}
-use Rattle.tokens.specs.Lexeme.{Lexeme, Name, Number, Kept, Sign}
+use Rattle.tokens.specs.Lexeme.{Lexeme, Name, Sign}
 use Rattle.tokens.specs.declared.symbol.Symbol.{Symbol}
 use Rattle.tokens.specs.declared.symbol.Symbol.TheVariants as symbols
-use Rattle.tokens.specs.declared.keyword.Keyword.TheVariants as keywords
 use Rattle.syntax.specs.declared.operator.Operator.{Operator}
-use Rattle.syntax.specs.declared.operator.Operator.TheVariants as operators
 use Rattle.syntax.specs.declared.piece.Sign.{Sign as Signs}
 use Rattle.syntax.specs.declared.piece.Sign.TheVariants as signs
 use Rattle.syntax.specs.declared.piece.Fields.{Fields}
 use Rattle.syntax.specs.declared.piece.Fields.TheVariants as fields
-use Rattle.syntax.specs.declared.piece.Kind.{Kind}
-use Rattle.syntax.specs.declared.piece.Kind.TheVariants as kinds
 use Rattle.syntax.specs.declared.piece.Piece.{Piece}
 use Rattle.syntax.specs.declared.piece.Piece.TheVariants as pieces
 use Rattle.syntax.specs.declared.form.Form.{Form}
 use Rattle.syntax.specs.declared.form.Form.TheVariants as forms
-use Rattle.syntax.specs.Operators.{opening, behind, level, left_limit}
+use Rattle.syntax.specs.Operators.{opening, behind, left_limit}
 use Rattle.syntax.specs.Rules.{rule, form_level}
-use Rattle.syntax.specs.Grammar.{Syntax, Called, Numeral, Node, Syntaxes, NoSyntax, MoreSyntax, sign_lexeme, flat, spell, spell_signs, spell_part, Fits, FitAll, FitsPart, is, is_called, is_field, is_declaration, takes_field, level_in, left_fits, is_open, wants}
+use Rattle.syntax.specs.Grammar.{Syntax, Called, Numeral, Node, Syntaxes, NoSyntax, MoreSyntax, sign_lexeme, flat, spell, spell_part, Fits, FitAll, is, is_called, is_field, is_declaration, takes_field, level_in, left_fits}
 use Rattle.syntax.specs.Parsing.{begins_field, brace_form, number_at}
 use Rattle.syntax.proofs.Sound.{spell_sign, spell_open}
 use Rattle.syntax.proofs.Table.{operator_row}

@@ -1,21 +1,19 @@
 -- What ends a part: which tokens may stand behind it.
-use Rattle.std.proofs.Common.{◌≡◌, ℕ, List, [], ◌∷◌, ◌++◌, Bool, true, false, cond, not, ◌&&◌, Option, Some, None, refl, sym, ap, ◌∙◌}
-use Rattle.std.specs.Prelude.{nat_le}
+use Rattle.std.proofs.Common.{◌≡◌, ℕ, List, [], ◌∷◌, Bool, true, false, cond, not, ◌&&◌, Option, Some, None, refl, sym, ap, ◌∙◌}
 use Rattle.tokens.specs.Lexeme.{Lexeme, Name, Number, Kept, Sign}
 use Rattle.tokens.specs.declared.symbol.Symbol.{Symbol}
 use Rattle.tokens.specs.declared.symbol.Symbol.TheVariants as symbols
 use Rattle.tokens.specs.declared.keyword.Keyword.{Keyword}
 use Rattle.tokens.specs.declared.keyword.Keyword.TheVariants as keywords
 use Rattle.syntax.specs.declared.operator.Operator.{Operator}
-use Rattle.syntax.specs.declared.operator.Operator.TheVariants as operators
 use Rattle.syntax.specs.declared.piece.Sign.{Sign as Signs}
 use Rattle.syntax.specs.declared.piece.Sign.TheVariants as signs
 use Rattle.syntax.specs.declared.piece.Fields.{Fields}
 use Rattle.syntax.specs.declared.piece.Fields.TheVariants as fields
 use Rattle.syntax.specs.declared.piece.Kind.{Kind}
 use Rattle.syntax.specs.declared.piece.Kind.TheVariants as kinds
-use Rattle.syntax.specs.Operators.{operator_of_symbol, operator_of_keyword, opening}
-use Rattle.syntax.specs.Grammar.{sign_lexeme, spell_signs}
+use Rattle.syntax.specs.Operators.{operator_of_symbol, operator_of_keyword}
+use Rattle.syntax.specs.Grammar.{sign_lexeme}
 use Rattle.syntax.specs.Parsing.{◌>>=◌, is_sign, after, begins_field, operator_of, operator_at}
 use Rattle.syntax.proofs.Table.{some_operator}
 use Rattle.syntax.proofs.Climbing.{Stops}

@@ -1,25 +1,19 @@
 -- Which form stands first, where the tokens are those of a node.
-use Rattle.std.proofs.Common.{◌≡◌, ℕ, zero, suc, ◌+◌, ◌<◌, ◌≤◌, List, [], ◌∷◌, ◌++◌, Bool, true, false, cond, Option, Some, None, refl, sym, ap, subst, ◌∙◌, append_assoc, arith, ◌&&◌}
+use Rattle.std.proofs.Common.{◌≡◌, ℕ, List, ◌∷◌, ◌++◌, Bool, true, false, cond, Option, Some, None, refl, ap, ◌∙◌, append_assoc}
 use Rattle.std.specs.Prelude.{nat_le}
-use Rattle.tokens.specs.Lexeme.{Lexeme, Name, Number, Kept, Sign}
+use Rattle.tokens.specs.Lexeme.{Lexeme, Name, Sign}
 use Rattle.tokens.specs.declared.symbol.Symbol.TheVariants as symbols
-use Rattle.tokens.specs.declared.keyword.Keyword.TheVariants as keywords
-use Rattle.syntax.specs.declared.piece.Fields.{Fields}
 use Rattle.syntax.specs.declared.piece.Fields.TheVariants as fields
 use Rattle.syntax.specs.declared.piece.Kind.{Kind}
 use Rattle.syntax.specs.declared.piece.Kind.TheVariants as kinds
-use Rattle.syntax.specs.declared.piece.Place.TheVariants as places
-use Rattle.syntax.specs.declared.piece.Start.TheVariants as starts
-use Rattle.syntax.specs.declared.piece.Piece.{Piece}
-use Rattle.syntax.specs.declared.piece.Piece.TheVariants as pieces
 use Rattle.syntax.specs.declared.form.Form.{Form}
 use Rattle.syntax.specs.declared.form.Form.TheVariants as forms
 use Rattle.syntax.specs.Rules.{rule, form_level, is_heavy}
-use Rattle.syntax.specs.Grammar.{Syntax, Called, Numeral, Node, Syntaxes, NoSyntax, MoreSyntax, sign_lexeme, flat, spell, spell_signs, spell_part, is, is_called, is_event, is_value, is_field, is_declaration, takes_field, Fits, FitAll, FitsPart}
-use Rattle.syntax.specs.Parsing.{◌>>=◌, Found, Reader, number_at, begins_field, keyword_form, named_form, brace_form, events_form, symbol_form, phrase_form, value_form, input_form, field_form, defined_form, declaration_form, tight, form_at, is_alone, numeral_at, may_be_number, fields_of, operand_on, operand, pick, node, name_at}
+use Rattle.syntax.specs.Grammar.{Syntax, Called, Numeral, Node, Syntaxes, NoSyntax, MoreSyntax, flat, spell, spell_signs, spell_part, is, is_called, is_event, is_value, is_field, is_declaration, takes_field, Fits, FitAll}
+use Rattle.syntax.specs.Parsing.{◌>>=◌, Reader, number_at, keyword_form, named_form, brace_form, events_form, symbol_form, phrase_form, value_form, input_form, field_form, defined_form, declaration_form, tight, form_at, is_alone, numeral_at, fields_of, operand_on, operand, pick, node, name_at}
 use Rattle.syntax.proofs.CompleteBools.{false_true}
 use Rattle.syntax.proofs.CompleteFollow.{calm}
-use Rattle.syntax.proofs.CompleteFirst.{Named, named, spelled_name, first_sign, first_open, first_name, field_first, rule_first, leads_rule, is_operation, phrase_first}
+use Rattle.syntax.proofs.CompleteFirst.{named, first_sign, first_open, first_name, field_first, rule_first, leads_rule, is_operation, phrase_first}
 use Rattle.syntax.proofs.CompleteNamed.{further}
 
 -- the form that the tokens begin as

@@ -1,35 +1,30 @@
 -- Where the tokens are those of a name with fields, of a set or of a declaration of channels, it is read.
-use Rattle.std.proofs.Common.{◌≡◌, ℕ, zero, suc, ◌+◌, ◌-◌, ◌<◌, ◌≤◌, List, [], ◌∷◌, ◌++◌, length, max, Bool, true, false, cond, not, Option, Some, None, refl, sym, ap, subst, ◌∙◌, append_assoc, arith, ◌&&◌, ◌||◌, ◌⊎◌, inl, inr}
-use Rattle.std.specs.Prelude.{nat_le}
+use Rattle.std.proofs.Common.{◌≡◌, ℕ, suc, ◌<◌, ◌≤◌, List, [], ◌∷◌, ◌++◌, length, max, Bool, true, false, cond, not, None, refl, sym, ap, subst, ◌∙◌, append_assoc, arith, ◌&&◌, inl, inr}
 use Rattle.std.proofs.lemmas.List.{append-nil}
 use Rattle.std.proofs.Math.Nat.{le-max_left, le-max_right}
-use Rattle.tokens.specs.Lexeme.{Lexeme, Name, Number, Kept, Sign}
-use Rattle.tokens.specs.declared.symbol.Symbol.{Symbol}
+use Rattle.tokens.specs.Lexeme.{Lexeme, Name, Kept, Sign}
 use Rattle.tokens.specs.declared.symbol.Symbol.TheVariants as symbols
 use Rattle.tokens.specs.declared.keyword.Keyword.TheVariants as keywords
 use Rattle.syntax.specs.declared.piece.Sign.TheVariants as signs
 use Rattle.syntax.specs.declared.piece.Fields.{Fields}
 use Rattle.syntax.specs.declared.piece.Fields.TheVariants as fields
-use Rattle.syntax.specs.declared.piece.Kind.{Kind}
 use Rattle.syntax.specs.declared.piece.Kind.TheVariants as kinds
-use Rattle.syntax.specs.declared.piece.Place.{Place}
 use Rattle.syntax.specs.declared.piece.Place.TheVariants as places
-use Rattle.syntax.specs.declared.piece.Start.{Start}
 use Rattle.syntax.specs.declared.piece.Start.TheVariants as starts
 use Rattle.syntax.specs.declared.piece.Piece.{Piece}
 use Rattle.syntax.specs.declared.piece.Piece.TheVariants as pieces
 use Rattle.syntax.specs.declared.form.Form.{Form}
 use Rattle.syntax.specs.declared.form.Form.TheVariants as forms
 use Rattle.syntax.specs.Rules.{rule}
-use Rattle.syntax.specs.Grammar.{Syntax, Called, Numeral, Node, Syntaxes, NoSyntax, MoreSyntax, sign_lexeme, before, flat, spell, spell_signs, spell_part, height_of, highest, nesting, nests, nests_part, within, opens_any, is, is_called, is_open, is_last, last_open, takes_field, takes_fields, shut, may_stand, Fits, FitAll, FitsPart, needs_none}
-use Rattle.syntax.specs.Parsing.{◌>>=◌, Found, Row, Reader, syntaxes, is_sign, after, begins_field, another, last_is_open, row, front, back, turned, node, pick, reader, may_open, put, step, name_at, others}
+use Rattle.syntax.specs.Grammar.{Syntax, Called, Node, Syntaxes, NoSyntax, MoreSyntax, flat, spell, spell_signs, spell_part, height_of, highest, nesting, nests, nests_part, is_open, is_last, last_open, takes_fields, may_stand, Fits, FitAll}
+use Rattle.syntax.specs.Parsing.{is_sign, begins_field, another, row, front, back, turned, node, reader, may_open, step, name_at, others}
 use Rattle.syntax.proofs.Sound.{some_of}
 use Rattle.syntax.proofs.Branches.{some_found, some_row, node_is}
 use Rattle.syntax.proofs.CompleteBools.{false_true}
-use Rattle.syntax.proofs.CompleteFollow.{quiet, quiet_symbol, calm, declares, Behind, NoSign, Follows, closes, declares_none}
-use Rattle.syntax.proofs.CompleteGoal.{rank, is_read_kind, IsRead, Comes, AllRead}
+use Rattle.syntax.proofs.CompleteFollow.{quiet, quiet_symbol, declares, Follows, closes, declares_none}
+use Rattle.syntax.proofs.CompleteGoal.{rank, is_read_kind, AllRead}
 use Rattle.syntax.proofs.CompleteTall.{tall}
-use Rattle.syntax.proofs.CompleteRow.{none_left, listed, syntaxes_listed, found_row, NoMore, Apart, apart_next, linked, ranked, joins, continues, separates, ends_with, halts, wants_shut, is_fields, shutting, Tail, Opened, tall_pieces, part_follows, others_complete, count_length, row_complete}
+use Rattle.syntax.proofs.CompleteRow.{none_left, listed, syntaxes_listed, found_row, NoMore, Apart, apart_next, linked, ranked, joins, continues, separates, ends_with, halts, wants_shut, shutting, Tail, tall_pieces, part_follows, others_complete, count_length, row_complete}
 use Rattle.syntax.proofs.CompleteNode.{linked_more}
 
 -- ---- a name with its fields

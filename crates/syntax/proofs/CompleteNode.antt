@@ -1,36 +1,26 @@
 -- Where the tokens are those of a node, the node is read: forms whose rule is read in one go.
-use Rattle.std.proofs.Common.{◌≡◌, ℕ, zero, suc, ◌+◌, ◌-◌, ◌<◌, ◌≤◌, List, [], ◌∷◌, ◌++◌, length, max, Bool, true, false, cond, not, Option, Some, None, refl, sym, ap, subst, ◌∙◌, append_assoc, arith, ◌&&◌, ◌||◌, ◌⊎◌, inl, inr}
-use Rattle.std.specs.Prelude.{nat_le}
+use Rattle.std.proofs.Common.{◌≡◌, ℕ, suc, ◌+◌, ◌<◌, ◌≤◌, List, [], ◌∷◌, ◌++◌, Bool, true, false, cond, not, refl, sym, ap, subst, arith, ◌&&◌, ◌⊎◌, inl, inr}
 use Rattle.std.proofs.lemmas.Bool.{leb-true, le-leb}
 use Rattle.std.proofs.Math.Nat.{le-max_left, le-max_right}
-use Rattle.tokens.specs.Lexeme.{Lexeme, Name, Number, Kept, Sign}
-use Rattle.tokens.specs.declared.symbol.Symbol.{Symbol}
-use Rattle.tokens.specs.declared.symbol.Symbol.TheVariants as symbols
-use Rattle.syntax.specs.declared.piece.Sign.{Sign as Signs}
-use Rattle.syntax.specs.declared.piece.Sign.TheVariants as signs
+use Rattle.tokens.specs.Lexeme.{Lexeme}
 use Rattle.syntax.specs.declared.piece.Fields.{Fields}
-use Rattle.syntax.specs.declared.piece.Fields.TheVariants as fields
 use Rattle.syntax.specs.declared.piece.Kind.{Kind}
-use Rattle.syntax.specs.declared.piece.Kind.TheVariants as kinds
 use Rattle.syntax.specs.declared.piece.Place.{Place}
 use Rattle.syntax.specs.declared.piece.Place.TheVariants as places
-use Rattle.syntax.specs.declared.piece.Start.{Start}
-use Rattle.syntax.specs.declared.piece.Start.TheVariants as starts
 use Rattle.syntax.specs.declared.piece.Piece.{Piece}
 use Rattle.syntax.specs.declared.piece.Piece.TheVariants as pieces
 use Rattle.syntax.specs.declared.form.Form.{Form}
 use Rattle.syntax.specs.declared.form.Form.TheVariants as forms
-use Rattle.syntax.specs.Rules.{rule, form_level, is_heavy, ending}
-use Rattle.syntax.specs.Grammar.{Syntax, Called, Numeral, Node, Syntaxes, NoSyntax, MoreSyntax, sign_lexeme, before, flat, spell, spell_signs, spell_part, height_of, highest, nesting, nests, nests_part, within, opens_any, is, is_open, is_last, last_open, takes_field, takes_fields, shut, may_stand, Fits, FitAll, FitsPart, needs_none}
-use Rattle.syntax.specs.Parsing.{◌>>=◌, Found, Row, Reader, syntaxes, is_sign, after, begins_field, another, last_is_open, row, front, back, turned, node, pick, reader, may_open}
+use Rattle.syntax.specs.Rules.{rule, is_heavy}
+use Rattle.syntax.specs.Grammar.{Node, Syntaxes, NoSyntax, MoreSyntax, flat, spell, height_of, highest, nesting, nests, nests_part, opens_any, is_last, last_open, may_stand, Fits, FitAll}
+use Rattle.syntax.specs.Parsing.{is_sign, row, front, back, turned, node, pick, reader, may_open}
 use Rattle.syntax.proofs.Sound.{only_signs}
 use Rattle.syntax.proofs.Branches.{some_found, some_row, node_is}
-use Rattle.syntax.proofs.Climbing.{Stops}
 use Rattle.syntax.proofs.CompleteBools.{false_true, both_true, and_true, or_true}
-use Rattle.syntax.proofs.CompleteFollow.{quiet, quiet_symbol, quiet_keyword, calm, declares, Behind, NoSign, Follows, closes, quiet_phrase, declares_quiet, declares_none}
-use Rattle.syntax.proofs.CompleteGoal.{rank, is_read_kind, IsRead, Comes, AllRead, edge}
+use Rattle.syntax.proofs.CompleteFollow.{quiet, quiet_symbol, quiet_keyword, closes}
+use Rattle.syntax.proofs.CompleteGoal.{rank, is_read_kind, AllRead}
 use Rattle.syntax.proofs.CompleteTall.{tall}
-use Rattle.syntax.proofs.CompleteRow.{listed, syntaxes_listed, NoMore, Apart, linked, ranked, joins, continues, separates, ends_with, halts, wants_shut, is_fields, shutting, Tail, Opened, tall_pieces, row_complete}
+use Rattle.syntax.proofs.CompleteRow.{listed, syntaxes_listed, Apart, linked, ranked, joins, continues, separates, ends_with, halts, wants_shut, is_fields, shutting, Tail, tall_pieces, row_complete}
 
 -- ---- forms by their rules
 

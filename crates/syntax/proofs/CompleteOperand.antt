@@ -1,31 +1,25 @@
 -- Where the tokens are those of a node that is no operation, and what may stand behind it, it is read as the first operand.
-use Rattle.std.proofs.Common.{◌≡◌, ℕ, zero, suc, ◌+◌, ◌<◌, ◌≤◌, List, [], ◌∷◌, ◌++◌, max, Bool, true, false, cond, not, Option, Some, None, refl, sym, ap, subst, ◌∙◌, arith, ◌&&◌, ◌⊎◌, inl, inr}
+use Rattle.std.proofs.Common.{◌≡◌, ℕ, suc, ◌<◌, ◌≤◌, List, ◌++◌, true, false, refl, arith}
 use Rattle.std.specs.Prelude.{nat_le}
-use Rattle.std.proofs.lemmas.Bool.{leb-true, le-leb}
-use Rattle.std.proofs.Math.Nat.{le-max_left, le-max_right}
-use Rattle.tokens.specs.Lexeme.{Lexeme, Name, Number, Kept, Sign}
-use Rattle.tokens.specs.declared.symbol.Symbol.TheVariants as symbols
-use Rattle.syntax.specs.declared.piece.Sign.TheVariants as signs
+use Rattle.std.proofs.lemmas.Bool.{leb-true}
+use Rattle.std.proofs.Math.Nat.{le-max_right}
+use Rattle.tokens.specs.Lexeme.{Lexeme}
 use Rattle.syntax.specs.declared.piece.Fields.{Fields}
 use Rattle.syntax.specs.declared.piece.Fields.TheVariants as fields
-use Rattle.syntax.specs.declared.piece.Kind.{Kind}
-use Rattle.syntax.specs.declared.piece.Kind.TheVariants as kinds
-use Rattle.syntax.specs.declared.piece.Start.TheVariants as starts
 use Rattle.syntax.specs.declared.form.Form.{Form}
 use Rattle.syntax.specs.declared.form.Form.TheVariants as forms
 use Rattle.syntax.specs.Rules.{rule, form_level, is_heavy, ending}
-use Rattle.syntax.specs.Grammar.{Syntax, Called, Numeral, Node, Syntaxes, NoSyntax, MoreSyntax, flat, height_of, highest, nesting, nests, nests_part, is, is_called, is_open, is_last, last_open, ends_open, takes, takes_field, takes_fields, Fits, FitAll}
-use Rattle.syntax.specs.Parsing.{Found, after, begins_field, another, node, pick, reader, may_open}
+use Rattle.syntax.specs.Grammar.{Called, Numeral, Node, Syntaxes, NoSyntax, MoreSyntax, flat, height_of, highest, nesting, nests, nests_part, is_called, is_open, is_last, last_open, takes, Fits}
+use Rattle.syntax.specs.Parsing.{begins_field, node, pick, reader, may_open}
 use Rattle.syntax.proofs.Branches.{some_found}
 use Rattle.syntax.proofs.Climbing.{Stops}
 use Rattle.syntax.proofs.CompleteBools.{false_true, true_false}
-use Rattle.syntax.proofs.CompleteFollow.{quiet, Behind, NoSign, Follows, quiet_phrase}
+use Rattle.syntax.proofs.CompleteFollow.{Behind, quiet_phrase}
 use Rattle.syntax.proofs.CompleteFirst.{is_operation}
 use Rattle.syntax.proofs.CompleteGoal.{AllRead, edge}
-use Rattle.syntax.proofs.CompleteTall.{tall}
-use Rattle.syntax.proofs.CompleteRow.{NoMore, Tail}
+use Rattle.syntax.proofs.CompleteRow.{Tail}
 use Rattle.syntax.proofs.CompleteNode.{below, is_simple, node_of_simple}
-use Rattle.syntax.proofs.CompleteNamed.{further, node_event, node_set, node_range}
+use Rattle.syntax.proofs.CompleteNamed.{node_event, node_set, node_range}
 use Rattle.syntax.proofs.CompleteForms.{first_form}
 
 -- ---- what a phrase's rule asks of what stands behind it

@@ -1,27 +1,24 @@
 -- Where the tokens are those of an operation, reading comes to the point where it was read.
-use Rattle.std.proofs.Common.{◌≡◌, ℕ, zero, suc, ◌+◌, ◌<◌, ◌≤◌, List, [], ◌∷◌, ◌++◌, max, Bool, true, false, cond, not, Option, Some, None, refl, sym, ap, subst, ◌∙◌, append_assoc, arith, ◌&&◌, ◌||◌, ◌⊎◌, inl, inr}
+use Rattle.std.proofs.Common.{◌≡◌, ℕ, suc, ◌<◌, ◌≤◌, List, [], ◌∷◌, ◌++◌, Bool, true, false, not, Option, Some, refl, sym, ap, subst, ◌∙◌, append_assoc, arith, ◌&&◌, ◌||◌, inl}
 use Rattle.std.specs.Prelude.{nat_le}
-use Rattle.std.proofs.lemmas.Bool.{leb-true, le-leb}
 use Rattle.std.proofs.Math.Nat.{le-max_left, le-max_right}
-use Rattle.tokens.specs.Lexeme.{Lexeme, Name, Number, Kept, Sign}
+use Rattle.tokens.specs.Lexeme.{Lexeme}
 use Rattle.syntax.specs.declared.operator.Operator.{Operator}
 use Rattle.syntax.specs.declared.operator.Operator.TheVariants as operators
 use Rattle.syntax.specs.declared.piece.Fields.TheVariants as fields
-use Rattle.syntax.specs.declared.piece.Kind.TheVariants as kinds
 use Rattle.syntax.specs.declared.piece.Piece.{Piece}
-use Rattle.syntax.specs.declared.form.Form.{Form}
 use Rattle.syntax.specs.declared.form.Form.TheVariants as forms
 use Rattle.syntax.specs.Operators.{opening, behind, level, left_limit, right_limit, opens}
 use Rattle.syntax.specs.Rules.{rule, form_level, is_heavy, ending}
-use Rattle.syntax.specs.Grammar.{Syntax, Called, Numeral, Node, Syntaxes, NoSyntax, MoreSyntax, flat, spell, spell_signs, spell_part, height_of, highest, nesting, nests, nests_part, opens_any, is, is_open, last_open, level_in, left_fits, wants, Fits, FitAll, FitsPart}
-use Rattle.syntax.specs.Parsing.{◌>>=◌, Found, is_sign, begins_field, operator_at, row, grown, may_begin, climb, reader, may_open}
+use Rattle.syntax.specs.Grammar.{Syntax, Called, Numeral, Node, Syntaxes, NoSyntax, MoreSyntax, flat, spell, spell_signs, spell_part, height_of, highest, nesting, nests, nests_part, opens_any, is, is_open, last_open, level_in, left_fits, wants, Fits, FitAll}
+use Rattle.syntax.specs.Parsing.{is_sign, begins_field, grown, may_begin, reader, may_open}
 use Rattle.syntax.proofs.Sound.{spell_sign, spell_open}
-use Rattle.syntax.proofs.Branches.{some_found, some_row, grown_is}
+use Rattle.syntax.proofs.Branches.{some_found, grown_is}
 use Rattle.syntax.proofs.Climbing.{Stops, climb_goes}
 use Rattle.syntax.proofs.Steps.{may_open_some}
-use Rattle.syntax.proofs.Table.{operator_row, some_operator, ends_before}
+use Rattle.syntax.proofs.Table.{operator_row, ends_before}
 use Rattle.syntax.proofs.CompleteBools.{false_true, both_true, or_true}
-use Rattle.syntax.proofs.CompleteFollow.{quiet, quiet_symbol, quiet_keyword, calm, Behind, closes}
+use Rattle.syntax.proofs.CompleteFollow.{quiet, quiet_symbol, calm, Behind, closes}
 use Rattle.syntax.proofs.CompleteFirst.{left_level, fits_sign, fits_open}
 use Rattle.syntax.proofs.CompleteGoal.{AllRead, Comes, edge, spine, start, rank, is_read_kind}
 use Rattle.syntax.proofs.CompleteTall.{tall}

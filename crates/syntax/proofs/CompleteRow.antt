@@ -1,5 +1,5 @@
 -- Where the tokens are those of a rule's parts, the pieces of the rule read them.
-use Rattle.std.proofs.Common.{◌≡◌, ℕ, zero, suc, ◌+◌, ◌-◌, ◌<◌, ◌≤◌, List, [], ◌∷◌, ◌++◌, length, max, Bool, true, false, cond, not, Option, Some, None, refl, sym, ap, subst, ◌∙◌, append_assoc, arith, ◌&&◌, ◌||◌, ◌⊎◌, inl, inr}
+use Rattle.std.proofs.Common.{◌≡◌, ℕ, zero, suc, ◌-◌, ◌<◌, ◌≤◌, List, [], ◌∷◌, ◌++◌, length, Bool, true, false, cond, not, Option, None, refl, sym, ap, subst, ◌∙◌, append_assoc, arith, ◌&&◌, ◌||◌, ◌⊎◌, inl, inr}
 use Rattle.std.specs.Prelude.{nat_le}
 use Rattle.std.proofs.lemmas.Bool.{leb-true}
 use Rattle.std.proofs.lemmas.List.{append-nil, length-append}
@@ -7,7 +7,7 @@ use Rattle.std.proofs.Math.Nat.{le-max_left, le-max_right}
 use denote.Enum.Bare.{true_same}
 use Rattle.tokens.specs.contracts.symbol.Symbol.{the_type as symbol_type}
 use Rattle.tokens.specs.contracts.keyword.Keyword.{the_type as keyword_type}
-use Rattle.tokens.specs.Lexeme.{Lexeme, Name, Number, Kept, Sign}
+use Rattle.tokens.specs.Lexeme.{Lexeme, Sign}
 use Rattle.tokens.specs.declared.symbol.Symbol.{Symbol}
 use Rattle.tokens.specs.declared.symbol.Symbol.TheVariants as symbols
 use Rattle.syntax.specs.declared.piece.Sign.{Sign as Signs}
@@ -22,16 +22,16 @@ use Rattle.syntax.specs.declared.piece.Start.{Start}
 use Rattle.syntax.specs.declared.piece.Start.TheVariants as starts
 use Rattle.syntax.specs.declared.piece.Piece.{Piece}
 use Rattle.syntax.specs.declared.piece.Piece.TheVariants as pieces
-use Rattle.syntax.specs.Grammar.{Syntax, Called, Numeral, Node, Syntaxes, NoSyntax, MoreSyntax, sign_lexeme, before, flat, spell, spell_signs, spell_part, height_of, highest, nesting, nests, nests_part, within, opens_any, is, is_field, is_declaration, is_called, is_open, is_last, last_open, takes_field, takes_fields, shut, Fits, FitAll, FitsPart, needs_none}
-use Rattle.syntax.specs.Parsing.{◌>>=◌, Found, Row, Reader, syntaxes, is_sign, after, name_at, begins_field, another, last_is_open, others_on, others, put, keep, step, row, reads, inside, reader, may_open}
+use Rattle.syntax.specs.Grammar.{Syntax, Called, Numeral, Node, Syntaxes, NoSyntax, MoreSyntax, sign_lexeme, before, flat, spell, spell_signs, spell_part, height_of, highest, nesting, nests, nests_part, within, opens_any, is, is_called, is_open, is_last, last_open, takes_field, takes_fields, shut, Fits, FitAll, FitsPart}
+use Rattle.syntax.specs.Parsing.{◌>>=◌, Found, Row, Reader, syntaxes, is_sign, after, name_at, begins_field, another, last_is_open, others, put, keep, step, row, reader, may_open}
 use Rattle.syntax.proofs.Sound.{some_of, only_signs, spell_sign, spell_open}
 use Rattle.syntax.proofs.Branches.{some_found, some_row, others_stop, others_next}
 use Rattle.syntax.proofs.Steps.{may_open_some, inside_step}
 use Rattle.syntax.proofs.Lists.{open_push}
 use Rattle.syntax.proofs.CompleteBools.{true_false, both_true}
-use Rattle.syntax.proofs.CompleteFollow.{quiet, no_sign, calm, declares, Behind, NoSign, Follows, closes, closes_follows}
+use Rattle.syntax.proofs.CompleteFollow.{no_sign, calm, Follows, closes, closes_follows}
 use Rattle.syntax.proofs.CompleteFirst.{fits_sign, fits_open, field_first, field_some, declaration_first, declaration_some}
-use Rattle.syntax.proofs.CompleteGoal.{rank, is_read_kind, IsRead, Comes, AllRead}
+use Rattle.syntax.proofs.CompleteGoal.{rank, is_read_kind, IsRead, AllRead}
 use Rattle.syntax.proofs.CompleteTall.{tall, has_room}
 
 -- ---- parts as a list

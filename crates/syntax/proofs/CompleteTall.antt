@@ -1,18 +1,16 @@
 -- Parts that are never of height 0.
-use Rattle.std.proofs.Common.{◌≡◌, ℕ, zero, suc, ◌+◌, ◌<◌, ◌≤◌, List, [], ◌∷◌, max, Bool, true, false, cond, not, refl, sym, ap, ◌∙◌, arith, ◌&&◌, ◌⊎◌, inl, inr}
+use Rattle.std.proofs.Common.{◌≡◌, ℕ, ◌<◌, ◌≤◌, List, [], ◌∷◌, Bool, true, false, refl, arith, ◌&&◌, ◌⊎◌, inl, inr}
 use Rattle.std.specs.Prelude.{nat_le}
 use Rattle.std.proofs.lemmas.Bool.{leb-true}
 use Rattle.std.proofs.Math.Nat.{le-max_left, le-max_right}
 use Rattle.syntax.specs.declared.piece.Kind.{Kind}
 use Rattle.syntax.specs.declared.piece.Kind.TheVariants as kinds
-use Rattle.syntax.specs.declared.piece.Place.{Place}
-use Rattle.syntax.specs.declared.piece.Start.{Start}
 use Rattle.syntax.specs.declared.piece.Piece.{Piece}
 use Rattle.syntax.specs.declared.piece.Piece.TheVariants as pieces
 use Rattle.syntax.specs.declared.form.Form.{Form}
 use Rattle.syntax.specs.declared.form.Form.TheVariants as forms
 use Rattle.syntax.specs.Rules.{rule, form_level, is_heavy}
-use Rattle.syntax.specs.Grammar.{Syntax, Called, Numeral, Node, Syntaxes, NoSyntax, MoreSyntax, height_of, highest, is, is_event, is_value, is_field, is_generator, is_generators, is_pair, is_numeral, level_in, Fits, FitAll, FitsPart}
+use Rattle.syntax.specs.Grammar.{Syntax, Called, Numeral, Node, Syntaxes, NoSyntax, MoreSyntax, height_of, highest, is, is_event, is_value, is_field, is_generator, is_generators, is_pair, is_numeral, level_in, Fits, FitAll}
 use Rattle.syntax.proofs.CompleteBools.{false_true, true_false, both_true}
 use Rattle.syntax.proofs.CompleteGoal.{is_read_kind}
 
