@@ -63,11 +63,11 @@ node_event b r m n ts rest read fits takes high nested none f =
     let fit = fitting_fields m ts fits.1.1.1 in
     let count = count_length places.Outside kinds.Field (starts.Field m) [] ts rest refl fit in
     let all : others (reader b r 4 places.Outside kinds.Field) (starts.Field m) (length (spell ts (further m) ++ rest)) (Called n ∷ []) (spell ts (further m) ++ rest) ≡ some_row (Called n ∷ listed ts) rest =
-        others_complete b r 4 places.Outside kinds.Field (starts.Field m) [] rest (inl refl) refl refl refl (no_field m rest none) ts (Called n ∷ []) _ read fit takes high (subst (λ (x : ℕ). x ≤ b) (sym (nested_fields m ts)) nested) count
-        (apart_next true [] (Called n) ts (λ e. (refl, fits.0))) f in
+    others_complete b r 4 places.Outside kinds.Field (starts.Field m) [] rest (inl refl) refl refl refl (no_field m rest none) ts (Called n ∷ []) _ read fit takes high (subst (λ (x : ℕ). x ≤ b) (sym (nested_fields m ts)) nested) count
+    (apart_next true [] (Called n) ts (λ e. (refl, fits.0))) f in
     let whole : row (reader b r 4) (may_open b) (back m forms.Event) [] (Name n ∷ toks) ≡ some_row (Called n ∷ listed ts) rest =
-        ap (λ (xs : List Lexeme). row (reader b r 4) (may_open b) (further m) (Called n ∷ []) xs) same
-        ∙ ap (found_row (reader b r 4) (may_open b) []) all in
+    ap (λ (xs : List Lexeme). row (reader b r 4) (may_open b) (further m) (Called n ∷ []) xs) same
+    ∙ ap (found_row (reader b r 4) (may_open b) []) all in
     node_is (reader b r 4) (may_open b) m forms.Event forms.Event (Name n ∷ toks) (Name n ∷ toks) rest [] (back m forms.Event) [] [] (Called n ∷ listed ts) (Node forms.Event (MoreSyntax (Called n) ts)) refl refl refl refl refl whole (ap (λ (us : Syntaxes). Node forms.Event (MoreSyntax (Called n) us)) (sym (syntaxes_listed ts)))
 
 -- ---- forms that what stands behind their first part tells apart
@@ -94,7 +94,7 @@ unfolding spell spell_signs spell_part linked ranked rank is_read_kind joins tal
 member_read b r qs t ts rest e fits read high nested tail apart =
     ap (row (reader b r 4) (may_open b) (opened_set []) []) (behind_one (Sign symbols.OpenBrace) t (spell ts qs) rest)
     ∙ row_complete b r 4 (opened_set []) (is_open t) (spell ts qs ++ rest) (MoreSyntax t NoSyntax) [] (inl refl) refl (λ o. omega (arith, nested)) read (fits.0, (fits.1.0, refl)) (omega (arith, high)) (omega (arith, nested)) (λ n. absurd (false_true n))
-        (part_follows places.Inside (kinds.Phrase 16) qs t ts [] (last_open (MoreSyntax t ts)) rest e fits.1.1 tail (λ l. refl) apart) (λ l. refl)
+    (part_follows places.Inside (kinds.Phrase 16) qs t ts [] (last_open (MoreSyntax t ts)) rest e fits.1.1 tail (λ l. refl) apart) (λ l. refl)
 
 abbrev more_members : List Piece
 more_members = pieces.Others places.Inside (kinds.Phrase 16) (starts.Behind symbols.Comma) ∷ pieces.Sign (signs.Symbol symbols.CloseBrace) ∷ []
@@ -162,7 +162,7 @@ unfolding spell spell_signs spell_part tall_pieces shutting nests nests_part las
 names_read b r n qs t ts rest positive layers e fits read high nested tail apart =
     ap (row (reader b r n) (may_open b) (channel []) []) (behind_one (Kept keywords.Channel) t (spell ts qs) rest)
     ∙ row_complete b r n (channel []) (is_open t) (spell ts qs ++ rest) (MoreSyntax t NoSyntax) [] (inr positive) (two_layers n layers) (λ o. absurd (false_true o)) read (fits.0, (fits.1.0, refl)) (omega (arith, high)) (omega (arith, nested)) (λ n. absurd (false_true n))
-        (part_follows places.Outside kinds.Names qs t ts [] (last_open (MoreSyntax t ts)) rest e fits.1.1 tail (λ l. refl) apart) (λ l. refl)
+    (part_follows places.Outside kinds.Names qs t ts [] (last_open (MoreSyntax t ts)) rest e fits.1.1 tail (λ l. refl) apart) (λ l. refl)
 
 pub node_channels : (b r n : ℕ) (m : Fields) (ts : Syntaxes) (rest : List Lexeme) → 0 < r → 2 ≤ n → AllRead ts → Fits (Node forms.Channels ts) → highest ts ≤ r → nests ts (rule forms.Channels) ≤ b → declares rest ≡ true → node (reader b r n) (may_open b) m forms.Channels (flat (Node forms.Channels ts) ++ rest) ≡ some_found (Node forms.Channels ts) rest
 unfolding flat rule row front back spell spell_signs spell_part joins shutting nests nests_part

@@ -182,7 +182,7 @@ unfolding flat row
 node_simple b r n m f ts rest e room layers read fits high nested tail =
     let toks = spell ts (rule f) ++ rest in
     let whole : row (reader b r n) (may_open b) (rule f) [] toks ≡ some_row (listed ts) rest =
-        row_complete b r n (rule f) (last_open ts) rest ts [] room (linked_more (below f) n (rule f) layers (linked_rule f e)) (λ o. omega (arith, opens_rule f ts e fits.1 o, nested)) read fits.1 high nested (apart_rule f ts e fits.0) tail (λ l. refl) in
+    row_complete b r n (rule f) (last_open ts) rest ts [] room (linked_more (below f) n (rule f) layers (linked_rule f e)) (λ o. omega (arith, opens_rule f ts e fits.1 o, nested)) read fits.1 high nested (apart_rule f ts e fits.0) tail (λ l. refl) in
     node_is (reader b r n) (may_open b) m f f toks toks rest [] (rule f) [] [] (listed ts) (Node f ts) (sym (simple_front f e)) refl (nothing_read toks) (sym (simple_turned f toks e)) (sym (simple_back m f e)) whole (ap (Node f) (sym (syntaxes_listed ts)))
   where
     nothing_read : (toks : List Lexeme) → row (reader b r n) (may_open b) [] [] toks ≡ some_row [] toks

@@ -167,10 +167,10 @@ comes_operation op p us fits comes read b r layers l m n rest loosest low high n
     let np : nesting p ≤ b = omega (arith, nested, le-max_left (nesting p) (nests us (opening op ∷ behind op))) in
     let nu : nests us (behind op) ≤ b = omega (arith, nested, le-max_right (nesting p) (nests us (opening op ∷ behind op)), opening_nests op us (behind op)) in
     let spelled : (flat p ++ spell us (opening op ∷ behind op)) ++ rest ≡ flat p ++ next =
-        append_assoc (flat p) (spell us (opening op ∷ behind op)) rest
-        ∙ ap (λ (xs : List Lexeme). flat p ++ (xs ++ rest)) (opening_spelled op us (behind op))
-        ∙ ap (λ (xs : List Lexeme). flat p ++ xs) (append_assoc (spell_signs (opening op ∷ [])) (spell us (behind op)) rest) in
+    append_assoc (flat p) (spell us (opening op ∷ behind op)) rest
+    ∙ ap (λ (xs : List Lexeme). flat p ++ (xs ++ rest)) (opening_spelled op us (behind op))
+    ∙ ap (λ (xs : List Lexeme). flat p ++ xs) (append_assoc (spell_signs (opening op ∷ [])) (spell us (behind op)) rest) in
     ap (start b r layers l m) spelled
     ∙ comes b r layers l m (suc n) next loosest (omega (arith, lp, (operator_row op).left, low)) (omega (arith, hp)) np (opening_calm op toks, opening_fieldless op toks, λ o. absurd (left_shut op p left o)) (left_ends op p toks lp) (omega (arith, e))
     ∙ climb_goes (reader b r 4) (may_open b) (suc r) l n p (Node (forms.Operation op) (MoreSyntax p us)) op toks rest low left (omega (arith, hp)) (may_begin_there b op us fit nu)
-        (grown_reads b r op p us rest read fit hu nu (operation_tail op p us rest fit h s))
+    (grown_reads b r op p us rest read fit hu nu (operation_tail op p us rest fit h s))

@@ -162,6 +162,7 @@ no_dot rest e o = at o (after (signs.Symbol symbols.Dot) rest) (dot_none rest e)
     at : (o : Bool) (x : Option (List Lexeme)) → x ≡ None → cond o None x ≡ None
     at true x e = refl
     at false x e = e
+
     dot_none : (rest : List Lexeme) → begins_field fields.Any rest ≡ false → after (signs.Symbol symbols.Dot) rest ≡ None
     dot_none rest e = fieldless_dot rest e
 

@@ -179,7 +179,7 @@ count_length place k start ps (MoreSyntax u us) rest e fits =
     let s = spell us (pieces.Others place k start ∷ ps) ++ rest in
     let one = some_more k start u e fits.1.0 fits.0 in
     let longer : suc (how_many us) ≤ length (before start ++ (flat u ++ s)) =
-        omega (arith, one, count_length place k start ps us rest e fits.1.1, length-append (before start) (flat u ++ s), length-append (flat u) s, length-append (before start) (flat u)) in
+    omega (arith, one, count_length place k start ps us rest e fits.1.1, length-append (before start) (flat u ++ s), length-append (flat u) s, length-append (before start) (flat u)) in
     subst (λ (xs : List Lexeme). suc (how_many us) ≤ length xs) (sym (spelled_more place k start ps u us rest)) longer
 
 -- what stands behind a part among others ends it
@@ -204,13 +204,13 @@ others_complete b r n place k start ps rest positive e kind rank none (MoreSynta
     let apart' = apart_next (wants_shut start) front u us apart in
     let low : height_of u ≤ r = omega (arith, high, le-max_left (height_of u) (highest us)) in
     let first : part (flat u ++ s) ≡ some_found u s =
-        part_read b r n place k u s read.0.0 kind fits.1.0 (has_room r k u positive kind fits.1.0 fits.0 low) low (omega (arith, nested, le-max_left (within place (nesting u)) (nests us (pieces.Others place k start ∷ ps)))) rank
-        (next_follows place k start ps rest front u us e fits.1.1 t.1 apart' (f refl)) in
+    part_read b r n place k u s read.0.0 kind fits.1.0 (has_room r k u positive kind fits.1.0 fits.0 low) low (omega (arith, nested, le-max_left (within place (nesting u)) (nests us (pieces.Others place k start ∷ ps)))) rank
+    (next_follows place k start ps rest front u us e fits.1.1 t.1 apart' (f refl)) in
     ap (others part start (suc m) front) (spelled_more place k start ps u us rest)
     ∙ sym (others_next part start (suc m) m front (front ++ u ∷ []) (before start ++ (flat u ++ s)) (flat u ++ s) s u (last_is_open front) (omega arith) (omega arith) refl
-        (sym (found_another k start (last_is_open front) u s e fits.1.0 fits.0 t.0 (apart_shut (wants_shut start) front u us apart))) first refl)
+    (sym (found_another k start (last_is_open front) u s e fits.1.0 fits.0 t.0 (apart_shut (wants_shut start) front u us apart))) first refl)
     ∙ others_complete b r n place k start ps rest positive e kind rank none us (front ++ u ∷ []) m read.1 fits.1.1 t.1 (omega (arith, high, le-max_right (height_of u) (highest us))) (omega (arith, nested, le-max_right (within place (nesting u)) (nests us (pieces.Others place k start ∷ ps)))) (omega (arith, count)) apart'
-        (λ l. subst (λ (o : Bool). Follows k o (spell_signs ps ++ rest)) (later_open u us l) (f refl))
+    (λ l. subst (λ (o : Bool). Follows k o (spell_signs ps ++ rest)) (later_open u us l) (f refl))
     ∙ ap (λ (xs : List Syntax). some_row xs (spell_signs ps ++ rest)) (append_assoc front (u ∷ []) (listed us))
 
 -- ---- rules
@@ -382,8 +382,8 @@ row_complete b r n (pieces.Part place k ∷ ps) o rest (MoreSyntax t ts) front p
     let room = room_part k ps r positive in
     let low : height_of t ≤ r = omega (arith, high, le-max_left (height_of t) (highest ts)) in
     let first : reader b r n place k (flat t ++ s) ≡ some_found t s =
-        part_read b r n place k t s read.0.0 e1.0 fits.1.0 (has_room r k t room.0 e1.0 fits.1.0 fits.0 low) low (omega (arith, nested, le-max_left (within place (nesting t)) (nests ts ps))) e2.0
-        (part_follows place k ps t ts front o rest e3.0 fits.1.1 tail opened apart') in
+    part_read b r n place k t s read.0.0 e1.0 fits.1.0 (has_room r k t room.0 e1.0 fits.1.0 fits.0 low) low (omega (arith, nested, le-max_left (within place (nesting t)) (nests ts ps))) e2.0
+    (part_follows place k ps t ts front o rest e3.0 fits.1.1 tail opened apart') in
     ap (row (reader b r n) (may_open b) (pieces.Part place k ∷ ps) front) (append_assoc (flat t) (spell ts ps) rest)
     ∙ ap (λ (x : Option Found). found_row (reader b r n) (may_open b) ps (x >>= put front)) first
     ∙ row_complete b r n ps o rest ts (front ++ t ∷ []) room.1 e3.1 opens read.1 fits.1.1 (omega (arith, high, le-max_right (height_of t) (highest ts))) (omega (arith, nested, le-max_right (within place (nesting t)) (nests ts ps))) apart' (tail_part place k ps o rest tail) (opened_next t ts o opened)
@@ -397,5 +397,5 @@ row_complete b r n (pieces.Others place k start ∷ ps) o rest ts front positive
     let behind = others_tail place k start ps o rest e5.0 tail in
     ap (found_row (reader b r n) (may_open b) ps)
     (others_complete b r n place k start ps rest (room_part k ps r positive).0 e3.0 e1.0 e2.0 behind.1 ts front _ read fits (taken_any start ts e4.0) high nested (count_length place k start ps ts rest e3.0 fits) apart
-        (λ l. subst (λ (x : Bool). Follows k x (spell_signs ps ++ rest)) (sym (opened l)) behind.0))
+    (λ l. subst (λ (x : Bool). Follows k x (spell_signs ps ++ rest)) (sym (opened l)) behind.0))
     ∙ signs_read (reader b r n) (may_open b) ps (front ++ listed ts) rest e5.1
