@@ -1,37 +1,31 @@
 -- A tree that fits and is within the limits, spelled by its tokens and followed by what ends it, is what is read there.
-use Rattle.std.proofs.Common.{◌≡◌, ℕ, zero, suc, ◌+◌, ◌-◌, ◌<◌, ◌≤◌, List, [], ◌∷◌, ◌++◌, max, Bool, true, false, Option, Some, None, refl, sym, ap, ◌∙◌, arith}
-use Rattle.std.specs.Prelude.{nat_le}
+use Rattle.std.proofs.Common.{◌≡◌, ℕ, zero, suc, ◌-◌, ◌<◌, ◌≤◌, List, [], ◌∷◌, ◌++◌, Bool, true, false, Option, Some, None, refl, sym, ap, ◌∙◌, arith}
 use Rattle.std.proofs.lemmas.Bool.{leb-true, le-leb}
 use Rattle.std.proofs.lemmas.List.{append-nil}
 use Rattle.std.proofs.Math.Nat.{le-max_left}
-use Rattle.tokens.specs.Lexeme.{Lexeme, Name, Number}
-use Rattle.syntax.specs.declared.piece.Fields.TheVariants as fields
+use Rattle.tokens.specs.Lexeme.{Lexeme}
 use Rattle.syntax.specs.declared.piece.Kind.{Kind}
 use Rattle.syntax.specs.declared.piece.Kind.TheVariants as kinds
 use Rattle.syntax.specs.declared.piece.Piece.{Piece}
 use Rattle.syntax.specs.declared.piece.Piece.TheVariants as pieces
 use Rattle.syntax.specs.declared.form.Form.{Form}
 use Rattle.syntax.specs.declared.form.Form.TheVariants as forms
-use Rattle.syntax.specs.Operators.{right_limit, level}
 use Rattle.syntax.specs.Rules.{rule, form_level, is_heavy}
-use Rattle.syntax.specs.Grammar.{Syntax, Called, Numeral, Node, Syntaxes, NoSyntax, MoreSyntax, flat, height_of, highest, nesting, is, is_open, is_event, is_value, is_numeral, is_field, is_generator, is_generators, is_pair, is_called, is_names, is_constants, is_field_sets, is_declaration, is_script, level_in, takes, Fits, FitAll, FitsPart}
+use Rattle.syntax.specs.Grammar.{Syntax, Called, Numeral, Node, Syntaxes, NoSyntax, MoreSyntax, flat, height_of, highest, nesting, is, is_open, is_event, is_value, is_numeral, is_field, is_generator, is_generators, is_pair, is_called, is_names, is_constants, is_field_sets, is_declaration, is_script, level_in, Fits, FitAll, FitsPart}
 use Rattle.tokens.specs.declared.error.ScriptErrorKind.{ScriptErrorKind}
 use Rattle.tokens.specs.declared.error.ScriptErrorKind.TheVariants as errors
 use Rattle.syntax.specs.Script.{IsScript}
 use Rattle.syntax.specs.Parsing.{◌>>=◌, Fails, Found, operand, go_on, read_in, climb, reader, may_open, reads, is_alone, numeral_at, number_at, name_at, may_be_number, ended, whole}
 use Rattle.syntax.proofs.Branches.{some_found}
-use Rattle.syntax.proofs.Climbing.{Stops, stops_tighter, climb_stops}
+use Rattle.syntax.proofs.Climbing.{stops_tighter, climb_stops}
 use Rattle.syntax.proofs.Steps.{reads_suc}
 use Rattle.syntax.proofs.Table.{operator_row}
-use Rattle.syntax.proofs.CompleteFollow.{Behind, Follows}
+use Rattle.syntax.proofs.CompleteBools.{false_true}
+use Rattle.syntax.proofs.CompleteFollow.{Follows}
 use Rattle.syntax.proofs.CompleteFirst.{is_operation}
 use Rattle.syntax.proofs.CompleteGoal.{rank, is_read_kind, IsRead, Comes, AllRead, edge, spine, start}
-use Rattle.syntax.proofs.CompleteTall.{IsTall, is_tall}
-use Rattle.syntax.proofs.CompleteParts.{first, Meets, ReadFirst, phrase_read_first, atom_read_first, event_read_first, value_read_first, field_read_first, generator_read_first, generators_read_first, pair_read_first, names_read_first, constants_read_first, field_sets_read_first, declaration_read_first, script_read_first}
+use Rattle.syntax.proofs.CompleteParts.{first, phrase_read_first, atom_read_first, event_read_first, value_read_first, field_read_first, generator_read_first, generators_read_first, pair_read_first, names_read_first, constants_read_first, field_sets_read_first, declaration_read_first, script_read_first}
 use Rattle.syntax.proofs.CompleteOperation.{comes_operation}
-
-no : false ≡ true → ⊥
-no e = cc
 
 -- ---- a phrase that is no operation comes to its end
 
@@ -49,7 +43,7 @@ operand_comes f ts o read fits b r layers l m n rest loosest low high nested h s
 node_comes : (f : Form) (ts : Syntaxes) → AllRead ts → Fits (Node f ts) → Comes (Node f ts)
 unfolding rule
 node_comes (forms.Operation op) (MoreSyntax p us) read fits = comes_operation op p us fits read.0.1 read.1
-node_comes (forms.Operation op) NoSyntax read fits = absurd (no fits.1)
+node_comes (forms.Operation op) NoSyntax read fits = absurd (false_true fits.1)
 node_comes f ts read fits = operand_comes f ts refl read fits
 
 numeral_comes : (x : ℕ) → Comes (Numeral x)
@@ -114,13 +108,13 @@ node_read f ts read fits comes b r n (kinds.Phrase l) rest kind i high nested la
 node_read f ts read fits comes b r n (kinds.Atom m) rest kind i high nested layers follows = alone_read b r n (kinds.Atom m) (Node f ts) rest _ refl (atom_read_first m f ts i b r n rest read fits high nested layers follows)
 node_read f ts read fits comes b r n kinds.Event rest kind i high nested layers follows = alone_read b r n kinds.Event (Node f ts) rest _ refl (event_read_first f ts i b r n rest read fits high nested layers follows)
 node_read f ts read fits comes b r n kinds.Value rest kind i high nested layers follows = alone_read b r n kinds.Value (Node f ts) rest _ refl (value_read_first f ts i b r n rest read fits high nested layers follows)
-node_read f ts read fits comes b r n kinds.Number rest kind i high nested layers follows = absurd (no i)
+node_read f ts read fits comes b r n kinds.Number rest kind i high nested layers follows = absurd (false_true i)
 node_read f ts read fits comes b r n kinds.Field rest kind i high nested layers follows = alone_read b r n kinds.Field (Node f ts) rest _ refl (field_read_first f ts i b r n rest read fits high nested layers follows)
 node_read f ts read fits comes b r n kinds.Generator rest kind i high nested layers follows = alone_read b r n kinds.Generator (Node f ts) rest _ refl (generator_read_first f ts i b r n rest read fits high nested layers follows)
 node_read f ts read fits comes b r n kinds.Generators rest kind i high nested layers follows = alone_read b r n kinds.Generators (Node f ts) rest _ refl (generators_read_first f ts i b r n rest read fits high nested layers follows)
 node_read f ts read fits comes b r n kinds.Pair rest kind i high nested layers follows = alone_read b r n kinds.Pair (Node f ts) rest _ refl (pair_read_first f ts i b r n rest read fits high nested layers follows)
-node_read f ts read fits comes b r n (kinds.Left op) rest kind i high nested layers follows = absurd (no kind)
-node_read f ts read fits comes b r n kinds.Called rest kind i high nested layers follows = absurd (no i)
+node_read f ts read fits comes b r n (kinds.Left op) rest kind i high nested layers follows = absurd (false_true kind)
+node_read f ts read fits comes b r n kinds.Called rest kind i high nested layers follows = absurd (false_true i)
 node_read f ts read fits comes b r n kinds.Names rest kind i high nested layers follows = alone_read b r n kinds.Names (Node f ts) rest _ refl (names_read_first f ts i b r n rest read fits high nested layers follows)
 node_read f ts read fits comes b r n kinds.Constants rest kind i high nested layers follows = alone_read b r n kinds.Constants (Node f ts) rest _ refl (constants_read_first f ts i b r n rest read fits high nested layers follows)
 node_read f ts read fits comes b r n kinds.FieldSets rest kind i high nested layers follows = alone_read b r n kinds.FieldSets (Node f ts) rest _ refl (field_sets_read_first f ts i b r n rest read fits high nested layers follows)
@@ -133,8 +127,8 @@ numeral_read x b r n (kinds.Phrase l) rest kind i high nested follows = phrase_r
 numeral_read x b r n (kinds.Atom m) rest kind i high nested follows = alone_read b r n (kinds.Atom m) (Numeral x) rest _ refl refl
 numeral_read x b r n kinds.Value rest kind i high nested follows = alone_read b r n kinds.Value (Numeral x) rest _ refl refl
 numeral_read x b r n kinds.Number rest kind i high nested follows = alone_read b r n kinds.Number (Numeral x) rest _ refl refl
-numeral_read x b r n (kinds.Left op) rest kind i high nested follows = absurd (no kind)
-numeral_read x b r n k rest kind i high nested follows = absurd (no i)
+numeral_read x b r n (kinds.Left op) rest kind i high nested follows = absurd (false_true kind)
+numeral_read x b r n k rest kind i high nested follows = absurd (false_true i)
 
 called_read : (x : List ℕ) (b r n : ℕ) (k : Kind) (rest : List Lexeme) → is_read_kind k ≡ true → is k (Called x) ≡ true → reads b (suc r) (suc n) k (flat (Called x) ++ rest) ≡ some_found (Called x) rest
 unfolding is_read_kind is level_in flat operand is_alone name_at is_event is_value is_numeral is_field is_generator is_generators is_pair is_names is_constants is_field_sets is_declaration is_script
@@ -143,8 +137,8 @@ called_read x b r n (kinds.Phrase l) rest kind i = absurd (too_loose l (leb-true
     too_loose : (l : ℕ) → 99 ≤ l → l ≤ 16 → ⊥
     too_loose l h j = omega (arith, h, j)
 called_read x b r n kinds.Called rest kind i = alone_read b r n kinds.Called (Called x) rest _ refl refl
-called_read x b r n (kinds.Left op) rest kind i = absurd (no kind)
-called_read x b r n k rest kind i = absurd (no i)
+called_read x b r n (kinds.Left op) rest kind i = absurd (false_true kind)
+called_read x b r n k rest kind i = absurd (false_true i)
 
 -- ---- every tree
 

@@ -1,41 +1,29 @@
 -- The token that a part begins with.
-use Rattle.std.proofs.Common.{◌≡◌, ℕ, zero, suc, ◌+◌, ◌<◌, ◌≤◌, List, [], ◌∷◌, ◌++◌, length, Bool, true, false, cond, Option, Some, None, refl, sym, ap, subst, ◌∙◌, append_assoc, arith, ◌&&◌}
+use Rattle.std.proofs.Common.{◌≡◌, ℕ, ◌<◌, ◌≤◌, List, ◌∷◌, ◌++◌, length, Bool, true, false, None, refl, sym, ap, subst, ◌∙◌, append_assoc, arith}
 use Rattle.std.specs.Prelude.{nat_le}
 use Rattle.std.proofs.lemmas.Bool.{leb-true, le-leb}
-use Rattle.tokens.specs.Lexeme.{Lexeme, Name, Number, Kept, Sign}
+use Rattle.tokens.specs.Lexeme.{Lexeme, Name, Sign}
 use Rattle.tokens.specs.declared.symbol.Symbol.{Symbol}
 use Rattle.tokens.specs.declared.symbol.Symbol.TheVariants as symbols
-use Rattle.tokens.specs.declared.keyword.Keyword.TheVariants as keywords
 use Rattle.syntax.specs.declared.operator.Operator.{Operator}
-use Rattle.syntax.specs.declared.operator.Operator.TheVariants as operators
 use Rattle.syntax.specs.declared.piece.Sign.{Sign as Signs}
 use Rattle.syntax.specs.declared.piece.Sign.TheVariants as signs
 use Rattle.syntax.specs.declared.piece.Fields.{Fields}
 use Rattle.syntax.specs.declared.piece.Fields.TheVariants as fields
-use Rattle.syntax.specs.declared.piece.Kind.{Kind}
-use Rattle.syntax.specs.declared.piece.Kind.TheVariants as kinds
 use Rattle.syntax.specs.declared.piece.Piece.{Piece}
 use Rattle.syntax.specs.declared.piece.Piece.TheVariants as pieces
 use Rattle.syntax.specs.declared.form.Form.{Form}
 use Rattle.syntax.specs.declared.form.Form.TheVariants as forms
-use Rattle.syntax.specs.Operators.{opening, behind, level, left_limit}
+use Rattle.syntax.specs.Operators.{opening, behind, left_limit}
 use Rattle.syntax.specs.Rules.{rule, form_level}
-use Rattle.syntax.specs.Grammar.{Syntax, Called, Numeral, Node, Syntaxes, NoSyntax, MoreSyntax, sign_lexeme, flat, spell, spell_signs, spell_part, Fits, FitAll, FitsPart, is, is_called, is_field, is_declaration, takes_field, level_in, left_fits, is_open, wants}
+use Rattle.syntax.specs.Grammar.{Syntax, Called, Numeral, Node, Syntaxes, NoSyntax, MoreSyntax, sign_lexeme, flat, spell, spell_part, Fits, FitAll, is, is_called, is_field, is_declaration, takes_field, level_in, left_fits}
 use Rattle.syntax.specs.Parsing.{begins_field, brace_form, number_at}
+use Rattle.syntax.proofs.Sound.{spell_sign, spell_open}
 use Rattle.syntax.proofs.Table.{operator_row}
+use Rattle.syntax.proofs.CompleteBools.{false_true, both_true}
 use Rattle.syntax.proofs.CompleteFollow.{calm, declares}
 
 -- ---- the tokens of a rule, a piece at a time
-
-pub spelled_sign : (ts : Syntaxes) (s : Signs) (ps : List Piece) → spell ts (pieces.Sign s ∷ ps) ≡ sign_lexeme s ∷ spell ts ps
-unfolding spell spell_signs spell_part
-spelled_sign NoSyntax s ps = refl
-spelled_sign (MoreSyntax t ts) s ps = refl
-
-pub spelled_open : (ts : Syntaxes) (s : Symbol) (ps : List Piece) → spell ts (pieces.Open s ∷ ps) ≡ Sign s ∷ spell ts ps
-unfolding spell spell_signs spell_part
-spelled_open NoSyntax s ps = refl
-spelled_open (MoreSyntax t ts) s ps = refl
 
 pub fits_sign : (ts : Syntaxes) (s : Signs) (ps : List Piece) → FitAll ts (pieces.Sign s ∷ ps) → FitAll ts ps
 fits_sign NoSyntax s ps h = h
@@ -55,14 +43,8 @@ pub record Named (ts : Syntaxes) (ps : List Piece) : Type 0 where
 pub named : (ts : Syntaxes) (ps : List Piece) → FitAll ts (pieces.Name ∷ ps) → Named ts ps
 unfolding is_called
 named (MoreSyntax (Called n) ts) ps h = record { name = n; others = ts; parts = refl; fits = h.1.1 }
-named (MoreSyntax (Numeral n) ts) ps h = absurd (no h.1.0)
-  where
-    no : false ≡ true → ⊥
-    no e = cc
-named (MoreSyntax (Node f us) ts) ps h = absurd (no h.1.0)
-  where
-    no : false ≡ true → ⊥
-    no e = cc
+named (MoreSyntax (Numeral n) ts) ps h = absurd (false_true h.1.0)
+named (MoreSyntax (Node f us) ts) ps h = absurd (false_true h.1.0)
 named NoSyntax ps h = absurd cc
 
 pub spelled_name : (ts : Syntaxes) (ps : List Piece) (w : Named ts ps) → spell ts (pieces.Name ∷ ps) ≡ Name w.name ∷ spell w.others ps
@@ -72,16 +54,16 @@ spelled_name ts ps w = ap (λ (us : Syntaxes). spell us (pieces.Name ∷ ps)) w.
 -- ---- what stands first
 
 pub first_sign : (P : List Lexeme → Type 0) (ts : Syntaxes) (s : Signs) (ps : List Piece) (rest : List Lexeme) → P (sign_lexeme s ∷ (spell ts ps ++ rest)) → P (spell ts (pieces.Sign s ∷ ps) ++ rest)
-first_sign P ts s ps rest h = subst P (ap (λ (xs : List Lexeme). xs ++ rest) (sym (spelled_sign ts s ps))) h
+first_sign P ts s ps rest h = subst P (ap (λ (xs : List Lexeme). xs ++ rest) (sym (spell_sign ts s ps))) h
 
 pub first_open : (P : List Lexeme → Type 0) (ts : Syntaxes) (s : Symbol) (ps : List Piece) (rest : List Lexeme) → P (Sign s ∷ (spell ts ps ++ rest)) → P (spell ts (pieces.Open s ∷ ps) ++ rest)
-first_open P ts s ps rest h = subst P (ap (λ (xs : List Lexeme). xs ++ rest) (sym (spelled_open ts s ps))) h
+first_open P ts s ps rest h = subst P (ap (λ (xs : List Lexeme). xs ++ rest) (sym (spell_open ts s ps))) h
 
 pub first_name : (P : List Lexeme → Type 0) (ts : Syntaxes) (ps : List Piece) (rest : List Lexeme) (w : Named ts ps) → P (Name w.name ∷ (spell w.others ps ++ rest)) → P (spell ts (pieces.Name ∷ ps) ++ rest)
 first_name P ts ps rest w h = subst P (ap (λ (xs : List Lexeme). xs ++ rest) (sym (spelled_name ts ps w))) h
 
 some_sign : (ts : Syntaxes) (s : Signs) (ps : List Piece) → 0 < length (spell ts (pieces.Sign s ∷ ps))
-some_sign ts s ps = subst (λ (xs : List Lexeme). 0 < length xs) (sym (spelled_sign ts s ps)) (omega arith)
+some_sign ts s ps = subst (λ (xs : List Lexeme). 0 < length xs) (sym (spell_sign ts s ps)) (omega arith)
 
 some_name : (ts : Syntaxes) (ps : List Piece) → FitAll ts (pieces.Name ∷ ps) → 0 < length (spell ts (pieces.Name ∷ ps))
 some_name ts ps h = subst (λ (xs : List Lexeme). 0 < length xs) (sym (spelled_name ts ps (named ts ps h))) (omega arith)
@@ -195,10 +177,6 @@ leads_rule forms.FieldSets o e = absurd cc
 leads_rule forms.Script o e = absurd cc
 leads_rule f o e = refl
 
-pub both_true : (a b : Bool) → (a && b) ≡ true → (a ≡ true) × (b ≡ true)
-both_true true b e = (refl, e)
-both_true false b e = absurd cc
-
 pub left_level : (op : Operator) (p : Syntax) → left_fits op p ≡ true → level_in p ≤ left_limit op
 unfolding left_fits
 left_level op p e = leb-true _ _ (both_true (nat_le (level_in p) (left_limit op)) _ e).0
@@ -212,8 +190,5 @@ phrase_first (Called n) rest h e = absurd cc
 phrase_first (Numeral n) rest h e = refl
 phrase_first (Node (forms.Operation op) (MoreSyntax p ts)) rest h e =
     ap brace_form (append_assoc (flat p) (spell ts (opening op ∷ behind op)) rest) ∙ phrase_first p _ h.1.0 (left_phrase op p h.1.1.0)
-phrase_first (Node (forms.Operation op) NoSyntax) rest h e = absurd (no h.1)
-  where
-    no : false ≡ true → ⊥
-    no e = cc
+phrase_first (Node (forms.Operation op) NoSyntax) rest h e = absurd (false_true h.1)
 phrase_first (Node f ts) rest h e = (rule_first (rule f) ts rest (leads_rule f refl e) h.1).member

@@ -1,24 +1,23 @@
 -- What ends a part: which tokens may stand behind it.
-use Rattle.std.proofs.Common.{◌≡◌, ℕ, List, [], ◌∷◌, ◌++◌, Bool, true, false, cond, not, ◌&&◌, Option, Some, None, refl, sym, ap, ◌∙◌}
-use Rattle.std.specs.Prelude.{nat_le}
+use Rattle.std.proofs.Common.{◌≡◌, ℕ, List, [], ◌∷◌, Bool, true, false, cond, not, ◌&&◌, Option, Some, None, refl, sym, ap, ◌∙◌}
 use Rattle.tokens.specs.Lexeme.{Lexeme, Name, Number, Kept, Sign}
 use Rattle.tokens.specs.declared.symbol.Symbol.{Symbol}
 use Rattle.tokens.specs.declared.symbol.Symbol.TheVariants as symbols
 use Rattle.tokens.specs.declared.keyword.Keyword.{Keyword}
 use Rattle.tokens.specs.declared.keyword.Keyword.TheVariants as keywords
 use Rattle.syntax.specs.declared.operator.Operator.{Operator}
-use Rattle.syntax.specs.declared.operator.Operator.TheVariants as operators
 use Rattle.syntax.specs.declared.piece.Sign.{Sign as Signs}
 use Rattle.syntax.specs.declared.piece.Sign.TheVariants as signs
 use Rattle.syntax.specs.declared.piece.Fields.{Fields}
 use Rattle.syntax.specs.declared.piece.Fields.TheVariants as fields
 use Rattle.syntax.specs.declared.piece.Kind.{Kind}
 use Rattle.syntax.specs.declared.piece.Kind.TheVariants as kinds
-use Rattle.syntax.specs.Operators.{operator_of_symbol, operator_of_keyword, opening}
-use Rattle.syntax.specs.Grammar.{sign_lexeme, spell_signs}
+use Rattle.syntax.specs.Operators.{operator_of_symbol, operator_of_keyword}
+use Rattle.syntax.specs.Grammar.{sign_lexeme}
 use Rattle.syntax.specs.Parsing.{◌>>=◌, is_sign, after, begins_field, operator_of, operator_at}
 use Rattle.syntax.proofs.Table.{some_operator}
 use Rattle.syntax.proofs.Climbing.{Stops}
+use Rattle.syntax.proofs.CompleteBools.{both_true}
 
 -- ---- tokens that go on with nothing
 
@@ -181,11 +180,6 @@ fieldless_dot (Number n ∷ rest) e = refl
 fieldless_dot (Kept k ∷ rest) e = refl
 fieldless_dot (Sign s ∷ rest) e = refl
 
--- ---- a part that is not open asks for less
-
-pub behind_shut : (m : Fields) (o : Bool) (rest : List Lexeme) → Behind m o rest → Behind m false rest
-behind_shut m o rest h = (h.0, h.1, λ e. absurd cc)
-
 -- ---- signs that may stand behind a part
 
 unfoldable pub closes : Kind → Signs → Bool
@@ -204,17 +198,13 @@ unfolding quiet
 quiet_head (signs.Symbol s) toks e = e
 quiet_head (signs.Keyword k) toks e = e
 
-no_sign : (s : Symbol) (x : Lexeme) (toks : List Lexeme) → not (is_sign (signs.Symbol s) x) ≡ true → NoSign s (x ∷ toks)
+pub no_sign : (s : Symbol) (x : Lexeme) (toks : List Lexeme) → not (is_sign (signs.Symbol s) x) ≡ true → NoSign s (x ∷ toks)
 unfolding after
 no_sign s x toks e = at (is_sign (signs.Symbol s) x) e
   where
     at : (b : Bool) → not b ≡ true → cond b (Some toks) None ≡ None
     at true e = absurd cc
     at false e = refl
-
-both : (a b : Bool) → (a && b) ≡ true → (a ≡ true) × (b ≡ true)
-both true b e = (refl, e)
-both false b e = absurd cc
 
 pub closes_follows : (k : Kind) (s : Signs) (o : Bool) (toks : List Lexeme) → closes k s ≡ true → Follows k o (sign_lexeme s ∷ toks)
 unfolding closes
@@ -224,7 +214,7 @@ closes_follows kinds.Event s o toks e = quiet_behind fields.Any o (sign_lexeme s
 closes_follows kinds.Generator s o toks e = quiet_behind fields.Any o (sign_lexeme s ∷ toks) (quiet_head s toks e)
 closes_follows kinds.Pair s o toks e = quiet_behind fields.Any o (sign_lexeme s ∷ toks) (quiet_head s toks e)
 closes_follows kinds.Generators s o toks e =
-    let h = both (quiet (sign_lexeme s ∷ [])) (not (is_sign (signs.Symbol symbols.Comma) (sign_lexeme s))) e in
+    let h = both_true (quiet (sign_lexeme s ∷ [])) (not (is_sign (signs.Symbol symbols.Comma) (sign_lexeme s))) e in
     (quiet_behind fields.Any o (sign_lexeme s ∷ toks) (quiet_head s toks h.0), no_sign symbols.Comma (sign_lexeme s) toks h.1)
 closes_follows kinds.Names s o toks e = no_sign symbols.Comma (sign_lexeme s) toks e
 closes_follows kinds.Called s o toks e = tt

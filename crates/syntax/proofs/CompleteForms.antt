@@ -1,24 +1,19 @@
 -- Which form stands first, where the tokens are those of a node.
-use Rattle.std.proofs.Common.{◌≡◌, ℕ, zero, suc, ◌+◌, ◌<◌, ◌≤◌, List, [], ◌∷◌, ◌++◌, Bool, true, false, cond, Option, Some, None, refl, sym, ap, subst, ◌∙◌, append_assoc, arith, ◌&&◌}
+use Rattle.std.proofs.Common.{◌≡◌, ℕ, List, ◌∷◌, ◌++◌, Bool, true, false, cond, Option, Some, None, refl, ap, ◌∙◌, append_assoc}
 use Rattle.std.specs.Prelude.{nat_le}
-use Rattle.tokens.specs.Lexeme.{Lexeme, Name, Number, Kept, Sign}
+use Rattle.tokens.specs.Lexeme.{Lexeme, Name, Sign}
 use Rattle.tokens.specs.declared.symbol.Symbol.TheVariants as symbols
-use Rattle.tokens.specs.declared.keyword.Keyword.TheVariants as keywords
-use Rattle.syntax.specs.declared.piece.Fields.{Fields}
 use Rattle.syntax.specs.declared.piece.Fields.TheVariants as fields
 use Rattle.syntax.specs.declared.piece.Kind.{Kind}
 use Rattle.syntax.specs.declared.piece.Kind.TheVariants as kinds
-use Rattle.syntax.specs.declared.piece.Place.TheVariants as places
-use Rattle.syntax.specs.declared.piece.Start.TheVariants as starts
-use Rattle.syntax.specs.declared.piece.Piece.{Piece}
-use Rattle.syntax.specs.declared.piece.Piece.TheVariants as pieces
 use Rattle.syntax.specs.declared.form.Form.{Form}
 use Rattle.syntax.specs.declared.form.Form.TheVariants as forms
 use Rattle.syntax.specs.Rules.{rule, form_level, is_heavy}
-use Rattle.syntax.specs.Grammar.{Syntax, Called, Numeral, Node, Syntaxes, NoSyntax, MoreSyntax, sign_lexeme, flat, spell, spell_signs, spell_part, is, is_called, is_event, is_value, is_field, is_declaration, takes_field, Fits, FitAll, FitsPart}
-use Rattle.syntax.specs.Parsing.{◌>>=◌, Found, Reader, number_at, begins_field, keyword_form, named_form, brace_form, events_form, symbol_form, phrase_form, value_form, input_form, field_form, defined_form, declaration_form, tight, form_at, is_alone, numeral_at, may_be_number, fields_of, operand_on, operand, pick, node, name_at}
+use Rattle.syntax.specs.Grammar.{Syntax, Called, Numeral, Node, Syntaxes, NoSyntax, MoreSyntax, flat, spell, spell_signs, spell_part, is, is_called, is_event, is_value, is_field, is_declaration, takes_field, Fits, FitAll}
+use Rattle.syntax.specs.Parsing.{◌>>=◌, Reader, number_at, keyword_form, named_form, brace_form, events_form, symbol_form, phrase_form, value_form, input_form, field_form, defined_form, declaration_form, tight, form_at, is_alone, numeral_at, fields_of, operand_on, operand, pick, node, name_at}
+use Rattle.syntax.proofs.CompleteBools.{false_true}
 use Rattle.syntax.proofs.CompleteFollow.{calm}
-use Rattle.syntax.proofs.CompleteFirst.{Named, named, spelled_name, first_sign, first_open, first_name, field_first, rule_first, leads_rule, is_operation, phrase_first}
+use Rattle.syntax.proofs.CompleteFirst.{named, first_sign, first_open, first_name, field_first, rule_first, leads_rule, is_operation, phrase_first}
 use Rattle.syntax.proofs.CompleteNamed.{further}
 
 -- the form that the tokens begin as
@@ -33,14 +28,11 @@ heavy_first forms.Range = refl
 heavy_first forms.ChannelsWithFields = refl
 heavy_first f = refl
 
-abbrev some_form : Form → Option Form
+abbrev pub some_form : Form → Option Form
 some_form f = Some f
 
 abbrev Begins : Form → List Lexeme → Type 0
 Begins f toks = phrase_form toks ≡ some_form f
-
-no : false ≡ true → ⊥
-no e = cc
 
 -- ---- phrases
 
@@ -59,9 +51,6 @@ pub event_first : (P : List Lexeme → Type 0) (t : Syntax) (rest : List Lexeme)
 unfolding is_event flat rule
 event_first P (Node forms.Event ts) rest e h p = first_name P ts (further fields.Any) rest (named ts (further fields.Any) h.1) (p _ _)
 event_first P t rest e h p = absurd cc
-
-none_there : (t : Syntax) (others : List Piece → Type 0) → FitsPart t others [] → ⊥
-none_there t others h = h
 
 pub phrase_begins : (f : Form) (ts : Syntaxes) (rest : List Lexeme) → is_operation f ≡ false → nat_le (form_level f) 16 ≡ true → Fits (Node f ts) → calm rest ≡ true → phrase_form (flat (Node f ts) ++ rest) ≡ some_form (first_form f)
 unfolding form_level flat rule phrase_form keyword_form symbol_form named_form brace_form events_form spell spell_signs spell_part is
@@ -84,13 +73,13 @@ phrase_begins forms.EmptySet NoSyntax rest o e h c = refl
 phrase_begins forms.EmptySet (MoreSyntax t ts) rest o e h c = absurd h.1.1
 phrase_begins forms.NoProductions NoSyntax rest o e h c = refl
 phrase_begins forms.NoProductions (MoreSyntax t ts) rest o e h c = absurd h.1.1
-phrase_begins forms.Set NoSyntax rest o e h c = absurd (no h.1)
+phrase_begins forms.Set NoSyntax rest o e h c = absurd (false_true h.1)
 phrase_begins forms.Set (MoreSyntax t ts) rest o e h c =
     ap (λ (xs : List Lexeme). some_form (brace_form xs)) (append_assoc (flat t) _ rest) ∙ ap some_form (phrase_first t _ h.1.0 h.1.1.0)
-phrase_begins forms.Range NoSyntax rest o e h c = absurd (no h.1)
+phrase_begins forms.Range NoSyntax rest o e h c = absurd (false_true h.1)
 phrase_begins forms.Range (MoreSyntax t ts) rest o e h c =
     ap (λ (xs : List Lexeme). some_form (brace_form xs)) (append_assoc (flat t) _ rest) ∙ ap some_form (phrase_first t _ h.1.0 h.1.1.0)
-phrase_begins forms.Productions NoSyntax rest o e h c = absurd (no h.1)
+phrase_begins forms.Productions NoSyntax rest o e h c = absurd (false_true h.1)
 phrase_begins forms.Productions (MoreSyntax t ts) rest o e h c =
     ap (λ (xs : List Lexeme). some_form (events_form xs)) (append_assoc (flat t) _ rest)
     ∙ event_first (λ (xs : List Lexeme). some_form (events_form xs) ≡ some_form forms.Productions) t _ h.1.1.0 h.1.0 (λ n xs. refl)
@@ -134,7 +123,7 @@ field_begins forms.Input (MoreSyntax (Node f us) ts) rest e h c = absurd (not_na
   where
     not_name : is_called (Node f us) ≡ true → ⊥
     not_name e = cc
-field_begins forms.Input NoSyntax rest e h c = absurd (no h.1)
+field_begins forms.Input NoSyntax rest e h c = absurd (false_true h.1)
 field_begins forms.RestrictedInput (MoreSyntax (Called n) ts) rest e h c =
     first_sign (λ (xs : List Lexeme). some_form (input_form (Name n ∷ xs)) ≡ some_form forms.RestrictedInput) ts _ _ rest refl
 field_begins forms.RestrictedInput (MoreSyntax (Numeral n) ts) rest e h c = absurd (not_name h.1.1.0)
@@ -145,7 +134,7 @@ field_begins forms.RestrictedInput (MoreSyntax (Node f us) ts) rest e h c = absu
   where
     not_name : is_called (Node f us) ≡ true → ⊥
     not_name e = cc
-field_begins forms.RestrictedInput NoSyntax rest e h c = absurd (no h.1)
+field_begins forms.RestrictedInput NoSyntax rest e h c = absurd (false_true h.1)
 field_begins f ts rest e h c = absurd cc
 
 pub declaration_begins : (f : Form) (ts : Syntaxes) (rest : List Lexeme) → is_declaration (Node f ts) ≡ true → Fits (Node f ts) → declaration_form (flat (Node f ts) ++ rest) ≡ some_form (first_form f)

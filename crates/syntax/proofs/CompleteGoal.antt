@@ -1,23 +1,20 @@
--- A tree that fits and is within the limits, spelled by its tokens and followed by what ends it, is what is read there.
-use Rattle.std.proofs.Common.{◌≡◌, ℕ, suc, ◌+◌, ◌<◌, ◌≤◌, List, [], ◌∷◌, ◌++◌, Bool, true, false, Option, Some, None, refl, arith}
+-- What is shown of each tree that fits, by induction on trees: where its tokens stand, and then what ends it, it is read.
+-- The limits are the fuel: room for its height, brackets for its nesting, and layers for its kind are enough. A phrase
+-- may stand on the left of an operator, where it isn't read by itself; so of a phrase it is also shown that reading
+-- comes to the point behind it (Comes), and that with no operator there to go on with it is what was read.
+use Rattle.std.proofs.Common.{◌≡◌, ℕ, suc, ◌+◌, ◌<◌, ◌≤◌, List, ◌++◌, Bool, true, false, Option}
 use Rattle.std.specs.Prelude.{nat_le}
-use Rattle.tokens.specs.Lexeme.{Lexeme, Name, Number, Kept, Sign}
-use Rattle.tokens.specs.declared.symbol.Symbol.TheVariants as symbols
-use Rattle.tokens.specs.declared.keyword.Keyword.TheVariants as keywords
-use Rattle.syntax.specs.declared.operator.Operator.TheVariants as operators
+use Rattle.tokens.specs.Lexeme.{Lexeme}
 use Rattle.syntax.specs.declared.piece.Kind.{Kind}
 use Rattle.syntax.specs.declared.piece.Kind.TheVariants as kinds
 use Rattle.syntax.specs.declared.piece.Fields.TheVariants as fields
-use Rattle.syntax.specs.declared.form.Form.{Form}
 use Rattle.syntax.specs.declared.form.Form.TheVariants as forms
-use Rattle.syntax.specs.Operators.{level, left_limit, right_limit}
-use Rattle.syntax.specs.Grammar.{Syntax, Called, Numeral, Node, Syntaxes, NoSyntax, MoreSyntax, flat, height_of, nesting, is, is_open, level_in, Fits}
-use Rattle.syntax.specs.Parsing.{◌>>=◌, Found, reads, reader, may_open, operand, climb, whole}
+use Rattle.syntax.specs.Operators.{right_limit}
+use Rattle.syntax.specs.Grammar.{Syntax, Node, Syntaxes, NoSyntax, MoreSyntax, flat, height_of, nesting, is, is_open, level_in}
+use Rattle.syntax.specs.Parsing.{◌>>=◌, Found, reads, reader, may_open, operand, climb}
 use Rattle.syntax.proofs.Branches.{some_found}
 use Rattle.syntax.proofs.Climbing.{Stops}
 use Rattle.syntax.proofs.CompleteFollow.{Behind, Follows}
-
--- ---- what is to be shown
 
 -- how many layers of parts of one height a part of this kind has, with itself
 unfoldable pub rank : Kind → ℕ

@@ -1,36 +1,26 @@
 -- Where the tokens are those of a node, the node is read: forms whose rule is read in one go.
-use Rattle.std.proofs.Common.{◌≡◌, ℕ, zero, suc, ◌+◌, ◌-◌, ◌<◌, ◌≤◌, List, [], ◌∷◌, ◌++◌, length, max, Bool, true, false, cond, not, Option, Some, None, refl, sym, ap, subst, ◌∙◌, append_assoc, arith, ◌&&◌, ◌||◌, ◌⊎◌, inl, inr}
-use Rattle.std.specs.Prelude.{nat_le}
+use Rattle.std.proofs.Common.{◌≡◌, ℕ, suc, ◌+◌, ◌<◌, ◌≤◌, List, [], ◌∷◌, ◌++◌, Bool, true, false, cond, not, refl, sym, ap, subst, arith, ◌&&◌, ◌⊎◌, inl, inr}
 use Rattle.std.proofs.lemmas.Bool.{leb-true, le-leb}
 use Rattle.std.proofs.Math.Nat.{le-max_left, le-max_right}
-use Rattle.tokens.specs.Lexeme.{Lexeme, Name, Number, Kept, Sign}
-use Rattle.tokens.specs.declared.symbol.Symbol.{Symbol}
-use Rattle.tokens.specs.declared.symbol.Symbol.TheVariants as symbols
-use Rattle.syntax.specs.declared.piece.Sign.{Sign as Signs}
-use Rattle.syntax.specs.declared.piece.Sign.TheVariants as signs
+use Rattle.tokens.specs.Lexeme.{Lexeme}
 use Rattle.syntax.specs.declared.piece.Fields.{Fields}
-use Rattle.syntax.specs.declared.piece.Fields.TheVariants as fields
 use Rattle.syntax.specs.declared.piece.Kind.{Kind}
-use Rattle.syntax.specs.declared.piece.Kind.TheVariants as kinds
 use Rattle.syntax.specs.declared.piece.Place.{Place}
 use Rattle.syntax.specs.declared.piece.Place.TheVariants as places
-use Rattle.syntax.specs.declared.piece.Start.{Start}
-use Rattle.syntax.specs.declared.piece.Start.TheVariants as starts
 use Rattle.syntax.specs.declared.piece.Piece.{Piece}
 use Rattle.syntax.specs.declared.piece.Piece.TheVariants as pieces
 use Rattle.syntax.specs.declared.form.Form.{Form}
 use Rattle.syntax.specs.declared.form.Form.TheVariants as forms
-use Rattle.syntax.specs.Rules.{rule, form_level, is_heavy, ending}
-use Rattle.syntax.specs.Grammar.{Syntax, Called, Numeral, Node, Syntaxes, NoSyntax, MoreSyntax, sign_lexeme, before, flat, spell, spell_signs, spell_part, height_of, highest, nesting, nests, nests_part, within, opens_any, is, is_open, is_last, last_open, takes_field, takes_fields, shut, may_stand, Fits, FitAll, FitsPart, needs_none}
-use Rattle.syntax.specs.Parsing.{◌>>=◌, Found, Row, Reader, syntaxes, is_sign, after, begins_field, another, last_is_open, row, front, back, turned, node, pick, reader, may_open}
+use Rattle.syntax.specs.Rules.{rule, is_heavy}
+use Rattle.syntax.specs.Grammar.{Node, Syntaxes, NoSyntax, MoreSyntax, flat, spell, height_of, highest, nesting, nests, nests_part, opens_any, is_last, last_open, may_stand, Fits, FitAll}
+use Rattle.syntax.specs.Parsing.{is_sign, row, front, back, turned, node, pick, reader, may_open}
 use Rattle.syntax.proofs.Sound.{only_signs}
 use Rattle.syntax.proofs.Branches.{some_found, some_row, node_is}
-use Rattle.syntax.proofs.Climbing.{Stops}
-use Rattle.syntax.proofs.CompleteFollow.{quiet, quiet_symbol, quiet_keyword, calm, declares, Behind, NoSign, Follows, closes, quiet_phrase, declares_quiet, declares_none}
-use Rattle.syntax.proofs.CompleteFirst.{both_true}
-use Rattle.syntax.proofs.CompleteGoal.{rank, is_read_kind, IsRead, Comes, AllRead, edge}
+use Rattle.syntax.proofs.CompleteBools.{false_true, both_true, and_true, or_true}
+use Rattle.syntax.proofs.CompleteFollow.{quiet, quiet_symbol, quiet_keyword, closes}
+use Rattle.syntax.proofs.CompleteGoal.{rank, is_read_kind, AllRead}
 use Rattle.syntax.proofs.CompleteTall.{tall}
-use Rattle.syntax.proofs.CompleteRow.{listed, syntaxes_listed, NoMore, Apart, linked, ranked, joins, continues, separates, ends_with, halts, wants_shut, is_fields, shutting, Tail, Opened, tall_pieces, row_complete}
+use Rattle.syntax.proofs.CompleteRow.{listed, syntaxes_listed, Apart, linked, ranked, joins, continues, separates, ends_with, halts, wants_shut, is_fields, shutting, Tail, tall_pieces, row_complete}
 
 -- ---- forms by their rules
 
@@ -114,10 +104,6 @@ simple_back m forms.ChannelsWithFields e = absurd cc
 simple_back m (forms.Operation op) e = absurd cc
 simple_back m f e = refl
 
-or_true : (b : Bool) → (b || true) ≡ true
-or_true true = refl
-or_true false = refl
-
 apart_rule : (f : Form) (ts : Syntaxes) → is_simple f ≡ true → may_stand f ts ≡ true → Apart (shutting (rule f)) [] ts
 unfolding shutting wants_shut rule may_stand
 apart_rule forms.Event ts e h n = absurd cc
@@ -126,9 +112,6 @@ apart_rule forms.FieldSets ts e h n = (or_true (is_last ts), h)
 apart_rule f ts e h n = absurd cc
 
 -- ---- brackets
-
-no : false ≡ true → ⊥
-no e = cc
 
 unfoldable pub has_inside : List Piece → Bool
 has_inside [] = false
@@ -143,9 +126,9 @@ inside_nests (pieces.Sign s ∷ ps) NoSyntax e h = inside_nests ps NoSyntax e h
 inside_nests (pieces.Sign s ∷ ps) (MoreSyntax t ts) e h = inside_nests ps (MoreSyntax t ts) e h
 inside_nests (pieces.Open s ∷ ps) NoSyntax e h = omega arith
 inside_nests (pieces.Open s ∷ ps) (MoreSyntax t ts) e h = inside_nests ps (MoreSyntax t ts) e h
-inside_nests (pieces.Name ∷ ps) NoSyntax e h = absurd (no h)
+inside_nests (pieces.Name ∷ ps) NoSyntax e h = absurd (false_true h)
 inside_nests (pieces.Name ∷ ps) (MoreSyntax t ts) e h = inside_nests ps ts e h.1.1
-inside_nests (pieces.Part place k ∷ ps) NoSyntax e h = absurd (no h)
+inside_nests (pieces.Part place k ∷ ps) NoSyntax e h = absurd (false_true h)
 inside_nests (pieces.Part places.Inside k ∷ ps) (MoreSyntax t ts) e h = omega (arith, le-max_left (suc (nesting t)) (nests ts ps))
 inside_nests (pieces.Part places.Outside k ∷ ps) (MoreSyntax t ts) e h = omega (arith, inside_nests ps ts e h.1.1, le-max_right (nesting t) (nests ts ps))
 inside_nests (pieces.Others place k start ∷ ps) ts e h = absurd cc
@@ -169,9 +152,6 @@ opens_rule (forms.Operation op) ts e h o = absurd cc
 opens_rule f ts e h o = absurd cc
 
 -- ---- layers
-
-and_true : (a b : Bool) → a ≡ true → b ≡ true → (a && b) ≡ true
-and_true a b e f = ap (λ (x : Bool). x && b) e ∙ f
 
 ranked_more : (m n : ℕ) (place : Place) (k : Kind) → m ≤ n → ranked place m k ≡ true → ranked place n k ≡ true
 unfolding ranked
@@ -202,7 +182,7 @@ unfolding flat row
 node_simple b r n m f ts rest e room layers read fits high nested tail =
     let toks = spell ts (rule f) ++ rest in
     let whole : row (reader b r n) (may_open b) (rule f) [] toks ≡ some_row (listed ts) rest =
-        row_complete b r n (rule f) (last_open ts) rest ts [] room (linked_more (below f) n (rule f) layers (linked_rule f e)) (λ o. omega (arith, opens_rule f ts e fits.1 o, nested)) read fits.1 high nested (apart_rule f ts e fits.0) tail (λ l. refl) in
+    row_complete b r n (rule f) (last_open ts) rest ts [] room (linked_more (below f) n (rule f) layers (linked_rule f e)) (λ o. omega (arith, opens_rule f ts e fits.1 o, nested)) read fits.1 high nested (apart_rule f ts e fits.0) tail (λ l. refl) in
     node_is (reader b r n) (may_open b) m f f toks toks rest [] (rule f) [] [] (listed ts) (Node f ts) (sym (simple_front f e)) refl (nothing_read toks) (sym (simple_turned f toks e)) (sym (simple_back m f e)) whole (ap (Node f) (sym (syntaxes_listed ts)))
   where
     nothing_read : (toks : List Lexeme) → row (reader b r n) (may_open b) [] [] toks ≡ some_row [] toks

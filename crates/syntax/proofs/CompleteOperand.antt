@@ -1,34 +1,26 @@
 -- Where the tokens are those of a node that is no operation, and what may stand behind it, it is read as the first operand.
-use Rattle.std.proofs.Common.{◌≡◌, ℕ, zero, suc, ◌+◌, ◌<◌, ◌≤◌, List, [], ◌∷◌, ◌++◌, max, Bool, true, false, cond, not, Option, Some, None, refl, sym, ap, subst, ◌∙◌, arith, ◌&&◌, ◌⊎◌, inl, inr}
+use Rattle.std.proofs.Common.{◌≡◌, ℕ, suc, ◌<◌, ◌≤◌, List, ◌++◌, true, false, refl, arith}
 use Rattle.std.specs.Prelude.{nat_le}
-use Rattle.std.proofs.lemmas.Bool.{leb-true, le-leb}
-use Rattle.std.proofs.Math.Nat.{le-max_left, le-max_right}
-use Rattle.tokens.specs.Lexeme.{Lexeme, Name, Number, Kept, Sign}
-use Rattle.tokens.specs.declared.symbol.Symbol.TheVariants as symbols
-use Rattle.syntax.specs.declared.piece.Sign.TheVariants as signs
+use Rattle.std.proofs.lemmas.Bool.{leb-true}
+use Rattle.std.proofs.Math.Nat.{le-max_right}
+use Rattle.tokens.specs.Lexeme.{Lexeme}
 use Rattle.syntax.specs.declared.piece.Fields.{Fields}
 use Rattle.syntax.specs.declared.piece.Fields.TheVariants as fields
-use Rattle.syntax.specs.declared.piece.Kind.{Kind}
-use Rattle.syntax.specs.declared.piece.Kind.TheVariants as kinds
-use Rattle.syntax.specs.declared.piece.Start.TheVariants as starts
 use Rattle.syntax.specs.declared.form.Form.{Form}
 use Rattle.syntax.specs.declared.form.Form.TheVariants as forms
 use Rattle.syntax.specs.Rules.{rule, form_level, is_heavy, ending}
-use Rattle.syntax.specs.Grammar.{Syntax, Called, Numeral, Node, Syntaxes, NoSyntax, MoreSyntax, flat, height_of, highest, nesting, nests, nests_part, is, is_called, is_open, is_last, last_open, ends_open, takes, takes_field, takes_fields, Fits, FitAll}
-use Rattle.syntax.specs.Parsing.{Found, after, begins_field, another, node, pick, reader, may_open}
+use Rattle.syntax.specs.Grammar.{Called, Numeral, Node, Syntaxes, NoSyntax, MoreSyntax, flat, height_of, highest, nesting, nests, nests_part, is_called, is_open, is_last, last_open, takes, Fits}
+use Rattle.syntax.specs.Parsing.{begins_field, node, pick, reader, may_open}
 use Rattle.syntax.proofs.Branches.{some_found}
 use Rattle.syntax.proofs.Climbing.{Stops}
-use Rattle.syntax.proofs.CompleteFollow.{quiet, Behind, NoSign, Follows, quiet_phrase}
-use Rattle.syntax.proofs.CompleteFirst.{both_true, is_operation}
+use Rattle.syntax.proofs.CompleteBools.{false_true, true_false}
+use Rattle.syntax.proofs.CompleteFollow.{Behind, quiet_phrase}
+use Rattle.syntax.proofs.CompleteFirst.{is_operation}
 use Rattle.syntax.proofs.CompleteGoal.{AllRead, edge}
-use Rattle.syntax.proofs.CompleteTall.{tall}
-use Rattle.syntax.proofs.CompleteRow.{NoMore, Tail, true_false}
+use Rattle.syntax.proofs.CompleteRow.{Tail}
 use Rattle.syntax.proofs.CompleteNode.{below, is_simple, node_of_simple}
-use Rattle.syntax.proofs.CompleteNamed.{further, node_event, node_set, node_range}
+use Rattle.syntax.proofs.CompleteNamed.{node_event, node_set, node_range}
 use Rattle.syntax.proofs.CompleteForms.{first_form}
-
-no : false ≡ true → ⊥
-no e = cc
 
 -- ---- what a phrase's rule asks of what stands behind it
 
@@ -74,13 +66,6 @@ light_phrase n f e h = absurd cc
 
 -- ---- a name with its fields, in any place
 
-pub event_fields : (ts : Syntaxes) → FitAll ts (rule forms.Event) → (n : List ℕ) × (us : Syntaxes) × (ts ≡ MoreSyntax (Called n) us)
-unfolding rule is_called
-event_fields (MoreSyntax (Called n) us) h = (n, us, refl)
-event_fields (MoreSyntax (Numeral n) us) h = absurd (no h.1.0)
-event_fields (MoreSyntax (Node f vs) us) h = absurd (no h.1.0)
-event_fields NoSyntax h = absurd (no h)
-
 behind_fields : (n : List ℕ) (ts : Syntaxes) (m : Fields) (rest : List Lexeme) → Behind m (is_open (Node forms.Event (MoreSyntax (Called n) ts))) rest → is_last ts ≡ false → Behind fields.None (last_open ts) rest
 unfolding is_open ending last_open begins_field
 behind_fields n NoSyntax m rest h e = absurd (true_false true refl e)
@@ -90,9 +75,9 @@ pub event_node : (b r : ℕ) (m : Fields) (ts : Syntaxes) (rest : List Lexeme) �
 unfolding takes nesting nests nests_part rule is_called
 event_node b r m (MoreSyntax (Called n) us) rest read fits taken high nested h =
     node_event b r m n us rest read.1 fits taken (omega (arith, high, le-max_right 0 (highest us))) nested h.1 (behind_fields n us m rest h)
-event_node b r m (MoreSyntax (Numeral n) us) rest read fits taken high nested h = absurd (no fits.1.1.0)
-event_node b r m (MoreSyntax (Node f vs) us) rest read fits taken high nested h = absurd (no fits.1.1.0)
-event_node b r m NoSyntax rest read fits taken high nested h = absurd (no fits.1)
+event_node b r m (MoreSyntax (Numeral n) us) rest read fits taken high nested h = absurd (false_true fits.1.1.0)
+event_node b r m (MoreSyntax (Node f vs) us) rest read fits taken high nested h = absurd (false_true fits.1.1.0)
+event_node b r m NoSyntax rest read fits taken high nested h = absurd (false_true fits.1)
 
 -- ---- phrases and atoms
 

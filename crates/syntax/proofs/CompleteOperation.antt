@@ -1,33 +1,29 @@
 -- Where the tokens are those of an operation, reading comes to the point where it was read.
-use Rattle.std.proofs.Common.{◌≡◌, ℕ, zero, suc, ◌+◌, ◌<◌, ◌≤◌, List, [], ◌∷◌, ◌++◌, max, Bool, true, false, cond, not, Option, Some, None, refl, sym, ap, subst, ◌∙◌, append_assoc, arith, ◌&&◌, ◌||◌, ◌⊎◌, inl, inr}
+use Rattle.std.proofs.Common.{◌≡◌, ℕ, suc, ◌<◌, ◌≤◌, List, [], ◌∷◌, ◌++◌, Bool, true, false, not, Option, Some, refl, sym, ap, subst, ◌∙◌, append_assoc, arith, ◌&&◌, ◌||◌, inl}
 use Rattle.std.specs.Prelude.{nat_le}
-use Rattle.std.proofs.lemmas.Bool.{leb-true, le-leb}
 use Rattle.std.proofs.Math.Nat.{le-max_left, le-max_right}
-use Rattle.tokens.specs.Lexeme.{Lexeme, Name, Number, Kept, Sign}
+use Rattle.tokens.specs.Lexeme.{Lexeme}
 use Rattle.syntax.specs.declared.operator.Operator.{Operator}
 use Rattle.syntax.specs.declared.operator.Operator.TheVariants as operators
 use Rattle.syntax.specs.declared.piece.Fields.TheVariants as fields
-use Rattle.syntax.specs.declared.piece.Kind.TheVariants as kinds
 use Rattle.syntax.specs.declared.piece.Piece.{Piece}
-use Rattle.syntax.specs.declared.form.Form.{Form}
 use Rattle.syntax.specs.declared.form.Form.TheVariants as forms
 use Rattle.syntax.specs.Operators.{opening, behind, level, left_limit, right_limit, opens}
 use Rattle.syntax.specs.Rules.{rule, form_level, is_heavy, ending}
-use Rattle.syntax.specs.Grammar.{Syntax, Called, Numeral, Node, Syntaxes, NoSyntax, MoreSyntax, flat, spell, spell_signs, spell_part, height_of, highest, nesting, nests, nests_part, opens_any, is, is_open, last_open, level_in, left_fits, wants, Fits, FitAll, FitsPart}
-use Rattle.syntax.specs.Parsing.{◌>>=◌, Found, is_sign, begins_field, operator_at, row, grown, may_begin, climb, reader, may_open}
-use Rattle.syntax.proofs.Branches.{some_found, some_row, grown_is}
+use Rattle.syntax.specs.Grammar.{Syntax, Called, Numeral, Node, Syntaxes, NoSyntax, MoreSyntax, flat, spell, spell_signs, spell_part, height_of, highest, nesting, nests, nests_part, opens_any, is, is_open, last_open, level_in, left_fits, wants, Fits, FitAll}
+use Rattle.syntax.specs.Parsing.{is_sign, begins_field, grown, may_begin, reader, may_open}
+use Rattle.syntax.proofs.Sound.{spell_sign, spell_open}
+use Rattle.syntax.proofs.Branches.{some_found, grown_is}
 use Rattle.syntax.proofs.Climbing.{Stops, climb_goes}
 use Rattle.syntax.proofs.Steps.{may_open_some}
-use Rattle.syntax.proofs.Table.{operator_row, some_operator, ends_before}
-use Rattle.syntax.proofs.CompleteFollow.{quiet, quiet_symbol, quiet_keyword, calm, Behind, closes}
-use Rattle.syntax.proofs.CompleteFirst.{both_true, left_level, spelled_sign, spelled_open, fits_sign, fits_open}
+use Rattle.syntax.proofs.Table.{operator_row, ends_before}
+use Rattle.syntax.proofs.CompleteBools.{false_true, both_true, or_true}
+use Rattle.syntax.proofs.CompleteFollow.{quiet, quiet_symbol, calm, Behind, closes}
+use Rattle.syntax.proofs.CompleteFirst.{left_level, fits_sign, fits_open}
 use Rattle.syntax.proofs.CompleteGoal.{AllRead, Comes, edge, spine, start, rank, is_read_kind}
 use Rattle.syntax.proofs.CompleteTall.{tall}
 use Rattle.syntax.proofs.CompleteRow.{listed, syntaxes_listed, linked, ranked, joins, separates, ends_with, halts, continues, wants_shut, shutting, Tail, tall_pieces, row_complete, fewer_nests, fewer_nests_open}
 use Rattle.syntax.proofs.CompleteNode.{has_inside, inside_nests}
-
-no : false ≡ true → ⊥
-no e = cc
 
 -- ---- what stands behind an operator's first token
 
@@ -61,7 +57,7 @@ behind_inside op e = absurd cc
 operation_tail : (op : Operator) (p : Syntax) (us : Syntaxes) (rest : List Lexeme) → FitAll us (behind op) → Behind fields.Any (is_open (Node (forms.Operation op) (MoreSyntax p us))) rest → Stops (right_limit op) rest → Tail (behind op) (last_open us) rest
 unfolding behind right_limit is_open ending last_open
 operation_tail operators.Renaming p us rest fits h s = tt
-operation_tail op p NoSyntax rest fits h s = absurd (no fits)
+operation_tail op p NoSyntax rest fits h s = absurd (false_true fits)
 operation_tail op p (MoreSyntax u us) rest fits h s = (h, s)
 
 opening_fits : (op : Operator) (us : Syntaxes) (ps : List Piece) → FitAll us (opening op ∷ ps) → FitAll us ps
@@ -80,10 +76,10 @@ opening_nests op us ps = fewer_nests us _ ps
 
 opening_spelled : (op : Operator) (us : Syntaxes) (ps : List Piece) → spell us (opening op ∷ ps) ≡ spell_signs (opening op ∷ []) ++ spell us ps
 unfolding opening spell_signs
-opening_spelled operators.Renaming us ps = spelled_open us _ ps
-opening_spelled operators.Sharing us ps = spelled_open us _ ps
-opening_spelled operators.Alphabetised us ps = spelled_open us _ ps
-opening_spelled op us ps = spelled_sign us _ ps
+opening_spelled operators.Renaming us ps = spell_open us _ ps
+opening_spelled operators.Sharing us ps = spell_open us _ ps
+opening_spelled operators.Alphabetised us ps = spell_open us _ ps
+opening_spelled op us ps = spell_sign us _ ps
 
 opening_calm : (op : Operator) (toks : List Lexeme) → calm (spell_signs (opening op ∷ []) ++ toks) ≡ true
 unfolding opening spell_signs calm
@@ -147,16 +143,13 @@ left_shut op p e o =
 grown_reads : (b r : ℕ) (op : Operator) (p : Syntax) (us : Syntaxes) (rest : List Lexeme) → AllRead us → FitAll us (behind op) → highest us ≤ r → nests us (behind op) ≤ b → Tail (behind op) (last_open us) rest → grown (reader b r 4) (may_open b) op p (spell us (behind op) ++ rest) ≡ some_found (Node (forms.Operation op) (MoreSyntax p us)) rest
 grown_reads b r op p us rest read fits high nested tail =
     grown_is (reader b r 4) (may_open b) op p (Node (forms.Operation op) (MoreSyntax p us)) (spell us (behind op) ++ rest) rest (behind op) (p ∷ []) (p ∷ listed us) refl refl
-    (row_complete b r 4 (behind op) (last_open us) rest us (p ∷ []) (inl (behind_tall op)) (behind_linked op) (λ o. absurd (no (sym (behind_opens op) ∙ o))) read fits high nested (λ w. absurd (no (sym (behind_shutting op) ∙ w))) tail (λ l. refl))
+    (row_complete b r 4 (behind op) (last_open us) rest us (p ∷ []) (inl (behind_tall op)) (behind_linked op) (λ o. absurd (false_true (sym (behind_opens op) ∙ o))) read fits high nested (λ w. absurd (false_true (sym (behind_shutting op) ∙ w))) tail (λ l. refl))
     (ap (λ (ts : Syntaxes). Node (forms.Operation op) (MoreSyntax p ts)) (sym (syntaxes_listed us)))
 
 may_begin_there : (b : ℕ) (op : Operator) (us : Syntaxes) → FitAll us (behind op) → nests us (behind op) ≤ b → may_begin (may_open b) op ≡ true
 unfolding may_begin
 may_begin_there b op us fits nested = at (opens op) refl
   where
-    or_true : (c : Bool) → (c || true) ≡ true
-    or_true true = refl
-    or_true false = refl
     at : (o : Bool) → opens op ≡ o → (may_open b || not (opens op)) ≡ true
     at true e = ap (λ (c : Bool). c || not (opens op)) (may_open_some b (omega (arith, nested, inside_nests (behind op) us (behind_inside op e) fits)))
     at false e = ap (λ (c : Bool). may_open b || not c) e ∙ or_true (may_open b)
@@ -174,10 +167,10 @@ comes_operation op p us fits comes read b r layers l m n rest loosest low high n
     let np : nesting p ≤ b = omega (arith, nested, le-max_left (nesting p) (nests us (opening op ∷ behind op))) in
     let nu : nests us (behind op) ≤ b = omega (arith, nested, le-max_right (nesting p) (nests us (opening op ∷ behind op)), opening_nests op us (behind op)) in
     let spelled : (flat p ++ spell us (opening op ∷ behind op)) ++ rest ≡ flat p ++ next =
-        append_assoc (flat p) (spell us (opening op ∷ behind op)) rest
-        ∙ ap (λ (xs : List Lexeme). flat p ++ (xs ++ rest)) (opening_spelled op us (behind op))
-        ∙ ap (λ (xs : List Lexeme). flat p ++ xs) (append_assoc (spell_signs (opening op ∷ [])) (spell us (behind op)) rest) in
+    append_assoc (flat p) (spell us (opening op ∷ behind op)) rest
+    ∙ ap (λ (xs : List Lexeme). flat p ++ (xs ++ rest)) (opening_spelled op us (behind op))
+    ∙ ap (λ (xs : List Lexeme). flat p ++ xs) (append_assoc (spell_signs (opening op ∷ [])) (spell us (behind op)) rest) in
     ap (start b r layers l m) spelled
     ∙ comes b r layers l m (suc n) next loosest (omega (arith, lp, (operator_row op).left, low)) (omega (arith, hp)) np (opening_calm op toks, opening_fieldless op toks, λ o. absurd (left_shut op p left o)) (left_ends op p toks lp) (omega (arith, e))
     ∙ climb_goes (reader b r 4) (may_open b) (suc r) l n p (Node (forms.Operation op) (MoreSyntax p us)) op toks rest low left (omega (arith, hp)) (may_begin_there b op us fit nu)
-        (grown_reads b r op p us rest read fit hu nu (operation_tail op p us rest fit h s))
+    (grown_reads b r op p us rest read fit hu nu (operation_tail op p us rest fit h s))

@@ -1,8 +1,8 @@
 -- Each kind of part that is no operation: where the tokens are those of its node, it is read as the first operand.
-use Rattle.std.proofs.Common.{◌≡◌, ℕ, zero, suc, ◌+◌, ◌<◌, ◌≤◌, List, [], ◌∷◌, ◌++◌, max, Bool, true, false, cond, not, Option, Some, None, refl, sym, ap, subst, ◌∙◌, arith, ◌&&◌}
+use Rattle.std.proofs.Common.{◌≡◌, ℕ, suc, ◌≤◌, List, [], ◌∷◌, ◌++◌, Bool, true, false, cond, Option, None, refl, sym, subst, ◌∙◌, arith, ◌&&◌}
 use Rattle.std.specs.Prelude.{nat_le}
 use Rattle.std.proofs.lemmas.Bool.{leb-true, le-leb}
-use Rattle.tokens.specs.Lexeme.{Lexeme, Name, Number, Kept, Sign}
+use Rattle.tokens.specs.Lexeme.{Lexeme, Sign}
 use Rattle.tokens.specs.declared.symbol.Symbol.TheVariants as symbols
 use Rattle.syntax.specs.declared.piece.Sign.TheVariants as signs
 use Rattle.syntax.specs.declared.piece.Fields.{Fields}
@@ -13,25 +13,20 @@ use Rattle.syntax.specs.declared.piece.Start.TheVariants as starts
 use Rattle.syntax.specs.declared.form.Form.{Form}
 use Rattle.syntax.specs.declared.form.Form.TheVariants as forms
 use Rattle.syntax.specs.Rules.{rule, form_level, is_heavy, ending}
-use Rattle.syntax.specs.Grammar.{Syntax, Called, Numeral, Node, Syntaxes, NoSyntax, MoreSyntax, flat, height_of, highest, nesting, is, is_open, last_open, level_in, is_event, is_value, is_numeral, is_field, is_generator, is_generators, is_pair, is_called, is_names, is_constants, is_field_sets, is_declaration, is_script, takes, takes_field, takes_fields, Fits, FitAll}
-use Rattle.syntax.specs.Parsing.{Found, after, begins_field, another, number_at, numeral_at, may_be_number, is_alone, form_at, fields_of, operand, node, pick, reader, may_open}
+use Rattle.syntax.specs.Grammar.{Syntax, Node, Syntaxes, NoSyntax, MoreSyntax, flat, height_of, nesting, is_open, last_open, is_event, is_value, is_field, is_generator, is_generators, is_pair, is_names, is_constants, is_field_sets, is_declaration, is_script, takes, takes_field, takes_fields, Fits}
+use Rattle.syntax.specs.Parsing.{Found, after, begins_field, another, numeral_at, may_be_number, is_alone, form_at, fields_of, operand, reader, may_open}
 use Rattle.syntax.proofs.Branches.{some_found}
 use Rattle.syntax.proofs.Climbing.{Stops}
 use Rattle.syntax.proofs.Table.{operator_row}
-use Rattle.syntax.proofs.CompleteFollow.{quiet, calm, declares, Behind, NoSign, Follows, quiet_behind, quiet_phrase, declares_quiet, declares_none, fieldless_dot}
-use Rattle.syntax.proofs.CompleteFirst.{both_true, is_operation, leads, rule_first}
+use Rattle.syntax.proofs.CompleteBools.{both_true}
+use Rattle.syntax.proofs.CompleteFollow.{declares, Behind, NoSign, Follows, quiet_behind, quiet_phrase, declares_quiet, declares_none, fieldless_dot}
+use Rattle.syntax.proofs.CompleteFirst.{is_operation, leads, rule_first}
 use Rattle.syntax.proofs.CompleteGoal.{AllRead, edge, rank}
-use Rattle.syntax.proofs.CompleteRow.{NoMore, Tail, true_false}
+use Rattle.syntax.proofs.CompleteRow.{NoMore, Tail}
 use Rattle.syntax.proofs.CompleteNode.{below, is_simple, node_of_simple}
 use Rattle.syntax.proofs.CompleteNamed.{node_channels, node_channels_with_fields}
-use Rattle.syntax.proofs.CompleteForms.{first_form, heavy_first, operand_is, phrase_at, no_number, value_begins, field_begins, declaration_begins}
-use Rattle.syntax.proofs.CompleteOperand.{Loose, phrase_node, event_node}
-
-no : false ≡ true → ⊥
-no e = cc
-
-abbrev some_form : Form → Option Form
-some_form f = Some f
+use Rattle.syntax.proofs.CompleteForms.{first_form, some_form, operand_is, phrase_at, no_number, value_begins, field_begins, declaration_begins}
+use Rattle.syntax.proofs.CompleteOperand.{phrase_node, event_node}
 
 -- what is read first, where parts of this height have this many layers below them
 abbrev pub first : ℕ → ℕ → ℕ → Kind → List Lexeme → Option Found
@@ -167,6 +162,7 @@ no_dot rest e o = at o (after (signs.Symbol symbols.Dot) rest) (dot_none rest e)
     at : (o : Bool) (x : Option (List Lexeme)) → x ≡ None → cond o None x ≡ None
     at true x e = refl
     at false x e = e
+
     dot_none : (rest : List Lexeme) → begins_field fields.Any rest ≡ false → after (signs.Symbol symbols.Dot) rest ≡ None
     dot_none rest e = fieldless_dot rest e
 

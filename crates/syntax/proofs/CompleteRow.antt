@@ -1,5 +1,5 @@
 -- Where the tokens are those of a rule's parts, the pieces of the rule read them.
-use Rattle.std.proofs.Common.{◌≡◌, ℕ, zero, suc, ◌+◌, ◌-◌, ◌<◌, ◌≤◌, List, [], ◌∷◌, ◌++◌, length, max, Bool, true, false, cond, not, Option, Some, None, refl, sym, ap, subst, ◌∙◌, append_assoc, arith, ◌&&◌, ◌||◌, ◌⊎◌, inl, inr}
+use Rattle.std.proofs.Common.{◌≡◌, ℕ, zero, suc, ◌-◌, ◌<◌, ◌≤◌, List, [], ◌∷◌, ◌++◌, length, Bool, true, false, cond, not, Option, None, refl, sym, ap, subst, ◌∙◌, append_assoc, arith, ◌&&◌, ◌||◌, ◌⊎◌, inl, inr}
 use Rattle.std.specs.Prelude.{nat_le}
 use Rattle.std.proofs.lemmas.Bool.{leb-true}
 use Rattle.std.proofs.lemmas.List.{append-nil, length-append}
@@ -7,7 +7,7 @@ use Rattle.std.proofs.Math.Nat.{le-max_left, le-max_right}
 use denote.Enum.Bare.{true_same}
 use Rattle.tokens.specs.contracts.symbol.Symbol.{the_type as symbol_type}
 use Rattle.tokens.specs.contracts.keyword.Keyword.{the_type as keyword_type}
-use Rattle.tokens.specs.Lexeme.{Lexeme, Name, Number, Kept, Sign}
+use Rattle.tokens.specs.Lexeme.{Lexeme, Sign}
 use Rattle.tokens.specs.declared.symbol.Symbol.{Symbol}
 use Rattle.tokens.specs.declared.symbol.Symbol.TheVariants as symbols
 use Rattle.syntax.specs.declared.piece.Sign.{Sign as Signs}
@@ -22,15 +22,16 @@ use Rattle.syntax.specs.declared.piece.Start.{Start}
 use Rattle.syntax.specs.declared.piece.Start.TheVariants as starts
 use Rattle.syntax.specs.declared.piece.Piece.{Piece}
 use Rattle.syntax.specs.declared.piece.Piece.TheVariants as pieces
-use Rattle.syntax.specs.Grammar.{Syntax, Called, Numeral, Node, Syntaxes, NoSyntax, MoreSyntax, sign_lexeme, before, flat, spell, spell_signs, spell_part, height_of, highest, nesting, nests, nests_part, within, opens_any, is, is_field, is_declaration, is_called, is_open, is_last, last_open, takes_field, takes_fields, shut, Fits, FitAll, FitsPart, needs_none}
-use Rattle.syntax.specs.Parsing.{◌>>=◌, Found, Row, Reader, syntaxes, is_sign, after, name_at, begins_field, another, last_is_open, others_on, others, put, keep, step, row, reads, inside, reader, may_open}
-use Rattle.syntax.proofs.Sound.{some_of, only_signs}
+use Rattle.syntax.specs.Grammar.{Syntax, Called, Numeral, Node, Syntaxes, NoSyntax, MoreSyntax, sign_lexeme, before, flat, spell, spell_signs, spell_part, height_of, highest, nesting, nests, nests_part, within, opens_any, is, is_called, is_open, is_last, last_open, takes_field, takes_fields, shut, Fits, FitAll, FitsPart}
+use Rattle.syntax.specs.Parsing.{◌>>=◌, Found, Row, Reader, syntaxes, is_sign, after, name_at, begins_field, another, last_is_open, others, put, keep, step, row, reader, may_open}
+use Rattle.syntax.proofs.Sound.{some_of, only_signs, spell_sign, spell_open}
 use Rattle.syntax.proofs.Branches.{some_found, some_row, others_stop, others_next}
 use Rattle.syntax.proofs.Steps.{may_open_some, inside_step}
 use Rattle.syntax.proofs.Lists.{open_push}
-use Rattle.syntax.proofs.CompleteFollow.{quiet, calm, declares, Behind, NoSign, Follows, closes, closes_follows}
-use Rattle.syntax.proofs.CompleteFirst.{spelled_sign, spelled_open, fits_sign, fits_open, field_first, field_some, declaration_first, declaration_some, both_true}
-use Rattle.syntax.proofs.CompleteGoal.{rank, is_read_kind, IsRead, Comes, AllRead}
+use Rattle.syntax.proofs.CompleteBools.{true_false, both_true}
+use Rattle.syntax.proofs.CompleteFollow.{no_sign, calm, Follows, closes, closes_follows}
+use Rattle.syntax.proofs.CompleteFirst.{fits_sign, fits_open, field_first, field_some, declaration_first, declaration_some}
+use Rattle.syntax.proofs.CompleteGoal.{rank, is_read_kind, IsRead, AllRead}
 use Rattle.syntax.proofs.CompleteTall.{tall, has_room}
 
 -- ---- parts as a list
@@ -57,9 +58,6 @@ is_sign_itself (signs.Keyword k) = true_same keyword_type k k refl
 pub after_sign : (s : Signs) (rest : List Lexeme) → after s (sign_lexeme s ∷ rest) ≡ some_of rest
 unfolding after
 after_sign s rest = ap (λ (b : Bool). cond b (some_of rest) None) (is_sign_itself s)
-
-pub true_false : (b : Bool) → b ≡ true → b ≡ false → ⊥
-true_false b e f = cc
 
 -- ---- one part in its place
 
@@ -181,7 +179,7 @@ count_length place k start ps (MoreSyntax u us) rest e fits =
     let s = spell us (pieces.Others place k start ∷ ps) ++ rest in
     let one = some_more k start u e fits.1.0 fits.0 in
     let longer : suc (how_many us) ≤ length (before start ++ (flat u ++ s)) =
-        omega (arith, one, count_length place k start ps us rest e fits.1.1, length-append (before start) (flat u ++ s), length-append (flat u) s, length-append (before start) (flat u)) in
+    omega (arith, one, count_length place k start ps us rest e fits.1.1, length-append (before start) (flat u ++ s), length-append (flat u) s, length-append (before start) (flat u)) in
     subst (λ (xs : List Lexeme). suc (how_many us) ≤ length xs) (sym (spelled_more place k start ps u us rest)) longer
 
 -- what stands behind a part among others ends it
@@ -206,13 +204,13 @@ others_complete b r n place k start ps rest positive e kind rank none (MoreSynta
     let apart' = apart_next (wants_shut start) front u us apart in
     let low : height_of u ≤ r = omega (arith, high, le-max_left (height_of u) (highest us)) in
     let first : part (flat u ++ s) ≡ some_found u s =
-        part_read b r n place k u s read.0.0 kind fits.1.0 (has_room r k u positive kind fits.1.0 fits.0 low) low (omega (arith, nested, le-max_left (within place (nesting u)) (nests us (pieces.Others place k start ∷ ps)))) rank
-        (next_follows place k start ps rest front u us e fits.1.1 t.1 apart' (f refl)) in
+    part_read b r n place k u s read.0.0 kind fits.1.0 (has_room r k u positive kind fits.1.0 fits.0 low) low (omega (arith, nested, le-max_left (within place (nesting u)) (nests us (pieces.Others place k start ∷ ps)))) rank
+    (next_follows place k start ps rest front u us e fits.1.1 t.1 apart' (f refl)) in
     ap (others part start (suc m) front) (spelled_more place k start ps u us rest)
     ∙ sym (others_next part start (suc m) m front (front ++ u ∷ []) (before start ++ (flat u ++ s)) (flat u ++ s) s u (last_is_open front) (omega arith) (omega arith) refl
-        (sym (found_another k start (last_is_open front) u s e fits.1.0 fits.0 t.0 (apart_shut (wants_shut start) front u us apart))) first refl)
+    (sym (found_another k start (last_is_open front) u s e fits.1.0 fits.0 t.0 (apart_shut (wants_shut start) front u us apart))) first refl)
     ∙ others_complete b r n place k start ps rest positive e kind rank none us (front ++ u ∷ []) m read.1 fits.1.1 t.1 (omega (arith, high, le-max_right (height_of u) (highest us))) (omega (arith, nested, le-max_right (within place (nesting u)) (nests us (pieces.Others place k start ∷ ps)))) (omega (arith, count)) apart'
-        (λ l. subst (λ (o : Bool). Follows k o (spell_signs ps ++ rest)) (later_open u us l) (f refl))
+    (λ l. subst (λ (o : Bool). Follows k o (spell_signs ps ++ rest)) (later_open u us l) (f refl))
     ∙ ap (λ (xs : List Syntax). some_row xs (spell_signs ps ++ rest)) (append_assoc front (u ∷ []) (listed us))
 
 -- ---- rules
@@ -264,17 +262,9 @@ shutting [] = false
 shutting (pieces.Others place k start ∷ ps) = wants_shut start
 shutting (p ∷ ps) = shutting ps
 
-not_sign : (s : Symbol) (x : Lexeme) (toks : List Lexeme) → not (is_sign (signs.Symbol s) x) ≡ true → after (signs.Symbol s) (x ∷ toks) ≡ None
-unfolding after
-not_sign s x toks e = at (is_sign (signs.Symbol s) x) e
-  where
-    at : (b : Bool) → not b ≡ true → cond b (some_of toks) None ≡ None
-    at true e = absurd cc
-    at false e = refl
-
 halted : (start : Start) (s : Signs) (rest : List Lexeme) → halts start s ≡ true → NoMore start (sign_lexeme s ∷ rest)
 unfolding halts another
-halted (starts.Behind s) t rest e o = not_sign s (sign_lexeme t) rest e
+halted (starts.Behind s) t rest e o = no_sign s (sign_lexeme t) rest e
 halted start t rest e o = absurd cc
 
 -- behind further parts
@@ -292,7 +282,7 @@ Opened ts o = is_last ts ≡ false → last_open ts ≡ o
 opened_next : (t : Syntax) (ts : Syntaxes) (o : Bool) → Opened (MoreSyntax t ts) o → Opened ts o
 opened_next t ts o h l = sym (later_open t ts l) ∙ h refl
 
-none_left : (t : Syntax) (others : List Piece → Type 0) → FitsPart t others [] → ⊥
+pub none_left : (t : Syntax) (others : List Piece → Type 0) → FitsPart t others [] → ⊥
 none_left t others h = h
 
 -- what stands behind a part ends it
@@ -301,7 +291,7 @@ unfolding joins ends_with last_open spell spell_signs shutting
 part_follows place k [] t NoSyntax front o rest e fits tail opened apart = subst (λ (b : Bool). Follows k b rest) (sym (opened refl)) tail
 part_follows place k [] t (MoreSyntax u us) front o rest e fits tail opened apart = absurd (none_left u (FitAll us) fits.1)
 part_follows place k (pieces.Sign s ∷ ps) t ts front o rest e fits tail opened apart =
-    subst (λ (xs : List Lexeme). Follows k (is_open t) (xs ++ rest)) (sym (spelled_sign ts s ps)) (closes_follows k s (is_open t) (spell ts ps ++ rest) e)
+    subst (λ (xs : List Lexeme). Follows k (is_open t) (xs ++ rest)) (sym (spell_sign ts s ps)) (closes_follows k s (is_open t) (spell ts ps ++ rest) e)
 part_follows place k (pieces.Others p j start ∷ []) t NoSyntax front o rest e fits tail opened apart =
     subst (λ (b : Bool). Follows k b rest) (sym (opened refl)) tail.0
 part_follows place k (pieces.Others p j start ∷ (pieces.Sign s ∷ ps)) t NoSyntax front o rest e fits tail opened apart =
@@ -368,11 +358,11 @@ unfolding row step linked spell spell_signs spell_part flat nests nests_part is_
 row_complete b r n [] o rest NoSyntax front positive e opens read fits high nested apart tail opened = ap (λ (xs : List Syntax). some_row xs rest) (sym (append-nil front))
 row_complete b r n [] o rest (MoreSyntax t ts) front positive e opens read fits high nested apart tail opened = absurd (none_left t (FitAll ts) fits.1)
 row_complete b r n (pieces.Sign s ∷ ps) o rest ts front positive e opens read fits high nested apart tail opened =
-    ap (row (reader b r n) (may_open b) (pieces.Sign s ∷ ps) front) (ap (λ (xs : List Lexeme). xs ++ rest) (spelled_sign ts s ps))
+    ap (row (reader b r n) (may_open b) (pieces.Sign s ∷ ps) front) (ap (λ (xs : List Lexeme). xs ++ rest) (spell_sign ts s ps))
     ∙ ap (λ (x : Option (List Lexeme)). found_row (reader b r n) (may_open b) ps (x >>= keep front)) (after_sign s (spell ts ps ++ rest))
     ∙ row_complete b r n ps o rest ts front positive e opens read (fits_sign ts s ps fits) high (omega (arith, nested, fewer_nests ts s ps)) apart tail opened
 row_complete b r n (pieces.Open s ∷ ps) o rest ts front positive e opens read fits high nested apart tail opened =
-    ap (row (reader b r n) (may_open b) (pieces.Open s ∷ ps) front) (ap (λ (xs : List Lexeme). xs ++ rest) (spelled_open ts s ps))
+    ap (row (reader b r n) (may_open b) (pieces.Open s ∷ ps) front) (ap (λ (xs : List Lexeme). xs ++ rest) (spell_open ts s ps))
     ∙ ap (λ (may : Bool). found_row (reader b r n) (may_open b) ps (cond may (after (signs.Symbol s) (Sign s ∷ (spell ts ps ++ rest)) >>= keep front) None)) (may_open_some b (opens refl))
     ∙ ap (λ (x : Option (List Lexeme)). found_row (reader b r n) (may_open b) ps (x >>= keep front)) (after_sign (signs.Symbol s) (spell ts ps ++ rest))
     ∙ row_complete b r n ps o rest ts front positive e (λ any. opens refl) read (fits_open ts s ps fits) high (omega (arith, nested, fewer_nests_open ts s ps)) apart tail opened
@@ -392,8 +382,8 @@ row_complete b r n (pieces.Part place k ∷ ps) o rest (MoreSyntax t ts) front p
     let room = room_part k ps r positive in
     let low : height_of t ≤ r = omega (arith, high, le-max_left (height_of t) (highest ts)) in
     let first : reader b r n place k (flat t ++ s) ≡ some_found t s =
-        part_read b r n place k t s read.0.0 e1.0 fits.1.0 (has_room r k t room.0 e1.0 fits.1.0 fits.0 low) low (omega (arith, nested, le-max_left (within place (nesting t)) (nests ts ps))) e2.0
-        (part_follows place k ps t ts front o rest e3.0 fits.1.1 tail opened apart') in
+    part_read b r n place k t s read.0.0 e1.0 fits.1.0 (has_room r k t room.0 e1.0 fits.1.0 fits.0 low) low (omega (arith, nested, le-max_left (within place (nesting t)) (nests ts ps))) e2.0
+    (part_follows place k ps t ts front o rest e3.0 fits.1.1 tail opened apart') in
     ap (row (reader b r n) (may_open b) (pieces.Part place k ∷ ps) front) (append_assoc (flat t) (spell ts ps) rest)
     ∙ ap (λ (x : Option Found). found_row (reader b r n) (may_open b) ps (x >>= put front)) first
     ∙ row_complete b r n ps o rest ts (front ++ t ∷ []) room.1 e3.1 opens read.1 fits.1.1 (omega (arith, high, le-max_right (height_of t) (highest ts))) (omega (arith, nested, le-max_right (within place (nesting t)) (nests ts ps))) apart' (tail_part place k ps o rest tail) (opened_next t ts o opened)
@@ -407,5 +397,5 @@ row_complete b r n (pieces.Others place k start ∷ ps) o rest ts front positive
     let behind = others_tail place k start ps o rest e5.0 tail in
     ap (found_row (reader b r n) (may_open b) ps)
     (others_complete b r n place k start ps rest (room_part k ps r positive).0 e3.0 e1.0 e2.0 behind.1 ts front _ read fits (taken_any start ts e4.0) high nested (count_length place k start ps ts rest e3.0 fits) apart
-        (λ l. subst (λ (x : Bool). Follows k x (spell_signs ps ++ rest)) (sym (opened l)) behind.0))
+    (λ l. subst (λ (x : Bool). Follows k x (spell_signs ps ++ rest)) (sym (opened l)) behind.0))
     ∙ signs_read (reader b r n) (may_open b) ps (front ++ listed ts) rest e5.1

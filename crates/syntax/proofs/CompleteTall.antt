@@ -1,19 +1,17 @@
 -- Parts that are never of height 0.
-use Rattle.std.proofs.Common.{◌≡◌, ℕ, zero, suc, ◌+◌, ◌<◌, ◌≤◌, List, [], ◌∷◌, max, Bool, true, false, cond, not, refl, sym, ap, ◌∙◌, arith, ◌&&◌, ◌⊎◌, inl, inr}
+use Rattle.std.proofs.Common.{◌≡◌, ℕ, ◌<◌, ◌≤◌, List, [], ◌∷◌, Bool, true, false, refl, arith, ◌&&◌, ◌⊎◌, inl, inr}
 use Rattle.std.specs.Prelude.{nat_le}
 use Rattle.std.proofs.lemmas.Bool.{leb-true}
 use Rattle.std.proofs.Math.Nat.{le-max_left, le-max_right}
 use Rattle.syntax.specs.declared.piece.Kind.{Kind}
 use Rattle.syntax.specs.declared.piece.Kind.TheVariants as kinds
-use Rattle.syntax.specs.declared.piece.Place.{Place}
-use Rattle.syntax.specs.declared.piece.Start.{Start}
 use Rattle.syntax.specs.declared.piece.Piece.{Piece}
 use Rattle.syntax.specs.declared.piece.Piece.TheVariants as pieces
 use Rattle.syntax.specs.declared.form.Form.{Form}
 use Rattle.syntax.specs.declared.form.Form.TheVariants as forms
 use Rattle.syntax.specs.Rules.{rule, form_level, is_heavy}
-use Rattle.syntax.specs.Grammar.{Syntax, Called, Numeral, Node, Syntaxes, NoSyntax, MoreSyntax, height_of, highest, is, is_event, is_value, is_field, is_generator, is_generators, is_pair, is_numeral, level_in, Fits, FitAll, FitsPart}
-use Rattle.syntax.proofs.CompleteFirst.{both_true}
+use Rattle.syntax.specs.Grammar.{Syntax, Called, Numeral, Node, Syntaxes, NoSyntax, MoreSyntax, height_of, highest, is, is_event, is_value, is_field, is_generator, is_generators, is_pair, is_numeral, level_in, Fits, FitAll}
+use Rattle.syntax.proofs.CompleteBools.{false_true, true_false, both_true}
 use Rattle.syntax.proofs.CompleteGoal.{is_read_kind}
 
 unfoldable pub tall : Kind → Bool
@@ -42,9 +40,6 @@ has_tall (pieces.Part place k ∷ ps) = is_read_kind k && tall k
 has_tall (pieces.Others place k start ∷ ps) = false
 has_tall (p ∷ ps) = has_tall ps
 
-no : false ≡ true → ⊥
-no e = cc
-
 tall_row : (ps : List Piece) (ts : Syntaxes) → AllTall ts → has_tall ps ≡ true → FitAll ts ps → 0 < highest ts
 unfolding has_tall
 tall_row [] ts all e h = absurd cc
@@ -52,9 +47,9 @@ tall_row (pieces.Sign s ∷ ps) NoSyntax all e h = tall_row ps NoSyntax all e h
 tall_row (pieces.Sign s ∷ ps) (MoreSyntax t ts) all e h = tall_row ps (MoreSyntax t ts) all e h
 tall_row (pieces.Open s ∷ ps) NoSyntax all e h = tall_row ps NoSyntax all e h
 tall_row (pieces.Open s ∷ ps) (MoreSyntax t ts) all e h = tall_row ps (MoreSyntax t ts) all e h
-tall_row (pieces.Name ∷ ps) NoSyntax all e h = absurd (no h)
+tall_row (pieces.Name ∷ ps) NoSyntax all e h = absurd (false_true h)
 tall_row (pieces.Name ∷ ps) (MoreSyntax t ts) all e h = omega (arith, tall_row ps ts all.1 e h.1.1, le-max_right (height_of t) (highest ts))
-tall_row (pieces.Part place k ∷ ps) NoSyntax all e h = absurd (no h)
+tall_row (pieces.Part place k ∷ ps) NoSyntax all e h = absurd (false_true h)
 tall_row (pieces.Part place k ∷ ps) (MoreSyntax t ts) all e h =
     let b = both_true (is_read_kind k) (tall k) e in
     omega (arith, all.0 k b.0 b.1 h.1.0 h.0, le-max_left (height_of t) (highest ts))
@@ -102,21 +97,18 @@ other_kinds forms.DefinitionWithParameters ts e = (refl, refl, refl, refl, refl,
 other_kinds forms.Script ts e = (refl, refl, refl, refl, refl, refl)
 other_kinds f ts e = absurd cc
 
-true_false : (b : Bool) → b ≡ true → b ≡ false → ⊥
-true_false b e f = cc
-
 not_list : (k : Kind) (f : Form) (ts : Syntaxes) → is_list f ≡ true → is_read_kind k ≡ true → tall k ≡ true → is k (Node f ts) ≡ true → ⊥
 unfolding tall is is_read_kind level_in is_numeral
 not_list (kinds.Phrase l) f ts e read high i = too_loose (form_level f) l 16 (list_level f e) i read (omega arith)
 not_list (kinds.Atom m) f ts e read high i = too_loose (form_level f) 0 0 (list_level f e) (both_true (nat_le (form_level f) 0) _ i).0 refl (omega arith)
 not_list kinds.Event f ts e read high i = true_false _ i (other_kinds f ts e).0
 not_list kinds.Value f ts e read high i = true_false _ i (other_kinds f ts e).1
-not_list kinds.Number f ts e read high i = no i
+not_list kinds.Number f ts e read high i = false_true i
 not_list kinds.Field f ts e read high i = true_false _ i (other_kinds f ts e).2
 not_list kinds.Generator f ts e read high i = true_false _ i (other_kinds f ts e).3
 not_list kinds.Generators f ts e read high i = true_false _ i (other_kinds f ts e).4
 not_list kinds.Pair f ts e read high i = true_false _ i (other_kinds f ts e).5
-not_list k f ts e read high i = no high
+not_list k f ts e read high i = false_true high
 
 node_tall : (f : Form) (ts : Syntaxes) → AllTall ts → IsTall (Node f ts)
 unfolding is_heavy is_list rule has_tall is_read_kind tall
@@ -142,15 +134,15 @@ node_tall f ts all k read high i h = omega arith
 called_tall : (n : List ℕ) → IsTall (Called n)
 unfolding tall is is_read_kind level_in is_numeral is_event is_value is_field is_generator is_generators is_pair
 called_tall n (kinds.Phrase l) read high i h = absurd (too_loose 99 l 16 refl i read (omega arith))
-called_tall n (kinds.Atom m) read high i h = absurd (no i)
-called_tall n kinds.Event read high i h = absurd (no i)
-called_tall n kinds.Value read high i h = absurd (no i)
-called_tall n kinds.Number read high i h = absurd (no i)
-called_tall n kinds.Field read high i h = absurd (no i)
-called_tall n kinds.Generator read high i h = absurd (no i)
-called_tall n kinds.Generators read high i h = absurd (no i)
-called_tall n kinds.Pair read high i h = absurd (no i)
-called_tall n k read high i h = absurd (no high)
+called_tall n (kinds.Atom m) read high i h = absurd (false_true i)
+called_tall n kinds.Event read high i h = absurd (false_true i)
+called_tall n kinds.Value read high i h = absurd (false_true i)
+called_tall n kinds.Number read high i h = absurd (false_true i)
+called_tall n kinds.Field read high i h = absurd (false_true i)
+called_tall n kinds.Generator read high i h = absurd (false_true i)
+called_tall n kinds.Generators read high i h = absurd (false_true i)
+called_tall n kinds.Pair read high i h = absurd (false_true i)
+called_tall n k read high i h = absurd (false_true high)
 
 mutual
   pub is_tall : (t : Syntax) → IsTall t

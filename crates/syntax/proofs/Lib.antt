@@ -2,6 +2,7 @@ pub mod Branches
 pub mod Climbed
 pub mod Climbing
 pub mod Complete
+pub mod CompleteBools
 pub mod CompleteFirst
 pub mod CompleteFollow
 pub mod CompleteForms

@@ -21,7 +21,7 @@ returns-after-error-eq0-clause-only g c t i =
     let toks = lexemes c.args.tokens.now in
     elim c.match-error.branch [
       | in-Expected w ↦
-        let none : whole toks ≡ None = subst (λ (k : ScriptErrorKind). Fails k (whole toks)) w.in-Expected.is c.in-Err.ensures in
-        memory_only c.match-error.error.kind toks t (fails_none c.match-error.error.kind (whole toks) none) i
+          let none : whole toks ≡ None = subst (λ (k : ScriptErrorKind). Fails k (whole toks)) w.in-Expected.is c.in-Err.ensures in
+          memory_only c.match-error.error.kind toks t (fails_none c.match-error.error.kind (whole toks) none) i
       | in_default w ↦ memory_only c.match-error.error.kind toks t (subst (λ (e : ScriptError). Fails e.kind (whole toks)) (sym w.error-is) c.in-Err.ensures) i
     ]
