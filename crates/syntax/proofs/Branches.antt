@@ -34,6 +34,10 @@ fails_as {Y = Y} k r s e f = subst (λ (o : Option Y). Fails k o) (sym e) f
 pub fails_deep : {Y : Type 0} (k : ScriptErrorKind) (r : Option Y) → k ≡ errors.TooDeep → r ≡ None → Fails k r
 fails_deep k r e f = subst (λ (k : ScriptErrorKind). Fails k r) (sym e) f
 
+pub fails_none : {Y : Type 0} (k : ScriptErrorKind) (r : Option Y) → r ≡ None → Fails k r
+fails_none errors.Memory r e = tt
+fails_none _ r e = e
+
 pub fails_by : {X Y : Type 0} (k : ScriptErrorKind) (a : Option X) (r : Option Y) → (a ≡ None → r ≡ None) → Fails k a → Fails k r
 fails_by errors.Memory a r f h = tt
 fails_by _ a r f h = f h

@@ -15,7 +15,7 @@ use Rattle.syntax.specs.Parsing.{operator_of, operator_at, next_operator}
 use Rattle.syntax.proofs.Table.{some_operator}
 use Rattle.syntax.proofs.Sound.{bind_some, guard_some, some_of, some_is}
 
-both_true : (a b : Bool) → (a && b) ≡ true → (a ≡ true) × (b ≡ true)
+pub both_true : (a b : Bool) → (a && b) ≡ true → (a ≡ true) × (b ≡ true)
 both_true true b e = (refl, e)
 both_true false b e = absurd cc
 

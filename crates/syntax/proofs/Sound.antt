@@ -50,30 +50,30 @@ after_is s [] rest e = absurd cc
 
 -- ---- signs of a rule
 
-fit_sign : (ts : Syntaxes) (s : Signs) (ps : List Piece) → FitAll ts ps → FitAll ts (pieces.Sign s ∷ ps)
+pub fit_sign : (ts : Syntaxes) (s : Signs) (ps : List Piece) → FitAll ts ps → FitAll ts (pieces.Sign s ∷ ps)
 fit_sign NoSyntax s ps h = h
 fit_sign (MoreSyntax t ts) s ps h = h
 
-fit_open : (ts : Syntaxes) (s : _) (ps : List Piece) → FitAll ts ps → FitAll ts (pieces.Open s ∷ ps)
+pub fit_open : (ts : Syntaxes) (s : _) (ps : List Piece) → FitAll ts ps → FitAll ts (pieces.Open s ∷ ps)
 fit_open NoSyntax s ps h = h
 fit_open (MoreSyntax t ts) s ps h = h
 
-spell_sign : (ts : Syntaxes) (s : Signs) (ps : List Piece) → spell ts (pieces.Sign s ∷ ps) ≡ sign_lexeme s ∷ spell ts ps
+pub spell_sign : (ts : Syntaxes) (s : Signs) (ps : List Piece) → spell ts (pieces.Sign s ∷ ps) ≡ sign_lexeme s ∷ spell ts ps
 unfolding spell spell_signs spell_part
 spell_sign NoSyntax s ps = refl
 spell_sign (MoreSyntax t ts) s ps = refl
 
-spell_open : (ts : Syntaxes) (s : _) (ps : List Piece) → spell ts (pieces.Open s ∷ ps) ≡ Sign s ∷ spell ts ps
+pub spell_open : (ts : Syntaxes) (s : _) (ps : List Piece) → spell ts (pieces.Open s ∷ ps) ≡ Sign s ∷ spell ts ps
 unfolding spell spell_signs spell_part
 spell_open NoSyntax s ps = refl
 spell_open (MoreSyntax t ts) s ps = refl
 
-nests_sign : (b : ℕ) (ts : Syntaxes) (s : Signs) (ps : List Piece) → nests ts ps ≤ b → nests ts (pieces.Sign s ∷ ps) ≤ b
+pub nests_sign : (b : ℕ) (ts : Syntaxes) (s : Signs) (ps : List Piece) → nests ts ps ≤ b → nests ts (pieces.Sign s ∷ ps) ≤ b
 unfolding nests nests_part
 nests_sign b NoSyntax s ps h = h
 nests_sign b (MoreSyntax t ts) s ps h = h
 
-nests_open : (b : ℕ) (ts : Syntaxes) (s : _) (ps : List Piece) → 0 < b → nests ts ps ≤ b → nests ts (pieces.Open s ∷ ps) ≤ b
+pub nests_open : (b : ℕ) (ts : Syntaxes) (s : _) (ps : List Piece) → 0 < b → nests ts ps ≤ b → nests ts (pieces.Open s ∷ ps) ≤ b
 unfolding nests nests_part
 nests_open b NoSyntax s ps z h = omega (arith, z)
 nests_open b (MoreSyntax t ts) s ps z h = h
@@ -265,7 +265,7 @@ rowed_others b r place k start ps front toks z y e g w =
           ∙ ap (λ (xs : List Lexeme). xs ++ y.1) (sym (others_spelled place k start ps g.new));
     }
 
-name_is : (toks : List Lexeme) (x : Found) → name_at toks ≡ Some x → (n : List ℕ) × (rest : List Lexeme) × (toks ≡ Name n ∷ rest) × ((Called n, rest) ≡ x)
+pub name_is : (toks : List Lexeme) (x : Found) → name_at toks ≡ Some x → (n : List ℕ) × (rest : List Lexeme) × (toks ≡ Name n ∷ rest) × ((Called n, rest) ≡ x)
 unfolding name_at
 name_is (Name n ∷ rest) x e = (n, rest, refl, some_is (Called n, rest) x e)
 name_is _ x e = absurd cc

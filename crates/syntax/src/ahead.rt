@@ -294,6 +294,28 @@ pub(crate) fn may_be_number(kind: Kind) -> bool
     )
 }
 
+fn is_name<A: Allocator>(tokens: &[Token<A>]) -> bool {
+    match tokens {
+        [first, ..] => matches!(&first.word, Word::Name(_)),
+        [] => false,
+    }
+}
+
+fn is_number<A: Allocator>(tokens: &[Token<A>]) -> bool {
+    match tokens {
+        [first, ..] => matches!(&first.word, Word::Number(_)),
+        [] => false,
+    }
+}
+
+/// Whether a part of this kind may begin with the first token.
+pub(crate) fn may_begin_with<A: Allocator>(kind: Kind, tokens: &[Token<A>]) -> bool {
+    match kind {
+        Kind::Event | Kind::Generator | Kind::Generators | Kind::Pair => is_name(tokens),
+        _ => (may_be_number(kind) && is_number(tokens)) || form_at(kind, tokens).is_some(),
+    }
+}
+
 /// The fields that a name takes which is a part of this kind.
 #[tactic(auto, unfolding(crate::specs::Parsing::fields_of))]
 pub(crate) fn fields_of(kind: Kind) -> Fields

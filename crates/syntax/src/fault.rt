@@ -32,3 +32,11 @@ pub(crate) fn too_deep<A: Allocator>(tokens: &[Token<A>]) -> ScriptError
         kind: ScriptErrorKind::TooDeep,
     }
 }
+
+/// What begins with the first token is left out of this profile.
+pub(crate) fn unsupported<A: Allocator>(tokens: &[Token<A>]) -> ScriptError {
+    ScriptError {
+        line: line_of(tokens),
+        kind: ScriptErrorKind::Unsupported,
+    }
+}

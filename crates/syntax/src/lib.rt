@@ -4,6 +4,8 @@
 mod ahead;
 mod fault;
 mod form;
+mod law;
+mod left_out;
 mod limits;
 mod operator;
 mod parts;
@@ -13,6 +15,7 @@ mod script;
 mod tree;
 
 pub use form::Form;
+pub use law::one_tree;
 pub use operator::Operator;
 pub use script::parse;
 pub use tree::Tree;

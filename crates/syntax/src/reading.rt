@@ -12,7 +12,8 @@ ghost use Rattle.syntax.specs.Parsing.{Gives, another as another_of, climb as cl
 ghost use Rattle.syntax.specs.View.{shape, shapes};
 
 use crate::ahead::{
-    after, begins_field, fields_of, form_at, is_alone, may_be_number, operator_at, past, turned,
+    after, begins_field, fields_of, form_at, is_alone, may_be_number, may_begin_with, operator_at,
+    past, turned,
 };
 use crate::fault::{expected, line_of, too_deep};
 use crate::form::{Form, back, front, heavy, looseness};
@@ -253,10 +254,10 @@ fn step<'t, A: Allocator + Clone + Drop>(
             Ok((parts, rest))
         }
         Piece::Open(symbol) => {
+            let rest = after(tokens, Sign::Symbol(symbol))?;
             if !may_open(limits.brackets) {
                 return Err(too_deep(tokens));
             }
-            let rest = after(tokens, Sign::Symbol(symbol))?;
             Ok((parts, rest))
         }
         Piece::Name => {
@@ -420,7 +421,7 @@ fn climb<'t, A: Allocator + Clone + Drop>(
 /// A part of this kind.
 #[cycle(reading)]
 #[tactic(auto, unfolding(crate::specs::Parsing::read_in, crate::specs::Parsing::go_on), using(crate::proofs::Steps::reads_step, crate::proofs::Steps::reads_no_room, crate::proofs::Steps::reads_no_layer))]
-fn read<'t, A: Allocator + Clone + Drop>(
+pub(crate) fn read<'t, A: Allocator + Clone + Drop>(
     alloc: &A,
     kind: Kind,
     tokens: &'t [Token<A>],
@@ -431,6 +432,9 @@ fn read<'t, A: Allocator + Clone + Drop>(
     ensures high { IfOk result (λ x. x.0.height ≤ limits.room) }
 {
     if limits.room == 0 {
+        if !may_begin_with(kind, tokens) {
+            return Err(expected(tokens));
+        }
         return Err(too_deep(tokens));
     }
     if limits.layers == 0 {

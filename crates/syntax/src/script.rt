@@ -1,38 +1,57 @@
 //! The tree of a script.
-ghost use Rattle.std.specs.Prelude.{◌≡◌, IfOk};
+ghost use Rattle.std.specs.Prelude.{◌≡◌, IfOk, MatchResult};
+ghost use Rattle.tokens.specs.declared.error.ScriptErrorKind.TheVariants.{Memory};
 ghost use Rattle.tokens.specs.Lexeme.{lexemes};
+ghost use Rattle.syntax.specs.Grammar.{Syntax};
+ghost use Rattle.syntax.specs.Script.{HasTree, IsScript};
 ghost use Rattle.syntax.specs.Parsing.{Gives, whole as whole_of};
 ghost use Rattle.syntax.specs.View.{shape};
 
+use crate::left_out::unless_left_out;
 use crate::reading::whole;
 use crate::tree::Tree;
 use std::alloc::Allocator;
-use tokens::{ScriptError, Token, end_line, scan};
+use tokens::{ScriptError, ScriptErrorKind, Token, end_line, scan};
 
 /// The tree of the script that has these tokens, in a text that ends on this line.
 ///
 /// The first token that can't go on as a script is told: `Expected` where the grammar wants another, or at the end of
 /// the text, and `TooDeep` where every tree is higher than 250 or has more than 250 brackets open at once. `Memory` is
 /// told on line 1. The time grows with the number of tokens.
-#[tactic(auto, using(crate::proofs::Sound::row_sound, crate::proofs::Table::ends_before, crate::proofs::Climbing::climb_goes, crate::proofs::Climbed::next_goes))]
+#[tactic(auto, using(crate::proofs::Branches::fails_none))]
 pub(crate) fn read_script<A: Allocator + Clone + Drop>(
     alloc: &A,
     tokens: &[Token<A>],
     end: u32,
 ) -> Result<Tree<A>, ScriptError>
-    ensures { Gives shape result (whole_of (lexemes tokens.now)) }
+    ensures read { Gives shape result (whole_of (lexemes tokens.now)) }
+    ensures found { IfOk result (λ tree. IsScript (lexemes tokens.now) (shape tree)) }
+    ensures only { (t : Syntax) → IsScript (lexemes tokens.now) t → MatchResult result (λ tree. shape tree ≡ t) (λ e. e.kind ≡ Memory) }
 {
     match whole(alloc, tokens) {
         Ok(tree) => Ok(tree),
-        Err(error) => Err(ScriptError {
-            line: if error.line == 0 { end } else { error.line },
-            kind: error.kind,
-        }),
+        Err(error) => {
+            let error = match error.kind {
+                ScriptErrorKind::Expected => unless_left_out(alloc, tokens, error),
+                _ => error,
+            };
+            Err(ScriptError {
+                line: if error.line == 0 { end } else { error.line },
+                kind: error.kind,
+            })
+        }
     }
 }
 
-/// The syntax tree of a script, or its first fault. No clause says which tree: that is shown by tests alone.
-pub fn parse<A: Allocator + Clone + Drop>(alloc: A, text: &[u8]) -> Result<Tree<A>, ScriptError> {
+/// The syntax tree of a script, or its first fault.
+#[tactic(auto, using(crate::proofs::Texts::has_tree))]
+pub fn parse<A: Allocator + Clone + Drop>(alloc: A, text: &[u8]) -> Result<Tree<A>, ScriptError>
+    // The tree that is read is one that the text has.
+    ensures found { IfOk result (λ tree. HasTree text.now (shape tree)) }
+
+    // A tree that the text has is read, and no other, unless memory runs out.
+    ensures only { (t : Syntax) → HasTree text.now t → MatchResult result (λ tree. shape tree ≡ t) (λ e. e.kind ≡ Memory) }
+{
     let tokens = scan(alloc.clone()?, text)?;
     read_script(&alloc, &tokens, end_line(text))
 }

@@ -15,7 +15,7 @@ const ROWS: &str = "\
 channel a, b, c$P = a -> b -> P$ => ok
 channel a$P = a -> (STOP$ => 3: 3 expected
 channel a$P = (a) -> STOP$ => 2: 3 expected
-P = a -> STOP [> b -> STOP => 1: 11 unsupported
+channel a, b$P = a -> STOP [> b -> STOP$ => 2: 11 unsupported
 P = x<-1 => 1: 3 expected
 P = x < -1 & STOP => ok
 P = 1 == 2 == 3 => 1: 3 expected
@@ -41,6 +41,51 @@ P = union({}) => 1: 3 expected
 P = Q() => 1: 3 expected
  => ok
 STOP => 1: 3 expected
+P(0) = STOP => 1: 11 unsupported
+P(x, y.z) = x => 1: 11 unsupported
+P(x,$(y)) = x => 2: 11 unsupported
+P(x,$0 +$) = x => 3: 3 expected
+P(x y) = x => 1: 3 expected
+datatype D = x.0 => 1: 11 unsupported
+datatype D = x | y$.D => 2: 11 unsupported
+datatype D = x P.0 = STOP => 1: 3 expected
+channel c : {-1..0}$P = STOP$ => 1: 2 token
+channel c : { -1..0}$P = STOP$ => ok
+P {- {- = -} [> -} = STOP => ok
+P = {-${- STOP -}$ => 1: 2 token
+channel a$assert P [T= Q [> R {-$P = a -> P$ => ok
+P = # => 1: 2 token
+P = 1000001 => 1: 7 range
+P = Q |~| R ||| S \\ {a} ; T => ok
+P = a; b /\\ c; d [] e => ok
+P = x & a -> y & STOP => ok
+P = a -> x == 1 & STOP => ok
+P = 1 - 2 - 3 % 4 * -5 => ok
+P = not x and not y == z or w => ok
+P = (1 == 2) == 3 => ok
+P = not a -> STOP => 1: 3 expected
+P = x & y == z & STOP => ok
+P = c.1!2?x.-1!(y) -> STOP => ok
+P = c.1+2 -> STOP => 1: 3 expected
+P = c!-x -> STOP => 1: 3 expected
+P = c?1 -> STOP => 1: 3 expected
+P = {|c?x, d|} => ok
+P = STOP [[a <- b, c.1 <- d]] => ok
+P = STOP [[(a) <- b]] => 1: 3 expected
+P = Q [| {a} |] R [ {a} || {b} ] S => ok
+P = Q [ {a} | {b} ] R => 1: 3 expected
+P = if x then Q => 1: 3 expected
+P = [] x:{0} STOP => 1: 3 expected
+channel c : {0}.if b then D else E => ok
+channel c : if b then D else E.{0} => 1: 3 expected
+channel c : if b then {0} else {1}.{0} => 1: 3 expected
+P = c?x:if b then D else {0}.y -> STOP => 1: 3 expected
+P = STOP) => 1: 3 expected
+channel => 1: 3 expected
+channel a, => 1: 3 expected
+datatype D => 1: 3 expected
+datatype D = x | => 1: 3 expected
+P == STOP => 1: 3 expected
 ";
 
 #[test]
@@ -54,33 +99,120 @@ fn script_rows(rt: HostRuntime) -> Result<(), AllocError> {
     Ok(())
 }
 
-/// A definition whose body is STOP behind so many openings, with as many closings behind it.
-fn nested(alloc: Global, open: &str, close: &str, count: usize) -> Result<String, AllocError> {
-    let mut text = String::from_str(alloc, "P = ")?;
-    for _ in 0..count {
-        text.push_str(open)?;
+/// What is written, so many times, before and behind something in the body of a definition on line 2.
+#[derive(Clone, Copy)]
+struct Nest<'a> {
+    open: &'a str,
+    middle: &'a str,
+    close: &'a str,
+    count: usize,
+    want: &'a str,
+}
+
+fn nested(alloc: Global, nest: &Nest<'_>) -> Result<String, AllocError> {
+    let mut text = String::from_str(alloc, "channel a\nP = ")?;
+    for _ in 0..nest.count {
+        text.push_str(nest.open)?;
     }
-    text.push_str("STOP")?;
-    for _ in 0..count {
-        text.push_str(close)?;
+    text.push_str(nest.middle)?;
+    for _ in 0..nest.count {
+        text.push_str(nest.close)?;
     }
     Ok(text)
+}
+
+fn row_of<'a>(
+    open: &'a str,
+    middle: &'a str,
+    close: &'a str,
+    count: usize,
+    want: &'a str,
+) -> Nest<'a> {
+    Nest {
+        open,
+        middle,
+        close,
+        count,
+        want,
+    }
 }
 
 #[test]
 fn deep_rows(rt: HostRuntime) -> Result<(), AllocError> {
     let rows = [
-        ("(", ")", 250, "ok"),
-        ("(", ")", 251, "1: 9 depth"),
-        ("a -> ", "", 249, "ok"),
-        ("a -> ", "", 250, "1: 9 depth"),
-        ("{", "}", 249, "ok"),
-        ("{", "}", 250, "1: 9 depth"),
+        row_of("(", "STOP", ")", 250, "ok"),
+        row_of("(", "STOP", ")", 251, "2: 9 depth"),
+        row_of("a -> ", "STOP", "", 249, "ok"),
+        row_of("a -> ", "STOP", "", 250, "2: 9 depth"),
+        row_of("{", "STOP", "}", 249, "ok"),
+        row_of("{", "STOP", "}", 250, "2: 9 depth"),
+        row_of("c.(", "STOP", ")", 249, "ok"),
+        row_of("c.(", "STOP", ")", 250, "2: 9 depth"),
+        row_of("[] x:(", "STOP", ") @ x", 249, "ok"),
+        row_of("[] x:(", "STOP", ") @ x", 250, "2: 9 depth"),
+        row_of("", "x", "+ x", 249, "ok"),
+        row_of("", "x", "+ x", 250, "2: 9 depth"),
+        row_of("- ", "x", "", 249, "ok"),
+        row_of("- ", "x", "", 250, "2: 9 depth"),
+        row_of("- ", ")", "", 250, "2: 3 expected"),
+        row_of("(", "", "", 250, "2: 3 expected"),
     ];
-    for (open, close, count, want) in rows {
-        let text = nested(rt.alloc(), open, close, count)?;
+    for row in rows {
+        let text = nested(rt.alloc(), &row)?;
         let got = answer(rt.alloc(), text.as_bytes())?;
-        assert_eq!(rt; got.as_str(), want, "at {count} of {open}");
+        assert_eq!(rt; got.as_str(), row.want, "at {} of {}", row.count, row.open);
     }
+    Ok(())
+}
+
+/// A script of the greatest size: its start, so many parts, its end, and blanks.
+fn full(
+    alloc: Global,
+    start: &str,
+    part: &str,
+    count: usize,
+    end: &str,
+) -> Result<String, AllocError> {
+    let mut text = String::from_str(alloc, start)?;
+    for _ in 0..count {
+        text.push_str(part)?;
+    }
+    text.push_str(end)?;
+    for _ in text.len()..65_536 {
+        text.push(' ')?;
+    }
+    Ok(text)
+}
+
+#[test]
+fn large_rows(rt: HostRuntime) -> Result<(), AllocError> {
+    let rows = [
+        ("P = {x", ",x", 32764, "}", "ok"),
+        ("P = {|c", ",c!0", 16381, "|}", "ok"),
+        ("P = c", "!x", 32762, "-> STOP", "ok"),
+        ("P = STOP[[a <- b", ",a<-b", 13103, "]]", "ok"),
+        ("P = [] x:D", ",x:D", 16380, "@ STOP", "ok"),
+        ("channel c : D", ".D", 32761, "", "ok"),
+        ("datatype D = x", "|x", 32760, ".0", "1: 11 unsupported"),
+        ("P = a", " P=a", 16382, "", "ok"),
+        ("P(x", ",x", 32763, ",0) = x", "1: 11 unsupported"),
+        ("P = ", "{-", 32766, "", "1: 2 token"),
+        ("P = a", "", 0, "#", "1: 2 token"),
+    ];
+    for (start, part, count, end, want) in rows {
+        let mut text = full(rt.alloc(), start, part, count, end)?;
+        let got = answer(rt.alloc(), text.as_bytes())?;
+        assert_eq!(rt; got.as_str(), want, "at {start}{part}");
+        text.push(' ')?;
+        let got = answer(rt.alloc(), text.as_bytes())?;
+        assert_eq!(rt; got.as_str(), "1: 10 large", "at {start}{part}");
+    }
+    Ok(())
+}
+
+#[test]
+fn zero_byte(rt: HostRuntime) -> Result<(), AllocError> {
+    let got = answer(rt.alloc(), b"channel a\nP = \x00 STOP")?;
+    assert_eq!(rt; got.as_str(), "2: 1 byte");
     Ok(())
 }
