@@ -1,0 +1,106 @@
+-- One term's targets more.
+use Rattle.std.proofs.Common.{◌≡◌, ℕ, ◌+◌, ◌<◌, ◌≤◌, ◌⊎◌, inl, inr, List, [], ◌∷◌, ◌++◌, length, map, take, drop, get_or, refl, sym, ap, ◌∙◌, subst, arith}
+use Rattle.std.proofs.lemmas.List.{append_assoc, append-nil, length-append}
+use Rattle.term.specs.declared.terms.Term.{Term}
+use Rattle.term.specs.Traces.{In, here, there}
+use Rattle.term.specs.Proc.{Proc, proc, stop}
+use Rattle.term.specs.Limits.{Terms, Distinct, most_states}
+use Rattle.step.specs.declared.targets.Label.{Label}
+use Rattle.step.specs.declared.targets.Label.TheVariants as label
+use Rattle.step.specs.Labels.{Step}
+use Rattle.step.proofs.ActList.{append-In, In-append_l, In-append_r}
+use Rattle.step.proofs.Lists.{map_more}
+use Rattle.after.specs.Closing.{TargetOf, WithHidden, CutOf, HasPut}
+use Rattle.after.proofs.Lists.{one-In, part-more, part-none}
+use Rattle.after.proofs.Levels.{cut-all}
+
+-- a cut of two names for one set
+pub cut-to : (S T : Terms) (most : ℕ) (l : List Proc) → ((Q : Proc) → S Q → T Q) → ((Q : Proc) → T Q → S Q) → CutOf S most l → CutOf T most l
+cut-to S T most l to fro c =
+    record {
+      once = c.once;
+      only = λ Q i. to Q (c.only Q i);
+      all = elim c.all [ inl h ↦ inl h | inr all ↦ inr (λ Q t. all Q (fro Q t)) ];
+    }
+
+-- what was put behind a cut makes it a cut of more
+pub cut-put : (S M : Terms) (most : ℕ) (found old new : List Proc) → CutOf S most old → length old ≤ most → ((Q : Proc) → In Q found → M Q) → ((Q : Proc) → M Q → In Q found) → HasPut found old new → CutOf (λ Q. S Q ⊎ M Q) most new
+cut-put S M most found old new c few only all p =
+    record {
+      once = p.once c.once;
+      only = λ Q i. elim (p.only Q i) [ inl j ↦ inl (c.only Q j) | inr j ↦ inr (only Q j) ];
+      all = inr (λ Q t. elim t [ inl s ↦ kept Q (cut-all S most old c few Q s) | inr m ↦ p.all Q (all Q m) ]);
+    }
+  where
+    kept : (Q : Proc) → In Q old → In Q new
+    kept Q i = subst (λ l. In Q l) (sym p.more.1) (In-append_l i p.more.0)
+
+module _ (B : ℕ → Proc) where
+  -- the targets of one process more
+  pub target-more : (ps : List Proc) (P : Proc) (l : Label) (Q : Proc) → TargetOf B ps l Q ⊎ Step B P l Q → TargetOf B (ps ++ P ∷ []) l Q
+  target-more ps P l Q (inl (R, i, d)) = (R, In-append_l i (P ∷ []), d)
+  target-more ps P l Q (inr d) = (P, In-append_r ps here, d)
+
+  pub target-less : (ps : List Proc) (P : Proc) (l : Label) (Q : Proc) → TargetOf B (ps ++ P ∷ []) l Q → TargetOf B ps l Q ⊎ Step B P l Q
+  target-less ps P l Q (R, i, d) =
+      elim (append-In ps (P ∷ []) R i) [
+        | inl j ↦ inl (R, j, d)
+        | inr j ↦ inr (subst (λ p. Step B p l Q) (one-In j refl) d)
+      ]
+
+  -- the level's list on the way: the targets of the processes between `from` and `to` stand behind the old ones
+  pub record IsOnTheWay (old : List Proc) (from to : ℕ) (now : List Proc) : Type 0 where
+    pub more : (next : List Proc) × (now ≡ old ++ next)
+    pub few : length now ≤ most_states
+    pub cut : CutOf (WithHidden B old (drop from (take to old))) most_states now
+
+  pub way-begins : (old : List Proc) (from : ℕ) → Distinct old → length old ≤ most_states → IsOnTheWay old from from old
+  way-begins old from d few =
+      record {
+        more = ([], sym (append-nil old));
+        few = few;
+        cut = record {
+            once = d;
+            only = λ Q i. inl i;
+            all = inr all;
+          };
+      }
+    where
+      nowhere : (ps : List Proc) (Q : Proc) → ps ≡ [] → TargetOf B ps label.Tau Q → In Q old
+      nowhere ps Q e (P, i, h) = absurd (none i e)
+        where
+          none : {R : Proc} {qs : List Proc} → In R qs → qs ≡ [] → ⊥
+          none here e = cc
+          none (there i) e = cc
+
+      all : (Q : Proc) → WithHidden B old (drop from (take from old)) Q → In Q old
+      all Q (inl i) = i
+      all Q (inr t) = nowhere (drop from (take from old)) Q (part-none from old) t
+
+  module _ (old : List Proc) (from i : ℕ) (now : List Proc) (w : IsOnTheWay old from i now) (P : Proc) (h : from ≤ i) (k : i < length old) (e : P ≡ get_or old i stop) (found new : List Proc)
+      (only : (Q : Proc) → In Q found → Step B P label.Tau Q) (all : (Q : Proc) → Step B P label.Tau Q → In Q found) (p : HasPut found now new) where
+    part : drop from (take (i + 1) old) ≡ drop from (take i old) ++ P ∷ []
+    part = part-more from i old stop h k ∙ ap (λ R. drop from (take i old) ++ R ∷ []) (sym e)
+
+    to : (Q : Proc) → WithHidden B old (drop from (take i old)) Q ⊎ Step B P label.Tau Q → WithHidden B old (drop from (take i old) ++ P ∷ []) Q
+    to Q (inl (inl j)) = inl j
+    to Q (inl (inr t)) = inr (target-more (drop from (take i old)) P label.Tau Q (inl t))
+    to Q (inr d) = inr (target-more (drop from (take i old)) P label.Tau Q (inr d))
+
+    fro : (Q : Proc) → WithHidden B old (drop from (take i old) ++ P ∷ []) Q → WithHidden B old (drop from (take i old)) Q ⊎ Step B P label.Tau Q
+    fro Q (inl j) = inl (inl j)
+    fro Q (inr t) = elim (target-less (drop from (take i old)) P label.Tau Q t) [ inl s ↦ inl (inr s) | inr d ↦ inr d ]
+
+    pub way-cut : CutOf (WithHidden B old (drop from (take (i + 1) old))) most_states new
+    way-cut =
+        subst (λ ps. CutOf (WithHidden B old ps) most_states new) (sym part)
+        (cut-to (λ Q. WithHidden B old (drop from (take i old)) Q ⊎ Step B P label.Tau Q) (WithHidden B old (drop from (take i old) ++ P ∷ [])) most_states new to fro
+        (cut-put (WithHidden B old (drop from (take i old))) (Step B P label.Tau) most_states found now new w.cut w.few only all p))
+
+    pub way-goes-on : length new ≤ most_states → IsOnTheWay old from (i + 1) new
+    way-goes-on few =
+        record {
+          more = (w.more.0 ++ p.more.0, p.more.1 ∙ ap (λ l. l ++ p.more.0) w.more.1 ∙ append_assoc old w.more.0 p.more.0);
+          few = few;
+          cut = way-cut;
+        }
