@@ -7,3 +7,4 @@ pub mod Rounds
 pub mod Renaming
 pub mod Keeping
 pub mod Belongings
+pub mod Advances

@@ -1,6 +1,6 @@
 -- Lists in which nothing stands twice.
 use Rattle.std.proofs.Common.{◌≡◌, ◌↔◌, ℕ, zero, suc, ◌+◌, ◌-◌, ◌<◌, ◌≤◌, ◌⊎◌, inl, inr, List, [], ◌∷◌, ◌++◌, length, map, take, drop, get_or, slice_get, Some, refl, sym, ap, ◌∙◌, subst, arith}
-use Rattle.std.proofs.lemmas.List.{drop-append-le, length-map, length-take, take_more, take_rest, get_or-map}
+use Rattle.std.proofs.lemmas.List.{drop-append-le, length-map, length-take, take_more, take_rest, get_or-map, get_or_append_left}
 use Rattle.std.proofs.lemmas.Option.{get_or_from_slice_get, slice_get_within}
 use Rattle.term.specs.declared.terms.Term.{Term}
 use Rattle.term.specs.Traces.{In, here, there}
@@ -60,6 +60,27 @@ In-drop zero ps Q i = i
 In-drop (suc n) [] Q i = i
 In-drop (suc n) (P ∷ ps) Q i = there (In-drop n ps Q i)
 
+take-In : (n : ℕ) (ps : List Proc) (Q : Proc) → In Q (take n ps) → In Q ps
+take-In zero ps Q i = absurd (none-In i refl)
+take-In (suc n) [] Q i = i
+take-In (suc n) (P ∷ ps) Q here = here
+take-In (suc n) (P ∷ ps) Q (there i) = there (take-In n ps Q i)
+
+-- so does what stands before one, and between two
+pub In-take : {A : Type 0} (xs : List (Term A)) (n : ℕ) (Q : Proc) → In Q (map proc (take n xs)) → In Q (map proc xs)
+In-take xs n Q i = take-In n (map proc xs) Q (subst (λ l. In Q l) (map-take n xs) i)
+  where
+    map-take : {A : Type 0} (n : ℕ) (l : List (Term A)) → map proc (take n l) ≡ take n (map proc l)
+    map-take zero l = refl
+    map-take (suc n) [] = refl
+    map-take (suc n) (x ∷ l) = ap (λ m. proc x ∷ m) (map-take n l)
+
+pub In-part : (from to : ℕ) (ps : List Proc) (Q : Proc) → In Q (drop from (take to ps)) → In Q (drop from ps)
+In-part zero to ps Q i = take-In to ps Q i
+In-part (suc n) zero ps Q i = absurd (none-In i refl)
+In-part (suc n) (suc m) [] Q i = i
+In-part (suc n) (suc m) (P ∷ ps) Q i = In-part n m ps Q i
+
 -- the part between two places, one further
 pub part-more : (from i : ℕ) (ps : List Proc) (d : Proc) → from ≤ i → i < length ps → drop from (take (i + 1) ps) ≡ drop from (take i ps) ++ get_or ps i d ∷ []
 part-more from i ps d h k =
@@ -110,4 +131,20 @@ pub entry-at : {A : Type 0} (keys : List (Term A)) (i : ℕ) (t : Term A) (old n
 entry-at keys i t old next e f h =
     let k : get_or keys i t ≡ t = get_or_from_slice_get keys i t t e in
     let w : i < length keys = slice_get_within keys i t e in
-    ap proc (sym k) ∙ sym (get_or-map proc keys i t stop w) ∙ ap (λ l. get_or l i stop) f ∙ get_or-append_left old next i stop h
+    ap proc (sym k) ∙ sym (get_or-map proc keys i t stop w) ∙ ap (λ l. get_or l i stop) f ∙ get_or_append_left old next stop i h
+
+-- the member at a place stands behind each place up to it
+pub drop-In : (from i : ℕ) (ps : List Proc) (d : Proc) → from ≤ i → i < length ps → In (get_or ps i d) (drop from ps)
+drop-In zero i ps d h k = In-at ps i d k
+drop-In (suc n) i [] d h k = absurd (omega arith)
+drop-In (suc n) zero (P ∷ ps) d h k = absurd (omega arith)
+drop-In (suc n) (suc i) (P ∷ ps) d h k = drop-In n i ps d (omega arith) (omega arith)
+
+-- what has no members, and what has some
+pub none-of : {A : Type 0} (xs : List (Term A)) → length xs ≡ 0 → map proc xs ≡ []
+none-of [] e = refl
+none-of (x ∷ xs) e = absurd (omega arith)
+
+pub some-of : {A : Type 0} (xs : List (Term A)) → (length xs ≡ 0 → ⊥) → (Q : Proc) × In Q (map proc xs)
+some-of [] h = absurd (h refl)
+some-of (x ∷ xs) h = (proc x, here)

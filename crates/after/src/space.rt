@@ -1,6 +1,7 @@
 //! The space of a specification's states.
 
 ghost use Rattle.std.specs.Prelude.{◌≡◌};
+ghost use Rattle.term.specs.Specs.{IsClosed};
 
 use std::alloc::Allocator;
 use std::marker::Model;
@@ -37,7 +38,8 @@ impl<A: Allocator> Space<A> {
 
     /// The specification. Takes no memory.
     pub fn spec(&self) -> &Spec<A>
-        ensures { result.now ≡ self.now }
+        ensures spec { result.now ≡ self.now }
+        ensures closed { IsClosed self.now }
     {
         &self.spec
     }

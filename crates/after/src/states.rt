@@ -81,7 +81,10 @@ impl<A: Allocator + Copy> StateSet<A> {
         ensures space { space.new ≡ space.old }
     {
         let alloc = *space.allocator();
-        let first = first_level(space.spec(), alloc, self.terms.as_slice(), event)?;
+        let first = match first_level(space.spec(), alloc, self.terms.as_slice(), event) {
+            Ok(first) => first,
+            Err(fault) => return Err(fault),
+        };
         if first.is_empty() {
             return Ok(None);
         }

@@ -1,0 +1,50 @@
+use Rattle.std.proofs.Common.{◌≡◌, ◌<◌, ◌≤◌, ◌+◌, [], length, map, take, get_or, sym, ap, subst, arith, inr, refl}
+use Rattle.std.proofs.lemmas.List.{length-map, take_all}
+use Rattle.term.specs.Limits.{most_states}
+use Rattle.term.specs.Proc.{Proc, proc, bodies_of}
+use Rattle.step.specs.declared.targets.Label.TheVariants as label
+use Rattle.after.specs.Closing.{CutOf, TargetOf}
+use Rattle.after.proofs.Lists.{item-In, none-In}
+use Rattle.after.proofs.Keeping.{event-depth}
+use Rattle.after.proofs.Expanding.{first-cut, first-many}
+use Rattle.after.proofs.closing.first_level.Goals as goal
+
+pub loop-term-init : goal.loop-term-init
+loop-term-init g c =
+    let none : map proc c.with_hasher-first.result.keys ≡ [] = ap (map proc) c.with_hasher-first.ensures.empty in
+    record {
+      cut = subst (λ l. CutOf (TargetOf (bodies_of c.args.spec.now.bodies) [] (label.Event c.args.event)) most_states l) (sym none)
+          (record { once = tt; only = λ Q i. absurd (none-In i refl); all = inr (λ Q (P, i, d). absurd (none-In i refl)); });
+      few = subst (λ l. length l ≤ most_states) (sym none) (omega arith);
+    }
+
+pub all_targets-requires-clause-lies : goal.all_targets-requires-clause-lies
+all_targets-requires-clause-lies g c = c.requires.lies (proc c.term-item.result) (item-In c.args.terms.now c.loop-term.term-index c.term-item.result c.loop-term-test.true c.term-item.is)
+
+pub all_targets-requires-clause-shallow : goal.all_targets-requires-clause-shallow
+all_targets-requires-clause-shallow g c =
+    λ (Q, d, l).
+    let P = proc c.term-item.result in
+    let k = event-depth (bodies_of c.args.spec.now.bodies) P Q c.args.event d in
+    let m = c.requires.shallow P (item-In c.args.terms.now c.loop-term.term-index c.term-item.result c.loop-term-test.true c.term-item.is) in
+    omega (arith, k, m, l)
+
+pub returns-then-len-gt-MOST_STATES-clause-err : goal.returns-then-len-gt-MOST_STATES-clause-err
+returns-then-len-gt-MOST_STATES-clause-err g c =
+    let B = bodies_of c.args.spec.now.bodies in
+    let i = c.loop-term.term-index in
+    first-many B c.args.terms.now (i + 1) c.args.event (map proc c.put_all.new.into.keys) c.requires.shallow
+    (first-cut B c.args.terms.now i c.term-item.result c.loop-term-test.true c.term-item.is (label.Event c.args.event) (map proc c.loop-term.first.keys) c.loop-term.invariant.cut c.loop-term.invariant.few
+    (map proc c.in_ok-found.found.items) (map proc c.put_all.new.into.keys) (λ Q. (c.in_ok-found.ensures Q).0) (λ few Q. (c.in_ok-found.ensures Q).1) c.in_ok-put_all.ensures)
+    (omega (arith, c.len.ensures.len, length-map c.put_all.new.into.keys (proc {A = g.row.A.Denot})))
+
+pub loop-term-preserved : goal.loop-term-preserved
+loop-term-preserved g c =
+    let B = bodies_of c.args.spec.now.bodies in
+    let i = c.loop-term.term-index in
+    record {
+      cut =
+          first-cut B c.args.terms.now i c.term-item.result c.loop-term-test.true c.term-item.is (label.Event c.args.event) (map proc c.loop-term.first.keys) c.loop-term.invariant.cut c.loop-term.invariant.few
+          (map proc c.in_ok-found.found.items) (map proc c.put_all.new.into.keys) (λ Q. (c.in_ok-found.ensures Q).0) (λ few Q. (c.in_ok-found.ensures Q).1) c.in_ok-put_all.ensures;
+      few = omega (arith, c.len.ensures.len, length-map c.put_all.new.into.keys (proc {A = g.row.A.Denot}));
+    }
