@@ -47,17 +47,8 @@ nothing-within B L none k = (
     first (Q ∷ qs) m h = empty k Q (m Q here)
 
 -- the targets of an event, of which level 0 is made
-module _ (s : Specified) (closed : IsClosed s) (qs : List Proc) (lies : AllLie s qs) (shallow : AllShallow qs) (x : Event) (first : List Proc)
+module _ (s : Specified) (qs : List Proc) (x : Event) (first : List Proc)
     (c : CutOf (TargetOf (bodies_of s.bodies) qs (label.Event x)) most_states first) (few : length first ≤ most_states) where
-  pub first-opens : Opens s first
-  first-opens =
-      record {
-        once = c.once;
-        few = few;
-        shallow = λ Q i. let (P, j, d) = c.only Q i in let k = event-depth (bodies_of s.bodies) P Q x d in let m = shallow P j in omega arith;
-        lies = λ Q i. let (P, j, d) = c.only Q i in step-lies s closed P Q (label.Event x) d (lies P j);
-      }
-
   to : (Q : Proc) → Among first Q → TargetOf (bodies_of s.bodies) qs (label.Event x) Q
   to Q i = c.only Q i
 
@@ -72,6 +63,15 @@ module _ (s : Specified) (closed : IsClosed s) (qs : List Proc) (lies : AllLie s
 
   pub nowhere : first ≡ [] → (Q : Proc) → TargetOf (bodies_of s.bodies) qs (label.Event x) Q → ⊥
   nowhere e Q t = none-In (fro Q t) e
+
+  pub first-opens : IsClosed s → AllLie s qs → AllShallow qs → Opens s first
+  first-opens closed lies shallow =
+      record {
+        once = c.once;
+        few = few;
+        shallow = λ Q i. let (P, j, d) = c.only Q i in let k = event-depth (bodies_of s.bodies) P Q x d in let m = shallow P j in omega arith;
+        lies = λ Q i. let (P, j, d) = c.only Q i in step-lies s closed P Q (label.Event x) d (lies P j);
+      }
 
 -- the same facts under the names of the set and its space
 pub cut-here : (s t : Specified) (ps qs first : List Proc) (x : Event) → t ≡ s → ps ≡ qs → CutOf (TargetOf (bodies_of t.bodies) ps (label.Event x)) most_states first → CutOf (TargetOf (bodies_of s.bodies) qs (label.Event x)) most_states first
