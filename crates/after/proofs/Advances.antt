@@ -33,9 +33,9 @@ set-lies s c qs (u, b) P i = processes-stay s root P u c c.0 ((b P).0 i)
 -- where nothing is on level 0, no level meets a limit
 pub nothing-within : (B : ℕ → Proc) (L : Terms) → ((Q : Proc) → L Q → ⊥) → NoLimit B L
 nothing-within B L none k = (
-    (λ (Q, l, h). empty k Q l),
-    (λ (qs, d, m, h). first qs m h),
-  )
+  (λ (Q, l, h). empty k Q l),
+  (λ (qs, d, m, h). first qs m h),
+)
   where
     empty : (k : ℕ) (Q : Proc) → Level B L k Q → ⊥
     empty zero Q l = none Q l

@@ -8,7 +8,7 @@ use Rattle.term.specs.Proc.{Proc, bodies_of, root, stop}
 use Rattle.term.specs.Meaning.{Trace, Failure}
 use Rattle.term.specs.Steps.{Refuses, Run, Ticks, done, hid, end}
 use Rattle.term.specs.Specs.{Specified}
-use Rattle.term.specs.Limits.{Terms, Reach, Advance, Opening, NoLimit}
+use Rattle.term.specs.Limits.{Reach, Advance, Opening, NoLimit}
 use Rattle.term.proofs.Reached.{Is, run-cut, run-then, reached-event, reached-more, reached-refuses, reached-tick}
 use Rattle.step.specs.declared.targets.Label.TheVariants as label
 use Rattle.step.specs.Labels.{Step}
@@ -49,9 +49,9 @@ module _ (s : Specified) where
 
   pub start-belongs : (ms : List Proc) → IsClosure (bodies_of s.bodies) (Among (root ∷ [])) ms → Belongs s ms []
   start-belongs ms c Q = (
-      (λ i. let (P, l, r) = c.only Q i in subst (λ p. Reach (bodies_of s.bodies) p [] Q) (one-In l refl) r),
-      (λ r. c.all root Q here r),
-    )
+    (λ i. let (P, l, r) = c.only Q i in subst (λ p. Reach (bodies_of s.bodies) p [] Q) (one-In l refl) r),
+    (λ r. c.all root Q here r),
+  )
 
   pub start-within : (ms : List Proc) → IsClosure (bodies_of s.bodies) (Among (root ∷ [])) ms → NoLimit (bodies_of s.bodies) Opening
   start-within ms c = (closure-to (bodies_of s.bodies) (Among (root ∷ [])) Opening open-to open-fro ms c).within
@@ -63,20 +63,20 @@ module _ (s : Specified) (u : List Event) (qs : List Proc) (b : Belongs s qs u) 
   -- what goes on by an event
   pub takes-trace : (x : Event) → ((Q : Proc) × In Q qs × Takes Q x) ↔ Trace (bodies_of s.bodies) root (u ++ x ∷ [])
   takes-trace tick = (
-      (λ (Q, i, t). (reached-tick (bodies_of s.bodies) root u).1 (Q, (b Q).0 i, t)),
-      (λ t. let (Q, r, k) = (reached-tick (bodies_of s.bodies) root u).0 t in (Q, (b Q).1 r, k)),
-    )
+    (λ (Q, i, t). (reached-tick (bodies_of s.bodies) root u).1 (Q, (b Q).0 i, t)),
+    (λ t. let (Q, r, k) = (reached-tick (bodies_of s.bodies) root u).0 t in (Q, (b Q).1 r, k)),
+  )
   takes-trace (ev a) = (
-      (λ (Q, i, t). (reached-event (bodies_of s.bodies) root u a).1 (Q, (b Q).0 i, t)),
-      (λ t. let (Q, r, k) = (reached-event (bodies_of s.bodies) root u a).0 t in (Q, (b Q).1 r, k)),
-    )
+    (λ (Q, i, t). (reached-event (bodies_of s.bodies) root u a).1 (Q, (b Q).0 i, t)),
+    (λ t. let (Q, r, k) = (reached-event (bodies_of s.bodies) root u a).0 t in (Q, (b Q).1 r, k)),
+  )
 
   -- what is refused
   pub refuses-failure : (X : Refusal) → ((Q : Proc) × In Q qs × Refuses (bodies_of s.bodies) X Q) ↔ Failure (bodies_of s.bodies) root u X
   refuses-failure X = (
-      (λ (Q, i, f). (reached-refuses (bodies_of s.bodies) root u X).1 (Q, (b Q).0 i, f)),
-      (λ f. let (Q, r, k) = (reached-refuses (bodies_of s.bodies) root u X).0 f in (Q, (b Q).1 r, k)),
-    )
+    (λ (Q, i, f). (reached-refuses (bodies_of s.bodies) root u X).1 (Q, (b Q).0 i, f)),
+    (λ f. let (Q, r, k) = (reached-refuses (bodies_of s.bodies) root u X).0 f in (Q, (b Q).1 r, k)),
+  )
 
   -- the targets of an event from the members, as levels begin with them
   pub advance-to : (x : Event) (Q : Proc) → TargetOf (bodies_of s.bodies) qs (label.Event x) Q → Advance (bodies_of s.bodies) u x Q
@@ -105,6 +105,6 @@ module _ (s : Specified) (u : List Event) (qs : List Proc) (b : Belongs s qs u) 
 
     pub advance-belongs : Belongs s ms (u ++ x ∷ [])
     advance-belongs R = (
-        (λ i. let (S, (P, j, d), r) = c.only R i in (reached-after (bodies_of s.bodies) root u x R).1 (P, S, (b P).0 j, d, r)),
-        (λ r. let (P, S, k, d, l) = (reached-after (bodies_of s.bodies) root u x R).0 r in c.all S R (P, (b P).1 k, d) l),
-      )
+      (λ i. let (S, (P, j, d), r) = c.only R i in (reached-after (bodies_of s.bodies) root u x R).1 (P, S, (b P).0 j, d, r)),
+      (λ r. let (P, S, k, d, l) = (reached-after (bodies_of s.bodies) root u x R).0 r in c.all S R (P, (b P).1 k, d) l),
+    )

@@ -36,9 +36,9 @@ cut-put S M most found old new c few only all p =
       once = p.once c.once;
       only = λ Q i. elim (p.only Q i) [ inl j ↦ inl (c.only Q j) | inr j ↦ inr (only Q j) ];
       all = elim (below most (length new)) [
-          | inl h ↦ inl h
-          | inr h ↦ inr (λ Q t. elim t [ inl s ↦ kept Q (cut-all S most old c few Q s) | inr m ↦ p.all Q (all h Q m) ])
-        ];
+        | inl h ↦ inl h
+        | inr h ↦ inr (λ Q t. elim t [ inl s ↦ kept Q (cut-all S most old c few Q s) | inr m ↦ p.all Q (all h Q m) ])
+      ];
     }
   where
     kept : (Q : Proc) → In Q old → In Q new
@@ -69,10 +69,10 @@ module _ (B : ℕ → Proc) where
         more = ([], sym (append-nil old));
         few = few;
         cut = record {
-            once = d;
-            only = λ Q i. inl i;
-            all = inr all;
-          };
+          once = d;
+          only = λ Q i. inl i;
+          all = inr all;
+        };
       }
     where
       nowhere : (ps : List Proc) (Q : Proc) → ps ≡ [] → TargetOf B ps label.Tau Q → In Q old
@@ -144,11 +144,11 @@ module _ (B : ℕ → Proc) where
 
   pub first-many : {A : Type 0} (xs : List (Term A)) (i : ℕ) (x : Event) (now : List Proc) → AllShallow (map proc xs) → CutOf (TargetOf B (map proc (take i xs)) (label.Event x)) most_states now → most_states < length now → IsStates B (TargetOf B (map proc xs) (label.Event x))
   first-many xs i x now shallow c h = (
-      0,
-      (λ (Q, (P, j, d), l). let k = event-depth B P Q x d in let m = shallow P j in omega arith),
-      (now, c.once, (λ Q j. let (P, k, d) = c.only Q j in (P, In-take xs i P k, d)), h),
-      (λ j k. absurd (omega arith)),
-    )
+    0,
+    (λ (Q, (P, j, d), l). let k = event-depth B P Q x d in let m = shallow P j in omega arith),
+    (now, c.once, (λ Q j. let (P, k, d) = c.only Q j in (P, In-take xs i P k, d)), h),
+    (λ j k. absurd (omega arith)),
+  )
 
 -- what was told of the targets of one process holds of what was put, where that is short enough
 pub cut-told : (S : Terms) (most : ℕ) (found old new : List Proc) → CutOf S most found → HasPut found old new → length new ≤ most → (Q : Proc) → S Q → In Q found

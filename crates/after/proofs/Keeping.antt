@@ -1,12 +1,11 @@
 -- What steps keep: a target lies in the specification, and an event leads to no greater depth.
-use Rattle.std.proofs.Common.{◌≡◌, ℕ, ◌<◌, ◌≤◌, length, List, refl, subst, sym, arith}
+use Rattle.std.proofs.Common.{ℕ, ◌<◌, ◌≤◌, length, subst, sym, arith}
 use Rattle.std.proofs.lemmas.List.Elements.{All-get_or}
 use Rattle.alphabet.specs.declared.events.Event.{Event}
 use Rattle.alphabet.specs.declared.events.Event.TheVariants.{Tick as tick, Of as ev}
 use Rattle.alphabet.specs.Channels.{event_count}
-use Rattle.term.specs.Traces.{In}
 use Rattle.term.specs.Proc.{Proc, bodies_of, stop, skip, prefix, ext, int, seq, par, hide, ren, intr, name}
-use Rattle.term.specs.Steps.{Act, a-prefix, a-ext-l, a-ext-r, a-seq, a-par-l, a-par-r, a-par-b, a-hide, a-ren, a-intr-l, a-intr-r, Hid}
+use Rattle.term.specs.Steps.{Act, a-prefix, a-ext-l, a-ext-r, a-seq, a-par-l, a-par-r, a-par-b, a-hide, a-ren, a-intr-l, a-intr-r}
 use Rattle.term.specs.Sizes.{depth}
 use Rattle.term.specs.Specs.{Specified, LiesIn, IsProcessOf, IsClosed}
 use Rattle.term.proofs.Closed.{act-lies, hid-lies}

@@ -1,18 +1,18 @@
 -- From one level to the next.
-use Rattle.std.proofs.Common.{◌≡◌, ℕ, zero, suc, ◌<◌, ◌≤◌, ◌⊎◌, inl, inr, List, [], ◌∷◌, ◌++◌, length, refl, sym, ap, ◌∙◌, subst, arith}
+use Rattle.std.proofs.Common.{◌≡◌, ℕ, zero, suc, ◌<◌, ◌≤◌, ◌⊎◌, inl, inr, List, [], ◌++◌, length, refl, sym, ap, subst, arith}
 use Rattle.std.proofs.lemmas.List.{append-nil}
 use Rattle.term.specs.Traces.{In}
 use Rattle.term.specs.Proc.{Proc}
 use Rattle.term.specs.Steps.{Hid, Run, done, hid}
 use Rattle.term.specs.Sizes.{depth}
-use Rattle.term.specs.Limits.{Terms, Reach, Level, Distinct, HasDeep, HasMany, IsWithin, NoLimit, IsDepth, IsStates, deepest_state, most_states}
+use Rattle.term.specs.Limits.{Terms, Reach, Level, Distinct, HasDeep, IsWithin, deepest_state, most_states}
 use Rattle.term.proofs.Reached.{Is, closed-all, run-then}
 use Rattle.step.specs.declared.targets.Label.TheVariants as label
 use Rattle.step.proofs.ActList.{append-In, In-append_l, In-append_r}
 use Rattle.after.specs.declared.fault.AfterFault.{AfterFault}
 use Rattle.after.specs.declared.fault.AfterFault.TheVariants.{Depth, States, Memory}
 use Rattle.after.specs.Belonging.{MeetsLimit}
-use Rattle.after.specs.Closing.{Among, TargetOf, WithHidden, AllLie, AllShallow, CutOf, Grows, IsStuck, Opens, IsClosure}
+use Rattle.after.specs.Closing.{TargetOf, WithHidden, AllShallow, CutOf, Grows, IsStuck, IsClosure}
 use Rattle.after.proofs.Lists.{no-longer}
 
 -- what is on a level is reached by hidden steps
@@ -31,9 +31,9 @@ cut-all S most l c few = elim c.all [ inl h ↦ absurd (omega arith) | inr all �
 -- a set whose members are all in a short list of shallow processes is within the limits
 pub within-list : (S : Terms) (qs : List Proc) → ((Q : Proc) → S Q → In Q qs) → length qs ≤ most_states → AllShallow qs → IsWithin S
 within-list S qs h few shallow = (
-    (λ (Q, s, l). let k = shallow Q (h Q s) in omega arith),
-    (λ (ps, d, m, l). let k = no-longer ps qs d (λ Q i. h Q (m Q i)) in omega arith),
-  )
+  (λ (Q, s, l). let k = shallow Q (h Q s) in omega arith),
+  (λ (ps, d, m, l). let k = no-longer ps qs d (λ Q i. h Q (m Q i)) in omega arith),
+)
 
 -- the list of a level: of its processes the old ones were expanded, the fresh ones not yet
 pub record IsLevel (B : ℕ → Proc) (L : Terms) (old fresh : List Proc) (k : ℕ) : Type 0 where
@@ -83,11 +83,11 @@ module _ (B : ℕ → Proc) (L : Terms) (o r : List Proc) (k : ℕ) (f : IsLevel
   pub level-stuck : (e : AfterFault) → IsStuck B r (o ++ r) e → MeetsLimit B L e
   level-stuck Depth (Q, (P, i, d), l) = (suc k, (Q, inr (P, f.only P (In-append_r o i), d), l), level-before)
   level-stuck States (h, (qs, d, m, l)) = (
-      suc k,
-      (λ (Q, s, x). let y = not-deep h Q (next-all Q s) in omega arith),
-      (qs, d, (λ Q i. next-only Q (m Q i)), l),
-      level-before,
-    )
+    suc k,
+    (λ (Q, s, x). let y = not-deep h Q (next-all Q s) in omega arith),
+    (qs, d, (λ Q i. next-only Q (m Q i)), l),
+    level-before,
+  )
   level-stuck Memory h = tt
 
   -- the next level

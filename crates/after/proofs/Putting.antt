@@ -1,12 +1,11 @@
 -- Terms put into a table by their hash.
-use Rattle.std.proofs.Common.{◌≡◌, ℕ, Bool, true, false, ◌||◌, if◌then◌else◌, ◌⊎◌, inl, inr, List, [], ◌∷◌, ◌++◌, map, refl, sym, ap, ◌∙◌, subst}
+use Rattle.std.proofs.Common.{◌≡◌, Bool, true, false, if◌then◌else◌, inl, inr, List, [], ◌∷◌, ◌++◌, map, refl, sym, ap, ◌∙◌, subst}
 use Rattle.std.proofs.lemmas.List.{append_assoc, append-nil, map-append}
 use Rattle.std.specs.List.{list_any}
 use Rattle.indexmap.specs.IndexSet.{insert_key, insert_all}
 use Rattle.term.specs.declared.terms.Term.{Term}
 use Rattle.term.specs.Traces.{In, here, there}
 use Rattle.term.specs.Proc.{Proc, proc}
-use Rattle.term.specs.Limits.{Distinct}
 use Rattle.term.specs.Same.{same}
 use Rattle.term.specs.SameLaws.{same-eq, same-refl}
 use Rattle.term.proofs.Bools.{or-cases, or-left, or-right}
@@ -29,13 +28,13 @@ put-then ps qs a b c f g =
       more = (f.more.0 ++ g.more.0, g.more.1 ∙ ap (λ l. l ++ g.more.0) f.more.1 ∙ append_assoc a f.more.0 g.more.0);
       once = λ d. g.once (f.once d);
       only = λ Q i. elim (g.only Q i) [
-          | inl j ↦ elim (f.only Q j) [ inl k ↦ inl k | inr k ↦ inr (In-append_l k qs) ]
-          | inr j ↦ inr (In-append_r ps j)
-        ];
+        | inl j ↦ elim (f.only Q j) [ inl k ↦ inl k | inr k ↦ inr (In-append_l k qs) ]
+        | inr j ↦ inr (In-append_r ps j)
+      ];
       all = λ Q i. elim (append-In ps qs Q i) [
-          | inl j ↦ kept Q (f.all Q j)
-          | inr j ↦ g.all Q j
-        ];
+        | inl j ↦ kept Q (f.all Q j)
+        | inr j ↦ g.all Q j
+      ];
     }
   where
     kept : (Q : Proc) → In Q b → In Q c

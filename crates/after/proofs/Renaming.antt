@@ -1,6 +1,5 @@
 -- Two names for one level 0.
 use Rattle.std.proofs.Common.{ℕ, zero, suc, inl, inr}
-use Rattle.term.specs.Traces.{In}
 use Rattle.term.specs.Proc.{Proc}
 use Rattle.term.specs.Limits.{Terms, Level, IsWithin}
 use Rattle.after.specs.declared.fault.AfterFault.{AfterFault}
@@ -22,18 +21,18 @@ module _ (B : ℕ → Proc) (L M : Terms) (to : (Q : Proc) → L Q → M Q) (fro
 
   within-to : (k : ℕ) → IsWithin (Level B L k) → IsWithin (Level B M k)
   within-to k w = (
-      (λ (Q, s, l). w.0 (Q, level-fro k Q s, l)),
-      (λ (qs, d, m, l). w.1 (qs, d, (λ Q i. level-fro k Q (m Q i)), l)),
-    )
+    (λ (Q, s, l). w.0 (Q, level-fro k Q s, l)),
+    (λ (qs, d, m, l). w.1 (qs, d, (λ Q i. level-fro k Q (m Q i)), l)),
+  )
 
   pub limit-to : (e : AfterFault) → MeetsLimit B L e → MeetsLimit B M e
   limit-to Depth (k, (Q, s, l), b) = (k, (Q, level-to k Q s, l), (λ j h. within-to j (b j h)))
   limit-to States (k, n, (qs, d, m, l), b) = (
-      k,
-      (λ (Q, s, x). n (Q, level-fro k Q s, x)),
-      (qs, d, (λ Q i. level-to k Q (m Q i)), l),
-      (λ j h. within-to j (b j h)),
-    )
+    k,
+    (λ (Q, s, x). n (Q, level-fro k Q s, x)),
+    (qs, d, (λ Q i. level-to k Q (m Q i)), l),
+    (λ j h. within-to j (b j h)),
+  )
   limit-to Memory t = tt
 
   pub closure-to : (ms : List Proc) → IsClosure B L ms → IsClosure B M ms

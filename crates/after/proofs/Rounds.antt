@@ -1,9 +1,8 @@
 -- The rounds of the closure: a level each.
-use Rattle.std.proofs.Common.{◌≡◌, ℕ, suc, ◌<◌, ◌≤◌, inl, inr, List, [], ◌∷◌, ◌++◌, length, map, take, drop, refl, sym, ap, ◌∙◌, subst, arith}
-use Rattle.std.proofs.lemmas.List.{take-append-drop, length-map, length-append, take_all}
+use Rattle.std.proofs.Common.{◌≡◌, ℕ, suc, ◌≤◌, inl, inr, List, ◌++◌, length, take, drop, sym, ap, ◌∙◌, subst, arith}
+use Rattle.std.proofs.lemmas.List.{take-append-drop, length-append, take_all}
 use Rattle.std.proofs.Math.Seq.{take-append_seam, drop-append_seam}
 use Rattle.std.proofs.Math.ListN.{drop_of_length-le}
-use Rattle.term.specs.Traces.{In}
 use Rattle.term.specs.Proc.{Proc, bodies_of}
 use Rattle.term.specs.Specs.{Specified, IsClosed}
 use Rattle.term.specs.Limits.{Terms, Distinct, most_states}
@@ -27,18 +26,18 @@ round-begins s first o =
       place = omega arith;
       lies = o.lies;
       level = (
-          0,
-          record {
-            only = λ Q i. i;
-            all = λ Q l. l;
-            start = λ Q l. l;
-            once = o.once;
-            few = o.few;
-            shallow = o.shallow;
-            before = λ j h. absurd (omega arith);
-            closed = λ P Q i d. elim i [ ];
-          },
-        );
+        0,
+        record {
+          only = λ Q i. i;
+          all = λ Q l. l;
+          start = λ Q l. l;
+          once = o.once;
+          few = o.few;
+          shallow = o.shallow;
+          before = λ j h. absurd (omega arith);
+          closed = λ P Q i d. elim i [ ];
+        },
+      );
     }
 
 module _ (s : Specified) (L : Terms) (all : List Proc) (from : ℕ) (r : IsRound s L all from) where
@@ -61,19 +60,19 @@ module _ (s : Specified) (L : Terms) (all : List Proc) (from : ℕ) (r : IsRound
       record {
         place = omega (arith, ap length g.more.1, length-append all g.more.0);
         lies = λ Q i. elim (g.cut.only Q i) [
-            | inl j ↦ r.lies Q j
-            | inr (P, j, d) ↦ step-lies s c P Q label.Tau d (r.lies P (In-drop from all P j))
-          ];
+          | inl j ↦ r.lies Q j
+          | inr (P, j, d) ↦ step-lies s c P Q label.Tau d (r.lies P (In-drop from all P j))
+        ];
         level = (
-            suc r.level.0,
-            subst (λ l. IsLevel (bodies_of s.bodies) L (take (length all) l) (drop (length all) l) (suc r.level.0)) (sym g.more.1)
-            (subst (λ a. IsLevel (bodies_of s.bodies) L a (drop (length all) (all ++ g.more.0)) (suc r.level.0)) (sym (take-append_seam all g.more.0))
-            (subst (λ b. IsLevel (bodies_of s.bodies) L all b (suc r.level.0)) (sym (drop-append_seam all g.more.0))
-            (subst (λ a. IsLevel (bodies_of s.bodies) L a g.more.0 (suc r.level.0)) whole
-            (level-next (bodies_of s.bodies) L (take from all) (drop from all) r.level.0 r.level.1 new g.more.0
-            (g.more.1 ∙ ap (λ a. a ++ g.more.0) (sym whole))
-            (subst (λ a. Grows (bodies_of s.bodies) (drop from all) a new) (sym whole) g))))),
-          );
+          suc r.level.0,
+          subst (λ l. IsLevel (bodies_of s.bodies) L (take (length all) l) (drop (length all) l) (suc r.level.0)) (sym g.more.1)
+              (subst (λ a. IsLevel (bodies_of s.bodies) L a (drop (length all) (all ++ g.more.0)) (suc r.level.0)) (sym (take-append_seam all g.more.0))
+              (subst (λ b. IsLevel (bodies_of s.bodies) L all b (suc r.level.0)) (sym (drop-append_seam all g.more.0))
+              (subst (λ a. IsLevel (bodies_of s.bodies) L a g.more.0 (suc r.level.0)) whole
+              (level-next (bodies_of s.bodies) L (take from all) (drop from all) r.level.0 r.level.1 new g.more.0
+              (g.more.1 ∙ ap (λ a. a ++ g.more.0) (sym whole))
+              (subst (λ a. Grows (bodies_of s.bodies) (drop from all) a new) (sym whole) g))))),
+        );
       }
 
   pub round-end : length all ≤ from → IsClosure (bodies_of s.bodies) L all

@@ -3,7 +3,7 @@ use Rattle.std.specs.Prelude.{◌≡◌, ℕ, ◌<◌, ◌≤◌, ◌⊎◌, Lis
 use Rattle.alphabet.specs.declared.events.Event.{Event}
 use Rattle.alphabet.specs.declared.events.Event.TheVariants.{Tick as tick, Of as ev}
 use Rattle.term.specs.Traces.{In}
-use Rattle.term.specs.Proc.{Proc, bodies_of}
+use Rattle.term.specs.Proc.{Proc}
 use Rattle.term.specs.Steps.{Ticks}
 use Rattle.term.specs.Sizes.{depth}
 use Rattle.term.specs.Specs.{Specified, IsProcessOf}

@@ -12,8 +12,6 @@ mod space;
 mod states;
 mod targets;
 
-
-
 pub use fault::AfterFault;
 pub use space::Space;
 pub use states::{MOST_STATES, StateSet};

@@ -1,7 +1,7 @@
-use Rattle.std.proofs.Common.{◌≡◌, ◌<◌, ◌≤◌, ◌+◌, length, map, drop, take, get_or, sym, subst, arith}
+use Rattle.std.proofs.Common.{◌≡◌, ◌<◌, ◌+◌, length, map, drop, get_or, sym, subst, arith}
 use Rattle.std.proofs.lemmas.List.{length-map}
-use Rattle.term.specs.Limits.{HasDeep, most_states}
-use Rattle.term.specs.Proc.{Proc, proc, bodies_of, stop}
+use Rattle.term.specs.Limits.{HasDeep}
+use Rattle.term.specs.Proc.{proc, bodies_of, stop}
 use Rattle.term.specs.Traces.{In}
 use Rattle.step.specs.declared.targets.Label.TheVariants as label
 use Rattle.after.specs.Closing.{TargetOf}
@@ -54,12 +54,12 @@ returns-then-len-gt-MOST_STATES-clause-err g c =
     let h : i < length S = omega (arith, length-map c.args.seen.now.keys (proc {A = g.row.A.Denot}), c.len-level.ensures.len) in
     let e : proc c.index.result.now ≡ get_or S i stop = entry-at c.loop-place.seen.keys i c.index.result.now S c.loop-place.invariant.more.0 c.index.ensures c.loop-place.invariant.more.1 h in (
       (λ deep. let k = c.in_ok-any_deep_target.ensures.1
-        (subst (λ l. HasDeep (TargetOf B l label.Tau)) (sym (tail-slice c.args.seen.now.keys c.as_slice.result.now c.args.from c.as_slice.ensures.keys)) deep) in
-        cc (k, c.if-branch.false)),
+          (subst (λ l. HasDeep (TargetOf B l label.Tau)) (sym (tail-slice c.args.seen.now.keys c.as_slice.result.now c.args.from c.as_slice.ensures.keys)) deep) in
+          cc (k, c.if-branch.false)),
       way-many B S c.args.from (c.loop-place.place + 1) (map proc c.put_all.new.into.keys)
-        (way-cut B S c.args.from i (map proc c.loop-place.seen.keys) c.loop-place.invariant (proc c.index.result.now) (omega arith) h e (map proc c.in_ok-found.found.items) (map proc c.put_all.new.into.keys)
-        (λ Q. (c.in_ok-found.ensures Q).0) (λ few Q. (c.in_ok-found.ensures Q).1) c.in_ok-put_all.ensures)
-        (omega (arith, c.len.ensures.len, length-map c.put_all.new.into.keys (proc {A = g.row.A.Denot}))),
+          (way-cut B S c.args.from i (map proc c.loop-place.seen.keys) c.loop-place.invariant (proc c.index.result.now) (omega arith) h e (map proc c.in_ok-found.found.items) (map proc c.put_all.new.into.keys)
+          (λ Q. (c.in_ok-found.ensures Q).0) (λ few Q. (c.in_ok-found.ensures Q).1) c.in_ok-put_all.ensures)
+          (omega (arith, c.len.ensures.len, length-map c.put_all.new.into.keys (proc {A = g.row.A.Denot}))),
     )
 
 pub loop-place-preserved : goal.loop-place-preserved
@@ -80,5 +80,5 @@ returns-clause-ok g c =
     way-ends B S c.args.from c.loop-place.place (map proc c.loop-place.seen.keys) c.loop-place.invariant
     (omega (arith, length-map c.args.seen.now.keys (proc {A = g.row.A.Denot}), c.len-level.ensures.len))
     (λ deep. let k = c.in_ok-any_deep_target.ensures.1
-      (subst (λ l. HasDeep (TargetOf B l label.Tau)) (sym (tail-slice c.args.seen.now.keys c.as_slice.result.now c.args.from c.as_slice.ensures.keys)) deep) in
-      cc (k, c.if-branch.false))
+    (subst (λ l. HasDeep (TargetOf B l label.Tau)) (sym (tail-slice c.args.seen.now.keys c.as_slice.result.now c.args.from c.as_slice.ensures.keys)) deep) in
+    cc (k, c.if-branch.false))

@@ -1,6 +1,5 @@
-use Rattle.std.proofs.Common.{◌≡◌, ◌<◌, ◌≤◌, length, map, sym, subst, arith}
+use Rattle.std.proofs.Common.{◌≡◌, length, map, subst, arith}
 use Rattle.std.proofs.lemmas.List.{length-map}
-use Rattle.term.specs.Limits.{most_states}
 use Rattle.term.specs.Proc.{proc}
 use Rattle.after.specs.Closing.{Among}
 use Rattle.after.proofs.Rounds.{IsRound, round-begins, round-once, round-few, round-stuck, round-next, round-end}

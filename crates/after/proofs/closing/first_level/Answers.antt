@@ -1,7 +1,7 @@
-use Rattle.std.proofs.Common.{◌≡◌, ◌<◌, ◌≤◌, ◌+◌, [], length, map, take, get_or, sym, ap, subst, arith, inr, refl}
-use Rattle.std.proofs.lemmas.List.{length-map, take_all}
+use Rattle.std.proofs.Common.{◌≡◌, ◌≤◌, ◌+◌, [], length, map, sym, ap, subst, arith, inr, refl}
+use Rattle.std.proofs.lemmas.List.{length-map}
 use Rattle.term.specs.Limits.{most_states}
-use Rattle.term.specs.Proc.{Proc, proc, bodies_of}
+use Rattle.term.specs.Proc.{proc, bodies_of}
 use Rattle.step.specs.declared.targets.Label.TheVariants as label
 use Rattle.after.specs.Closing.{CutOf, TargetOf}
 use Rattle.after.proofs.Lists.{item-In, none-In}
@@ -14,7 +14,7 @@ loop-term-init g c =
     let none : map proc c.with_hasher-first.result.keys ≡ [] = ap (map proc) c.with_hasher-first.ensures.empty in
     record {
       cut = subst (λ l. CutOf (TargetOf (bodies_of c.args.spec.now.bodies) [] (label.Event c.args.event)) most_states l) (sym none)
-          (record { once = tt; only = λ Q i. absurd (none-In i refl); all = inr (λ Q (P, i, d). absurd (none-In i refl)); });
+          (record { once = tt; only = λ Q i. absurd (none-In i refl); all = inr (λ Q (P, i, d). absurd (none-In i refl)) });
       few = subst (λ l. length l ≤ most_states) (sym none) (omega arith);
     }
 

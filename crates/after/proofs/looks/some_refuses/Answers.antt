@@ -1,4 +1,4 @@
-use Rattle.std.proofs.Common.{◌<◌, ◌≡◌, ◌≤◌, inl, inr, length, map, get_or, sym, ◌∙◌, subst, arith, refl}
+use Rattle.std.proofs.Common.{◌<◌, ◌≡◌, ◌≤◌, inl, inr, length, map, get_or, sym, subst, arith, refl}
 use Rattle.std.proofs.lemmas.List.{take_all}
 use Rattle.alphabet.specs.EventSets.{member}
 use Rattle.term.specs.Proc.{Proc, proc}

@@ -1,4 +1,4 @@
-use Rattle.std.proofs.Common.{◌≡◌, ◌≤◌, [], length, map, ap, ◌∙◌, refl, subst, sym, arith}
+use Rattle.std.proofs.Common.{◌≡◌, ◌≤◌, length, map, ap, ◌∙◌, refl, subst, sym, arith}
 use Rattle.std.proofs.lemmas.List.{length-map}
 use Rattle.term.specs.Limits.{Advance, most_states}
 use Rattle.term.specs.Proc.{proc, bodies_of}
@@ -40,8 +40,8 @@ returns-then-is_empty-clause-within g c =
     let none : length c.in-Ok.first.keys ≡ 0 = c.is_empty.ensures.0 c.if-is_empty.true in
     nothing-within (bodies_of c.args.space.now.bodies) (Advance (bodies_of c.args.space.now.bodies) u c.args.event)
     (λ Q h. nowhere c.args.space.now c.args.self.now c.args.event (map proc c.in-Ok.first.keys) cut
-      (omega (arith, c.in-Ok.ensures.few, length-map c.in-Ok.first.keys (proc {A = g.row.A.Denot}))) (none-of c.in-Ok.first.keys none) Q
-      (advance-fro c.args.space.now u c.args.self.now b c.args.event Q h))
+    (omega (arith, c.in-Ok.ensures.few, length-map c.in-Ok.first.keys (proc {A = g.row.A.Denot}))) (none-of c.in-Ok.first.keys none) Q
+    (advance-fro c.args.space.now u c.args.self.now b c.args.event Q h))
 
 pub close-requires-clause-closed : goal.close-requires-clause-closed
 close-requires-clause-closed g c = subst IsClosed (sym c.spec-2.ensures.spec) c.spec-2.ensures.closed
