@@ -11,14 +11,18 @@ use Rattle.targets.specs.Cuts.{CutOf}
 abbrev pub ActsIn : Set → Proc → Terms
 ActsIn S P Q = (a : ℕ) × (has S a ≡ true) × Act P a Q
 
--- The parallels over A that P and Q become by an event of S below n, which both take.
+-- The parallels over A that P and Q become by the event a, which both take.
+abbrev pub Joint : Set → Proc → Proc → ℕ → Terms
+Joint A P Q a R = (P' Q' : Proc) × Act P a P' × Act Q a Q' × (R ≡ par A P' Q')
+
+-- The same for the events of S below n.
 abbrev pub JointBelow : ℕ → Set → Set → Proc → Proc → Terms
-JointBelow n A S P Q R = (a : ℕ) × (a < n) × (has S a ≡ true) × ((P' : Proc) × (Q' : Proc) × Act P a P' × Act Q a Q' × (R ≡ par A P' Q'))
+JointBelow n A S P Q R = (a : ℕ) × (a < n) × (has S a ≡ true) × Joint A P Q a R
 
 -- What stands in one of the lists.
 abbrev pub InEither : List Proc → List Proc → Terms
 InEither ps qs Q = In Q ps ⊎ In Q qs
 
--- The one list and behind it what is new of the other, as far as the bound.
+-- The one list, without repeats, and behind it what is new of the other, as far as the bound.
 abbrev pub Joined : ℕ → List Proc → List Proc → List Proc → Type 0
 Joined most ps qs found = Distinct ps → CutOf (InEither ps qs) most found

@@ -1,6 +1,6 @@
 //! Lists of terms without repeats, as far as a bound.
 
-ghost use Rattle.std.specs.Prelude.{IfOk, ◌≡◌, ◌+◌, ℕ, [], ◌++◌, IsTrue, ◌↔◌, length, map, take, ◌∷◌};
+ghost use Rattle.std.specs.Prelude.{IfOk, ◌≡◌, ◌+◌, ℕ, [], ◌++◌, IsTrue, ◌↔◌, map, take, vec_len, ◌≤◌, ◌∷◌};
 ghost use Rattle.term.specs.Proc.{par, proc};
 ghost use Rattle.term.specs.Traces.{In};
 ghost use Rattle.step.specs.Around.{around};
@@ -108,6 +108,7 @@ fn put_pairs_of<A: Allocator + Clone>(
     alloc: &A,
     into: &mut Vec<Term<A>, A>,
 ) -> Result<(), AllocError>
+    requires { vec_len into.old ≤ most + 1 }
     ensures { IfOk result (λ _. map proc into.new.items ≡ take (most + 1) (map proc into.old.items ++ map (around place.now) (map proc parts.now))) }
 {
     for part in parts {

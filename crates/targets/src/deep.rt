@@ -1,6 +1,6 @@
 //! Whether a target is too deep, told without a list.
 
-ghost use Rattle.std.specs.Prelude.{◌≡◌, ◌↔◌, ◌<◌, ◌≤◌, IsTrue, true};
+ghost use Rattle.std.specs.Prelude.{◌≡◌, ◌↔◌, ◌<◌, ◌≤◌, IsTrue, false};
 ghost use Rattle.term.specs.Proc.{bodies_of, proc};
 ghost use Rattle.term.specs.Sizes.{depth};
 ghost use Rattle.term.specs.Steps.{Hid, Ticks, is_skip};
@@ -28,7 +28,7 @@ pub fn has_deep_target<A: Allocator>(spec: &Spec<A>, term: &Term<A>, label: Labe
     }
 }
 
-/// Whether a step with one of these events leads to a term deeper than this.
+/// Whether a step with one of these events leads to a term deeper than this. Each part is asked once.
 fn is_event_deeper<A: Allocator>(term: &Term<A>, events: EventSet, limit: u64) -> bool
     requires { limit ≤ 1000 }
     ensures { IsTrue result ↔ HasDeeper (ActsIn events (proc term.now)) limit }
@@ -36,63 +36,65 @@ fn is_event_deeper<A: Allocator>(term: &Term<A>, events: EventSet, limit: u64) -
     let below = limit.saturating_sub(1);
     match term {
         Term::Prefix(Event::Of(event), p) => {
-            events.contains(Event::Of(*event)) && is_deeper(p, limit)
+            events.contains(Event::Of(*event)) & is_deeper(p, limit)
         }
-        Term::Ext(p, q) => is_event_deeper(p, events, limit) || is_event_deeper(q, events, limit),
+        Term::Ext(p, q) => is_event_deeper(p, events, limit) | is_event_deeper(q, events, limit),
         Term::Seq(p, q) => {
-            is_event_deeper(p, events, below) || is_deeper(q, below) && does_any(p, events)
+            is_event_deeper(p, events, below) | does_any(p, events) & is_deeper(q, below)
         }
         Term::Par(set, p, q) => {
             let alone = events.minus(*set);
             let both = shared(shared(offers(p), offers(q)), shared(events, *set));
             let taken = alone.union(both);
-            is_event_deeper(p, taken, below)
-                || is_event_deeper(q, taken, below)
-                || is_deeper(q, below) && does_any(p, alone)
-                || is_deeper(p, below) && does_any(q, alone)
+            let left = is_event_deeper(p, taken, below) | does_any(p, alone) & is_deeper(q, below);
+            let right = is_event_deeper(q, taken, below) | does_any(q, alone) & is_deeper(p, below);
+            left | right
         }
         Term::Hide(set, p) => is_event_deeper(p, events.minus(*set), below),
         Term::Ren(pairs, p) => is_event_deeper(p, sources_in(pairs, events), below),
         Term::Intr(p, q) => {
-            is_event_deeper(p, events, below)
-                || is_event_deeper(q, events, limit)
-                || is_deeper(q, below) && does_any(p, events)
+            let left = is_event_deeper(p, events, below) | does_any(p, events) & is_deeper(q, below);
+            left | is_event_deeper(q, events, limit)
         }
-        _ => false,
+        Term::Stop
+        | Term::Skip
+        | Term::Prefix(Event::Tick, _)
+        | Term::Int(_, _)
+        | Term::Name(_) => false,
     }
 }
 
-/// Whether a hidden step leads to a term deeper than this.
+/// Whether a hidden step leads to a term deeper than this. Each part is asked once.
 fn is_hidden_deeper<A: Allocator>(spec: &Spec<A>, term: &Term<A>, limit: u64) -> bool
     requires { limit ≤ 1000 }
     ensures { IsTrue result ↔ HasDeeper (Hid (bodies_of spec.now.bodies) (proc term.now)) limit }
 {
     let below = limit.saturating_sub(1);
     match term {
-        Term::Ext(p, q) | Term::Intr(p, q) => {
-            is_hidden_deeper(spec, p, below)
-                || is_hidden_deeper(spec, q, below)
-                || is_deeper(q, below) && !is_stable(p)
-                || is_deeper(p, below) && !is_stable(q)
+        Term::Ext(p, q) => {
+            let left = is_hidden_deeper(spec, p, below) | !is_stable(p) & is_deeper(q, below);
+            let right = is_hidden_deeper(spec, q, below) | !is_stable(q) & is_deeper(p, below);
+            left | right
         }
-        Term::Int(p, q) => is_deeper(p, limit) || is_deeper(q, limit),
+        Term::Int(p, q) => is_deeper(p, limit) | is_deeper(q, limit),
         Term::Seq(p, q) => {
-            is_hidden_deeper(spec, p, below)
-                || is_deeper(q, below) && !is_stable(p)
-                || is_deeper(q, limit) && can_tick(p)
+            let left = is_hidden_deeper(spec, p, below) | !is_stable(p) & is_deeper(q, below);
+            left | can_tick(p) & is_deeper(q, limit)
         }
         Term::Par(_, p, q) => {
-            is_hidden_deeper(spec, p, below)
-                || is_hidden_deeper(spec, q, below)
-                || is_deeper(q, below) && (!is_stable(p) || ends(p))
-                || is_deeper(p, below) && (!is_stable(q) || ends(q))
+            let left = is_hidden_deeper(spec, p, below) | (!is_stable(p) | ends(p)) & is_deeper(q, below);
+            let right = is_hidden_deeper(spec, q, below) | (!is_stable(q) | ends(q)) & is_deeper(p, below);
+            left | right
         }
-        Term::Hide(set, p) => {
-            is_hidden_deeper(spec, p, below) || is_event_deeper(p, *set, below)
-        }
+        Term::Hide(set, p) => is_hidden_deeper(spec, p, below) | is_event_deeper(p, *set, below),
         Term::Ren(_, p) => is_hidden_deeper(spec, p, below),
+        Term::Intr(p, q) => {
+            let left = is_hidden_deeper(spec, p, below) | !is_stable(p) & is_deeper(q, below);
+            let right = is_hidden_deeper(spec, q, below) | !is_stable(q) & is_deeper(p, below);
+            left | right
+        }
         Term::Name(number) => is_body_deeper(spec, *number, limit),
-        _ => false,
+        Term::Stop | Term::Skip | Term::Prefix(_, _) => false,
     }
 }
 

@@ -29,13 +29,11 @@ pub fn distinct_targets<A: Allocator + Clone>(
     requires { IsProcessOf spec.now (proc term.now) }
     ensures { IfOk result (λ found. IsCut (bodies_of spec.now.bodies) (proc term.now) label most (map proc found.items)) }
 {
+    // There are 256 events at most, all of which are looked at.
+    let _events = spec.alphabet().len();
     match label {
-        Label::Tau => {
-            let _small = spec.alphabet().len();
-            hid_cut(spec, term, most, alloc)
-        }
+        Label::Tau => hid_cut(spec, term, most, alloc),
         Label::Event(Event::Of(event)) => {
-            let _small = spec.alphabet().len();
             act_cut(term, EventSet::empty().with(Event::Of(event)), most, alloc)
         }
         Label::Event(Event::Tick) => {

@@ -68,7 +68,11 @@ pub(crate) fn act_cut<A: Allocator + Clone>(
             let rights = act_cut(q, events, most, alloc)?;
             join(lefts, rights, most)
         }
-        _ => Ok(found),
+        Term::Stop
+        | Term::Skip
+        | Term::Prefix(Event::Tick, _)
+        | Term::Int(_, _)
+        | Term::Name(_) => Ok(found),
     }
 }
 

@@ -1,10 +1,10 @@
 //! Sets of events that a part of a term is asked for.
 
 ghost use Rattle.std.specs.Prelude.{◌≡◌, ◌↔◌, ◌&&◌, ℕ, IsTrue, true};
-ghost use Rattle.alphabet.specs.Events.{Event};
+ghost use Rattle.alphabet.specs.declared.events.Event.{Event};
+ghost use Rattle.alphabet.specs.declared.events.Event.TheVariants.{Of as ev};
 ghost use Rattle.alphabet.specs.EventSets.{has, member};
 ghost use Rattle.term.specs.Traces.{before};
-ghost use Rattle.alphabet.specs.Events.{ev};
 ghost use Rattle.term.specs.Proc.{Proc, proc};
 ghost use Rattle.targets.specs.Among.{ActsIn};
 

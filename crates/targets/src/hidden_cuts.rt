@@ -68,6 +68,6 @@ pub(crate) fn hid_cut<A: Allocator + Clone>(
             found.push(body_of(spec, *number, alloc)?)?;
             Ok(found)
         }
-        _ => Ok(Vec::new(alloc.clone()?)),
+        Term::Stop | Term::Skip | Term::Prefix(_, _) => Ok(Vec::new(alloc.clone()?)),
     }
 }
