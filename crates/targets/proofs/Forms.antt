@@ -4,7 +4,9 @@ use Rattle.std.proofs.lemmas.Bool.{cases_lt}
 use Rattle.alphabet.specs.EventSets.{Set, has, member}
 use Rattle.term.specs.Traces.{In, images, some_in}
 use Rattle.term.specs.Traces as traces
-use Rattle.term.specs.Proc.{Proc, proc, stop, skip, prefix, ext, int, seq, par, hide, ren, intr, name}
+use Rattle.alphabet.specs.declared.events.Event.{Event}
+use Rattle.alphabet.specs.declared.events.Event.TheVariants.{Tick as tick, Of as ev}
+use Rattle.term.specs.Proc.{Proc, proc, prefix_of, stop, skip, prefix, ext, int, seq, par, hide, ren, intr, name}
 use Rattle.term.specs.Specs.{LiesIn}
 use Rattle.term.specs.Steps.{is_skip, Ticks, Act, a-prefix, a-ext-l, a-ext-r, a-seq, a-par-l, a-par-r, a-par-b, a-hide, a-ren, a-intr-l, a-intr-r, Hid, h-int-l, h-int-r, h-ext-l, h-ext-r, h-seq, h-seq-t, h-par-l, h-par-r, h-par-tl, h-par-tr, h-hide, h-hide-a, h-ren, h-intr-l, h-intr-r, h-name}
 use Rattle.term.specs.declared.terms.Term.{Term}
@@ -39,6 +41,10 @@ quiet (hide A P) = false
 quiet (ren R P) = false
 quiet (intr P Q) = false
 quiet (name n) = false
+
+pub quiet-prefix : (x : Event) (P : Proc) → quiet (prefix_of x P) ≡ true
+quiet-prefix tick P = refl
+quiet-prefix (ev a) P = refl
 
 -- It has no step by an event.
 abbrev pub silent : Proc → Bool
@@ -95,7 +101,7 @@ module _ (k : ℕ) where
   placed-cut : (f : Proc → Proc) → ((P Q : Proc) → f P ≡ f Q → P ≡ Q) → (S : Terms) (l m : List Proc) → CutOf S k l → m ≡ map f l → CutOf (Image f S) k m
   placed-cut f inj S l m c e = subst (CutOf (Image f S) k) (sym e) (cut-map f inj S k l c)
 
-  where_-cut : (b : Bool) (X : Type 0) (Q : Proc) → IsTrue b ↔ X → CutOf (λ R. X × (R ≡ Q)) k (where_ b (Q ∷ []))
+  pub where_-cut : (b : Bool) (X : Type 0) (Q : Proc) → IsTrue b ↔ X → CutOf (λ R. X × (R ≡ Q)) k (where_ b (Q ∷ []))
   where_-cut true X Q says = cut-to (λ R. R ≡ Q) (λ R. X × (R ≡ Q)) k (Q ∷ []) (λ R. ((λ e. (says.0 refl, e)), (λ (x, e). e))) (cut-one k Q)
   where_-cut false X Q says = cut-none (λ R. X × (R ≡ Q)) k (λ R (x, e). let h = says.1 x in absurd (cc))
 

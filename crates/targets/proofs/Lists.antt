@@ -1,5 +1,5 @@
 -- Lists that are joined without repeats, or filled as far as a bound.
-use Rattle.std.proofs.Common.{◌≡◌, ◌↔◌, ℕ, zero, suc, ◌+◌, ◌<◌, ◌≤◌, ◌⊎◌, inl, inr, List, [], ◌∷◌, ◌++◌, length, map, take, drop, get_or, min, refl, sym, ap, ◌∙◌, subst, arith, length-append}
+use Rattle.std.proofs.Common.{◌≡◌, ◌↔◌, ℕ, zero, suc, ◌+◌, ◌<◌, ◌≤◌, ◌⊎◌, inl, inr, IsTrue, Bool, true, false, List, [], ◌∷◌, ◌++◌, length, map, take, drop, get_or, min, refl, sym, ap, ◌∙◌, subst, arith, length-append}
 use Rattle.std.proofs.lemmas.List.{append_assoc, append-nil, map-append, take_all, take-append-le, take-append-drop, length-take}
 use Rattle.term.specs.declared.terms.Term.{Term}
 use Rattle.term.specs.Traces.{In, here, there}
@@ -24,6 +24,15 @@ absent_more xs i d P h none other j =
       | inl k ↦ none k
       | inr k ↦ other (sym (only k refl))
     ]
+
+-- what a test of the list says, where it holds and where it doesn't
+pub absent : {P : Proc} {l : List Proc} (b : Bool) → IsTrue b ↔ In P l → b ≡ false → In P l → ⊥
+absent true says h i = absurd (cc)
+absent false says h i = let e = says.1 i in absurd (cc)
+
+pub present : {P : Proc} {l : List Proc} (b : Bool) → IsTrue b ↔ In P l → b ≡ true → In P l
+present true says h = says.0 refl
+present false says h = absurd (cc)
 
 -- ---- one list behind the other
 module _ (n : ℕ) (l : List Proc) where

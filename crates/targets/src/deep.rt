@@ -28,7 +28,7 @@ pub fn has_deep_target<A: Allocator>(spec: &Spec<A>, term: &Term<A>, label: Labe
     }
 }
 
-/// Whether a step with one of these events leads to a term deeper than this. Each part is asked once.
+/// Whether a step with one of these events leads to a term deeper than this.
 fn is_event_deeper<A: Allocator>(term: &Term<A>, events: EventSet, limit: u64) -> bool
     requires { limit ≤ 1000 }
     ensures { IsTrue result ↔ HasDeeper (ActsIn events (proc term.now)) limit }
@@ -64,7 +64,7 @@ fn is_event_deeper<A: Allocator>(term: &Term<A>, events: EventSet, limit: u64) -
     }
 }
 
-/// Whether a hidden step leads to a term deeper than this. Each part is asked once.
+/// Whether a hidden step leads to a term deeper than this.
 fn is_hidden_deeper<A: Allocator>(spec: &Spec<A>, term: &Term<A>, limit: u64) -> bool
     requires { limit ≤ 1000 }
     ensures { IsTrue result ↔ HasDeeper (Hid (bodies_of spec.now.bodies) (proc term.now)) limit }

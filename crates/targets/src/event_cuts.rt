@@ -68,11 +68,8 @@ pub(crate) fn act_cut<A: Allocator + Clone>(
             let rights = act_cut(q, events, most, alloc)?;
             join(lefts, rights, most)
         }
-        Term::Stop
-        | Term::Skip
-        | Term::Prefix(Event::Tick, _)
-        | Term::Int(_, _)
-        | Term::Name(_) => Ok(found),
+        Term::Prefix(Event::Tick, _) => Ok(found),
+        Term::Stop | Term::Skip | Term::Int(_, _) | Term::Name(_) => Ok(found),
     }
 }
 

@@ -1,4 +1,4 @@
-use Rattle.std.proofs.Common.{◌≡◌, ◌<◌, true, false, refl, ap, sym, ◌∙◌, subst, get_or, length, map}
+use Rattle.std.proofs.Common.{◌≡◌, true, false, refl, ap, sym, ◌∙◌, subst, map}
 use Rattle.term.specs.Traces.{In}
 use Rattle.term.specs.Proc.{proc}
 use Rattle.targets.proofs.Lists.{In-at, absent_more}

@@ -1,11 +1,9 @@
-use Rattle.std.proofs.Common.{◌≡◌, ◌↔◌, IsTrue, ℕ, Bool, true, false, ◌&&◌, ◌||◌, sym, subst, rules}
-use Rattle.alphabet.specs.EventSets.{has, member}
+use Rattle.std.proofs.Common.{◌≡◌, ◌↔◌, IsTrue, ◌&&◌, sym, subst}
 use Rattle.alphabet.specs.declared.events.Event.TheVariants.{Of as ev}
-use Rattle.term.specs.Proc.{Proc, proc, prefix_of}
+use Rattle.term.specs.Proc.{proc, prefix_of}
 use Rattle.targets.specs.Cuts.{HasDeeper}
 use Rattle.targets.specs.Among.{ActsIn}
-use Rattle.targets.proofs.Forms.{silent}
-use Rattle.targets.proofs.DeepForms.{quiet-act-deep, prefix-act-deep, ext-act-deep, seq-act-deep, intr-act-deep, hide-act-deep, ren-act-deep, par-act-deep}
+use Rattle.targets.proofs.DeepForms.{prefix-act-deep, ext-act-deep, seq-act-deep, intr-act-deep, hide-act-deep, ren-act-deep, par-act-deep}
 use Rattle.targets.proofs.deep.+is_event_deeper.Goals as goal
 
 pub returns-in-Prefix-Of-default : goal.returns-in-Prefix-Of-default

@@ -1,9 +1,5 @@
-use Rattle.std.proofs.Common.{◌≡◌, ◌↔◌, IsTrue, ℕ, Bool, true, false, ◌&&◌, ◌||◌, sym, subst, rules}
-use Rattle.term.specs.Proc.{Proc, proc, bodies_of}
-use Rattle.term.specs.Steps.{Hid}
-use Rattle.targets.specs.Cuts.{HasDeeper}
-use Rattle.targets.proofs.Forms.{quiet}
-use Rattle.targets.proofs.DeepForms.{quiet-hid-deep, ext-hid-deep, intr-hid-deep, int-hid-deep, seq-hid-deep, par-hid-deep, hide-hid-deep, ren-hid-deep, name-hid-deep}
+use Rattle.term.specs.Proc.{proc, bodies_of}
+use Rattle.targets.proofs.DeepForms.{ext-hid-deep, intr-hid-deep, int-hid-deep, seq-hid-deep, par-hid-deep, hide-hid-deep, ren-hid-deep, name-hid-deep}
 use Rattle.targets.proofs.deep.+is_hidden_deeper.Goals as goal
 
 pub returns-in-Ext : goal.returns-in-Ext

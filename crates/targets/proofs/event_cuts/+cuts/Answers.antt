@@ -1,6 +1,6 @@
-use Rattle.std.proofs.Common.{◌≡◌, ◌↔◌, IsTrue, IfOk, ℕ, ◌+◌, ◌≤◌, Bool, true, false, List, [], ◌∷◌, ◌++◌, map, ap, ◌∙◌, sym, subst, rules, arith}
+use Rattle.std.proofs.Common.{◌≡◌, ◌↔◌, IsTrue, IfOk, inl, inr, ℕ, ◌+◌, ◌≤◌, Bool, true, false, List, [], ◌∷◌, ◌++◌, map, ap, ◌∙◌, sym, subst, rules, arith}
 use Rattle.alphabet.specs.EventSets.{has, member}
-use Rattle.alphabet.specs.declared.events.Event.TheVariants.{Of as ev}
+use Rattle.alphabet.specs.declared.events.Event.TheVariants.{Tick as tick, Of as ev}
 use Rattle.term.specs.Proc.{Proc, proc, prefix_of, ext, seq, par, hide, ren, intr}
 use Rattle.term.specs.Specs.{LiesIn}
 use Rattle.targets.specs.Cuts.{CutOf}
@@ -184,3 +184,21 @@ joint_cut-returns g t c =
     let e : c.loop-number.number ≡ 256 = omega arith in
     subst (λ v. CutOf (JointBelow v c.args.set c.args.events (proc c.args.p.now) (proc c.args.q.now)) c.args.most (map proc c.loop-number.found.items)) e
     (c.loop-number.invariant n m small lies lies')
+
+pub act_cut-returns-in-Stop : goal.act_cut-returns-in-Stop
+act_cut-returns-in-Stop g t c =
+    λ n m small lies.
+    let e : silent (proc c.args.term.now) ≡ true = elim c.in-Stop.is [
+      | inl s ↦ ap (λ v. silent (proc v)) s
+      | inr (inl s) ↦ ap (λ v. silent (proc v)) s
+      | inr (inr (inl (p, q, s))) ↦ ap (λ v. silent (proc v)) s
+      | inr (inr (inr (k, s))) ↦ ap (λ v. silent (proc v)) s
+    ] in
+    quiet-acts c.args.most c.args.events (proc c.args.term.now) e (map proc c.new-found.result.items) (ap (map proc) c.new-found.ensures.items)
+
+pub act_cut-returns-in-Prefix-Tick-default : goal.act_cut-returns-in-Prefix-Tick-default
+act_cut-returns-in-Prefix-Tick-default g t c =
+    λ n m small lies.
+    let first : c.in-Prefix-Tick-default.field-0 ≡ tick = rw c.in-Prefix-Tick-default.is at c.in-Prefix-Tick-default.field-0-is in
+    let e : silent (proc c.args.term.now) ≡ true = ap (λ v. silent (proc v)) c.in-Prefix-Tick-default.is ∙ ap (λ x. silent (prefix_of x (proc c.in-Prefix-Tick-default.field-1.value))) first in
+    quiet-acts c.args.most c.args.events (proc c.args.term.now) e (map proc c.new-found.result.items) (ap (map proc) c.new-found.ensures.items)

@@ -1,4 +1,4 @@
-use Rattle.std.proofs.Common.{◌≡◌, ◌↔◌, IsTrue, IfOk, ℕ, ◌≤◌, Bool, true, false, List, [], ◌∷◌, ◌++◌, map, ap, ◌∙◌, sym, subst, rules}
+use Rattle.std.proofs.Common.{◌≡◌, ◌↔◌, IsTrue, IfOk, inl, inr, ℕ, ◌≤◌, Bool, true, false, List, [], ◌∷◌, ◌++◌, map, ap, ◌∙◌, sym, subst, rules}
 use Rattle.alphabet.specs.EventSets.{has}
 use Rattle.alphabet.specs.declared.events.Event.TheVariants.{Of as ev}
 use Rattle.term.specs.Proc.{Proc, proc, bodies_of, ext, int, seq, par, hide, ren, intr, name}
@@ -7,7 +7,7 @@ use Rattle.term.specs.Steps.{Hid}
 use Rattle.step.specs.Targets.{where_}
 use Rattle.targets.specs.Cuts.{CutOf}
 use Rattle.targets.specs.Among.{Joined}
-use Rattle.targets.proofs.Forms.{so, single, quiet, quiet-hids, ext-hid-cut, intr-hid-cut, int-hid-cut, seq-hid-cut, par-hid-cut, hide-hid-cut, ren-hid-cut, name-hid-cut}
+use Rattle.targets.proofs.Forms.{so, single, quiet, quiet-prefix, quiet-hids, ext-hid-cut, intr-hid-cut, int-hid-cut, seq-hid-cut, par-hid-cut, hide-hid-cut, ren-hid-cut, name-hid-cut}
 use Rattle.targets.proofs.hidden_cuts.+hid_cut.Goals as goal
 
 pub returns-in_ok-rights-in-Ext : goal.returns-in_ok-rights-in-Ext
@@ -141,3 +141,13 @@ returns-in_ok-push-in-Name g t c =
     (λ n m small lies. name-hid-cut c.args.most B c.in-Name.number (map proc c.push.new.self.items)
     (single c.new-found.result.items c.push.new.self.items c.in_ok-body_of-in-Name.field-0 (B c.in-Name.number) c.new-found.ensures.items c.in_ok-push-in-Name.ensures.items c.in_ok-body_of-in-Name.ensures))
 
+
+pub returns-in_ok-clone-in-Stop : goal.returns-in_ok-clone-in-Stop
+returns-in_ok-clone-in-Stop g t c =
+    λ n m small lies.
+    let e : quiet (proc c.args.term.now) ≡ true = elim c.in-Stop.is [
+      | inl s ↦ ap (λ v. quiet (proc v)) s
+      | inr (inl s) ↦ ap (λ v. quiet (proc v)) s
+      | inr (inr (x, p, s)) ↦ ap (λ v. quiet (proc v)) s ∙ quiet-prefix x (proc p.value)
+    ] in
+    quiet-hids c.args.most (bodies_of c.args.spec.now.bodies) (proc c.args.term.now) e (map proc c.new.result.items) (ap (map proc) c.new.ensures.items)
