@@ -10,8 +10,10 @@ use Rattle.term.proofs.Closed.{processes-stay}
 use Rattle.step.specs.declared.targets.Label.TheVariants as label
 use Rattle.after.specs.declared.fault.AfterFault.{AfterFault}
 use Rattle.after.specs.Belonging.{IsSetOf, MeetsLimit}
-use Rattle.after.specs.Closing.{Among, AllLie, AllShallow, TargetOf, CutOf, Opens, IsClosure}
-use Rattle.after.proofs.Lists.{none-In, one-In}
+use Rattle.targets.specs.Cuts.{CutOf}
+use Rattle.after.specs.Closing.{Among, AllLie, AllShallow, TargetOf, Opens, IsClosure}
+use Rattle.targets.proofs.Cutting.{only as one-In}
+use Rattle.after.proofs.Lists.{none-In}
 use Rattle.after.proofs.Levels.{cut-all}
 use Rattle.after.proofs.Keeping.{event-depth, step-lies}
 use Rattle.after.proofs.Renaming.{limit-to, closure-to}

@@ -15,7 +15,7 @@ use Rattle.step.specs.Labels.{Step}
 use Rattle.after.specs.declared.fault.AfterFault.{AfterFault}
 use Rattle.after.specs.Belonging.{Belongs, MeetsLimit}
 use Rattle.after.specs.Closing.{Among, TargetOf, IsClosure, Takes}
-use Rattle.after.proofs.Lists.{one-In}
+use Rattle.targets.proofs.Cutting.{only as one-In}
 use Rattle.after.proofs.Renaming.{limit-to, closure-to}
 
 -- a run of tick: hidden steps, termination, and what follows it

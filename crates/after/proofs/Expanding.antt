@@ -10,24 +10,17 @@ use Rattle.step.specs.declared.targets.Label.TheVariants as label
 use Rattle.step.specs.Labels.{Step}
 use Rattle.step.proofs.ActList.{append-In, In-append_l, In-append_r}
 use Rattle.alphabet.specs.declared.events.Event.{Event}
-use Rattle.after.specs.Closing.{AllShallow, TargetOf, WithHidden, CutOf, Grows, HasPut}
+use Rattle.targets.specs.Cuts.{CutOf}
+use Rattle.after.specs.Closing.{AllShallow, TargetOf, WithHidden, Grows, HasPut}
 use Rattle.after.proofs.Keeping.{event-depth}
-use Rattle.after.proofs.Lists.{In-part, In-take, no-longer, one-In, part-more, part-none, some-more}
+use Rattle.targets.proofs.Cutting.{cut-to, no-longer, only as one-In}
+use Rattle.after.proofs.Lists.{In-part, In-take, part-more, part-none, some-more}
 use Rattle.after.proofs.Levels.{cut-all}
 
 below : (n d : ℕ) → (n < d) ⊎ (d ≤ n)
 below n zero = inr (omega arith)
 below zero (suc d) = inl (omega arith)
 below (suc n) (suc d) = elim (below n d) [ inl h ↦ inl (omega arith) | inr h ↦ inr (omega arith) ]
-
--- a cut of two names for one set
-pub cut-to : (S T : Terms) (most : ℕ) (l : List Proc) → ((Q : Proc) → S Q → T Q) → ((Q : Proc) → T Q → S Q) → CutOf S most l → CutOf T most l
-cut-to S T most l to fro c =
-    record {
-      once = c.once;
-      only = λ Q i. to Q (c.only Q i);
-      all = elim c.all [ inl h ↦ inl h | inr all ↦ inr (λ Q t. all Q (fro Q t)) ];
-    }
 
 -- what was put behind a cut makes it a cut of more
 pub cut-put : (S M : Terms) (most : ℕ) (found old new : List Proc) → CutOf S most old → length old ≤ most → ((Q : Proc) → In Q found → M Q) → (length new ≤ most → (Q : Proc) → M Q → In Q found) → HasPut found old new → CutOf (λ Q. S Q ⊎ M Q) most new
@@ -103,7 +96,7 @@ module _ (B : ℕ → Proc) where
     pub way-cut : CutOf (WithHidden B old (drop from (take (i + 1) old))) most_states new
     way-cut =
         subst (λ ps. CutOf (WithHidden B old ps) most_states new) (sym part)
-        (cut-to (λ Q. WithHidden B old (drop from (take i old)) Q ⊎ Step B P label.Tau Q) (WithHidden B old (drop from (take i old) ++ P ∷ [])) most_states new to fro
+        (cut-to (λ Q. WithHidden B old (drop from (take i old)) Q ⊎ Step B P label.Tau Q) (WithHidden B old (drop from (take i old) ++ P ∷ [])) most_states new (λ Q. (to Q, fro Q))
         (cut-put (WithHidden B old (drop from (take i old))) (Step B P label.Tau) most_states found now new w.cut w.few only all p))
 
     pub way-goes-on : length new ≤ most_states → IsOnTheWay old from (i + 1) new
@@ -139,7 +132,7 @@ module _ (B : ℕ → Proc) where
     pub first-cut : CutOf (TargetOf B (map proc (take (i + 1) xs)) l) most_states new
     first-cut =
         cut-to (λ Q. TargetOf B (map proc (take i xs)) l Q ⊎ Step B (proc t) l Q) (TargetOf B (map proc (take (i + 1) xs)) l) most_states new
-        (λ Q. (some-more xs i t h e (λ P. Step B P l Q)).1) (λ Q. (some-more xs i t h e (λ P. Step B P l Q)).0)
+        (λ Q. ((some-more xs i t h e (λ P. Step B P l Q)).1, (some-more xs i t h e (λ P. Step B P l Q)).0))
         (cut-put (TargetOf B (map proc (take i xs)) l) (Step B (proc t) l) most_states found now new c few only all p)
 
   pub first-many : {A : Type 0} (xs : List (Term A)) (i : ℕ) (x : Event) (now : List Proc) → AllShallow (map proc xs) → CutOf (TargetOf B (map proc (take i xs)) (label.Event x)) most_states now → most_states < length now → IsStates B (TargetOf B (map proc xs) (label.Event x))

@@ -12,8 +12,9 @@ use Rattle.step.proofs.ActList.{append-In, In-append_l, In-append_r}
 use Rattle.after.specs.declared.fault.AfterFault.{AfterFault}
 use Rattle.after.specs.declared.fault.AfterFault.TheVariants.{Depth, States, Memory}
 use Rattle.after.specs.Belonging.{MeetsLimit}
-use Rattle.after.specs.Closing.{TargetOf, WithHidden, AllShallow, CutOf, Grows, IsStuck, IsClosure}
-use Rattle.after.proofs.Lists.{no-longer}
+use Rattle.targets.specs.Cuts.{CutOf}
+use Rattle.after.specs.Closing.{TargetOf, WithHidden, AllShallow, Grows, IsStuck, IsClosure}
+use Rattle.targets.proofs.Cutting.{no-longer}
 
 -- what is on a level is reached by hidden steps
 level-reached : (B : ℕ → Proc) (L : Terms) (k : ℕ) (Q : Proc) → Level B L k Q → (P : Proc) × L P × Reach B P [] Q

@@ -1,4 +1,4 @@
--- Lists in which nothing stands twice.
+-- Parts of lists, and what stands in them.
 use Rattle.std.proofs.Common.{◌≡◌, ◌↔◌, ℕ, zero, suc, ◌+◌, ◌-◌, ◌<◌, ◌≤◌, ◌⊎◌, inl, inr, List, [], ◌∷◌, ◌++◌, length, map, take, drop, get_or, slice_get, Some, refl, sym, ap, ◌∙◌, subst, arith}
 use Rattle.std.proofs.lemmas.List.{drop-append-le, length-map, length-take, take_more, take_rest, get_or-map, get_or_append_left}
 use Rattle.std.proofs.lemmas.Option.{get_or_from_slice_get, slice_get_within}
@@ -8,45 +8,11 @@ use Rattle.term.specs.Proc.{Proc, proc, stop}
 use Rattle.term.specs.Limits.{Distinct}
 use Rattle.step.proofs.ActList.{append-In, In-append_l, In-append_r}
 use Rattle.step.proofs.Lists.{map_more}
+use Rattle.targets.proofs.Cutting.{only as one-In}
 
 pub none-In : {P : Proc} {ps : List Proc} → In P ps → ps ≡ [] → ⊥
 none-In here e = cc
 none-In (there i) e = cc
-
-pub one-In : {P Q : Proc} {ps : List Proc} → In P ps → ps ≡ Q ∷ [] → P ≡ Q
-one-In here e = cc
-one-In (there i) e = absurd (none-In i (cc))
-
-pub distinct-push : (l : List Proc) (P : Proc) → Distinct l → (In P l → ⊥) → Distinct (l ++ P ∷ [])
-distinct-push [] P d h = ((λ i. elim i [ ]), tt)
-distinct-push (Q ∷ l) P d h =
-    ((λ i. elim (append-In l (P ∷ []) Q i) [ inl j ↦ d.0 j | inr j ↦ h (subst (λ q. In q (Q ∷ l)) (one-In j refl) here) ]), distinct-push l P d.1 (λ i. h (there i)))
-
--- the list without the member at this place
-pub less : {P : Proc} {l : List Proc} → In P l → List Proc
-less (here {xs = l}) = l
-less (there {y = Q} i) = Q ∷ less i
-
-pub less-length : {P : Proc} {l : List Proc} (i : In P l) → length l ≡ suc (length (less i))
-unfolding less
-less-length here = refl
-less-length (there i) = ap suc (less-length i)
-
-pub less-In : {P Q : Proc} {l : List Proc} (i : In P l) → In Q l → (Q ≡ P → ⊥) → In Q (less i)
-unfolding less
-less-In here here h = absurd (h refl)
-less-In here (there j) h = j
-less-In (there i) here h = here
-less-In (there i) (there j) h = there (less-In i j h)
-
--- a list in which nothing stands twice is no longer than one that has all its members
-pub no-longer : (l m : List Proc) → Distinct l → ((Q : Proc) → In Q l → In Q m) → length l ≤ length m
-no-longer [] m d h = omega arith
-no-longer (P ∷ l) m d h =
-    let i = h P here in
-    let e = less-length i in
-    let k = no-longer l (less i) d.1 (λ Q j. less-In i (h Q (there j)) (λ q. d.0 (subst (λ v. In v l) q j))) in
-    omega arith
 
 -- the member at a place stands in the list
 pub In-at : (ps : List Proc) (i : ℕ) (d : Proc) → i < length ps → In (get_or ps i d) ps

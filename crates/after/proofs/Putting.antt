@@ -11,7 +11,8 @@ use Rattle.term.specs.SameLaws.{same-eq, same-refl}
 use Rattle.term.proofs.Bools.{or-cases, or-left, or-right}
 use Rattle.step.proofs.ActList.{append-In, In-append_l, In-append_r}
 use Rattle.after.specs.Closing.{HasPut}
-use Rattle.after.proofs.Lists.{none-In, one-In, distinct-push}
+use Rattle.targets.proofs.Cutting.{only as one-In, distinct-push}
+use Rattle.after.proofs.Lists.{none-In}
 
 pub put-none : (old : List Proc) → HasPut [] old old
 put-none old =

@@ -12,6 +12,7 @@ use Rattle.step.specs.declared.targets.Label.{Label}
 use Rattle.step.specs.declared.targets.Label.TheVariants as label
 use Rattle.step.specs.Labels.{Step}
 use Rattle.step.specs.Offers.{Offers}
+use Rattle.targets.specs.Cuts.{CutOf}
 use Rattle.after.specs.declared.fault.AfterFault.{AfterFault}
 use Rattle.after.specs.declared.fault.AfterFault.TheVariants.{Depth, States, Memory}
 
@@ -34,12 +35,6 @@ AllLie spec ps = (P : Proc) → In P ps → IsProcessOf spec P
 -- None of these is deeper than a state may be.
 abbrev pub AllShallow : List Proc → Type 0
 AllShallow ps = (P : Proc) → In P ps → depth P ≤ deepest_state
-
--- The list has members of S alone, each once: more than `most`, or else all of them.
-pub record CutOf (S : Terms) (most : ℕ) (found : List Proc) : Type 0 where
-  pub once : Distinct found
-  pub only : (Q : Proc) → In Q found → S Q
-  pub all : (most < length found) ⊎ ((Q : Proc) → S Q → In Q found)
 
 -- The list grew at its end by those of these processes that it hadn't.
 pub record HasPut (ps old new : List Proc) : Type 0 where

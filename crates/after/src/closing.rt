@@ -4,17 +4,19 @@ ghost use Rattle.std.specs.Prelude.{◌≡◌, ◌↔◌, ◌≤◌, IfOk, IfErr
 ghost use Rattle.term.specs.Limits.{Distinct, HasDeep, most_states};
 ghost use Rattle.term.specs.Proc.{bodies_of, proc};
 ghost use Rattle.term.specs.Specs.{IsClosed};
+ghost use Rattle.targets.specs.Cuts.{CutOf};
 ghost use Rattle.after.specs.Belonging.{MeetsLimit};
 ghost use Rattle.step.specs.declared.targets.Label.TheVariants as label;
-ghost use Rattle.after.specs.Closing.{AllLie, AllShallow, Among, Grows, IsClosure, CutOf, IsStuck, Opens, TargetOf};
+ghost use Rattle.after.specs.Closing.{AllLie, AllShallow, Among, Grows, IsClosure, IsStuck, Opens, TargetOf};
 
 use crate::fault::AfterFault;
 use crate::states::MOST_STATES;
-use crate::targets::{Hashing, Terms, all_targets, has_deep_target, put_all};
+use crate::table::{Hashing, Terms, put_all};
 use alphabet::Event;
 use indexmap::IndexSet;
-use std::alloc::{AllocError, Allocator};
+use std::alloc::Allocator;
 use step::Label;
+use targets::{distinct_targets, has_deep_target};
 use term::{Spec, Term};
 
 /// All that hidden steps reach from these terms, themselves among them. Goes level by level; each term's steps are
@@ -55,12 +57,12 @@ fn add_level<A: Allocator + Copy>(
     ensures ok { OnOk result (Grows (bodies_of spec.now.bodies) (drop from (map proc seen.old.keys)) (map proc seen.old.keys) (map proc seen.new.keys)) }
     ensures err { IfErr result (IsStuck (bodies_of spec.now.bodies) (drop from (map proc seen.old.keys)) (map proc seen.old.keys)) }
 {
-    if any_deep_target(spec, alloc, &seen.as_slice()[from..])? {
+    if any_deep_target(spec, &seen.as_slice()[from..]) {
         return Err(AfterFault::Depth);
     }
     let level = seen.len();
     for place in from..level {
-        let found = all_targets(spec, &seen[place], Label::Tau, alloc)?;
+        let found = distinct_targets(spec, &seen[place], Label::Tau, MOST_STATES, &alloc)?;
         put_all(seen, found)?;
         if seen.len() > MOST_STATES {
             return Err(AfterFault::States);
@@ -70,20 +72,15 @@ fn add_level<A: Allocator + Copy>(
 }
 
 /// Whether a hidden step of one of the terms leads to a term that is too deep.
-fn any_deep_target<A: Allocator + Copy>(
-    spec: &Spec<A>,
-    alloc: A,
-    terms: &[Term<A>],
-) -> Result<bool, AllocError>
-    requires { AllLie spec.now (map proc terms.now) }
-    ensures { IfOk result (λ deep. IsTrue deep ↔ HasDeep (TargetOf (bodies_of spec.now.bodies) (map proc terms.now) label.Tau)) }
+fn any_deep_target<A: Allocator>(spec: &Spec<A>, terms: &[Term<A>]) -> bool
+    ensures { IsTrue result ↔ HasDeep (TargetOf (bodies_of spec.now.bodies) (map proc terms.now) label.Tau) }
 {
     for term in terms {
-        if has_deep_target(spec, term, Label::Tau, alloc)? {
-            return Ok(true);
+        if has_deep_target(spec, term, Label::Tau) {
+            return true;
         }
     }
-    Ok(false)
+    false
 }
 
 /// The targets of the event from the terms. Where there are too many, the fault says so.
@@ -101,7 +98,7 @@ pub(crate) fn first_level<A: Allocator + Copy>(
 {
     let mut first = IndexSet::with_hasher(alloc, Hashing::new());
     for term in terms {
-        let found = all_targets(spec, term, Label::Event(event), alloc)?;
+        let found = distinct_targets(spec, term, Label::Event(event), MOST_STATES, &alloc)?;
         put_all(&mut first, found)?;
         if first.len() > MOST_STATES {
             return Err(AfterFault::States);

@@ -10,7 +10,7 @@ mod fault;
 mod looks;
 mod space;
 mod states;
-mod targets;
+mod table;
 
 pub use fault::AfterFault;
 pub use space::Space;

@@ -12,7 +12,7 @@ use crate::closing::{close, first_level};
 use crate::fault::AfterFault;
 use crate::looks::{next_events, some_refuses};
 use crate::space::Space;
-use crate::targets::{Hashing, Terms};
+use crate::table::{Hashing, Terms};
 use alphabet::{Event, EventSet};
 use indexmap::IndexSet;
 use std::alloc::Allocator;

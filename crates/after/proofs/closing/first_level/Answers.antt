@@ -3,10 +3,12 @@ use Rattle.std.proofs.lemmas.List.{length-map}
 use Rattle.term.specs.Limits.{most_states}
 use Rattle.term.specs.Proc.{proc, bodies_of}
 use Rattle.step.specs.declared.targets.Label.TheVariants as label
-use Rattle.after.specs.Closing.{CutOf, TargetOf}
+use Rattle.targets.specs.Cuts.{CutOf}
+use Rattle.after.specs.Closing.{TargetOf}
 use Rattle.after.proofs.Lists.{item-In, none-In}
 use Rattle.after.proofs.Keeping.{event-depth}
-use Rattle.after.proofs.Expanding.{first-cut, first-many}
+use Rattle.step.specs.Labels.{Step}
+use Rattle.after.proofs.Expanding.{cut-told, first-cut, first-many}
 use Rattle.after.proofs.closing.first_level.Goals as goal
 
 pub loop-term-init : goal.loop-term-init
@@ -18,16 +20,8 @@ loop-term-init g c =
       few = subst (λ l. length l ≤ most_states) (sym none) (omega arith);
     }
 
-pub all_targets-requires-clause-lies : goal.all_targets-requires-clause-lies
-all_targets-requires-clause-lies g c = c.requires.lies (proc c.term-item.result) (item-In c.args.terms.now c.loop-term.term-index c.term-item.result c.loop-term-test.true c.term-item.is)
-
-pub all_targets-requires-clause-shallow : goal.all_targets-requires-clause-shallow
-all_targets-requires-clause-shallow g c =
-    λ (Q, d, l).
-    let P = proc c.term-item.result in
-    let k = event-depth (bodies_of c.args.spec.now.bodies) P Q c.args.event d in
-    let m = c.requires.shallow P (item-In c.args.terms.now c.loop-term.term-index c.term-item.result c.loop-term-test.true c.term-item.is) in
-    omega (arith, k, m, l)
+pub distinct_targets-requires : goal.distinct_targets-requires
+distinct_targets-requires g c = c.requires.lies (proc c.term-item.result) (item-In c.args.terms.now c.loop-term.term-index c.term-item.result c.loop-term-test.true c.term-item.is)
 
 pub returns-then-len-gt-MOST_STATES-clause-err : goal.returns-then-len-gt-MOST_STATES-clause-err
 returns-then-len-gt-MOST_STATES-clause-err g c =
@@ -35,7 +29,7 @@ returns-then-len-gt-MOST_STATES-clause-err g c =
     let i = c.loop-term.term-index in
     first-many B c.args.terms.now (i + 1) c.args.event (map proc c.put_all.new.into.keys) c.requires.shallow
     (first-cut B c.args.terms.now i c.term-item.result c.loop-term-test.true c.term-item.is (label.Event c.args.event) (map proc c.loop-term.first.keys) c.loop-term.invariant.cut c.loop-term.invariant.few
-    (map proc c.in_ok-found.found.items) (map proc c.put_all.new.into.keys) (λ Q. (c.in_ok-found.ensures Q).0) (λ few Q. (c.in_ok-found.ensures Q).1) c.in_ok-put_all.ensures)
+    (map proc c.in_ok-found.found.items) (map proc c.put_all.new.into.keys) c.in_ok-found.ensures.only (cut-told (Step B (proc c.term-item.result) (label.Event c.args.event)) most_states (map proc c.in_ok-found.found.items) (map proc c.loop-term.first.keys) (map proc c.put_all.new.into.keys) c.in_ok-found.ensures c.in_ok-put_all.ensures) c.in_ok-put_all.ensures)
     (omega (arith, c.len.ensures.len, length-map c.put_all.new.into.keys (proc {A = g.row.A.Denot})))
 
 pub loop-term-preserved : goal.loop-term-preserved
@@ -45,6 +39,6 @@ loop-term-preserved g c =
     record {
       cut =
           first-cut B c.args.terms.now i c.term-item.result c.loop-term-test.true c.term-item.is (label.Event c.args.event) (map proc c.loop-term.first.keys) c.loop-term.invariant.cut c.loop-term.invariant.few
-          (map proc c.in_ok-found.found.items) (map proc c.put_all.new.into.keys) (λ Q. (c.in_ok-found.ensures Q).0) (λ few Q. (c.in_ok-found.ensures Q).1) c.in_ok-put_all.ensures;
+          (map proc c.in_ok-found.found.items) (map proc c.put_all.new.into.keys) c.in_ok-found.ensures.only (cut-told (Step B (proc c.term-item.result) (label.Event c.args.event)) most_states (map proc c.in_ok-found.found.items) (map proc c.loop-term.first.keys) (map proc c.put_all.new.into.keys) c.in_ok-found.ensures c.in_ok-put_all.ensures) c.in_ok-put_all.ensures;
       few = omega (arith, c.len.ensures.len, length-map c.put_all.new.into.keys (proc {A = g.row.A.Denot}));
     }

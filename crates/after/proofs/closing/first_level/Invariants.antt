@@ -2,7 +2,8 @@ use Rattle.std.proofs.Common.{◌≤◌, map, take, length}
 use Rattle.term.specs.Limits.{most_states}
 use Rattle.term.specs.Proc.{bodies_of, proc}
 use Rattle.step.specs.declared.targets.Label.TheVariants as label
-use Rattle.after.specs.Closing.{CutOf, TargetOf}
+use Rattle.targets.specs.Cuts.{CutOf}
+use Rattle.after.specs.Closing.{TargetOf}
 use Rattle.after.proofs.closing.first_level.Given as goal
 
 abbrev pub invariant-loop-term : goal.invariant-loop-term

@@ -2,7 +2,7 @@ use Rattle.std.proofs.Common.{◌≡◌, ap, ◌∙◌}
 use Rattle.indexmap.proofs.CallerLemmas.{Drains-YieldsInOrder}
 use Rattle.indexmap.specs.IndexSet.{insert_all}
 use Rattle.after.proofs.Putting.{alike, put-by}
-use Rattle.after.proofs.targets.put_all.Goals as goal
+use Rattle.after.proofs.table.put_all.Goals as goal
 
 pub returns : goal.returns
 returns g c =
