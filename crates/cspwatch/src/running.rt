@@ -1,9 +1,8 @@
 //! The program, as a function of its words and streams.
 ghost use Rattle.std.specs.Prelude.{◌≡◌};
-ghost use Rattle.term.specs.Proc.{bodies_of};
-ghost use Rattle.monitor.specs.Plain.{IsPlain};
 
 use crate::commands::{Wish, read_words};
+use after::AfterFault;
 use clap::Error;
 use clap::error::ErrorKind;
 use lines::{End, LinesError, Tally, check_lines};
@@ -45,6 +44,14 @@ fn tell_fault<E: Write>(errors: &mut E, name: &str, fault: &str, status: u8) -> 
     status
 }
 
+// Tells which limit the specification's opening meets, or that memory is wanting.
+fn tell_limit<E: Write>(errors: &mut E, name: &str, fault: AfterFault) -> u8
+    ensures { result ≡ 6 }
+{
+    let _ = writeln!(errors, "{name}: {fault}");
+    LIMIT
+}
+
 // Tells the help on the output with status 0, a fault of use on the errors with status 2.
 fn tell_error<O: Write, E: Write>(error: &Error, output: &mut O, errors: &mut E) -> u8 {
     if error.kind() == ErrorKind::OutOfMemory {
@@ -81,10 +88,10 @@ fn converse<R: AllocGlobal + Wait, I: Read + Drop, O: Write + Drop, E: Write>(
     output: O,
     errors: &mut E,
 ) -> u8
-    requires { IsPlain (bodies_of spec.bodies 0) }
 {
-    let Ok(mut monitor) = Monitor::new(rt.alloc(), spec) else {
-        return tell_fault(errors, name, "40 memory", LIMIT);
+    let mut monitor = match Monitor::new(rt.alloc(), spec) {
+        Ok(monitor) => monitor,
+        Err(fault) => return tell_limit(errors, name, fault),
     };
     let mut reader = Plain::new(input);
     let mut writer = Plain::new(output);
@@ -134,8 +141,8 @@ fn check<R: Files + AllocGlobal + Wait, I: Read + Drop, O: Write + Drop, E: Writ
 
 /// Runs the program on its words, the first of which is its name, and answers its exit status: 0 where all is done,
 /// 1 where a report was rejected, 2 for bad use (also a line that is no command, names no event or is too long),
-/// 3 for a script that is refused, 5 where a file, the input or the output failed, 6 for want of memory or a full
-/// history. Of several it is the first of 5, 1, 6, 2, 0.
+/// 3 for a script that is refused, 5 where a file, the input or the output failed, 6 for want of memory, a limit of the
+/// states or a full history. Of several it is the first of 5, 1, 6, 2, 0.
 pub(crate) fn run<
     S: AsStr,
     R: Files + AllocGlobal + Wait,

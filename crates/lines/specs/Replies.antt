@@ -5,6 +5,9 @@ use Rattle.alphabet.specs.declared.events.Report.{Report}
 use Rattle.term.specs.Specs.{Specified}
 use Rattle.term.specs.Proc.{bodies_of}
 use Rattle.term.specs.Verdict.{Verdict}
+use Rattle.after.specs.declared.fault.AfterFault.{AfterFault}
+use Rattle.after.specs.declared.fault.AfterFault.TheVariants.{Depth, States, Memory}
+use Rattle.monitor.specs.Monitors.{Stops}
 use Rattle.monitor.specs.TraceAfter.{trace_after}
 use Rattle.lines.specs.declared.tally.Tally.{Tally}
 use Rattle.lines.specs.Tallies.{counted, misused, limited}
@@ -34,13 +37,20 @@ with_limit c = course c.trace (limited c.tally)
 abbrev pub verdict_text : Bool → ℕ → List ℕ
 verdict_text accepted place = cond accepted (codes "OK ") (codes "NO ") ++ decimal place ++ codes "\n"
 
--- The report is judged after the accepted events and takes the next place. It isn't judged where the history is full, or for want of memory.
+-- why a report wasn't judged
+abbrev pub fault_text : AfterFault → List ℕ
+fault_text Depth = codes "ERR 20 depth\n"
+fault_text States = codes "ERR 21 states\n"
+fault_text Memory = codes "ERR 40 memory\n"
+
+-- The report is judged after the accepted events and takes the next place. It isn't judged where the history is full, where the event's
+-- levels meet a limit, or for want of memory.
 abbrev pub Judges : Specified → Course → Report → Course → List ℕ → Type 0
 Judges spec c report d text =
     ((accepted : Bool) × (nat_lt c.tally.judged 1000000 ≡ true) × (IsTrue accepted ↔ Verdict (bodies_of spec.bodies) c.trace report) ×
     (d ≡ with_verdict c report accepted) × (text ≡ verdict_text accepted (c.tally.judged + 1)))
     ⊎ ((nat_lt c.tally.judged 1000000 ≡ false) × (d ≡ with_limit c) × (text ≡ codes "ERR 23 history\n"))
-    ⊎ ((d ≡ with_limit c) × (text ≡ codes "ERR 40 memory\n"))
+    ⊎ ((fault : AfterFault) × Stops (bodies_of spec.bodies) c.trace report fault × (d ≡ with_limit c) × (text ≡ fault_text fault))
 
 -- how a request moves a conversation, and what is replied
 abbrev pub Replies : Specified → Course → Request → Course → List ℕ → Type 0

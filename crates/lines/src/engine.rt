@@ -55,7 +55,7 @@ fn make_desk<B: Allocator + Clone>(alloc: B) -> Result<Desk<B>, AllocError>
 }
 
 // Hears one byte.
-fn hear<W: Sink, A: Allocator + Clone, B: Allocator>(
+fn hear<W: Sink, A: Allocator + Copy, B: Allocator>(
     byte: u8,
     desk: &mut Desk<B>,
     writer: &mut W,
@@ -93,7 +93,7 @@ fn hear<W: Sink, A: Allocator + Clone, B: Allocator>(
 }
 
 // Hears a piece of input.
-fn feed<W: Sink, A: Allocator + Clone, B: Allocator>(
+fn feed<W: Sink, A: Allocator + Copy, B: Allocator>(
     bytes: &[u8],
     desk: &mut Desk<B>,
     writer: &mut W,
@@ -122,7 +122,7 @@ fn feed<W: Sink, A: Allocator + Clone, B: Allocator>(
 /// Answers the lines of the reader by lines to the writer, each sent before the next is read: until a `Q`, the end of
 /// the input, a line of more than 4,096 bytes, or a fault. The tally goes on from what it was. An input that ends in
 /// mid-line gives no reply to that line.
-pub fn check_lines<T: Wait, R: Source, W: Sink, A: Allocator + Clone, B: Allocator + Clone + Drop>(
+pub fn check_lines<T: Wait, R: Source, W: Sink, A: Allocator + Copy, B: Allocator + Clone + Drop>(
     rt: &T,
     alloc: B,
     reader: &mut R,

@@ -1,11 +1,12 @@
 //! The reply to each line.
 ghost use Rattle.std.specs.Prelude.{◌≡◌, ◌+◌, ◌≤◌, ◌++◌, [], vec_len, vec_capacity};
 ghost use Rattle.lines.specs.Requests.{is_letter};
-ghost use Rattle.lines.specs.Replies.{Says, Replies, Judges, verdict_text, course};
+ghost use Rattle.lines.specs.Replies.{Says, Replies, Judges, verdict_text, fault_text, course};
 
 use crate::requests::{Request, is_only, read_request};
 use crate::sending::{add, add_number};
 use crate::tally::Tally;
+use after::AfterFault;
 use alphabet::Report;
 use monitor::Monitor;
 use std::alloc::Allocator;
@@ -27,8 +28,20 @@ fn add_verdict<B: Allocator>(reply: &mut Vec<u8, B>, accepted: bool, place: u64)
     add(reply, b"\n");
 }
 
+fn add_fault<B: Allocator>(reply: &mut Vec<u8, B>, fault: AfterFault)
+    requires { vec_len reply.old + 24 ≤ vec_capacity reply.old }
+    ensures items { reply.new.items ≡ reply.old.items ++ fault_text fault }
+    ensures room { vec_capacity reply.old ≤ vec_capacity reply.new }
+{
+    match fault {
+        AfterFault::Depth => add(reply, b"ERR 20 depth\n"),
+        AfterFault::States => add(reply, b"ERR 21 states\n"),
+        AfterFault::Memory => add(reply, b"ERR 40 memory\n"),
+    }
+}
+
 // Judges the report, keeps an accepted event, and makes the reply in the empty `reply`.
-fn judge<A: Allocator + Clone, B: Allocator>(
+fn judge<A: Allocator + Copy, B: Allocator>(
     monitor: &mut Monitor<A>,
     tally: &mut Tally,
     report: &Report,
@@ -54,15 +67,15 @@ fn judge<A: Allocator + Clone, B: Allocator>(
             tally.count(accepted);
             add_verdict(reply, accepted, tally.judged);
         }
-        Err(_) => {
+        Err(fault) => {
             tally.limit();
-            add(reply, b"ERR 40 memory\n");
+            add_fault(reply, fault);
         }
     }
 }
 
 // Does what was read of a line, and makes the reply in the empty `reply`.
-fn respond<A: Allocator + Clone, B: Allocator>(
+fn respond<A: Allocator + Copy, B: Allocator>(
     monitor: &mut Monitor<A>,
     tally: &mut Tally,
     request: Request,
@@ -90,7 +103,7 @@ fn respond<A: Allocator + Clone, B: Allocator>(
 }
 
 // Answers the line, and makes the reply's text. The answer is whether the line is a Q.
-pub(crate) fn answer<A: Allocator + Clone, B: Allocator>(
+pub(crate) fn answer<A: Allocator + Copy, B: Allocator>(
     monitor: &mut Monitor<A>,
     tally: &mut Tally,
     line: &[u8],

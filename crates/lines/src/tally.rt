@@ -10,7 +10,7 @@ pub struct Tally {
     pub rejected: bool,
     /// Whether a line was no command, or named no event.
     pub misused: bool,
-    /// Whether a report wasn't judged for want of memory or because the history was full.
+    /// Whether a report wasn't judged for want of memory, for a limit of the states, or because the history was full.
     pub limited: bool,
 }
 

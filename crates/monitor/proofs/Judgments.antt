@@ -1,65 +1,60 @@
--- What plain states tell of a report is its verdict.
-use Rattle.std.proofs.Common.{◌≡◌, ℕ, zero, suc, ◌<◌, true, List, [], ◌∷◌, ◌++◌, refl, sym, subst, ◌↔◌, IsTrue, IfOk, Result, Ok, Err}
+-- What is judged of a report after a trace.
+use Rattle.std.proofs.Common.{◌≡◌, ℕ, ◌<◌, Bool, true, false, Option, Some, None, is_some, IfSome, IfNone, List, [], ◌∷◌, ◌++◌, refl, sym, ap, ◌∙◌, subst, ◌↔◌, IsTrue, IfOk, IsOk, is_ok, if◌then◌else◌, Result, Ok, Err}
 use Rattle.alphabet.specs.declared.events.Event.{Event}
 use Rattle.alphabet.specs.declared.events.Report.{Report}
 use Rattle.alphabet.specs.declared.events.Report.TheVariants as report
-use Rattle.alphabet.specs.EventSets.{member}
-use Rattle.term.specs.Traces.{In, here, there}
-use Rattle.term.specs.Proc.{Proc, root, bodies_of}
+use Rattle.term.specs.Proc.{Proc, bodies_of, root}
 use Rattle.term.specs.Meaning.{Trace}
+use Rattle.term.specs.Specs.{Specified}
 use Rattle.term.specs.Verdict.{Verdict}
-use Rattle.monitor.specs.Plain.{all_targets, is_some_process}
-use Rattle.monitor.specs.Follows.{Follows, FollowsReport}
-use Rattle.monitor.specs.Monitors.{Monitoring, Judgment, IsOf, judgment_by}
-use Rattle.monitor.proofs.Plains.{follows-event, rests-failure, failure-rests, state-trace, trace-state}
+use Rattle.after.specs.declared.fault.AfterFault.TheVariants.{Memory}
+use Rattle.after.specs.Belonging.{Belongs}
+use Rattle.monitor.specs.Monitors.{Monitoring, Judgment, Follows, IsJudgment, IsOf, Stops}
 
-some-In : (ps : List Proc) → is_some_process ps ≡ true → (P : Proc) × In P ps
-some-In [] e = absurd (cc)
-some-In (P ∷ ps) e = (P, here)
+-- an event is accepted where there are states after it
+pub judged-event : (s t : Specified) (u : List Event) (x : Event) (v : Bool) (next : Option (List Proc)) → t ≡ s → v ≡ is_some next
+    → IfNone next (Trace (bodies_of s.bodies) root (u ++ x ∷ []) → ⊥) → IfSome next (λ set. Trace (bodies_of s.bodies) root (u ++ x ∷ []) × Belongs t set (u ++ x ∷ []))
+    → IsJudgment s u (report.Event x) (record { report = report.Event x; verdict = v; next = next })
+judged-event s t u x v (Some set) e f none some =
+    record {
+      report = refl;
+      verdict = ((λ _. some.0), (λ _. f));
+      follows = (f, subst (λ (w : Specified). Belongs w set (u ++ x ∷ [])) e some.1);
+    }
+judged-event s t u x v None e f none some =
+    record {
+      report = refl;
+      verdict = ((λ k. absurd (cc (k, f))), (λ k. absurd (none k)));
+      follows = (f, tt);
+    }
 
-In-some : {P : Proc} {ps : List Proc} → In P ps → is_some_process ps ≡ true
-In-some here = refl
-In-some (there i) = refl
+-- the states after an accepted event belong to the longer trace
+pub follows-event : (s : Specified) (u : List Event) (r : Report) (v : Bool) (next : Option (List Proc)) (x : Event) (states : List Proc) → Follows s u r v next → r ≡ report.Event x → next ≡ Some states → Belongs s states (u ++ x ∷ [])
+follows-event s u r v next x states f e n =
+    let k : Follows s u (report.Event x) v (Some states) = subst (λ w. Follows s u (report.Event x) v w) n (subst (λ w. Follows s u w v next) e f) in
+    k.1
 
-no_end : (s : List Event) (e : Event) → s ++ e ∷ [] ≡ [] → ⊥
-no_end [] e q = cc
-no_end (x ∷ s) e q = cc
+pub if-ok : {A E : Type 0} (P Q : A → Type 0) (o : Result A E) → ((a : A) → P a → Q a) → IfOk o P → IfOk o Q
+if-ok P Q (Ok a) h p = h a p
+if-ok P Q (Err e) h p = tt
 
-module _ (bodies : ℕ → Proc) (trace : List Event) (states : List Proc) (f : Follows bodies trace states) where
-  event-verdict : (e : Event) → IsTrue (is_some_process (all_targets states e)) ↔ Trace bodies root (trace ++ e ∷ [])
-  event-verdict e = (
-    (λ t. let (P, i) = some-In (all_targets states e) t in state-trace bodies (trace ++ e ∷ []) (all_targets states e) (follows-event bodies trace states f e) P i),
-    from,
-  )
-    where
-      from : Trace bodies root (trace ++ e ∷ []) → IsTrue (is_some_process (all_targets states e))
-      from (zero, t) = absurd (no_end trace e t)
-      from (suc n, t) = In-some (trace-state bodies (trace ++ e ∷ []) (all_targets states e) (follows-event bodies trace states f e) n t).1
+-- a judgment is of each monitor with this trace and room for one event more
+pub judgment-of : (s : Specified) (u : List Event) (r : Report) (m : Monitoring) → m.spec ≡ s → m.trace ≡ u → 0 < m.room → (j : Judgment) → IsJudgment s u r j → IsOf m j
+judgment-of s u r m e f h j k =
+    record {
+      verdict = subst (λ (w : Specified). IsTrue j.verdict ↔ Verdict (bodies_of w.bodies) m.trace j.report) (sym e)
+          (subst (λ w. IsTrue j.verdict ↔ Verdict (bodies_of s.bodies) w j.report) (sym f)
+          (subst (λ w. IsTrue j.verdict ↔ Verdict (bodies_of s.bodies) u w) (sym k.report) k.verdict));
+      follows = subst (λ w. Follows w m.trace j.report j.verdict j.next) (sym e) (subst (λ w. Follows s w j.report j.verdict j.next) (sym f) k.follows);
+      room = h;
+    }
 
-  verdict-by : (r : Report) → IsTrue (judgment_by states r).verdict ↔ Verdict bodies trace r
-  verdict-by (report.Event e) = event-verdict e
-  verdict-by (report.Refusal X) = (rests-failure bodies trace states f (member X), failure-rests bodies trace states f (member X))
+-- want of memory says nothing
+pub stops-memory : (B : ℕ → Proc) (u : List Event) (r : Report) → Stops B u r Memory
+stops-memory B u (report.Event x) = tt
+stops-memory B u (report.Refusal X) = refl
 
-  report-by : (r : Report) → (judgment_by states r).report ≡ r
-  report-by (report.Event e) = refl
-  report-by (report.Refusal X) = refl
-
-  follows-by : (r : Report) → FollowsReport bodies trace (judgment_by states r).report (judgment_by states r).states
-  follows-by (report.Event e) = follows-event bodies trace states f e
-  follows-by (report.Refusal X) = tt
-
-  pub ok-verdict : {E : Type 0} (r : Report) (o : Result Judgment E) → IfOk o (λ j. j ≡ judgment_by states r) → IfOk o (λ j. IsTrue j.verdict ↔ Verdict bodies trace r)
-  ok-verdict r (Ok j) e = subst (λ (k : Judgment). IsTrue k.verdict ↔ Verdict bodies trace r) (sym e) (verdict-by r)
-  ok-verdict r (Err x) e = tt
-
-  is-of : (m : Monitoring) (r : Report) → bodies_of m.spec.bodies ≡ bodies → m.trace ≡ trace → 0 < m.room → IsOf m (judgment_by states r)
-  is-of m r b t h =
-      record {
-        verdict = subst (λ B. IsTrue (judgment_by states r).verdict ↔ Verdict B m.trace (judgment_by states r).report) (sym b) (subst (λ u. IsTrue (judgment_by states r).verdict ↔ Verdict bodies u (judgment_by states r).report) (sym t) (subst (λ x. IsTrue (judgment_by states r).verdict ↔ Verdict bodies trace x) (sym (report-by r)) (verdict-by r)));
-        follows = subst (λ B. FollowsReport B m.trace (judgment_by states r).report (judgment_by states r).states) (sym b) (subst (λ u. FollowsReport bodies u (judgment_by states r).report (judgment_by states r).states) (sym t) (follows-by r));
-        room = h;
-      }
-
-  pub ok-is_of : {E : Type 0} (m : Monitoring) (r : Report) (o : Result Judgment E) → bodies_of m.spec.bodies ≡ bodies → m.trace ≡ trace → 0 < m.room → IfOk o (λ j. j ≡ judgment_by states r) → IfOk o (IsOf m)
-  ok-is_of m r (Ok j) b t h e = subst (λ k. IsOf m k) (sym e) (is-of m r b t h)
-  ok-is_of m r (Err x) b t h e = tt
+-- what a push that succeeded leaves
+pub pushed : {A E X : Type 0} (o : Result A E) (new more old : List X) → IsOk o → new ≡ (if is_ok o then more else old) → new ≡ more
+pushed (Ok a) new more old h e = e
+pushed (Err x) new more old h e = absurd (cc h)

@@ -1,4 +1,2 @@
-pub mod TraceAfter
-pub mod Plain
-pub mod Follows
 pub mod Monitors
+pub mod TraceAfter

@@ -1,18 +1,19 @@
 -- What a contract sees of a monitor and of a judgment.
-use Rattle.std.specs.Prelude.{ℕ, ◌<◌, Bool, List, [], ◌↔◌, IsTrue, refl}
-use Rattle.std.specs.Coded.{Coded, code_by, coded×, coded_list, coded_bool, coded_ℕ}
+use Rattle.std.specs.Prelude.{◌≡◌, ℕ, ◌<◌, Bool, Option, IfSome, is_some, List, [], ◌∷◌, ◌++◌, ◌↔◌, IsTrue, refl}
+use Rattle.std.specs.Coded.{Coded, code_by, coded×, coded_list, coded_option, coded_bool, coded_ℕ}
 use Rattle.alphabet.specs.declared.events.Event.{Event}
 use Rattle.alphabet.specs.declared.events.Report.{Report}
 use Rattle.alphabet.specs.declared.events.Report.TheVariants as report
 use Rattle.alphabet.specs.contracts.events.Event as event_type
 use Rattle.alphabet.specs.contracts.events.Report as report_type
-use Rattle.alphabet.specs.EventSets.{member}
 use Rattle.term.specs.Proc.{Proc, bodies_of}
 use Rattle.term.specs.Codes.{proc_code}
 use Rattle.term.specs.Specs.{Specified, specified_code}
+use Rattle.term.specs.Limits.{Advance, NoLimit}
 use Rattle.term.specs.Verdict.{Verdict}
-use Rattle.monitor.specs.Follows.{FollowsReport}
-use Rattle.monitor.specs.Plain.{all_targets, is_some_process, some_rests}
+use Rattle.after.specs.declared.fault.AfterFault.{AfterFault}
+use Rattle.after.specs.declared.fault.AfterFault.TheVariants.{Memory}
+use Rattle.after.specs.Belonging.{Belongs, MeetsLimit}
 
 -- A monitor: its specification, the events that it accepted, and for how many further ones it has room.
 pub record Monitoring : Type 0 where
@@ -20,11 +21,11 @@ pub record Monitoring : Type 0 where
   pub trace : List Event
   pub room : ℕ
 
--- A judgment: the report, whether it is accepted, and the states that follow an accepted event.
+-- A judgment: the report, whether it is accepted, and the states after an accepted event.
 pub record Judgment : Type 0 where
   pub report : Report
   pub verdict : Bool
-  pub states : List Proc
+  pub next : Option (List Proc)
 
 abbrev pub monitoring_code : Coded Monitoring
 monitoring_code =
@@ -32,17 +33,33 @@ monitoring_code =
 
 abbrev pub judgment_code : Coded Judgment
 judgment_code =
-    code_by (Report × (Bool × List Proc)) (coded× report_type.the_row.coded (coded× coded_bool (coded_list proc_code))) (λ j. (j.report, (j.verdict, j.states))) (λ p. record { report = p.0; verdict = p.1.0; states = p.1.1 }) (λ _. refl)
+    code_by (Report × (Bool × Option (List Proc))) (coded× report_type.the_row.coded (coded× coded_bool (coded_option (coded_list proc_code)))) (λ j. (j.report, (j.verdict, j.next))) (λ p. record { report = p.0; verdict = p.1.0; next = p.1.1 }) (λ _. refl)
+
+-- An accepted event has states, which belong to the trace and the event; a rejected one has none. Those of a refusal
+-- don't matter.
+abbrev pub Follows : Specified → List Event → Report → Bool → Option (List Proc) → Type 0
+Follows spec u (report.Event x) verdict next = (verdict ≡ is_some next) × IfSome next (λ states. Belongs spec states (u ++ x ∷ []))
+Follows spec u (report.Refusal X) verdict next = Unit {0}
+
+-- The judgment of this report after the trace u: the verdict is that of the definition.
+pub record IsJudgment (spec : Specified) (u : List Event) (r : Report) (judgment : Judgment) : Type 0 where
+  pub report : judgment.report ≡ r
+  pub verdict : IsTrue judgment.verdict ↔ Verdict (bodies_of spec.bodies) u r
+  pub follows : Follows spec u judgment.report judgment.verdict judgment.next
 
 -- The judgment is of this monitor and its present trace, and there is room for one event more.
 pub record IsOf (monitor : Monitoring) (judgment : Judgment) : Type 0 where
   pub verdict : IsTrue judgment.verdict ↔ Verdict (bodies_of monitor.spec.bodies) monitor.trace judgment.report
-  pub follows : FollowsReport (bodies_of monitor.spec.bodies) monitor.trace judgment.report judgment.states
+  pub follows : Follows monitor.spec monitor.trace judgment.report judgment.verdict judgment.next
   pub room : 0 < monitor.room
 
--- What plain states tell of a report.
-abbrev pub judgment_by : List Proc → Report → Judgment
-judgment_by states (report.Event a) =
-    let next = all_targets states a in record { report = report.Event a; verdict = is_some_process next; states = next }
-judgment_by states (report.Refusal X) =
-    record { report = report.Refusal X; verdict = some_rests states (member X); states = [] }
+-- Judging the report after the trace u meets no limit; a refusal never does.
+abbrev pub MeetsNone : (ℕ → Proc) → List Event → Report → Type 0
+MeetsNone B u (report.Event x) = NoLimit B (Advance B u x)
+MeetsNone B u (report.Refusal X) = Unit {0}
+
+-- Why the report can't be judged after the trace u: the limit that the event's levels meet, or want of memory, which
+-- says nothing. A refusal meets no limit.
+abbrev pub Stops : (ℕ → Proc) → List Event → Report → AfterFault → Type 0
+Stops B u (report.Event x) fault = MeetsLimit B (Advance B u x) fault
+Stops B u (report.Refusal X) fault = fault ≡ Memory

@@ -1,25 +1,29 @@
 //! Monitors and judgments.
 
-ghost use Rattle.std.specs.Prelude.{IfOk, ◌≡◌, ◌++◌, [], ◌∷◌, ◌↔◌, IsTrue, length, map};
-ghost use Rattle.term.specs.Proc.{proc, bodies_of};
+ghost use Rattle.std.specs.Prelude.{IfOk, IfErr, OnOk, ◌≡◌, ◌++◌, [], ◌∷◌, ◌↔◌, IsTrue, List, length};
+ghost use Rattle.alphabet.specs.declared.events.Event.{Event};
+ghost use Rattle.alphabet.specs.EventSets.{member};
+ghost use Rattle.term.specs.Limits.{NoLimit, Opening};
+ghost use Rattle.term.specs.Meaning.{Trace};
+ghost use Rattle.term.specs.Proc.{bodies_of, root};
 ghost use Rattle.term.specs.Verdict.{Verdict};
+ghost use Rattle.after.specs.Belonging.{Belongs, IsSetOf, MeetsLimit};
 ghost use Rattle.monitor.specs.TraceAfter.{trace_after};
-ghost use Rattle.monitor.specs.Plain.{IsPlain};
-ghost use Rattle.monitor.specs.Monitors.{IsOf, judgment_by};
+ghost use Rattle.monitor.specs.Monitors.{IsJudgment, IsOf, MeetsNone, Stops};
 
-use crate::states::{next_states, some_state_rests};
-use alphabet::{Event, Report};
-use std::alloc::{AllocError, Allocator};
+use after::{AfterFault, Space, StateSet};
+use alphabet::{Event, EventSet, Report};
+use std::alloc::Allocator;
 use std::marker::Model;
-use term::{Spec, Term};
+use term::Spec;
 
 /// A monitor: a specification and a trace of it, the events accepted so far.
 #[derive(Drop)]
 pub struct Monitor<A: Allocator> {
-    spec: Spec<A>,
+    space: Space<A>,
     trace: Vec<Event, A>,
-    /// What body 0 may be after the trace.
-    states: Vec<Term<A>, A>,
+    /// What the root may be after the trace.
+    states: StateSet<A>,
 }
 
 impl<A: Allocator> Model for Monitor<A> {
@@ -29,13 +33,12 @@ impl<A: Allocator> Model for Monitor<A> {
 
     ghost coded = { monitoring_code };
 
-    ghost use Rattle.std.specs.Prelude.{◌-◌, map, vec_len, vec_capacity};
-    ghost use Rattle.term.specs.Proc.{proc, bodies_of};
-    ghost use Rattle.monitor.specs.Follows.{Follows};
+    ghost use Rattle.std.specs.Prelude.{◌-◌, vec_len, vec_capacity};
+    ghost use Rattle.after.specs.Belonging.{Belongs};
 
-    ghost view = { λ m. record { spec = m.spec; trace = m.trace.items; room = vec_capacity m.trace - vec_len m.trace } };
+    ghost view = { λ m. record { spec = m.space; trace = m.trace.items; room = vec_capacity m.trace - vec_len m.trace } };
 
-    ghost invariant = { λ m. Follows (bodies_of m.spec.bodies) m.trace.items (map proc m.states.items) };
+    ghost invariant = { λ m. Belongs m.space m.states m.trace.items };
 }
 
 /// What a monitor found of a report, after the trace that it then had.
@@ -43,8 +46,8 @@ impl<A: Allocator> Model for Monitor<A> {
 pub struct Judged<A: Allocator> {
     report: Report,
     verdict: bool,
-    /// What body 0 may be after the event, where it is accepted.
-    states: Vec<Term<A>, A>,
+    /// What the root may be after the event, where it is accepted.
+    next: Option<StateSet<A>>,
 }
 
 impl<A: Allocator> Model for Judged<A> {
@@ -54,10 +57,7 @@ impl<A: Allocator> Model for Judged<A> {
 
     ghost coded = { judgment_code };
 
-    ghost use Rattle.std.specs.Prelude.{map};
-    ghost use Rattle.term.specs.Proc.{proc};
-
-    ghost view = { λ j. record { report = j.report; verdict = j.verdict; states = map proc j.states.items } };
+    ghost view = { λ j. record { report = j.report; verdict = j.verdict; next = j.next } };
 }
 
 impl<A: Allocator> Judged<A> {
@@ -69,36 +69,43 @@ impl<A: Allocator> Judged<A> {
     }
 }
 
-impl<A: Allocator + Clone> Monitor<A> {
-    /// A monitor of this specification, before any event.
-    pub fn new(alloc: A, spec: Spec<A>) -> Result<Monitor<A>, AllocError>
-        requires { IsPlain (bodies_of spec.bodies 0) }
+impl<A: Allocator + Copy> Monitor<A> {
+    /// A monitor of this specification, before any event. It is refused where the levels from the root's name on meet
+    /// a limit.
+    pub fn new(alloc: A, spec: Spec<A>) -> Result<Monitor<A>, AfterFault>
         ensures spec { IfOk result (λ monitor. monitor.spec ≡ spec) }
         ensures trace { IfOk result (λ monitor. monitor.trace ≡ []) }
+        ensures within { OnOk result (NoLimit (bodies_of spec.bodies) Opening) }
+        ensures limit { IfErr result (MeetsLimit (bodies_of spec.bodies) Opening) }
     {
-        let bodies = spec.bodies();
-        prove!(bodies > 0);
-        let mut states = Vec::new(alloc.clone()?);
-        states.push(spec.body(0).try_clone(&alloc)?)?;
-        Ok(Monitor {
-            spec,
-            trace: Vec::new(alloc),
-            states,
-        })
+        let mut space = Space::new(alloc, spec);
+        match StateSet::start(&mut space) {
+            Ok(states) => Ok(Monitor {
+                space,
+                trace: Vec::new(alloc),
+                states,
+            }),
+            Err(fault) => Err(fault),
+        }
     }
 
-    /// Judges the report after the present trace, which stays, and makes room for one event more.
-    pub fn judge(&mut self, report: &Report) -> Result<Judged<A>, AllocError>
+    /// Judges the report after the present trace, which stays, and makes room for one event more. An event is refused
+    /// where the levels from its targets on meet a limit; a refusal meets none.
+    pub fn judge(&mut self, report: &Report) -> Result<Judged<A>, AfterFault>
         ensures report { IfOk result (λ judged. judged.report ≡ report.now) }
 
         // An event is accepted exactly where it makes the trace longer, a refusal exactly where it is a stable failure.
         ensures verdict { IfOk result (λ judged. IsTrue judged.verdict ↔ Verdict (bodies_of self.old.spec.bodies) self.old.trace report.now) }
         ensures judged { IfOk result (IsOf self.new) }
+        ensures within { OnOk result (MeetsNone (bodies_of self.old.spec.bodies) self.old.trace report.now) }
+        ensures limit { IfErr result (Stops (bodies_of self.old.spec.bodies) self.old.trace report.now) }
         ensures spec { self.new.spec ≡ self.old.spec }
         ensures trace { self.new.trace ≡ self.old.trace }
     {
-        self.trace.reserve(1)?;
-        judge_by(&self.states, *report, self.trace.allocator())
+        match self.trace.reserve(1) {
+            Ok(()) => judge_by(&self.states, &mut self.space, *report),
+            Err(_) => Err(AfterFault::Memory),
+        }
     }
 
     /// Takes the report over: the trace grows by an accepted event, and by nothing else. Takes no memory.
@@ -109,11 +116,11 @@ impl<A: Allocator + Clone> Monitor<A> {
     {
         let Judged {
             report,
-            verdict,
-            states,
+            verdict: _,
+            next,
         } = judged;
         if let Report::Event(event) = report
-            && verdict
+            && let Some(states) = next
         {
             let _ = self.trace.push(event);
             self.states = states;
@@ -122,6 +129,13 @@ impl<A: Allocator + Clone> Monitor<A> {
 }
 
 impl<A: Allocator> Monitor<A> {
+    /// The events that go on from the present trace, tick among them. Takes no memory.
+    pub fn next(&self) -> EventSet
+        ensures { (x : Event) → IsTrue (member result x) ↔ Trace (bodies_of self.now.spec.bodies) root (self.now.trace ++ x ∷ []) }
+    {
+        self.states.next(&self.space)
+    }
+
     /// How many events the trace has. Takes no memory.
     pub fn trace_len(&self) -> usize
         ensures { result ≡ length self.now.trace }
@@ -133,32 +147,35 @@ impl<A: Allocator> Monitor<A> {
     pub fn spec(&self) -> &Spec<A>
         ensures { result.now ≡ self.now.spec }
     {
-        &self.spec
+        self.space.spec()
     }
 }
 
-/// Judges a report after a trace that these states follow: an event is accepted where some state goes on by it, a
-/// refusal where some state offers nothing of the set.
-fn judge_by<A: Allocator + Clone>(
-    states: &[Term<A>],
+/// Judges a report after each trace to which the states belong.
+fn judge_by<A: Allocator + Copy>(
+    states: &StateSet<A>,
+    space: &mut Space<A>,
     report: Report,
-    alloc: &A,
-) -> Result<Judged<A>, AllocError>
-    ensures { IfOk result (λ judged. judged ≡ judgment_by (map proc states.now) report) }
+) -> Result<Judged<A>, AfterFault>
+    requires { IsSetOf space.old states.now }
+    ensures judged { (u : List Event) → Belongs space.old states.now u → IfOk result (IsJudgment space.old u report) }
+    ensures within { (u : List Event) → Belongs space.old states.now u → OnOk result (MeetsNone (bodies_of space.old.bodies) u report) }
+    ensures limit { (u : List Event) → Belongs space.old states.now u → IfErr result (Stops (bodies_of space.old.bodies) u report) }
+    ensures space { space.new ≡ space.old }
 {
     match report {
-        Report::Event(event) => {
-            let next = next_states(states, event, alloc)?;
-            Ok(Judged {
+        Report::Event(event) => match states.advance(space, event) {
+            Ok(next) => Ok(Judged {
                 report,
-                verdict: !next.is_empty(),
-                states: next,
-            })
-        }
+                verdict: next.is_some(),
+                next,
+            }),
+            Err(fault) => Err(fault),
+        },
         Report::Refusal(set) => Ok(Judged {
             report,
-            verdict: some_state_rests(states, &set),
-            states: Vec::new(alloc.clone()?),
+            verdict: states.refuses(space, &set),
+            next: None,
         }),
     }
 }

@@ -1,8 +1,7 @@
 //! Reads a script of channels without fields and one process of `STOP`, prefix and external choice.
 ghost use Rattle.std.specs.Prelude.{IfOk, OnOk, ◌<◌, length};
-ghost use Rattle.term.specs.Proc.{proc, bodies_of};
+ghost use Rattle.term.specs.Proc.{proc};
 ghost use Rattle.term.specs.Specs.{LiesIn};
-ghost use Rattle.monitor.specs.Plain.{IsPlain};
 ghost use Rattle.alphabet.specs.Channels.{IsEvent, event_count};
 ghost use Rattle.outline.specs.Plain.{HasNoFields};
 
@@ -159,8 +158,7 @@ fn term_of<A: Allocator + Copy>(
     process: &[u8],
     phrase: &Phrase<'_, A>,
 ) -> Result<Term<A>, ScriptError>
-    ensures plain { IfOk result (λ term. IsPlain (proc term)) }
-    ensures within { IfOk result (λ term. LiesIn (event_count alphabet.now) 1 (proc term)) }
+    ensures { IfOk result (λ term. LiesIn (event_count alphabet.now) 1 (proc term)) }
 {
     match phrase {
         Phrase::Stop => Ok(Term::Stop),
@@ -227,7 +225,6 @@ fn spec_of<A: Allocator + Copy>(
     outline: &Outline<'_, A>,
     root: &[u8],
 ) -> Result<Spec<A>, ScriptError>
-    ensures { IfOk result (λ spec. IsPlain (bodies_of spec.bodies 0)) }
 {
     let alphabet = alphabet_of(alloc, &outline.channels)?;
     if let Some(line) = redeclared_line(outline) {
@@ -251,7 +248,6 @@ fn spec_of<A: Allocator + Copy>(
 
 /// Reads the specification that the script is, with this process as its root.
 pub fn read<A: Allocator + Copy>(alloc: A, text: &[u8], root: &[u8]) -> Result<Spec<A>, ScriptError>
-    ensures { IfOk result (λ spec. IsPlain (bodies_of spec.bodies 0)) }
 {
     if text.len() > LONGEST {
         return Err(fault(1, ScriptErrorKind::TooLarge));

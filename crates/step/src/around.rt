@@ -10,7 +10,7 @@ use term::Term;
 
 /// A term with a place for one of its parts.
 #[derive_where(Clone, Copy)]
-pub(crate) enum Around<'a, A: Allocator> {
+pub enum Around<'a, A: Allocator> {
     ExtLeft(&'a Term<A>),
     ExtRight(&'a Term<A>),
     SeqLeft(&'a Term<A>),
@@ -33,7 +33,7 @@ pub(crate) struct Sides<'a, A: Allocator> {
 
 impl<'a, A: Allocator + Clone> Around<'a, A> {
     /// The term with this part in its place.
-    pub(crate) fn put(&self, alloc: &A, part: Term<A>) -> Result<Term<A>, AllocError>
+    pub fn put(&self, alloc: &A, part: Term<A>) -> Result<Term<A>, AllocError>
         ensures { IfOk result (λ whole. proc whole ≡ around self.now (proc part)) }
     {
         let part = Box::new(alloc.clone()?, part)?;
@@ -54,7 +54,7 @@ impl<'a, A: Allocator + Clone> Around<'a, A> {
     }
 
     /// Each part put in its place, at the end of the list.
-    pub(crate) fn put_all(
+    pub fn put_all(
         &self,
         alloc: &A,
         parts: Vec<Term<A>, A>,

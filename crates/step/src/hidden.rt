@@ -103,7 +103,7 @@ pub(crate) fn put_hids<A: Allocator + Clone>(
 }
 
 /// A copy of the body with this number; `STOP`, where there is none.
-fn body_of<A: Allocator + Clone>(
+pub fn body_of<A: Allocator + Clone>(
     spec: &Spec<A>,
     number: usize,
     alloc: &A,

@@ -1,7 +1,7 @@
 //! The steps of processes: what a term becomes by an event, by its termination, or by itself.
 #![tactic(auto)]
 
-mod around;
+pub mod around;
 mod events;
 mod hidden;
 mod looks;
@@ -10,4 +10,5 @@ mod targets;
 mod tests;
 
 pub use looks::{can_tick, is_stable, offers};
+pub use hidden::body_of;
 pub use targets::{DEEPEST_STATE, Label, StepFault, steps};

@@ -1,6 +1,6 @@
 //! Tests of steps against targets that were worked out by hand.
 
-ghost use Rattle.std.specs.Prelude.{IfOk, ◌≡◌, length};
+ghost use Rattle.std.specs.Prelude.{IfOk, ◌≡◌, ℕ, length};
 ghost use Rattle.alphabet.specs.Channels.{event_count};
 ghost use Rattle.term.specs.Proc.{proc};
 ghost use Rattle.term.specs.Specs.{LiesIn};
@@ -140,5 +140,42 @@ fn step_rows(rt: HostRuntime) -> Result<(), Fail> {
     assert_eq!(rt; fault.word(), "depth");
     assert_eq!(rt; targets.len(), 1);
     assert!(rt; targets[0].equal(&Term::Skip));
+    Ok(())
+}
+
+/// The process `SKIP [] Q`, where Q is body 1.
+fn ending(alloc: Global) -> Made
+    ensures { IfOk result (λ term. (n : ℕ) → LiesIn n 2 (proc term)) }
+{
+    Ok(Term::Ext(
+        Box::new(alloc, Term::Skip)?,
+        Box::new(alloc, Term::Name(1))?,
+    ))
+}
+
+/// The specification of no event with the bodies `SKIP [] Q` and, of Q, `Q`.
+fn looping(alloc: Global) -> Result<Spec<Global>, Fail>
+    ensures { IfOk result (λ spec. length spec.bodies ≡ 2) }
+{
+    let mut bodies = Vec::new(alloc);
+    bodies.push(ending(alloc)?)?;
+    bodies.push(Term::Name(1))?;
+    Ok(Spec::new(Alphabet::new(alloc), bodies))
+}
+
+#[test]
+fn an_end_beside_a_loop(rt: HostRuntime) -> Result<(), Fail> {
+    let alloc = rt.alloc();
+    let spec = looping(alloc)?;
+    let whole = ending(alloc)?;
+
+    // it can terminate and offers nothing, so it refuses all of Sigma, though it never rests
+    assert!(rt; can_tick(&whole));
+    assert!(rt; !is_stable(&whole));
+    assert!(rt; offers(&whole).is_empty());
+    let mut targets = Vec::new(alloc);
+    steps(&spec, &whole, Label::Tau, &alloc, &mut targets)?;
+    assert_eq!(rt; targets.len(), 1);
+    assert!(rt; targets[0].equal(&whole));
     Ok(())
 }

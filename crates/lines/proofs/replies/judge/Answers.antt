@@ -1,10 +1,10 @@
-use Rattle.std.proofs.Common.{rules, ◌≡◌, ◌∙◌, ◌+◌, ◌<◌, ◌++◌, ◌↔◌, ℕ, List, Bool, true, sym, ap, subst, inl, arith, nat_lt, IsTrue}
+use Rattle.std.proofs.Common.{rules, ◌≡◌, ◌∙◌, ◌+◌, ◌<◌, ◌++◌, ◌↔◌, ℕ, List, Bool, true, sym, ap, subst, inl, inr, arith, nat_lt, IsTrue}
 use Rattle.std.proofs.lemmas.Bool.{lt-ltb}
 use Rattle.term.specs.Proc.{bodies_of}
 use Rattle.term.specs.Verdict.{Verdict}
 use Rattle.monitor.specs.TraceAfter.{trace_after}
 use Rattle.lines.specs.Tallies.{counted}
-use Rattle.lines.specs.Replies.{Judges, course, with_verdict, verdict_text}
+use Rattle.lines.specs.Replies.{Judges, course, with_verdict, with_limit, verdict_text, fault_text}
 use Rattle.lines.proofs.replies.judge.Goals as goal
 
 pub returns-in-Ok-clause-said : goal.returns-in-Ok-clause-said
@@ -28,3 +28,11 @@ returns-in-Ok-clause-said g c =
     let text : c.add_verdict.new.reply.items ≡ verdict_text accepted (tally.judged + 1) =
     c.add_verdict.ensures.items ∙ ap (λ v. v ++ verdict_text accepted c.count.new.self.judged) c.requires.empty ∙ ap (verdict_text accepted) place in
     inl (accepted, below, right, moved, text)
+
+pub returns-in-Err-clause-said : goal.returns-in-Err-clause-said
+returns-in-Err-clause-said g c =
+    let old = c.args.monitor.now in
+    let moved : course c.judge.new.self.trace c.limit-in-Err.new.self ≡ with_limit (course old.trace c.args.tally.now) =
+    ap (λ s. course s c.limit-in-Err.new.self) c.in-Err.ensures.trace ∙ ap (λ t. course old.trace t) c.limit-in-Err.ensures in
+    let text : c.add_fault.new.reply.items ≡ fault_text c.in-Err.fault = c.add_fault.ensures.items ∙ ap (λ v. v ++ fault_text c.in-Err.fault) c.requires.empty in
+    inr (inr (c.in-Err.fault, c.in-Err.ensures.limit, moved, text))

@@ -1,18 +1,33 @@
-use Rattle.std.proofs.Common.{◌-◌, map, vec_len, vec_capacity, refl, arith}
-use Rattle.term.specs.Proc.{proc, bodies_of}
-use Rattle.monitor.proofs.Judgments.{ok-verdict, ok-is_of}
+use Rattle.std.proofs.Common.{◌≡◌, ◌-◌, ◌↔◌, IsTrue, vec_len, vec_capacity, arith}
+use Rattle.term.specs.Proc.{bodies_of}
+use Rattle.term.specs.Verdict.{Verdict}
+use Rattle.monitor.specs.Monitors.{IsJudgment, IsOf, Monitoring}
+use Rattle.monitor.proofs.Judgments.{if-ok, judgment-of}
 use Rattle.monitor.proofs.monitor.Monitor.judge.Goals as goal
 
-pub returns-clause-verdict : goal.returns-clause-verdict
-returns-clause-verdict g c =
-    rw (← c.self.view_is)
-    (ok-verdict (bodies_of c.self.inside.spec.bodies) c.self.inside.trace.items (map proc c.self.inside.states.items) c.self.invariant c.args.report.now c.judge_by.result
-    (rw c.deref.ensures.value at c.judge_by.ensures))
+pub returns-in-Ok-clause-report : goal.returns-in-Ok-clause-report
+returns-in-Ok-clause-report g c =
+    let s = c.self.inside.space in
+    let u = c.self.inside.trace.items in
+    if-ok (IsJudgment s u c.args.report.now) (λ j. j.report ≡ c.args.report.now) c.judge_by.result (λ j k. k.report) (c.judge_by.ensures.judged u c.self.invariant)
 
-pub returns-clause-judged : goal.returns-clause-judged
-returns-clause-judged g c =
-    ok-is_of (bodies_of c.self.inside.spec.bodies) c.self.inside.trace.items (map proc c.self.inside.states.items) c.self.invariant
-    (record { spec = c.self.inside.spec; trace = c.reserve.new.self.items; room = vec_capacity c.reserve.new.self - vec_len c.reserve.new.self })
-    c.args.report.now c.judge_by.result refl c.in_ok-reserve.ensures.items
-    (omega (arith, c.in_ok-reserve.ensures.ok))
-    (rw c.deref.ensures.value at c.judge_by.ensures)
+pub returns-in-Ok-clause-verdict : goal.returns-in-Ok-clause-verdict
+returns-in-Ok-clause-verdict g c =
+    let s = c.self.inside.space in
+    let u = c.self.inside.trace.items in
+    rw (← c.self.view_is)
+    (if-ok (IsJudgment s u c.args.report.now) (λ j. IsTrue j.verdict ↔ Verdict (bodies_of s.bodies) u c.args.report.now) c.judge_by.result (λ j k. k.verdict) (c.judge_by.ensures.judged u c.self.invariant))
+
+pub returns-in-Ok-clause-judged : goal.returns-in-Ok-clause-judged
+returns-in-Ok-clause-judged g c =
+    let s = c.self.inside.space in
+    let u = c.self.inside.trace.items in
+    let m : Monitoring = record { spec = c.judge_by.new.space; trace = c.reserve.new.self.items; room = vec_capacity c.reserve.new.self - vec_len c.reserve.new.self } in
+    if-ok (IsJudgment s u c.args.report.now) (IsOf m) c.judge_by.result
+    (judgment-of s u c.args.report.now m c.judge_by.ensures.space c.in-Ok.ensures.items (omega (arith, c.in-Ok.ensures.ok))) (c.judge_by.ensures.judged u c.self.invariant)
+
+pub returns-in-Ok-clause-within : goal.returns-in-Ok-clause-within
+returns-in-Ok-clause-within g c = rw (← c.self.view_is) (c.judge_by.ensures.within c.self.inside.trace.items c.self.invariant)
+
+pub returns-in-Ok-clause-limit : goal.returns-in-Ok-clause-limit
+returns-in-Ok-clause-limit g c = rw (← c.self.view_is) (c.judge_by.ensures.limit c.self.inside.trace.items c.self.invariant)

@@ -1,9 +1,12 @@
-use Rattle.std.proofs.Common.{[], ◌∷◌, ◌++◌, map, ap, ◌∙◌}
-use Rattle.term.specs.Proc.{proc, bodies_of}
-use Rattle.monitor.proofs.Plains.{follows-first}
+use Rattle.std.proofs.Common.{subst, sym}
+use Rattle.term.specs.Limits.{NoLimit, Opening}
+use Rattle.term.specs.Proc.{bodies_of}
+use Rattle.term.specs.Specs.{Specified}
+use Rattle.after.specs.Belonging.{Belongs}
 use Rattle.monitor.proofs.monitor.Monitor.new.Goals as goal
 
 pub invariant_of-result : goal.invariant_of-result
-invariant_of-result g c =
-    follows-first (bodies_of c.args.spec.bodies) c.requires c.new.result.items (map proc c.push.new.self.items) c.new.ensures.items
-    (ap (map proc) (c.in_ok-push.ensures.items ∙ ap (λ l. l ++ c.in_ok-try_clone.field-0 ∷ []) c.new-states.ensures.items) ∙ ap (λ p. p ∷ []) (c.in_ok-try_clone.ensures ∙ c.body.ensures.body))
+invariant_of-result g c = subst (λ u. Belongs c.start.new.space c.in-Ok.states u) (sym c.new.ensures.items) c.in-Ok.ensures.belongs
+
+pub returns-in-Ok-clause-within : goal.returns-in-Ok-clause-within
+returns-in-Ok-clause-within g c = subst (λ (s : Specified). NoLimit (bodies_of s.bodies) Opening) c.new-space.ensures c.in-Ok.ensures.within

@@ -1,0 +1,10 @@
+pub mod Lists
+pub mod Looking
+pub mod Expanding
+pub mod Putting
+pub mod Levels
+pub mod Rounds
+pub mod Renaming
+pub mod Keeping
+pub mod Belongings
+pub mod Advances

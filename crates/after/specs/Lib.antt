@@ -1,0 +1,3 @@
+pub mod Belonging
+pub mod Closing
+pub mod Faults

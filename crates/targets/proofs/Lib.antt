@@ -1,0 +1,10 @@
+pub mod Cutting
+pub mod Lists
+pub mod Inverting
+pub mod Sources
+pub mod Tests
+pub mod Depths
+pub mod Forms
+pub mod DeepForms
+pub mod Doing
+pub mod Single

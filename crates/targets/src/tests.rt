@@ -1,0 +1,157 @@
+//! Tests of parallels with exponentially many targets, and of rows that were worked out by hand.
+
+ghost use Rattle.std.specs.Prelude.{IfOk, ◌≡◌, ◌<◌, length};
+ghost use Rattle.alphabet.specs.Channels.{event_count};
+ghost use Rattle.term.specs.Proc.{proc};
+ghost use Rattle.term.specs.Specs.{LiesIn, SetInSigma};
+
+use crate::{distinct_targets, has_deep_target};
+use alphabet::{Alphabet, Event, EventSet};
+use std::alloc::{AllocError, Global};
+use std::process::Abort;
+use std::test::Fail;
+use step::Label;
+use term::{Spec, Term};
+
+type Made = Result<Term<Global>, AllocError>;
+
+const BY_A: Label = Label::Event(Event::Of(0));
+
+/// The process `event -> rest`.
+fn prefix(alloc: Global, event: u8, rest: Term<Global>) -> Made
+    requires event { event < 2 }
+    requires rest { LiesIn 2 1 (proc rest) }
+    ensures { IfOk result (λ term. LiesIn 2 1 (proc term)) }
+{
+    Ok(Term::Prefix(Event::Of(event), Box::new(alloc, rest)?))
+}
+
+/// The process `a -> STOP [] a -> b -> STOP`, or with two equal sides `a -> STOP [] a -> STOP`.
+fn branches(alloc: Global, equal: bool) -> Made
+    ensures { IfOk result (λ term. LiesIn 2 1 (proc term)) }
+{
+    let left = prefix(alloc, 0, Term::Stop)?;
+    let after = if equal {
+        Term::Stop
+    } else {
+        prefix(alloc, 1, Term::Stop)?
+    };
+    let right = prefix(alloc, 0, after)?;
+    Ok(Term::Ext(Box::new(alloc, left)?, Box::new(alloc, right)?))
+}
+
+/// The set of the event a.
+fn only_a() -> EventSet
+    ensures { SetInSigma 2 result }
+{
+    EventSet::empty().with(Event::Of(0))
+}
+
+/// So many more copies of the branches in parallel with the term, by the event a together.
+fn together(alloc: Global, copies: u8, equal: bool) -> Made
+    ensures { IfOk result (λ term. LiesIn 2 1 (proc term)) }
+{
+    let mut term = branches(alloc, equal)?;
+    for _ in 1..copies {
+        let copy = branches(alloc, equal)?;
+        term = Term::Par(only_a(), Box::new(alloc, term)?, Box::new(alloc, copy)?);
+    }
+    Ok(term)
+}
+
+/// The term, with the event a hidden.
+fn hiding(alloc: Global, inner: Term<Global>) -> Made
+    requires { LiesIn 2 1 (proc inner) }
+    ensures { IfOk result (λ term. LiesIn 2 1 (proc term)) }
+{
+    Ok(Term::Hide(only_a(), Box::new(alloc, inner)?))
+}
+
+/// The term, with so many renamings of each of the events a and b to both.
+fn renamed(alloc: Global, times: u8, inner: Term<Global>) -> Made
+    requires { LiesIn 2 1 (proc inner) }
+    ensures { IfOk result (λ term. LiesIn 2 1 (proc term)) }
+{
+    let mut term = inner;
+    for _ in 0..times {
+        let pairs = vec![in alloc; (0, 0), (0, 1), (1, 0), (1, 1)]?;
+        term = Term::Ren(pairs, Box::new(alloc, term)?);
+    }
+    Ok(term)
+}
+
+/// The specification of the events a and b with the one body `a -> STOP`.
+fn specified(rt: &impl Abort, alloc: Global) -> Result<Spec<Global>, Fail>
+    ensures events { IfOk result (λ spec. event_count spec.alphabet ≡ 2) }
+    ensures bodies { IfOk result (λ spec. length spec.bodies ≡ 1) }
+{
+    let mut alphabet = Alphabet::new(alloc);
+    alphabet.declare(b"a", &[])?;
+    alphabet.declare(b"b", &[])?;
+    let events = alphabet.len();
+    assert_eq!(rt; events, 2);
+    let mut bodies = Vec::new(alloc);
+    bodies.push(prefix(alloc, 0, Term::Stop)?)?;
+    Ok(Spec::new(alphabet, bodies))
+}
+
+/// Asserts how many targets the call gives, and that none is too deep.
+fn assert_count(
+    rt: &impl Abort,
+    alloc: Global,
+    term: &Term<Global>,
+    label: Label,
+    most: usize,
+    expected: usize,
+) -> Result<(), Fail>
+    requires { LiesIn 2 1 (proc term.now) }
+{
+    let spec = specified(rt, alloc)?;
+    assert!(rt; !has_deep_target(&spec, term, label));
+    let found = distinct_targets(&spec, term, label, most, &alloc)?;
+    assert_eq!(rt; found.len(), expected, "{label:?}");
+    Ok(())
+}
+
+#[test]
+fn exponentially_many_targets(rt: HostRuntime) -> Result<(), Fail> {
+    let alloc = rt.alloc();
+    let many = together(alloc, 20, false)?;
+    assert_count(&rt, alloc, &many, BY_A, 4096, 4097)?;
+    let hidden = hiding(alloc, many)?;
+    assert_count(&rt, alloc, &hidden, Label::Tau, 4096, 4097)?;
+    assert_count(&rt, alloc, &hidden, BY_A, 4096, 0)?;
+
+    let same = together(alloc, 20, true)?;
+    assert_count(&rt, alloc, &same, BY_A, 4096, 1)?;
+    let hidden = hiding(alloc, same)?;
+    assert_count(&rt, alloc, &hidden, Label::Tau, 4096, 1)?;
+
+    let few = together(alloc, 2, false)?;
+    assert_count(&rt, alloc, &few, BY_A, 4, 4)?;
+    assert_count(&rt, alloc, &few, BY_A, 3, 4)?;
+    assert_count(&rt, alloc, &few, BY_A, 2, 3)?;
+    assert_count(&rt, alloc, &few, BY_A, 0, 1)?;
+
+    let deep = renamed(alloc, 200, branches(alloc, false)?)?;
+    assert_count(&rt, alloc, &deep, BY_A, 4096, 2)?;
+    Ok(())
+}
+
+#[test]
+fn ends_and_depths(rt: HostRuntime) -> Result<(), Fail> {
+    let alloc = rt.alloc();
+    let end = Label::Event(Event::TICK);
+    assert_count(&rt, alloc, &Term::Skip, end, 1, 1)?;
+    assert_count(&rt, alloc, &Term::Stop, end, 1, 0)?;
+    let spec = specified(&rt, alloc)?;
+    let mut term = Term::Name(0);
+    for _ in 0..998u16 {
+        term = Term::Ren(Vec::new(alloc), Box::new(alloc, term)?);
+    }
+    assert!(rt; !has_deep_target(&spec, &term, Label::Tau));
+    let deeper = Term::Ren(Vec::new(alloc), Box::new(alloc, term)?);
+    assert!(rt; has_deep_target(&spec, &deeper, Label::Tau));
+    assert!(rt; !has_deep_target(&spec, &deeper, BY_A));
+    Ok(())
+}
