@@ -42,11 +42,11 @@ distinct-append [] m d e h = e
 distinct-append (P ∷ l) m d e h =
     ((λ i. elim (append-In l m P i) [ inl j ↦ d.0 j | inr j ↦ h P here j ]), distinct-append l m d.1 e (λ Q i j. h Q (there i) j))
 
-distinct-front : (l m : List Proc) → Distinct (l ++ m) → Distinct l
+pub distinct-front : (l m : List Proc) → Distinct (l ++ m) → Distinct l
 distinct-front [] m d = tt
 distinct-front (P ∷ l) m d = ((λ i. d.0 (In-append_l i m)), distinct-front l m d.1)
 
-nothing : {P : Proc} {l : List Proc} → In P l → l ≡ [] → ⊥
+pub nothing : {P : Proc} {l : List Proc} → In P l → l ≡ [] → ⊥
 nothing here e = cc
 nothing (there i) e = cc
 

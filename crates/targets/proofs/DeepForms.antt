@@ -13,7 +13,7 @@ use Rattle.step.specs.Offers.{Offers}
 use Rattle.targets.specs.Cuts.{HasDeeper}
 use Rattle.targets.specs.Among.{ActsIn, Joint}
 use Rattle.targets.proofs.Cutting.{Image}
-use Rattle.targets.proofs.Tests.{says-or, says-and, says-to}
+use Rattle.targets.proofs.Saying.{says-or, says-and, says-to}
 use Rattle.targets.proofs.Forms.{quiet, silent, silent-acts, quiet-moves}
 use Rattle.targets.proofs.Inverting.{OrEnd, par-act, minus-parts, minus-whole, prefix-acts, prefix-none, ext-acts, seq-acts, intr-acts, hide-acts, ren-acts, ext-hids, intr-hids, int-hids, seq-hids, par-hids, hide-hids, ren-hids, name-hids}
 use Rattle.targets.proofs.Depths.{depth-some, deeper-to, deeper-or, deeper-one, deeper-in, deeper-beside, moves}

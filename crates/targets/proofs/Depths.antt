@@ -16,7 +16,7 @@ use Rattle.step.proofs.Rest.{resting-says}
 use Rattle.targets.specs.Cuts.{HasDeeper}
 use Rattle.targets.specs.Among.{ActsIn}
 use Rattle.targets.proofs.Cutting.{Image}
-use Rattle.targets.proofs.Tests.{some_event}
+use Rattle.targets.proofs.Saying.{some_event}
 
 pub depth-some : (P : Proc) → 0 < depth P
 depth-some stop = omega arith

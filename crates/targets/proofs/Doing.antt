@@ -9,7 +9,7 @@ use Rattle.term.proofs.Bools.{true-or-false}
 use Rattle.step.specs.Offers.{Offers}
 use Rattle.step.proofs.Renamed.{and-none}
 use Rattle.targets.specs.Among.{ActsIn}
-use Rattle.targets.proofs.Tests.{some_event}
+use Rattle.targets.proofs.Saying.{some_event}
 
 pub does-says : (S o s : Set) (P : Proc) (b : Bool) → ((a : ℕ) → IsTrue (has o a) ↔ Offers P a) → member o tick ≡ false → ((x : Event) → member s x ≡ (member o x && member S x)) → IsTrue b ↔ ((x : Event) → member s x ≡ false) → IsTrue (not b) ↔ ((Q : Proc) × ActsIn S P Q)
 does-says S o s P b says t is empty = (to b empty, from b empty)

@@ -2,7 +2,7 @@ pub mod Cutting
 pub mod Lists
 pub mod Inverting
 pub mod Sources
-pub mod Tests
+pub mod Saying
 pub mod Depths
 pub mod Forms
 pub mod DeepForms

@@ -10,7 +10,7 @@ use Rattle.step.proofs.Lists.{map_more, pairs_of_more}
 use Rattle.step.proofs.ActList.{append-In, In-append_l, In-append_r}
 use Rattle.targets.specs.Cuts.{CutOf}
 use Rattle.targets.specs.Among.{InEither, Joined}
-use Rattle.targets.proofs.Cutting.{only, distinct-push, cut-all, cut-join, cut-to}
+use Rattle.targets.proofs.Cutting.{nothing, only, distinct-push, distinct-front, cut-all, cut-join, cut-to}
 
 -- ---- is the process in the list?
 pub In-at : {A : Type 0} (xs : List (Term A)) (i : ℕ) (d : Term A) → i < length xs → In (proc (get_or xs i d)) (map proc xs)
@@ -36,11 +36,19 @@ present false says h = absurd (cc)
 
 -- ---- one list behind the other
 module _ (n : ℕ) (l : List Proc) where
+  pub joined-first : (qs : List Proc) → l ≡ [] → Joined n l qs qs
+  joined-first qs e d f =
+      record {
+        once = f;
+        only = λ Q i. inr i;
+        all = inr (λ Q s. elim s [ inl i ↦ absurd (nothing i e) | inr i ↦ i ]);
+      }
+
   pub joined-none : Joined n l [] l
-  joined-none d = record { once = d; only = λ Q i. inl i; all = inr (λ Q s. elim s [ inl i ↦ i | inr i ↦ elim i [ ] ]) }
+  joined-none d e = record { once = d; only = λ Q i. inl i; all = inr (λ Q s. elim s [ inl i ↦ i | inr i ↦ elim i [ ] ]) }
 
   pub joined-new : (P : Proc) → (In P l → ⊥) → Joined n l (P ∷ []) (l ++ P ∷ [])
-  joined-new P h d =
+  joined-new P h d e =
       record {
         once = distinct-push l P d h;
         only = λ Q i. append-In l (P ∷ []) Q i;
@@ -48,7 +56,7 @@ module _ (n : ℕ) (l : List Proc) where
       }
 
   pub joined-old : (P : Proc) → In P l → Joined n l (P ∷ []) l
-  joined-old P h d =
+  joined-old P h d e =
       record {
         once = d;
         only = λ Q i. inl i;
@@ -56,14 +64,14 @@ module _ (n : ℕ) (l : List Proc) where
       }
 
   pub joined-full : (ps : List Proc) → n < length l → Joined n l ps l
-  joined-full ps h d = record { once = d; only = λ Q i. inl i; all = inl h }
+  joined-full ps h d e = record { once = d; only = λ Q i. inl i; all = inl h }
 
   pub joined-more : (ps m k : List Proc) (P : Proc) → Joined n l ps m → Joined n m (P ∷ []) k → Joined n l (ps ++ P ∷ []) k
-  joined-more ps m k P h g d =
-      let c = h d in
+  joined-more ps m k P h g d e =
+      let c = h d (distinct-front ps (P ∷ []) e) in
       let one : Distinct (P ∷ []) = ((λ i. elim i [ ]), tt) in
       cut-to (λ Q. InEither l ps Q ⊎ In Q (P ∷ [])) (InEither l (ps ++ P ∷ [])) n k same
-      (cut-join (InEither l ps) (λ Q. In Q (P ∷ [])) n m (P ∷ []) k c (cut-all n (P ∷ []) one) (g c.once))
+      (cut-join (InEither l ps) (λ Q. In Q (P ∷ [])) n m (P ∷ []) k c (cut-all n (P ∷ []) one) (g c.once one))
     where
       same : (Q : Proc) → (InEither l ps Q ⊎ In Q (P ∷ [])) ↔ InEither l (ps ++ P ∷ []) Q
       same Q = (
@@ -79,7 +87,11 @@ module _ (n : ℕ) (l : List Proc) where
 
 -- of two sets together, where their cuts were joined
 pub joined-cut : (S T : Terms) (n : ℕ) (l r t : List Proc) → CutOf S n l → CutOf T n r → Joined n l r t → CutOf (λ Q. S Q ⊎ T Q) n t
-joined-cut S T n l r t c d j = cut-join S T n l r t c d (j c.once)
+joined-cut S T n l r t c d j = cut-join S T n l r t c d (j c.once d.once)
+
+pub empty_list : {A : Type 0} (xs : List A) → length xs ≡ 0 → xs ≡ []
+empty_list [] e = refl
+empty_list (x ∷ xs) e = absurd (omega arith)
 
 -- ---- as far as the bound
 pub take-front : (k : ℕ) (xs ys : List Proc) → take k (take k xs ++ ys) ≡ take k (xs ++ ys)

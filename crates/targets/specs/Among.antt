@@ -23,6 +23,6 @@ JointBelow n A S P Q R = (a : ℕ) × (a < n) × (has S a ≡ true) × Joint A P
 abbrev pub InEither : List Proc → List Proc → Terms
 InEither ps qs Q = In Q ps ⊎ In Q qs
 
--- The one list, without repeats, and behind it what is new of the other, as far as the bound.
+-- What stands in one of two lists, neither with repeats, as far as the bound.
 abbrev pub Joined : ℕ → List Proc → List Proc → List Proc → Type 0
-Joined most ps qs found = Distinct ps → CutOf (InEither ps qs) most found
+Joined most ps qs found = Distinct ps → Distinct qs → CutOf (InEither ps qs) most found

@@ -25,7 +25,7 @@ pub(crate) fn placed<A: Allocator + Clone>(
     Ok(whole)
 }
 
-/// The first list and behind it what is new of the second, as long as there are no more than `most`.
+/// The terms of both lists, neither with repeats, without repeats: all of them, or more than `most`.
 pub(crate) fn join<A: Allocator + Clone>(
     lefts: Vec<Term<A>, A>,
     rights: Vec<Term<A>, A>,
@@ -33,6 +33,9 @@ pub(crate) fn join<A: Allocator + Clone>(
 ) -> Result<Vec<Term<A>, A>, AllocError>
     ensures { IfOk result (λ found. Joined most (map proc lefts.items) (map proc rights.items) (map proc found.items)) }
 {
+    if lefts.is_empty() {
+        return Ok(rights);
+    }
     let mut found = lefts;
     for term in rights {
         add(term, most, &mut found)?;

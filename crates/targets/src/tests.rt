@@ -68,7 +68,7 @@ fn hiding(alloc: Global, inner: Term<Global>) -> Made
 }
 
 /// The term, with so many renamings of each of the events a and b to both.
-fn renamed(alloc: Global, times: u8, inner: Term<Global>) -> Made
+fn renamed(alloc: Global, times: u16, inner: Term<Global>) -> Made
     requires { LiesIn 2 1 (proc inner) }
     ensures { IfOk result (λ term. LiesIn 2 1 (proc term)) }
 {
@@ -113,45 +113,65 @@ fn assert_count(
     Ok(())
 }
 
+/// The same for copies in parallel, by the event a.
+fn assert_together(
+    rt: &impl Abort,
+    alloc: Global,
+    copies: u8,
+    equal: bool,
+    most: usize,
+    expected: usize,
+) -> Result<(), Fail> {
+    let term = together(alloc, copies, equal)?;
+    assert_count(rt, alloc, &term, BY_A, most, expected)
+}
+
+/// The same for 20 copies with the event a hidden.
+fn assert_hidden(
+    rt: &impl Abort,
+    alloc: Global,
+    equal: bool,
+    expected: usize,
+) -> Result<(), Fail> {
+    let term = hiding(alloc, together(alloc, 20, equal)?)?;
+    assert_count(rt, alloc, &term, Label::Tau, 4096, expected)
+}
+
+/// The same for one copy in 200 renamings.
+fn assert_renamed(rt: &impl Abort, alloc: Global, expected: usize) -> Result<(), Fail> {
+    let term = renamed(alloc, 200, branches(alloc, false)?)?;
+    assert_count(rt, alloc, &term, BY_A, 4096, expected)
+}
+
+/// Whether a name in so many renamings has a step to a term that is too deep.
+fn is_too_deep(rt: &impl Abort, alloc: Global, renamings: u16) -> Result<bool, Fail> {
+    let spec = specified(rt, alloc)?;
+    let term = renamed(alloc, renamings, Term::Name(0))?;
+    Ok(has_deep_target(&spec, &term, Label::Tau))
+}
+
 #[test]
 fn exponentially_many_targets(rt: HostRuntime) -> Result<(), Fail> {
     let alloc = rt.alloc();
-    let many = together(alloc, 20, false)?;
-    assert_count(&rt, alloc, &many, BY_A, 4096, 4097)?;
-    let hidden = hiding(alloc, many)?;
-    assert_count(&rt, alloc, &hidden, Label::Tau, 4096, 4097)?;
-    assert_count(&rt, alloc, &hidden, BY_A, 4096, 0)?;
-
-    let same = together(alloc, 20, true)?;
-    assert_count(&rt, alloc, &same, BY_A, 4096, 1)?;
-    let hidden = hiding(alloc, same)?;
-    assert_count(&rt, alloc, &hidden, Label::Tau, 4096, 1)?;
-
-    let few = together(alloc, 2, false)?;
-    assert_count(&rt, alloc, &few, BY_A, 4, 4)?;
-    assert_count(&rt, alloc, &few, BY_A, 3, 4)?;
-    assert_count(&rt, alloc, &few, BY_A, 2, 3)?;
-    assert_count(&rt, alloc, &few, BY_A, 0, 1)?;
-
-    let deep = renamed(alloc, 200, branches(alloc, false)?)?;
-    assert_count(&rt, alloc, &deep, BY_A, 4096, 2)?;
+    assert_together(&rt, alloc, 20, false, 4096, 4097)?;
+    assert_together(&rt, alloc, 20, true, 4096, 1)?;
+    assert_hidden(&rt, alloc, false, 4097)?;
+    assert_hidden(&rt, alloc, true, 1)?;
+    assert_renamed(&rt, alloc, 2)?;
     Ok(())
 }
 
 #[test]
-fn ends_and_depths(rt: HostRuntime) -> Result<(), Fail> {
+fn bounds_and_depths(rt: HostRuntime) -> Result<(), Fail> {
     let alloc = rt.alloc();
+    assert_together(&rt, alloc, 2, false, 4, 4)?;
+    assert_together(&rt, alloc, 2, false, 3, 4)?;
+    assert_together(&rt, alloc, 2, false, 2, 3)?;
+    assert_together(&rt, alloc, 2, false, 0, 1)?;
     let end = Label::Event(Event::TICK);
     assert_count(&rt, alloc, &Term::Skip, end, 1, 1)?;
     assert_count(&rt, alloc, &Term::Stop, end, 1, 0)?;
-    let spec = specified(&rt, alloc)?;
-    let mut term = Term::Name(0);
-    for _ in 0..998u16 {
-        term = Term::Ren(Vec::new(alloc), Box::new(alloc, term)?);
-    }
-    assert!(rt; !has_deep_target(&spec, &term, Label::Tau));
-    let deeper = Term::Ren(Vec::new(alloc), Box::new(alloc, term)?);
-    assert!(rt; has_deep_target(&spec, &deeper, Label::Tau));
-    assert!(rt; !has_deep_target(&spec, &deeper, BY_A));
+    assert!(rt; !is_too_deep(&rt, alloc, 998)?);
+    assert!(rt; is_too_deep(&rt, alloc, 999)?);
     Ok(())
 }

@@ -1,11 +1,18 @@
-use Rattle.std.proofs.Common.{rules, ◌≡◌, [], ◌∷◌, map, subst, ◌∙◌, sym}
+use Rattle.std.proofs.Common.{rules, arith, ◌≡◌, vec_len, length, ap, [], ◌∷◌, map, subst, ◌∙◌, sym}
+use Rattle.std.proofs.lemmas.Bool.{eqb-true}
 use Rattle.std.proofs.lemmas.List.{map-id, map-append}
 use Rattle.std.proofs.lemmas.Iterator.Consumers.{YieldsList-end}
 use Rattle.std.proofs.lemmas.Iterator.Adapters.{YieldsList-from_vec}
 use Rattle.term.specs.Proc.{proc}
 use Rattle.targets.specs.Among.{Joined}
-use Rattle.targets.proofs.Lists.{joined-none, joined-more}
+use Rattle.targets.proofs.Lists.{joined-first, joined-none, joined-more, empty_list}
 use Rattle.targets.proofs.cuts.join.Goals as goal
+
+pub returns-then-is_empty : goal.returns-then-is_empty
+returns-then-is_empty g c =
+    let none : vec_len c.args.lefts ≡ 0 = eqb-true (vec_len c.args.lefts) 0 (sym c.is_empty.ensures ∙ c.if-is_empty.true) in
+    let e : length c.args.lefts.items ≡ 0 = omega arith in
+    joined-first c.args.most (map proc c.args.lefts.items) (map proc c.args.rights.items) (ap (map proc) (empty_list c.args.lefts.items e))
 
 pub loop-term-init : goal.loop-term-init
 loop-term-init g c = joined-none c.args.most (map proc c.args.lefts.items)
