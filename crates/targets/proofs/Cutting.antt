@@ -69,7 +69,7 @@ cut-to S T n l e c =
 
 -- of nothing
 pub cut-none : (S : Terms) (n : ℕ) → ((Q : Proc) → S Q → ⊥) → CutOf S n []
-cut-none S n h = record { once = tt; only = λ Q i. elim i [ ]; all = inr (λ Q s. absurd (h Q s)); }
+cut-none S n h = record { once = tt; only = λ Q i. elim i [ ]; all = inr (λ Q s. absurd (h Q s)) }
 
 -- of one process
 pub cut-one : (n : ℕ) (P : Proc) → CutOf (λ Q. Q ≡ P) n (P ∷ [])
@@ -82,7 +82,7 @@ cut-one n P =
 
 -- of a list without repeats, the whole list
 pub cut-all : (n : ℕ) (l : List Proc) → Distinct l → CutOf (λ Q. In Q l) n l
-cut-all n l d = record { once = d; only = λ Q i. i; all = inr (λ Q i. i); }
+cut-all n l d = record { once = d; only = λ Q i. i; all = inr (λ Q i. i) }
 
 -- of two sets together, where they were cut and their cuts joined
 pub cut-join : (S T : Terms) (n : ℕ) (l r t : List Proc) → CutOf S n l → CutOf T n r → CutOf (InEither l r) n t → CutOf (λ Q. S Q ⊎ T Q) n t

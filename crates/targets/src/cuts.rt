@@ -98,7 +98,13 @@ pub(crate) fn pairs<A: Allocator + Clone>(
 {
     let mut found = Vec::new(alloc.clone()?);
     for left in lefts {
-        put_pairs_of(&Around::ParRight(set, left), rights, most, alloc, &mut found)?;
+        put_pairs_of(
+            &Around::ParRight(set, left),
+            rights,
+            most,
+            alloc,
+            &mut found,
+        )?;
     }
     Ok(found)
 }

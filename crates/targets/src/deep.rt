@@ -22,7 +22,11 @@ pub fn has_deep_target<A: Allocator>(spec: &Spec<A>, term: &Term<A>, label: Labe
     match label {
         Label::Tau => is_hidden_deeper(spec, term, DEEPEST_STATE),
         Label::Event(Event::Of(event)) => {
-            is_event_deeper(term, EventSet::empty().with(Event::Of(event)), DEEPEST_STATE)
+            is_event_deeper(
+                term,
+                EventSet::empty().with(Event::Of(event)),
+                DEEPEST_STATE,
+            )
         }
         Label::Event(Event::Tick) => false,
     }
@@ -53,14 +57,12 @@ fn is_event_deeper<A: Allocator>(term: &Term<A>, events: EventSet, limit: u64) -
         Term::Hide(set, p) => is_event_deeper(p, events.minus(*set), below),
         Term::Ren(pairs, p) => is_event_deeper(p, sources_in(pairs, events), below),
         Term::Intr(p, q) => {
-            let left = is_event_deeper(p, events, below) | does_any(p, events) & is_deeper(q, below);
+            let left = is_event_deeper(p, events, below)
+                | does_any(p, events) & is_deeper(q, below);
             left | is_event_deeper(q, events, limit)
         }
-        Term::Stop
-        | Term::Skip
-        | Term::Prefix(Event::Tick, _)
-        | Term::Int(_, _)
-        | Term::Name(_) => false,
+        Term::Stop | Term::Skip | Term::Prefix(Event::Tick, _) | Term::Int(_, _) | Term::Name(_) =>
+            false,
     }
 }
 
@@ -82,8 +84,10 @@ fn is_hidden_deeper<A: Allocator>(spec: &Spec<A>, term: &Term<A>, limit: u64) ->
             left | can_tick(p) & is_deeper(q, limit)
         }
         Term::Par(_, p, q) => {
-            let left = is_hidden_deeper(spec, p, below) | (!is_stable(p) | ends(p)) & is_deeper(q, below);
-            let right = is_hidden_deeper(spec, q, below) | (!is_stable(q) | ends(q)) & is_deeper(p, below);
+            let left = is_hidden_deeper(spec, p, below)
+                | (!is_stable(p) | ends(p)) & is_deeper(q, below);
+            let right = is_hidden_deeper(spec, q, below)
+                | (!is_stable(q) | ends(q)) & is_deeper(p, below);
             left | right
         }
         Term::Hide(set, p) => is_hidden_deeper(spec, p, below) | is_event_deeper(p, *set, below),

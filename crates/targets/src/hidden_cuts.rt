@@ -12,7 +12,6 @@ use crate::event_cuts::act_cut;
 use crate::event_sets::shared;
 use std::alloc::{AllocError, Allocator};
 use step::around::Around;
-
 use step::{body_of, can_tick, offers};
 use term::{Spec, Term};
 

@@ -127,12 +127,7 @@ fn assert_together(
 }
 
 /// The same for 20 copies with the event a hidden.
-fn assert_hidden(
-    rt: &impl Abort,
-    alloc: Global,
-    equal: bool,
-    expected: usize,
-) -> Result<(), Fail> {
+fn assert_hidden(rt: &impl Abort, alloc: Global, equal: bool, expected: usize) -> Result<(), Fail> {
     let term = hiding(alloc, together(alloc, 20, equal)?)?;
     assert_count(rt, alloc, &term, Label::Tau, 4096, expected)
 }

@@ -15,7 +15,7 @@ returns g c =
     elim c.if-test.branch [
       | then-test+then-len-most+then-not-contains+in_ok-try_clone+in_ok-push w ↦
           let e : map proc c.if-test.found.items ≡ l ++ P ∷ [] =
-              ap (λ v. map proc v.items) w.found-is ∙ ap (map proc) w.in_ok-push.ensures.items ∙ map-append proc c.args.parts.items (w.in_ok-try_clone.field-0 ∷ []) ∙ ap (λ Q. l ++ Q ∷ []) w.in_ok-try_clone.ensures in
+          ap (λ v. map proc v.items) w.found-is ∙ ap (map proc) w.in_ok-push.ensures.items ∙ map-append proc c.args.parts.items (w.in_ok-try_clone.field-0 ∷ []) ∙ ap (λ Q. l ++ Q ∷ []) w.in_ok-try_clone.ensures in
           subst (λ b. Joined n l (where_ b (P ∷ [])) (map proc c.if-test.found.items)) (sym w.if-test.true)
           (subst (Joined n l (P ∷ [])) (sym e) (joined-new n l P (absent w.contains.result (rw w.deref.ensures.value at w.contains.ensures) w.if-not-contains.true)))
       | else-test w ↦

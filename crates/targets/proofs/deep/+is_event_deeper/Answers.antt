@@ -79,5 +79,3 @@ returns-in-Intr g t c =
     (rw c.deref-in-Intr-2.ensures at c.does_any-in-Intr.ensures)
     (rw (c.saturating_sub-below.ensures, c.deref-in-Intr-3.ensures) at c.is_deeper-in-Intr.ensures)
     (rw c.deref-in-Intr-4.ensures at c.is_event_deeper-in-Intr-2.ensures))
-
-

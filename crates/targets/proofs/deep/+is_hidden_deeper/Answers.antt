@@ -87,4 +87,3 @@ returns-in-Name g t c =
     let n = c.args.limit in
     rw c.in-Name.is
     (name-hid-deep n B c.in-Name.number c.is_body_deeper.result c.is_body_deeper.ensures)
-

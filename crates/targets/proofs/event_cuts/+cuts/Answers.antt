@@ -138,7 +138,6 @@ act_cut-returns-in_ok-rights-in-Intr g t c =
     ((rw c.deref-in-Intr-3.ensures at c.in_ok-rights-in-Intr.ensures) n m small lies.1)
     j))
 
-
 pub joint_cut-returns-then-is_empty : goal.joint_cut-returns-then-is_empty
 joint_cut-returns-then-is_empty g t c =
     λ n m small lies lies'.

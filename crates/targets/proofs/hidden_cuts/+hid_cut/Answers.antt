@@ -141,7 +141,6 @@ returns-in_ok-push-in-Name g t c =
     (λ n m small lies. name-hid-cut c.args.most B c.in-Name.number (map proc c.push.new.self.items)
     (single c.new-found.result.items c.push.new.self.items c.in_ok-body_of-in-Name.field-0 (B c.in-Name.number) c.new-found.ensures.items c.in_ok-push-in-Name.ensures.items c.in_ok-body_of-in-Name.ensures))
 
-
 pub returns-in_ok-clone-in-Stop : goal.returns-in_ok-clone-in-Stop
 returns-in_ok-clone-in-Stop g t c =
     λ n m small lies.
