@@ -5,7 +5,7 @@
 
 REFERENCE is a folder with the package `cspref`, a reader in Python that was written apart from this one. The texts are
 made from the seed: valid ones, ones that were damaged at one place or several, and ones at the limits of heights and
-brackets. `tests/trees/main.rt` is run by `rt try` (or by what the variable RT names) in a folder of its own. Each difference is
+brackets. `tests/trees/main.rt.txt`, as the program `main.rt`, is run by `rt try` (or by what the variable RT names) in a folder of its own. Each difference is
 printed; the exit status is 1 where there is one. Where both find a text too deep, their lines may differ: this reader
 tells the first token with which every tree is too high, the reference the next one in some forms.
 """
@@ -311,7 +311,7 @@ def own_answers(texts):
         for name in ("tokens", "syntax"):
             shutil.copytree(os.path.join(TOP, "crates", name), os.path.join(crates, name))
         os.makedirs(os.path.join(crates, "trees", "src"))
-        shutil.copy(os.path.join(TOP, "tests", "trees", "main.rt"), os.path.join(crates, "trees", "src"))
+        shutil.copy(os.path.join(TOP, "tests", "trees", "main.rt.txt"), os.path.join(crates, "trees", "src", "main.rt"))
         with open(os.path.join(folder, "crates.txt"), "w") as out:
             out.write("tokens: thiserror\nsyntax: tokens\ntrees: syntax tokens\n")
         out = []
