@@ -9,6 +9,6 @@ mod targets;
 #[cfg(test)]
 mod tests;
 
-pub use looks::{can_tick, is_stable, offers};
 pub use hidden::body_of;
+pub use looks::{can_tick, is_stable, offers};
 pub use targets::{DEEPEST_STATE, Label, StepFault, steps};
