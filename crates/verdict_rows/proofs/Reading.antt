@@ -1,14 +1,17 @@
 -- What is read lies in the specification.
-use Rattle.std.proofs.Common.{◌≡◌, ℕ, ◌<◌, Bool, true, false, ◌||◌, IsTrue, List, [], ◌∷◌, ◌++◌, map, length, nat_eq, refl, sym, ap, ◌∙◌, subst, ◌⊎◌, inl, inr}
+use Rattle.std.proofs.Common.{◌≡◌, ℕ, ◌<◌, Bool, true, false, ◌||◌, IsTrue, List, [], ◌∷◌, ◌++◌, map, length, nat_eq, refl, sym, ap, ◌∙◌, subst, inl, inr, arith}
 use Rattle.std.specs.List.{All}
-use Rattle.std.proofs.lemmas.List.{map-append}
+use Rattle.std.proofs.lemmas.List.{map-append, length-map}
 use Rattle.std.proofs.lemmas.List.Elements.{All-push}
 use Rattle.std.proofs.lemmas.Bool.{eqb-true}
-use Rattle.alphabet.specs.Events.{Event, tick, ev, is_event}
+use Rattle.alphabet.specs.declared.events.Event.{Event}
+use Rattle.alphabet.specs.declared.events.Event.TheVariants.{Tick as tick, Of as ev}
+use Rattle.alphabet.specs.Events.{is_event}
+use Rattle.alphabet.specs.Channels.{Channel, event_count}
 use Rattle.alphabet.specs.EventSets.{Set, member}
 use Rattle.term.specs.declared.terms.Term.{Term}
 use Rattle.term.specs.Proc.{Proc, proc}
-use Rattle.term.specs.Specs.{InSigma, SetInSigma, LiesIn}
+use Rattle.term.specs.Specs.{InSigma, SetInSigma, LiesIn, IsClosed}
 use Rattle.term.proofs.Bools.{or-cases}
 
 is-event : (n a : ℕ) (x : Event) → a < n → is_event (ev a) x ≡ true → InSigma n x
@@ -31,3 +34,11 @@ pub bodies-more : {A : Type 0} (n m : ℕ) (ts new : List (Term A)) (t : Term A)
 bodies-more n m ts new t e a l =
     subst (λ ps. All (LiesIn n m) ps) (sym (ap (map proc) e ∙ map-append proc ts (t ∷ [])))
     (All-push (LiesIn n m) (map proc ts) (proc t) a l)
+
+-- bodies that lie in five events and in themselves are those of a specification
+pub closed-bodies : {A : Type 0} (ts : List (Term A)) (cs : List Channel) → event_count cs ≡ 5 → 0 < length ts → All (LiesIn 5 (length ts)) (map proc ts) → IsClosed (record { alphabet = cs; bodies = map proc ts })
+closed-bodies ts cs e h a =
+    let m : length (map proc ts) ≡ length ts = length-map ts proc in (
+      omega (arith, m, h),
+      subst (λ n. All (LiesIn n (length (map proc ts))) (map proc ts)) (sym e) (subst (λ k. All (LiesIn 5 k) (map proc ts)) (sym m) a),
+    )

@@ -5,15 +5,13 @@
 //! and an interrupt. `&bc.` stands before the two parts of a parallel that share b and c, `\bc.` before a process that
 //! hides them, and `%abac.` before one in which a is renamed to b and to c. Bodies are parted by `/`.
 
-ghost use Rattle.std.specs.Prelude.{IfOk, OnOk, ◌≡◌, ◌<◌, ◌↔◌, IsTrue, length, map};
+ghost use Rattle.std.specs.Prelude.{IfOk, OnOk, ◌<◌, length, map};
 ghost use Rattle.std.specs.List.{All};
-ghost use Rattle.alphabet.specs.Channels.{event_count};
 ghost use Rattle.term.specs.Proc.{proc};
 ghost use Rattle.term.specs.Specs.{LiesIn, PairsInSigma, SetInSigma};
 
 use alphabet::{Alphabet, Event, EventSet};
 use std::alloc::Global;
-use std::process::Abort;
 use std::test::Fail;
 use term::{Spec, Term};
 
@@ -195,11 +193,7 @@ fn read<'t>(alloc: Global, text: &'t [u8], bodies: usize) -> Result<(Term<Global
 }
 
 /// The specification with these bodies over five events.
-pub(crate) fn specified(
-    rt: &impl Abort,
-    alloc: Global,
-    bodies: Vec<Term<Global>>,
-) -> Result<Spec<Global>, Fail>
+fn specified(alloc: Global, bodies: Vec<Term<Global>>) -> Result<Spec<Global>, Fail>
     requires some { 0 < length bodies.items }
     requires lies { All (LiesIn 5 (length bodies.items)) (map proc bodies.items) }
 {
@@ -210,14 +204,14 @@ pub(crate) fn specified(
     alphabet.declare(b"d", &[])?;
     alphabet.declare(b"e", &[])?;
     let events = alphabet.len();
-    assert_eq!(rt; events, 5);
-    Ok(Spec::new(alphabet, bodies))
+    if events == 5 {
+        return Ok(Spec::new(alphabet, bodies));
+    }
+    Err(Fail::new("there are five events"))
 }
 
 /// How many bodies the text has.
-fn count_bodies(text: &[u8]) -> usize
-    ensures { 0 < result }
-{
+fn count_bodies(text: &[u8]) -> usize {
     let mut count: usize = 1;
     for byte in text {
         if *byte == b'/' {
@@ -227,19 +221,39 @@ fn count_bodies(text: &[u8]) -> usize
     count
 }
 
+/// Puts a body behind the others. There are so many bodies in the end.
+fn add_body(
+    into: &mut Vec<Term<Global>>,
+    body: Term<Global>,
+    bodies: usize,
+) -> Result<(), Fail>
+    requires body { LiesIn 5 bodies (proc body) }
+    requires lies { All (LiesIn 5 bodies) (map proc into.old.items) }
+    ensures { OnOk result (All (LiesIn 5 bodies) (map proc into.new.items)) }
+{
+    into.push(body)?;
+    Ok(())
+}
+
 /// The specification that the text is.
-pub(crate) fn spec_of(rt: &impl Abort, alloc: Global, text: &[u8]) -> Result<Spec<Global>, Fail> {
+pub(crate) fn spec_of(alloc: Global, text: &[u8]) -> Result<Spec<Global>, Fail> {
     let count = count_bodies(text);
     let mut bodies = Vec::new(alloc);
     let mut left = text;
-    for _ in 0..count {
+    for number in 0..count {
         let (body, rest) = read(alloc, left, count)?;
-        bodies.push(body)?;
-        left = match rest {
-            [b'/', behind @ ..] => behind,
-            _ => rest,
+        add_body(&mut bodies, body, count)?;
+        left = if number + 1 < count {
+            let [b'/', behind @ ..] = rest else {
+                return Err(Fail::new("a body isn't ended"));
+            };
+            behind
+        } else {
+            rest
         };
     }
-    assert!(rt; left.is_empty(), "there is more than bodies");
-    specified(rt, alloc, bodies)
+    if bodies.len() != count || count == 0 || !left.is_empty() {
+        return Err(Fail::new("there is more or less than bodies"));
+    }
+    specified(alloc, bodies)
 }

@@ -65,7 +65,7 @@ fn assert_step(rt: &impl Abort, monitor: &mut Monitor<Global>, step: &[u8]) -> R
 /// Asks all of a row.
 fn assert_row(rt: &impl Abort, alloc: Global, row: &[u8]) -> Result<(), Fail> {
     let (text, steps) = cut(row, b':')?;
-    let mut monitor = match Monitor::new(alloc, spec_of(rt, alloc, text)?) {
+    let mut monitor = match Monitor::new(alloc, spec_of(alloc, text)?) {
         Ok(monitor) => monitor,
         Err(fault) => {
             assert_eq!(rt; word_of(fault), steps, "{text:?}");
