@@ -222,11 +222,7 @@ fn count_bodies(text: &[u8]) -> usize {
 }
 
 /// Puts a body behind the others. There are so many bodies in the end.
-fn add_body(
-    into: &mut Vec<Term<Global>>,
-    body: Term<Global>,
-    bodies: usize,
-) -> Result<(), Fail>
+fn add_body(into: &mut Vec<Term<Global>>, body: Term<Global>, bodies: usize) -> Result<(), Fail>
     requires body { LiesIn 5 bodies (proc body) }
     requires lies { All (LiesIn 5 bodies) (map proc into.old.items) }
     ensures { OnOk result (All (LiesIn 5 bodies) (map proc into.new.items)) }
