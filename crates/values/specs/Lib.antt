@@ -1,0 +1,4 @@
+pub mod Values
+pub mod Worths
+pub mod Names
+pub mod Channels

@@ -1,0 +1,2 @@
+//! What the names of a script stand for.
+#![tactic(auto)]
