@@ -3,3 +3,4 @@ pub mod Numbers
 pub mod ValueSets
 pub mod Parts
 pub mod Lists
+pub mod Named

@@ -103,6 +103,20 @@ known_in es (suc k) n = meaning es n >>= worth_of (known_in es k) n
 abbrev pub Stands : List Entry → Known → Type 0
 Stands es known = (n : Name) (w : Worth) → (known n ≡ Some w) ↔ ((k : ℕ) × (known_in es k n ≡ Some w))
 
+-- ---- how what names stand for is found, step by step
+
+-- what the first knows, the second knows too
+abbrev pub IsWithin : Known → Known → Type 0
+IsWithin f g = (n : Name) (w : Worth) → f n ≡ Some w → g n ≡ Some w
+
+-- what definitions say where this is known
+unfoldable pub next_known : List Entry → Known → Known
+next_known es f n = meaning es n >>= worth_of f n
+
+-- each is known after some number of steps
+abbrev pub IsReached : List Entry → Known → Type 0
+IsReached es f = (n : Name) (w : Worth) → f n ≡ Some w → (k : ℕ) × (known_in es k n ≡ Some w)
+
 -- ---- processes
 
 unfoldable pub is_process_operator : Operator → Bool

@@ -2,6 +2,7 @@
 #![tactic(auto)]
 
 mod known;
+mod law;
 mod number;
 mod phrase;
 mod sets;
@@ -9,6 +10,7 @@ mod value;
 mod worth;
 
 pub use known::Known;
+pub use law::steps_reach_all;
 pub use phrase::stands_for;
 pub use sets::{SET_LIMIT, Values};
 pub use value::Value;

@@ -16,6 +16,9 @@ pub type Values<A> = BTreeSet<Value<A>, A>;
 /// The most values that a set has.
 pub const SET_LIMIT: usize = 65_536;
 
+/// How far the last number of a range is above the first at most.
+const MAX_GAP: i64 = 65_535;
+
 /// The values of both sets.
 #[tactic(auto, using(crate::proofs::ValueSets::union_more, crate::proofs::ValueSets::union_end))]
 pub(crate) fn union<A: Allocator + Clone>(
@@ -92,7 +95,7 @@ pub(crate) fn range<A: Allocator + Clone>(
     }
     match last.checked_sub(first) {
         Some(gap) => {
-            if gap > 65_535 {
+            if gap > MAX_GAP {
                 return Err(fault(line, ScriptErrorKind::TooLarge));
             }
             Ok(numbers(alloc, first, last)?)

@@ -13,5 +13,5 @@ returns-in_ok-numbers-in-Some g c =
     let k : FitsSigned w64 c.args.ends.1 = search rules in
     let gap : FitsSigned w64 c.in-Some.gap = subst (λ (v : ℤ). FitsSigned w64 v) (sym c.in-Some.ensures.1) c.in-Some.ensures.0 in
     range_here x y (to_z w64 (of_z w64 c.in-Some.gap)) c.args.ends.0 c.args.ends.1 (values c.in_ok-numbers-in-Some.field-0)
-    c.if-last-first.false (to_z-of_z w64 c.in-Some.gap gap ∙ c.in-Some.ensures.1) c.if-gap-gt65535.false c.in_ok-numbers-in-Some.ensures
+    c.if-last-first.false (to_z-of_z w64 c.in-Some.gap gap ∙ c.in-Some.ensures.1) c.if-gap-gt-MAX_GAP.false c.in_ok-numbers-in-Some.ensures
     (to_z-of_z w64 c.args.ends.0 f) (to_z-of_z w64 c.args.ends.1 k)
