@@ -1,0 +1,178 @@
+-- What event phrases and phrases for sets of events stand for, where Sigma is known.
+use Rattle.std.specs.Prelude.{◌≡◌, ℕ, zero, suc, ◌+◌, ◌^◌, List, [], ◌∷◌, ◌++◌, length, drop, Bool, true, false, not, ◌&&◌, ◌||◌, Option, Some, None, if◌then◌else◌, nat_eq, nat_lt, filter, map, ◌↔◌}
+use Rattle.std.specs.List.{list_any, flat_map, range_with_len}
+use Rattle.std.specs.Cmp.Lexicographic.{pointwise}
+use Rattle.alphabet.specs.Channels.{FieldValue, Values, Channel, Parts, events, event_count}
+use Rattle.alphabet.specs.EventSets.{Set}
+use Rattle.term.specs.Traces.{Pairs}
+use Rattle.syntax.specs.declared.form.Form.TheVariants as forms
+use Rattle.syntax.specs.Grammar.{Syntax, Called, Node, Syntaxes, NoSyntax, MoreSyntax}
+use Rattle.values.specs.Values.{◌>>=◌, Name, is_among, is_same}
+use Rattle.values.specs.Worths.{Worth, one, many, Known, worth, the_value}
+use Rattle.values.specs.Names.{Entry, Meaning, channel, datatype, constant_name, definition, meaning, same_name}
+
+-- a set of events: which numbers are in it
+abbrev pub Events : Type 0
+Events = ℕ → Bool
+
+abbrev pub no_events : Events
+no_events a = false
+
+-- what names of sets of events stand for
+abbrev pub KnownEvents : Type 0
+KnownEvents = Name → Option Events
+
+-- a name that stands for a value, as an input's name does, hides its other uses
+abbrev pub unless_value : {X : Type 0} → Option Worth → Option X → Option X
+unless_value None x = x
+unless_value (Some (one v)) x = None
+unless_value (Some (many vs)) x = x
+
+-- the fields of a channel
+unfoldable pub fields_named : List Channel → Name → Option (List Values)
+fields_named [] n = None
+fields_named (c ∷ cs) n = if same_name n c.name then Some c.fields else fields_named cs n
+
+-- the fields of a channel whose name isn't hidden
+abbrev pub channel_fields : List Channel → Known → Name → Option (List Values)
+channel_fields cs known n = unless_value (known n) (fields_named cs n)
+
+-- ---- events by their values
+
+-- a field that gives a value
+unfoldable pub field_value : Known → Syntax → Option FieldValue
+field_value known (Node forms.Dotted (MoreSyntax t NoSyntax)) = worth known t >>= the_value
+field_value known (Node forms.Output (MoreSyntax t NoSyntax)) = worth known t >>= the_value
+field_value known t = None
+
+-- the values that fields give
+unfoldable pub field_values : Known → Syntaxes → Option Values
+field_values known NoSyntax = Some []
+field_values known (MoreSyntax t ts) = field_value known t >>= λ v. field_values known ts >>= λ vs. Some (v ∷ vs)
+
+-- each value is one of its field's, and there are no more values than fields
+unfoldable pub are_within : Values → List Values → Bool
+are_within [] sets = true
+are_within (v ∷ vs) [] = false
+are_within (v ∷ vs) (set ∷ sets) = is_among v set && are_within vs sets
+
+-- the values begin with these
+unfoldable pub begins : Values → Values → Bool
+begins [] vs = true
+begins (u ∷ us) [] = false
+begins (u ∷ us) (v ∷ vs) = is_same u v && begins us vs
+
+-- a channel and the first values of its events
+abbrev pub Beginning : Type 0
+Beginning = Name × Values
+
+-- what an event phrase without inputs gives: a channel and values of its first fields
+unfoldable pub beginning : List Channel → Known → Syntax → Option Beginning
+beginning cs known (Node forms.Event (MoreSyntax (Called c) ts)) =
+    channel_fields cs known c >>= λ sets. field_values known ts >>= λ vs. if are_within vs sets then Some (c, vs) else None
+beginning cs known t = None
+
+-- an event begins so
+unfoldable pub begins_so : Beginning → Parts → Bool
+begins_so b p = same_name b.0 p.channel && begins b.1 p.values
+
+-- the event with this number, if there is one, passes the test
+unfoldable pub at_number : (Parts → Bool) → List Parts → ℕ → Bool
+at_number test [] a = false
+at_number test (p ∷ ps) zero = test p
+at_number test (p ∷ ps) (suc a) = at_number test ps a
+
+-- all events that begin so
+abbrev pub beginning_so : List Channel → Beginning → Events
+beginning_so cs b = at_number (begins_so b) (events cs)
+
+-- the event that a phrase without inputs gives, which has all its fields
+unfoldable pub whole_event : List Channel → Known → Syntax → Option Beginning
+whole_event cs known (Node forms.Brackets (MoreSyntax t NoSyntax)) = whole_event cs known t
+whole_event cs known (Node forms.Event (MoreSyntax (Called c) ts)) =
+    beginning cs known (Node forms.Event (MoreSyntax (Called c) ts)) >>= λ b. channel_fields cs known c >>= λ sets. if nat_eq (length b.1) (length sets) then Some b else None
+whole_event cs known t = None
+
+-- ---- sets of events
+
+abbrev pub either : Events → Events → Events
+either A B a = A a || B a
+
+abbrev pub both : Events → Events → Events
+both A B a = A a && B a
+
+abbrev pub less : Events → Events → Events
+less A B a = A a && not (B a)
+
+-- the events that these phrases give together, where this says what one gives
+unfoldable pub together : (Syntax → Option Events) → Syntaxes → Option Events
+together gives NoSyntax = Some no_events
+together gives (MoreSyntax t ts) = gives t >>= λ A. together gives ts >>= λ B. Some (either A B)
+
+-- what a phrase for a set of events stands for
+unfoldable pub event_set : List Channel → Known → KnownEvents → Syntax → Option Events
+event_set cs known sets (Node forms.Brackets (MoreSyntax t NoSyntax)) = event_set cs known sets t
+event_set cs known sets (Node forms.Event (MoreSyntax (Called n) NoSyntax)) = unless_value (known n) (sets n)
+event_set cs known sets (Node forms.EmptySet NoSyntax) = Some no_events
+event_set cs known sets (Node forms.Events NoSyntax) = Some (λ a. nat_lt a (event_count cs))
+event_set cs known sets (Node forms.NoProductions NoSyntax) = Some no_events
+event_set cs known sets (Node forms.Productions ts) = together (λ t. beginning cs known t >>= λ b. Some (beginning_so cs b)) ts
+event_set cs known sets (Node forms.Set ts) = together (λ t. whole_event cs known t >>= λ b. Some (beginning_so cs b)) ts
+event_set cs known sets (Node forms.Union (MoreSyntax t (MoreSyntax u NoSyntax))) = event_set cs known sets t >>= λ A. event_set cs known sets u >>= λ B. Some (either A B)
+event_set cs known sets (Node forms.Intersection (MoreSyntax t (MoreSyntax u NoSyntax))) = event_set cs known sets t >>= λ A. event_set cs known sets u >>= λ B. Some (both A B)
+event_set cs known sets (Node forms.Difference (MoreSyntax t (MoreSyntax u NoSyntax))) = event_set cs known sets t >>= λ A. event_set cs known sets u >>= λ B. Some (less A B)
+event_set cs known sets t = None
+
+-- what a name with this meaning stands for
+unfoldable pub events_of : List Channel → Known → KnownEvents → Meaning → Option Events
+events_of cs known sets (channel ts) = None
+events_of cs known sets (datatype ns) = None
+events_of cs known sets constant_name = None
+events_of cs known sets (definition t) = event_set cs known sets t
+
+-- what names stand for after so many steps, in each of which a definition is looked into
+unfoldable pub events_in : List Channel → Known → List Entry → ℕ → KnownEvents
+events_in cs known es zero n = None
+events_in cs known es (suc k) n = meaning es n >>= events_of cs known (events_in cs known es k)
+
+-- Each name stands for what it stands for after some number of steps, and for nothing else.
+abbrev pub EventsStand : List Channel → Known → List Entry → KnownEvents → Type 0
+EventsStand cs known es sets = (n : Name) (A : Events) → (sets n ≡ Some A) ↔ ((k : ℕ) × (events_in cs known es k n ≡ Some A))
+
+-- the events below n that are in the set, as one number: the lowest bit is tick's, and bit a + 1 is that of event a
+unfoldable pub set_below : ℕ → Events → Set
+set_below zero A = 0
+set_below (suc n) A = (if A n then 2 ^ (suc n) else 0) + set_below n A
+
+abbrev pub set_of : List Channel → Events → Set
+set_of cs A = set_below (event_count cs) A
+
+-- ---- renamings
+
+-- the number of the event with these parts
+unfoldable pub number_in : List Parts → Beginning → Option ℕ
+number_in [] b = None
+number_in (p ∷ ps) b = if same_name b.0 p.channel && pointwise is_same b.1 p.values then Some 0 else (number_in ps b >>= λ a. Some (suc a))
+
+-- the pairs of `left <- right`: each of these events that begins with the left side, and the event of the right side followed by the same remaining values; a is the number of the first one
+unfoldable pub pairs_from : List Channel → Beginning → Beginning → ℕ → List Parts → Option Pairs
+pairs_from cs left right a [] = Some []
+pairs_from cs left right a (p ∷ ps) =
+    if begins_so left p then (number_in (events cs) (right.0, right.1 ++ drop (length left.1) p.values) >>= λ b. pairs_from cs left right (suc a) ps >>= λ R. Some ((a, b) ∷ R))
+    else pairs_from cs left right (suc a) ps
+
+-- the pairs of one `left <- right`
+unfoldable pub pair_of : List Channel → Known → Syntax → Option Pairs
+pair_of cs known (Node forms.Pair (MoreSyntax t (MoreSyntax u NoSyntax))) = beginning cs known t >>= λ left. beginning cs known u >>= λ right. pairs_from cs left right 0 (events cs)
+pair_of cs known t = None
+
+unfoldable pub pairs_of : List Channel → Known → Syntaxes → Option Pairs
+pairs_of cs known NoSyntax = Some []
+pairs_of cs known (MoreSyntax t ts) = pair_of cs known t >>= λ R. pairs_of cs known ts >>= λ S. Some (R ++ S)
+
+unfoldable pub is_pair_of : Pairs → ℕ → ℕ → Bool
+is_pair_of R a b = list_any (λ p. nat_eq p.0 a && nat_eq p.1 b) R
+
+-- the pairs by their left and then by their right event, none twice
+unfoldable pub in_order : ℕ → Pairs → Pairs
+in_order n R = flat_map (λ a. map (λ b. (a, b)) (filter (is_pair_of R a) (range_with_len 0 n))) (range_with_len 0 n)

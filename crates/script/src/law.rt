@@ -1,0 +1,11 @@
+//! A law of scripts. Its function does nothing: the contract is the law.
+ghost use Rattle.std.specs.Prelude.{◌≡◌};
+ghost use Rattle.syntax.specs.Grammar.{Syntax};
+ghost use Rattle.term.specs.Specs.{Specified};
+ghost use Rattle.values.specs.Values.{Name};
+ghost use Rattle.script.specs.Denotes.{Denotes};
+
+/// A script denotes one specification at most for a root.
+pub fn one_specification()
+    ensures { (script : Syntax) (root : Name) (first second : Specified) → Denotes script root first → Denotes script root second → first ≡ second }
+{}

@@ -1,0 +1,6 @@
+pub mod Examples
+pub mod Numbers
+pub mod ValueSets
+pub mod Parts
+pub mod Lists
+pub mod Named

@@ -1,0 +1,7 @@
+pub mod Values
+pub mod Worths
+pub mod Names
+pub mod Channels
+pub mod Order
+pub mod View
+pub mod Tables
