@@ -18,7 +18,7 @@ fn bytes_of(alloc: Global, line: &str) -> Result<Vec<u8>, AllocError> {
     Ok(bytes)
 }
 
-/// A name as it is, a number behind `#`, a form in brackets before its parts; numbers and forms with their lines.
+/// A name as it is, a number behind `#`, a form in brackets before its parts.
 fn show(tree: &Tree<Global>, text: &mut String) -> Result<(), AllocError> {
     match tree {
         Tree::Name { text: name, .. } => {
@@ -26,9 +26,9 @@ fn show(tree: &Tree<Global>, text: &mut String) -> Result<(), AllocError> {
                 text.push(char::from(*byte))?;
             }
         }
-        Tree::Number { line, value } => write!(text, "#{value}@{line}")?,
-        Tree::Node { line, form, parts } => {
-            write!(text, "({form:?}@{line}")?;
+        Tree::Number { value, .. } => write!(text, "#{value}")?,
+        Tree::Node { form, parts, .. } => {
+            write!(text, "({form:?}")?;
             for part in parts {
                 text.push(' ')?;
                 show(part, text)?;
