@@ -1,5 +1,5 @@
 #!/usr/bin/env python3
-"""Compares the trees, their lines and the faults of `syntax::parse` with those of a second reader of the language, on generated texts.
+"""Compares the trees and faults of `syntax::parse` with those of a second reader of the language, on generated texts.
 
     compare_syntax.py REFERENCE [SEED] [COUNT]
 
@@ -220,8 +220,8 @@ class Texts:
 
 # ---- the reference's answer, in the form of this reader's
 
-def marked(form, parts, line=None):
-    return "(%s)" % " ".join([form if line is None else "%s@%d" % (form, line)] + parts)
+def marked(form, parts):
+    return "(%s)" % " ".join([form] + parts)
 
 
 OPERATIONS = {"*": "Times", "%": "Remainder", "+": "Plus", "-": "Minus", "and": "And", "or": "Or", "prefix": "Prefix",
@@ -244,45 +244,45 @@ def field(part):
 
 
 def shown(node):
-    form, parts, line = node.form, node.parts, node.line
+    form, parts = node.form, node.parts
     if form == "number":
-        return "#%d@%d" % (parts[0], line)
+        return "#%d" % parts[0]
     if form == "name":
-        return marked("Event", [parts[0]], line)
+        return marked("Event", [parts[0]])
     if form == "event":
-        return marked("Event", [parts[0]] + [field(part) for part in parts[1]], line)
+        return marked("Event", [parts[0]] + [field(part) for part in parts[1]])
     if form == "compare":
-        return marked("Operation(%s)" % COMPARED[parts[0]], [shown(parts[1]), shown(parts[2])], line)
+        return marked("Operation(%s)" % COMPARED[parts[0]], [shown(parts[1]), shown(parts[2])])
     if form == "rename":
         pairs = [marked("Pair", [shown(left), shown(right)]) for left, right in parts[1]]
-        return marked("Operation(Renaming)", [shown(parts[0])] + pairs, line)
+        return marked("Operation(Renaming)", [shown(parts[0])] + pairs)
     if form in OPERATIONS:
-        return marked("Operation(%s)" % OPERATIONS[form], [shown(part) for part in parts], line)
+        return marked("Operation(%s)" % OPERATIONS[form], [shown(part) for part in parts])
     if form == "call":
-        return marked("Call", [parts[0]] + [shown(part) for part in parts[1]], line)
+        return marked("Call", [parts[0]] + [shown(part) for part in parts[1]])
     if form == "list":
-        return marked("Set", [shown(part) for part in parts[0]], line)
+        return marked("Set", [shown(part) for part in parts[0]])
     if form == "productions":
-        return marked("Productions" if parts[0] else "NoProductions", [shown(part) for part in parts[0]], line)
+        return marked("Productions" if parts[0] else "NoProductions", [shown(part) for part in parts[0]])
     if form == "replicated":
         generators = [marked("Generator", [name, shown(within)]) for name, _, within in parts[1]]
-        return marked(REPLICATED[parts[0]], [marked("Generators", generators), shown(parts[2])], line)
-    return marked(PLAIN[form], [shown(part) for part in parts], line)
+        return marked(REPLICATED[parts[0]], [marked("Generators", generators), shown(parts[2])])
+    return marked(PLAIN[form], [shown(part) for part in parts])
 
 
 def declared(declaration):
-    parts, line = declaration.parts, declaration.line
+    parts = declaration.parts
     if declaration.form == "channel":
         names = marked("Names", [name for name, _ in parts[0]])
         if not parts[1]:
-            return marked("Channels", [names], line)
-        return marked("ChannelsWithFields", [names, marked("FieldSets", [shown(part) for part in parts[1]])], line)
+            return marked("Channels", [names])
+        return marked("ChannelsWithFields", [names, marked("FieldSets", [shown(part) for part in parts[1]])])
     if declaration.form == "datatype":
-        return marked("Datatype", [parts[0][0], marked("Constants", [name for name, _ in parts[1]])], line)
+        return marked("Datatype", [parts[0][0], marked("Constants", [name for name, _ in parts[1]])])
     if parts[1] is None:
-        return marked("Definition", [parts[0][0], shown(parts[2])], line)
+        return marked("Definition", [parts[0][0], shown(parts[2])])
     names = marked("Names", [name for name, _ in parts[1]])
-    return marked("DefinitionWithParameters", [parts[0][0], names, shown(parts[2])], line)
+    return marked("DefinitionWithParameters", [parts[0][0], names, shown(parts[2])])
 
 
 def reference_answer(parse, fault, text):
@@ -292,15 +292,10 @@ def reference_answer(parse, fault, text):
         return "%d: %d %s" % (found.line, found.code, WORDS[found.code])
 
 
-LISTS = "Script|Names|Constants|FieldSets|Generators|Generator|Pair|Dotted|Output|Input|RestrictedInput"
-
-
 def alike(answer):
-    """Without what the reference's tree doesn't keep: the lines of lists, pairs and fields, the sign before a field's
-    value, and that a number was written with `-`."""
-    answer = re.sub(r"\((%s)@\d+" % LISTS, r"(\1", answer)
+    """What the reference's tree doesn't keep: the sign before a field's value, and that a number was written with `-`."""
     answer = re.sub(r"\((?:Dotted|Output) ", "(Given ", answer)
-    return re.sub(r"\(NegativeNumber@(\d+) #(\d+)@\d+\)", lambda m: "#%d@%s" % (-int(m.group(2)), m.group(1)), answer)
+    return re.sub(r"\(NegativeNumber #(\d+)\)", lambda m: "#%d" % -int(m.group(1)), answer)
 
 
 # ---- runs

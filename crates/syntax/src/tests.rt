@@ -55,6 +55,7 @@ P {- {- = -} [> -} = STOP => ok
 P = {-${- STOP -}$ => 1: 2 token
 channel a$assert P [T= Q [> R {-$P = a -> P$ => ok
 P = # => 1: 2 token
+P = )$# => 2: 2 token
 P = 1000001 => 1: 7 range
 P = Q |~| R ||| S \\ {a} ; T => ok
 P = a; b /\\ c; d [] e => ok
