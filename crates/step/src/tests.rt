@@ -1,6 +1,6 @@
 //! Tests of steps against targets that were worked out by hand.
 
-ghost use Rattle.std.specs.Prelude.{IfOk, ◌≡◌, ℕ, length};
+ghost use Rattle.std.specs.Prelude.{IfOk, ◌≡◌, length};
 ghost use Rattle.alphabet.specs.Channels.{event_count};
 ghost use Rattle.term.specs.Proc.{proc};
 ghost use Rattle.term.specs.Specs.{LiesIn};
@@ -143,31 +143,27 @@ fn step_rows(rt: HostRuntime) -> Result<(), Fail> {
     Ok(())
 }
 
-/// The process `SKIP [] Q`, where Q is body 1.
-fn ending(alloc: Global) -> Made
-    ensures { IfOk result (λ term. (n : ℕ) → LiesIn n 2 (proc term)) }
+/// The specification with the one body `Q`, of Q itself.
+fn looping(rt: &impl Abort, alloc: Global) -> Result<Spec<Global>, Fail>
+    ensures events { IfOk result (λ spec. event_count spec.alphabet ≡ 1) }
+    ensures bodies { IfOk result (λ spec. length spec.bodies ≡ 1) }
 {
-    Ok(Term::Ext(
-        Box::new(alloc, Term::Skip)?,
-        Box::new(alloc, Term::Name(1))?,
-    ))
-}
-
-/// The specification of no event with the bodies `SKIP [] Q` and, of Q, `Q`.
-fn looping(alloc: Global) -> Result<Spec<Global>, Fail>
-    ensures { IfOk result (λ spec. length spec.bodies ≡ 2) }
-{
+    let mut alphabet = Alphabet::new(alloc);
+    alphabet.declare(b"a", &[])?;
+    let events = alphabet.len();
+    assert_eq!(rt; events, 1);
     let mut bodies = Vec::new(alloc);
-    bodies.push(ending(alloc)?)?;
-    bodies.push(Term::Name(1))?;
-    Ok(Spec::new(Alphabet::new(alloc), bodies))
+    bodies.push(Term::Name(0))?;
+    Ok(Spec::new(alphabet, bodies))
 }
 
 #[test]
 fn an_end_beside_a_loop(rt: HostRuntime) -> Result<(), Fail> {
     let alloc = rt.alloc();
-    let spec = looping(alloc)?;
-    let whole = ending(alloc)?;
+    let spec = looping(&rt, alloc)?;
+
+    // SKIP [] Q
+    let whole = choice(alloc, Term::Skip, Term::Name(0))?;
 
     // it can terminate and offers nothing, so it refuses all of Sigma, though it never rests
     assert!(rt; can_tick(&whole));
