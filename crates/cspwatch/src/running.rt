@@ -87,8 +87,7 @@ fn converse<R: AllocGlobal + Wait, I: Read + Drop, O: Write + Drop, E: Write>(
     input: I,
     output: O,
     errors: &mut E,
-) -> u8
-{
+) -> u8 {
     let mut monitor = match Monitor::new(rt.alloc(), spec) {
         Ok(monitor) => monitor,
         Err(fault) => return tell_limit(errors, name, fault),

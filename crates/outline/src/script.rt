@@ -225,8 +225,7 @@ fn spec_of<A: Allocator + Copy>(
     alloc: A,
     outline: &Outline<'_, A>,
     root: &[u8],
-) -> Result<Spec<A>, ScriptError>
-{
+) -> Result<Spec<A>, ScriptError> {
     let alphabet = alphabet_of(alloc, &outline.channels)?;
     if let Some(line) = redeclared_line(outline) {
         return Err(fault(line, ScriptErrorKind::Redeclared));
@@ -248,8 +247,11 @@ fn spec_of<A: Allocator + Copy>(
 }
 
 /// Reads the specification that the script is, with this process as its root.
-pub fn read<A: Allocator + Copy>(alloc: A, text: &[u8], root: &[u8]) -> Result<Spec<A>, ScriptError>
-{
+pub fn read<A: Allocator + Copy>(
+    alloc: A,
+    text: &[u8],
+    root: &[u8],
+) -> Result<Spec<A>, ScriptError> {
     if text.len() > LONGEST {
         return Err(fault(1, ScriptErrorKind::TooLarge));
     }

@@ -92,7 +92,9 @@ fn pairs(alloc: Global, letters: &[u8]) -> Result<Vec<(u8, u8)>, Fail>
 fn decimal(digits: &[u8]) -> usize {
     let mut number: usize = 0;
     for digit in digits {
-        number = number.saturating_mul(10).saturating_add(usize::from(*digit).saturating_sub(48));
+        number = number
+            .saturating_mul(10)
+            .saturating_add(usize::from(*digit).saturating_sub(48));
     }
     number
 }
@@ -108,11 +110,7 @@ fn name(number: usize, bodies: usize) -> Result<Term<Global>, Fail>
 }
 
 /// The process that begins the text, and the text behind it. There are so many bodies.
-fn read<'t>(
-    alloc: Global,
-    text: &'t [u8],
-    bodies: usize,
-) -> Result<(Term<Global>, &'t [u8]), Fail>
+fn read<'t>(alloc: Global, text: &'t [u8], bodies: usize) -> Result<(Term<Global>, &'t [u8]), Fail>
     ensures lies { IfOk result (λ read. LiesIn 5 bodies (proc read.0)) }
     ensures shorter { IfOk result (λ read. length read.1.now < length text.now) }
 {
@@ -125,22 +123,34 @@ fn read<'t>(
         b'+' => {
             let (left, rest) = read(alloc, rest, bodies)?;
             let (right, rest) = read(alloc, rest, bodies)?;
-            Ok((Term::Ext(Box::new(alloc, left)?, Box::new(alloc, right)?), rest))
+            Ok((
+                Term::Ext(Box::new(alloc, left)?, Box::new(alloc, right)?),
+                rest,
+            ))
         }
         b'|' => {
             let (left, rest) = read(alloc, rest, bodies)?;
             let (right, rest) = read(alloc, rest, bodies)?;
-            Ok((Term::Int(Box::new(alloc, left)?, Box::new(alloc, right)?), rest))
+            Ok((
+                Term::Int(Box::new(alloc, left)?, Box::new(alloc, right)?),
+                rest,
+            ))
         }
         b';' => {
             let (left, rest) = read(alloc, rest, bodies)?;
             let (right, rest) = read(alloc, rest, bodies)?;
-            Ok((Term::Seq(Box::new(alloc, left)?, Box::new(alloc, right)?), rest))
+            Ok((
+                Term::Seq(Box::new(alloc, left)?, Box::new(alloc, right)?),
+                rest,
+            ))
         }
         b'^' => {
             let (left, rest) = read(alloc, rest, bodies)?;
             let (right, rest) = read(alloc, rest, bodies)?;
-            Ok((Term::Intr(Box::new(alloc, left)?, Box::new(alloc, right)?), rest))
+            Ok((
+                Term::Intr(Box::new(alloc, left)?, Box::new(alloc, right)?),
+                rest,
+            ))
         }
         b'&' => {
             let (letters, rest) = cut(rest, b'.')?;
@@ -212,11 +222,7 @@ fn count_bodies(text: &[u8]) -> usize {
 }
 
 /// Puts a body behind the others. There are so many bodies in the end.
-fn add_body(
-    into: &mut Vec<Term<Global>>,
-    body: Term<Global>,
-    bodies: usize,
-) -> Result<(), Fail>
+fn add_body(into: &mut Vec<Term<Global>>, body: Term<Global>, bodies: usize) -> Result<(), Fail>
     requires body { LiesIn 5 bodies (proc body) }
     requires lies { All (LiesIn 5 bodies) (map proc into.old.items) }
     ensures { OnOk result (All (LiesIn 5 bodies) (map proc into.new.items)) }
