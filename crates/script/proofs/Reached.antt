@@ -1,5 +1,5 @@
 -- What is reached from a root is one list of definitions with one list of bodies.
-use Rattle.std.proofs.Common.{◌≡◌, ℕ, zero, suc, ◌+◌, ◌<◌, ◌≤◌, List, [], ◌∷◌, ◌++◌, length, take, drop, map, get_or, Option, Some, None, cond, true, false, refl, sym, ap, ap₂, ◌∙◌, arith, append_assoc, append-nil, take-suc}
+use Rattle.std.proofs.Common.{◌≡◌, ℕ, zero, suc, ◌+◌, ◌<◌, ◌≤◌, List, [], ◌∷◌, ◌++◌, length, take, drop, map, get_or, Some, None, cond, true, false, refl, sym, ap, ap₂, ◌∙◌, arith, append_assoc, append-nil, take-suc}
 use Rattle.std.specs.List.{flat_map}
 use Rattle.std.proofs.lemmas.List.{length-map, length-append}
 use Rattle.script.specs.Bodies.{Key, Body, stop, names}

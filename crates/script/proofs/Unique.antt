@@ -1,15 +1,14 @@
 -- A script denotes one specification at most.
-use Rattle.std.proofs.Common.{◌≡◌, ℕ, List, [], map, Option, Some, None, refl, sym, ap, ap₂, subst, ◌∙◌, ◌↔◌}
+use Rattle.std.proofs.Common.{◌≡◌, ℕ, List, [], map, Option, Some, None, refl, sym, ap₂, subst, ◌∙◌, ◌↔◌}
 use Rattle.alphabet.specs.Channels.{Channel}
-use Rattle.term.specs.Proc.{Proc}
 use Rattle.term.specs.Specs.{Specified}
 use Rattle.syntax.specs.Grammar.{Syntax}
 use Rattle.values.specs.Values.{Name}
-use Rattle.values.specs.Worths.{Worth, Known}
+use Rattle.values.specs.Worths.{Known}
 use Rattle.values.specs.Names.{Entry, known_in, Stands}
 use Rattle.values.specs.Channels.{Declares, channels_of}
-use Rattle.script.specs.Events.{Events, KnownEvents, events_in, EventsStand}
-use Rattle.script.specs.Bodies.{Key, Body, numbered}
+use Rattle.script.specs.Events.{KnownEvents, events_in, EventsStand}
+use Rattle.script.specs.Bodies.{numbered}
 use Rattle.script.specs.Phrases.{Scope}
 use Rattle.script.specs.Denotes.{Reached, Denotes, place}
 use Rattle.script.proofs.Reached.{some_is, one_reached}

@@ -1,6 +1,6 @@
 -- Bodies whose names are definitions, before these have numbers.
-use Rattle.std.specs.Prelude.{◌≡◌, ℕ, zero, suc, ◌+◌, ◌-◌, ◌/◌, List, [], ◌∷◌, ◌++◌, length, take, drop, Bool, true, false, ◌&&◌, if◌then◌else◌}
-use Rattle.alphabet.specs.Channels.{FieldValue, Values}
+use Rattle.std.specs.Prelude.{ℕ, zero, suc, ◌-◌, ◌/◌, List, [], ◌∷◌, ◌++◌, length, take, drop, Bool, ◌&&◌}
+use Rattle.alphabet.specs.Channels.{Values}
 use Rattle.alphabet.specs.EventSets.{Set}
 use Rattle.term.specs.Traces.{Pairs}
 use Rattle.term.specs.Proc as procs

@@ -1,7 +1,6 @@
 -- The specification that a script denotes for a root.
-use Rattle.std.specs.Prelude.{◌≡◌, ℕ, zero, suc, ◌+◌, ◌<◌, ◌≤◌, List, [], ◌∷◌, ◌++◌, length, take, map, Bool, true, false, Option, Some, None, if◌then◌else◌}
+use Rattle.std.specs.Prelude.{◌≡◌, ℕ, suc, ◌+◌, ◌<◌, ◌≤◌, List, [], ◌∷◌, ◌++◌, length, take, map, Bool, true, false, Option, Some, None, if◌then◌else◌}
 use Rattle.std.specs.List.{All, flat_map}
-use Rattle.alphabet.specs.Channels.{Channel}
 use Rattle.term.specs.Proc.{Proc}
 use Rattle.term.specs.Sizes.{size, depth}
 use Rattle.term.specs.Specs.{Specified}

@@ -1,16 +1,15 @@
 -- What phrases for processes denote.
-use Rattle.std.specs.Prelude.{◌≡◌, ℕ, zero, suc, List, [], ◌∷◌, Bool, true, false, not, ◌&&◌, Option, Some, None, if◌then◌else◌, nat_lt}
+use Rattle.std.specs.Prelude.{ℕ, suc, List, [], ◌∷◌, Bool, true, false, not, ◌&&◌, Option, Some, None, if◌then◌else◌, nat_lt}
 use Rattle.alphabet.specs.Channels.{FieldValue, Values, Channel, Parts, events, event_count}
 use Rattle.alphabet.specs.EventSets.{Set}
 use Rattle.term.specs.Traces.{Pairs}
 use Rattle.syntax.specs.declared.form.Form.{Form}
 use Rattle.syntax.specs.declared.form.Form.TheVariants as forms
-use Rattle.syntax.specs.declared.operator.Operator.{Operator}
 use Rattle.syntax.specs.declared.operator.Operator.TheVariants as operators
 use Rattle.syntax.specs.Grammar.{Syntax, Called, Numeral, Node, Syntaxes, NoSyntax, MoreSyntax}
 use Rattle.values.specs.Values.{◌>>=◌, Name, is_among, is_same}
-use Rattle.values.specs.Worths.{Worth, one, many, Known, worth, the_value, the_set}
-use Rattle.values.specs.Names.{Entry, Meaning, channel, datatype, constant_name, definition, meaning, same_name, is_process}
+use Rattle.values.specs.Worths.{one, Known, worth, the_set}
+use Rattle.values.specs.Names.{Entry, Meaning, constant_name, meaning, same_name, is_process}
 use Rattle.script.specs.Events.{Events, KnownEvents, unless_value, channel_fields, field_value, event_set, set_of, both, pairs_of, in_order}
 use Rattle.script.specs.Bodies.{Body, stop, skip, prefix, ext, int, seq, par, hide, ren, intr, name, choice_of}
 

@@ -1,14 +1,14 @@
 -- The definitions at small scripts.
-use Rattle.std.proofs.Common.{◌≡◌, ℕ, List, [], ◌∷◌, Option, Some, None, true, false, refl, pos, negsuc}
-use Rattle.alphabet.specs.Channels.{number, constant, Channel}
+use Rattle.std.proofs.Common.{◌≡◌, ℕ, List, [], ◌∷◌, Some, None, true, false, refl, pos, negsuc}
+use Rattle.alphabet.specs.Channels.{number, constant}
 use Rattle.syntax.specs.declared.operator.Operator.{Operator}
 use Rattle.syntax.specs.declared.operator.Operator.TheVariants as operators
 use Rattle.syntax.specs.declared.form.Form.{Form}
 use Rattle.syntax.specs.declared.form.Form.TheVariants as forms
 use Rattle.syntax.specs.Grammar.{Syntax, Called, Numeral, Node, Syntaxes, NoSyntax, MoreSyntax}
-use Rattle.values.specs.Values.{Name, limited, remainder, union, intersection, difference, fitting_set, range, numbers_from, is_among, is_same}
-use Rattle.values.specs.Worths.{Worth, one, many, Known, worth, worths, formed, computed, the_only, the_number, the_value, the_set, two_numbers, two_sets, all_values, nothing_of}
-use Rattle.values.specs.Names.{Entry, declared, declared_by, declared_by_all, entries_of, listed_names, names_of, field_sets, meaning, are_distinct, known_in, worth_of, is_process_in, is_process_meaning, is_process_by, is_process_form, is_process_operator, is_process}
+use Rattle.values.specs.Values.{Name, limited, remainder, set_of, union, intersection, difference, fitting_set, range, numbers_from, is_among, is_same}
+use Rattle.values.specs.Worths.{one, many, Known, worth, worths, formed, computed, negated, calculated, set_with, range_with, union_with, intersection_with, difference_with, the_only, the_number, the_value, the_set, the_two, two_numbers, two_sets, set_of_all, all_values, nothing_of}
+use Rattle.values.specs.Names.{Entry, declared, declared_by, declared_by_all, entries_of, listed_names, names_of, field_sets, meaning, are_distinct, known_in, worth_of, is_process_in, is_process_meaning, is_process_by, is_process}
 use Rattle.values.specs.Channels.{channels_of, with_channel, fields_of}
 
 abbrev none : Known
@@ -41,8 +41,8 @@ named n = part_of forms.Event (Called n ∷ [])
 abbrev minus : ℕ → Syntax
 minus n = part_of forms.Negation (Numeral n ∷ [])
 
-abbrev calculated : Operator → Syntax → Syntax → Syntax
-calculated op t u = part_of (forms.Operation op) (t ∷ u ∷ [])
+abbrev between : Operator → Syntax → Syntax → Syntax
+between op t u = part_of (forms.Operation op) (t ∷ u ∷ [])
 
 abbrev range_of : Syntax → Syntax → Syntax
 range_of t u = part_of forms.Range (t ∷ u ∷ [])
@@ -56,50 +56,50 @@ script ts = part_of forms.Script ts
 -- ---- numbers
 
 -- 7 % 3 * -2
-product : worth none (calculated operators.Times (calculated operators.Remainder (Numeral 7) (Numeral 3)) (minus 2)) ≡ Some (one (number (negsuc 1)))
-unfolding worth worths formed computed two_numbers the_number the_only limited remainder
+product : worth none (between operators.Times (between operators.Remainder (Numeral 7) (Numeral 3)) (minus 2)) ≡ Some (one (number (negsuc 1)))
+unfolding worth worths formed computed the_two two_numbers the_number the_only limited remainder negated calculated set_with range_with union_with intersection_with difference_with
 product = refl
 
 -- -7 % 3
-no_remainder : worth none (calculated operators.Remainder (minus 7) (Numeral 3)) ≡ None
-unfolding worth worths formed computed two_numbers the_number the_only limited remainder
+no_remainder : worth none (between operators.Remainder (minus 7) (Numeral 3)) ≡ None
+unfolding worth worths formed computed the_two two_numbers the_number the_only limited remainder negated calculated set_with range_with union_with intersection_with difference_with
 no_remainder = refl
 
 -- 1000000 + 1
-too_great : worth none (calculated operators.Plus (Numeral 1000000) (Numeral 1)) ≡ None
-unfolding worth worths formed computed two_numbers the_number the_only limited
+too_great : worth none (between operators.Plus (Numeral 1000000) (Numeral 1)) ≡ None
+unfolding worth worths formed computed the_two two_numbers the_number the_only limited negated calculated set_with range_with union_with intersection_with difference_with
 too_great = refl
 
 -- ---- sets
 
 -- {-1..1}
 small : worth none (range_of (minus 1) (Numeral 1)) ≡ Some (many (number (negsuc 0) ∷ number (pos 0) ∷ number (pos 1) ∷ []))
-unfolding worth worths formed two_numbers the_number the_only limited range numbers_from
+unfolding worth worths formed the_two two_numbers the_number the_only limited range numbers_from negated calculated set_with range_with union_with intersection_with difference_with
 small = refl
 
 -- {1..0}
 empty : worth none (range_of (Numeral 1) (Numeral 0)) ≡ Some (many [])
-unfolding worth worths formed two_numbers the_number the_only limited range
+unfolding worth worths formed the_two two_numbers the_number the_only limited range negated calculated set_with range_with union_with intersection_with difference_with
 empty = refl
 
 -- {0..65536}
 too_large : worth none (range_of (Numeral 0) (Numeral 65536)) ≡ None
-unfolding worth worths formed two_numbers the_number the_only limited range
+unfolding worth worths formed the_two two_numbers the_number the_only limited range negated calculated set_with range_with union_with intersection_with difference_with
 too_large = refl
 
 -- union({2, 1, 2}, {}) with a bracket
 joined : worth none (part_of forms.Union (part_of forms.Set (Numeral 2 ∷ Numeral 1 ∷ Numeral 2 ∷ []) ∷ part_of forms.Brackets (part_of forms.EmptySet [] ∷ []) ∷ [])) ≡ Some (many (number (pos 1) ∷ number (pos 2) ∷ []))
-unfolding worth worths formed two_sets the_set the_only all_values the_value nothing_of limited union fitting_set
+unfolding worth worths formed the_two two_sets the_set the_only set_of_all all_values the_value nothing_of limited set_of union fitting_set negated calculated set_with range_with union_with intersection_with difference_with
 joined = refl
 
 -- inter({1..3}, diff({2..4}, {2}))
 shared : worth none (part_of forms.Intersection (range_of (Numeral 1) (Numeral 3) ∷ part_of forms.Difference (range_of (Numeral 2) (Numeral 4) ∷ part_of forms.Set (Numeral 2 ∷ []) ∷ []) ∷ [])) ≡ Some (many (number (pos 3) ∷ []))
-unfolding worth worths formed two_sets two_numbers the_number the_set all_values the_value limited union fitting_set range numbers_from intersection difference is_among is_same
+unfolding worth worths formed the_two two_sets two_numbers the_number the_set set_of_all all_values the_value limited set_of union fitting_set range numbers_from intersection difference is_among is_same negated calculated set_with range_with union_with intersection_with difference_with
 shared = refl
 
 -- a set of a set
 mixed : worth none (part_of forms.Set (part_of forms.EmptySet [] ∷ [])) ≡ None
-unfolding worth worths formed all_values the_value nothing_of
+unfolding worth worths formed set_of_all all_values the_value nothing_of negated calculated set_with range_with union_with intersection_with difference_with
 mixed = refl
 
 -- ---- names
@@ -112,7 +112,7 @@ abbrev entries_in : Syntax → List Entry
 entries_in t = elim (declared t) [ None ↦ [] | Some es ↦ es ]
 
 typed_channels : channels_of (known_in (entries_in typed) 1) (entries_in typed) ≡ Some (record { name = c; fields = (number (pos 0) ∷ number (pos 1) ∷ []) ∷ (constant x ∷ constant y ∷ []) ∷ [] } ∷ [])
-unfolding channels_of with_channel fields_of known_in worth_of meaning declared declared_by declared_by_all entries_of listed_names names_of field_sets worth worths formed two_numbers the_number the_only the_set limited range numbers_from union
+unfolding channels_of with_channel fields_of known_in worth_of meaning declared declared_by declared_by_all entries_of listed_names names_of field_sets worth worths formed the_two two_numbers the_number the_only the_set limited range numbers_from set_of union negated calculated set_with range_with union_with intersection_with difference_with
 typed_channels = refl
 
 typed_once : are_distinct (entries_in typed) ≡ true
@@ -121,10 +121,10 @@ typed_once = refl
 
 -- c = d + 0, d = 5 in any order
 abbrev chain : Syntax
-chain = script (defined c (calculated operators.Plus (named d) (Numeral 0)) ∷ defined d (Numeral 5) ∷ [])
+chain = script (defined c (between operators.Plus (named d) (Numeral 0)) ∷ defined d (Numeral 5) ∷ [])
 
 chain_known : known_in (entries_in chain) 2 c ≡ Some (one (number (pos 5)))
-unfolding known_in worth_of meaning declared declared_by declared_by_all entries_of worth worths formed computed two_numbers the_number the_only limited
+unfolding known_in worth_of meaning declared declared_by declared_by_all entries_of worth worths formed computed the_two two_numbers the_number the_only limited negated calculated set_with range_with union_with intersection_with difference_with
 chain_known = refl
 
 -- c = d, d = c

@@ -1,1 +1,5 @@
 pub mod Examples
+pub mod Numbers
+pub mod ValueSets
+pub mod Parts
+pub mod Lists

@@ -2,13 +2,13 @@
 use Rattle.std.specs.Prelude.{◌≡◌, ℕ, zero, suc, List, [], ◌∷◌, ◌++◌, map, length, Bool, true, false, not, ◌&&◌, Option, Some, None, if◌then◌else◌, nat_eq, ◌↔◌}
 use Rattle.std.specs.List.{list_any}
 use Rattle.std.specs.Cmp.Lexicographic.{pointwise}
-use Rattle.alphabet.specs.Channels.{FieldValue, constant, Values}
+use Rattle.alphabet.specs.Channels.{constant}
 use Rattle.syntax.specs.declared.form.Form.{Form}
 use Rattle.syntax.specs.declared.form.Form.TheVariants as forms
 use Rattle.syntax.specs.declared.operator.Operator.{Operator}
 use Rattle.syntax.specs.declared.operator.Operator.TheVariants as operators
 use Rattle.syntax.specs.Grammar.{Syntax, Called, Numeral, Node, Syntaxes, NoSyntax, MoreSyntax}
-use Rattle.values.specs.Values.{◌>>=◌, Name, union}
+use Rattle.values.specs.Values.{◌>>=◌, Name, set_of}
 use Rattle.values.specs.Worths.{Worth, one, many, Known, worth}
 
 -- what a name is declared as
@@ -90,7 +90,7 @@ are_distinct (e ∷ es) = not (list_any (λ f. same_name e.0 f.0) es) && are_dis
 -- what a name with this meaning stands for, where these names are known
 unfoldable pub worth_of : Known → Name → Meaning → Option Worth
 worth_of known n (channel sets) = None
-worth_of known n (datatype constants) = Some (many (union [] (map constant constants)))
+worth_of known n (datatype constants) = Some (many (set_of (map constant constants)))
 worth_of known n constant_name = Some (one (constant n))
 worth_of known n (definition t) = worth known t
 

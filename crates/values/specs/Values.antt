@@ -1,12 +1,12 @@
 -- Numbers within their limits, and sets of values in order.
-use Rattle.std.specs.Prelude.{◌≡◌, ℕ, zero, suc, ◌+◌, List, [], ◌∷◌, Bool, true, false, not, ◌&&◌, Option, Some, None, if◌then◌else◌, nat_le, length, filter, ℤ, pos, negsuc, ◌+ℤ◌, int_lt, int_le, int_rem}
+use Rattle.std.specs.Prelude.{ℕ, zero, suc, List, [], ◌∷◌, Bool, not, ◌&&◌, Option, Some, None, if◌then◌else◌, nat_le, length, filter, ℤ, pos, negsuc, ◌+ℤ◌, int_lt, int_le, int_rem}
 use Rattle.std.specs.List.{list_any}
 use Rattle.std.specs.Int.{int_gap}
 use Rattle.std.specs.Ordering.{int_cmp, nat_cmp, is_eq}
 use Rattle.std.specs.Cmp.Lexicographic.{slice_cmp}
 use Rattle.std.specs.BTreeSet.{insert_key}
 use Rattle.std.specs.declared.cmp.Ordering.{Ordering}
-use Rattle.std.specs.declared.cmp.Ordering.TheVariants.{Less, Equal, Greater}
+use Rattle.std.specs.declared.cmp.Ordering.TheVariants.{Less, Greater}
 use Rattle.alphabet.specs.Channels.{FieldValue, number, constant, Values}
 
 infixl 10 ◌>>=◌
@@ -44,7 +44,12 @@ is_same v w = is_eq (value_cmp v w)
 unfoldable pub is_among : FieldValue → Values → Bool
 is_among v vs = list_any (is_same v) vs
 
--- the values of the first set and those of the list, in order and none twice
+-- the values of the list in order and none twice
+unfoldable pub set_of : Values → Values
+set_of [] = []
+set_of (v ∷ vs) = insert_key value_cmp (set_of vs) v
+
+-- the values of the first set and those of the second, in order
 unfoldable pub union : Values → Values → Values
 union vs [] = vs
 union vs (w ∷ ws) = union (insert_key value_cmp vs w) ws
@@ -66,4 +71,4 @@ numbers_from z (suc n) = number z ∷ numbers_from (z +ℤ pos 1) n
 
 -- the numbers from x to y, of which there are at most 65,536
 unfoldable pub range : ℤ → ℤ → Option Values
-range x y = if int_lt y x then Some [] else (if nat_le (suc (int_gap x y)) 65536 then Some (numbers_from x (suc (int_gap x y))) else None)
+range x y = if int_lt y x then Some [] else (if int_le y (x +ℤ pos 65535) then Some (numbers_from x (suc (int_gap x y))) else None)

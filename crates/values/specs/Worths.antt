@@ -1,12 +1,12 @@
 -- What phrases for values and for sets of values stand for.
-use Rattle.std.specs.Prelude.{◌≡◌, ℕ, List, [], ◌∷◌, Bool, true, false, Option, Some, None, ℤ, pos, ◌+ℤ◌, ◌-ℤ◌, ◌*ℤ◌, neg_ℤ}
+use Rattle.std.specs.Prelude.{List, [], ◌∷◌, Option, Some, None, ℤ, pos, ◌+ℤ◌, ◌-ℤ◌, ◌*ℤ◌}
 use Rattle.alphabet.specs.Channels.{FieldValue, number, constant, Values}
 use Rattle.syntax.specs.declared.operator.Operator.{Operator}
 use Rattle.syntax.specs.declared.operator.Operator.TheVariants as operators
 use Rattle.syntax.specs.declared.form.Form.{Form}
 use Rattle.syntax.specs.declared.form.Form.TheVariants as forms
 use Rattle.syntax.specs.Grammar.{Syntax, Called, Numeral, Node, Syntaxes, NoSyntax, MoreSyntax}
-use Rattle.values.specs.Values.{◌>>=◌, Name, limited, remainder, union, intersection, difference, fitting_set, range}
+use Rattle.values.specs.Values.{◌>>=◌, Name, limited, remainder, set_of, union, intersection, difference, fitting_set, range}
 
 -- what a phrase stands for: one value, or a set of values in order
 pub data Worth : Type 0 where
@@ -34,56 +34,79 @@ unfoldable pub the_only : List Worth → Option Worth
 the_only (w ∷ []) = Some w
 the_only ws = None
 
+unfoldable pub the_two : List Worth → Option (Worth × Worth)
+the_two (w ∷ x ∷ []) = Some (w, x)
+the_two ws = None
+
 unfoldable pub two_numbers : List Worth → Option (ℤ × ℤ)
-two_numbers (w ∷ x ∷ []) = the_number w >>= λ y. the_number x >>= λ z. Some (y, z)
-two_numbers ws = None
+two_numbers ws = the_two ws >>= λ p. the_number p.0 >>= λ y. the_number p.1 >>= λ z. Some (y, z)
 
 unfoldable pub two_sets : List Worth → Option (Values × Values)
-two_sets (w ∷ x ∷ []) = the_set w >>= λ vs. the_set x >>= λ us. Some (vs, us)
-two_sets ws = None
+two_sets ws = the_two ws >>= λ p. the_set p.0 >>= λ vs. the_set p.1 >>= λ us. Some (vs, us)
 
 unfoldable pub all_values : List Worth → Option Values
 all_values [] = Some []
-all_values (w ∷ ws) = the_value w >>= λ v. all_values ws >>= λ vs. Some (v ∷ vs)
+all_values (w ∷ ws) = all_values ws >>= λ vs. the_value w >>= λ v. Some (v ∷ vs)
+
+-- the set of the values in a list
+unfoldable pub set_of_all : List Worth → Option Values
+set_of_all ws = all_values ws >>= λ vs. Some (set_of vs)
 
 unfoldable pub nothing_of : List Worth → Option Worth
 nothing_of [] = Some (many [])
 nothing_of (w ∷ ws) = None
 
-abbrev pub a_number : Option ℤ → Option Worth
-a_number x = x >>= λ z. Some (one (number z))
+-- what `+`, `-`, `*` and `%` make of two numbers
+unfoldable pub calculated : Operator → ℤ → ℤ → Option ℤ
+calculated operators.Plus y z = limited (y +ℤ z)
+calculated operators.Minus y z = limited (y -ℤ z)
+calculated operators.Times y z = limited (y *ℤ z)
+calculated operators.Remainder y z = remainder y z
+calculated op y z = None
 
-abbrev pub a_set : Option Values → Option Worth
-a_set x = x >>= λ vs. Some (many vs)
-
--- what `+`, `-`, `*` and `%` make of what their sides stand for
+-- the same of what their sides stand for
 unfoldable pub computed : Operator → List Worth → Option Worth
-computed operators.Plus ws = two_numbers ws >>= λ p. a_number (limited (p.0 +ℤ p.1))
-computed operators.Minus ws = two_numbers ws >>= λ p. a_number (limited (p.0 -ℤ p.1))
-computed operators.Times ws = two_numbers ws >>= λ p. a_number (limited (p.0 *ℤ p.1))
-computed operators.Remainder ws = two_numbers ws >>= λ p. a_number (remainder p.0 p.1)
-computed op ws = None
+computed op ws = two_numbers ws >>= λ p. calculated op p.0 p.1 >>= λ z. Some (one (number z))
+
+-- the number with its sign turned
+unfoldable pub negated : List Worth → Option Worth
+negated ws = the_only ws >>= λ w. the_number w >>= λ y. limited (pos 0 -ℤ y) >>= λ z. Some (one (number z))
+
+unfoldable pub set_with : List Worth → Option Worth
+set_with ws = set_of_all ws >>= λ vs. fitting_set vs >>= λ us. Some (many us)
+
+unfoldable pub range_with : List Worth → Option Worth
+range_with ws = two_numbers ws >>= λ p. range p.0 p.1 >>= λ vs. Some (many vs)
+
+unfoldable pub union_with : List Worth → Option Worth
+union_with ws = two_sets ws >>= λ p. fitting_set (union p.0 p.1) >>= λ vs. Some (many vs)
+
+unfoldable pub intersection_with : List Worth → Option Worth
+intersection_with ws = two_sets ws >>= λ p. Some (many (intersection p.0 p.1))
+
+unfoldable pub difference_with : List Worth → Option Worth
+difference_with ws = two_sets ws >>= λ p. Some (many (difference p.0 p.1))
 
 -- what a form makes of what its parts stand for
 unfoldable pub formed : Form → List Worth → Option Worth
 formed forms.Event ws = the_only ws
 formed forms.Brackets ws = the_only ws
-formed forms.Negation ws = the_only ws >>= λ w. the_number w >>= λ z. a_number (limited (neg_ℤ z))
-formed forms.NegativeNumber ws = the_only ws >>= λ w. the_number w >>= λ z. a_number (limited (neg_ℤ z))
+formed forms.Negation ws = negated ws
+formed forms.NegativeNumber ws = negated ws
 formed (forms.Operation op) ws = computed op ws
 formed forms.EmptySet ws = nothing_of ws
-formed forms.Set ws = all_values ws >>= λ vs. a_set (fitting_set (union [] vs))
-formed forms.Range ws = two_numbers ws >>= λ p. a_set (range p.0 p.1)
-formed forms.Union ws = two_sets ws >>= λ p. a_set (fitting_set (union p.0 p.1))
-formed forms.Intersection ws = two_sets ws >>= λ p. a_set (Some (intersection p.0 p.1))
-formed forms.Difference ws = two_sets ws >>= λ p. a_set (Some (difference p.0 p.1))
+formed forms.Set ws = set_with ws
+formed forms.Range ws = range_with ws
+formed forms.Union ws = union_with ws
+formed forms.Intersection ws = intersection_with ws
+formed forms.Difference ws = difference_with ws
 formed f ws = None
 
 unfoldable mutual
   -- what a phrase stands for
   pub worth : Known → Syntax → Option Worth
   worth known (Called n) = known n
-  worth known (Numeral n) = a_number (limited (pos n))
+  worth known (Numeral n) = limited (pos n) >>= λ z. Some (one (number z))
   worth known (Node f ts) = worths known ts >>= λ ws. formed f ws
 
   -- what each of them stands for

@@ -1,0 +1,63 @@
+//! What names stand for.
+ghost use Rattle.std.specs.Prelude.{◌≡◌, ℕ, List, Some, None, OnOk, OnErr, if◌then◌else◌};
+ghost use Rattle.std.specs.Option.{option_map};
+ghost use Rattle.values.specs.Names.{same_name};
+ghost use Rattle.values.specs.View.{Gives, worth as worth_of};
+ghost use Rattle.values.specs.Tables.{table};
+
+use crate::number::fault;
+use crate::worth::Worth;
+use indexmap::IndexMap;
+use std::alloc::{AllocError, Allocator};
+use std::hash::{BuildHasherDefault, FoldHasher};
+use tokens::{ScriptError, ScriptErrorKind};
+
+type Hashing = BuildHasherDefault<FoldHasher>;
+
+/// A table of names and what they stand for.
+#[derive(Drop)]
+pub struct Known<A: Allocator> {
+    pub(crate) worths: IndexMap<Vec<u8, A>, Worth<A>, Hashing, A>,
+}
+
+impl<A: Allocator + Copy> Known<A> {
+    /// A table without names. Takes no memory.
+    #[tactic(auto, unfolding(crate::specs::Tables::known_by))]
+    pub fn new(alloc: A) -> Known<A>
+        ensures { (name : List ℕ) → table result name ≡ None }
+    {
+        Known {
+            worths: IndexMap::new(alloc),
+        }
+    }
+}
+
+impl<A: Allocator + Clone> Known<A> {
+    /// Says what the name stands for, in place of what it stood for. Where memory is refused the table stays. Costs one
+    /// look-up by the name's hash.
+    #[tactic(auto, using(crate::proofs::Lists::inserted, crate::proofs::Lists::kept))]
+    pub fn insert(&mut self, name: Vec<u8, A>, worth: Worth<A>) -> Result<(), AllocError>
+        ensures inserted { OnOk result ((other : List ℕ) → table self.new other ≡ (if same_name other name.items then Some (worth_of worth) else table self.old other)) }
+        ensures unchanged { OnErr result ((other : List ℕ) → table self.new other ≡ table self.old other) }
+    {
+        let _old = self.worths.insert(name, worth)?;
+        Ok(())
+    }
+
+    /// What the name stands for.
+    fn get(&self, name: &[u8]) -> Option<&Worth<A>>
+        ensures { option_map (λ w. worth_of w.now) result ≡ table self.now name.now }
+    {
+        self.worths.get(name)
+    }
+
+    /// A copy of what the name stands for; `UnknownName` where the table hasn't got it.
+    pub fn worth(&self, name: &[u8], line: u32) -> Result<Worth<A>, ScriptError>
+        ensures { Gives worth_of result (table self.now name.now) }
+    {
+        match self.get(name) {
+            Some(worth) => Ok(worth.try_clone()?),
+            None => Err(fault(line, ScriptErrorKind::UnknownName)),
+        }
+    }
+}

@@ -1,0 +1,203 @@
+//! What phrases for values and sets of values stand for.
+ghost use Rattle.std.specs.Prelude.{◌≡◌, Some, map};
+ghost use Rattle.syntax.specs.View.{shape, shapes};
+ghost use Rattle.syntax.specs.Parsing.{syntaxes};
+ghost use Rattle.values.specs.Worths.{calculated as calculated_of, computed as computed_of, negated as negated_of, nothing_of, set_with as set_with_of, range_with as range_with_of, union_with as union_with_of, intersection_with as intersection_with_of, difference_with as difference_with_of, formed as formed_of, worth as worth_in, worths as worths_in};
+ghost use Rattle.values.specs.View.{Gives, worth as worth_of};
+ghost use Rattle.values.specs.Tables.{table};
+
+use crate::known::Known;
+use crate::number::{difference as number_difference, fault, limited, product, remainder, sum};
+use crate::sets::{difference, fitting, intersection, range, union};
+use crate::value::Value;
+use crate::worth::{Worth, listed, the_number, the_only, two_numbers, two_sets};
+use std::alloc::Allocator;
+use std::collections::BTreeSet;
+use syntax::{Form, Operator, Tree};
+use tokens::{ScriptError, ScriptErrorKind};
+
+/// What `+`, `-`, `*` and `%` make of two numbers.
+#[tactic(auto, unfolding(crate::specs::Worths::calculated))]
+fn calculated(operator: Operator, numbers: (i64, i64), line: u32) -> Result<i64, ScriptError>
+    ensures { Gives (λ z. z) result (calculated_of operator numbers.0 numbers.1) }
+{
+    let (first, second) = numbers;
+    match operator {
+        Operator::Plus => sum(first, second, line),
+        Operator::Minus => number_difference(first, second, line),
+        Operator::Times => product(first, second, line),
+        Operator::Remainder => remainder(first, second, line),
+        _ => Err(fault(line, ScriptErrorKind::Expected)),
+    }
+}
+
+/// The same of what their sides stand for.
+#[tactic(auto, unfolding(crate::specs::Worths::computed))]
+fn computed<A: Allocator>(
+    operator: Operator,
+    worths: Vec<Worth<A>, A>,
+    line: u32,
+) -> Result<Worth<A>, ScriptError>
+    ensures { Gives worth_of result (computed_of operator (map worth_of worths.items)) }
+{
+    let numbers = two_numbers(worths, line)?;
+    let number = calculated(operator, numbers, line)?;
+    Ok(Worth::One(Value::Number(number)))
+}
+
+/// The number with its sign turned.
+#[tactic(auto, unfolding(crate::specs::Worths::negated))]
+fn negated<A: Allocator>(worths: Vec<Worth<A>, A>, line: u32) -> Result<Worth<A>, ScriptError>
+    ensures { Gives worth_of result (negated_of (map worth_of worths.items)) }
+{
+    let only = the_only(worths, line)?;
+    let number = the_number(only, line)?;
+    let number = number_difference(0, number, line)?;
+    Ok(Worth::One(Value::Number(number)))
+}
+
+/// The set without values, of no parts.
+#[tactic(auto, unfolding(crate::specs::Worths::nothing_of), using(crate::proofs::Lists::no_parts, crate::proofs::Lists::some_parts))]
+fn nothing<A: Allocator + Clone>(
+    alloc: &A,
+    worths: Vec<Worth<A>, A>,
+    line: u32,
+) -> Result<Worth<A>, ScriptError>
+    ensures { Gives worth_of result (nothing_of (map worth_of worths.items)) }
+{
+    if worths.is_empty() {
+        return Ok(Worth::Many(BTreeSet::new(alloc.clone()?)));
+    }
+    Err(fault(line, ScriptErrorKind::Expected))
+}
+
+/// The set of the values of the parts.
+#[tactic(auto, unfolding(crate::specs::Worths::set_with))]
+fn set_with<A: Allocator + Clone>(
+    alloc: &A,
+    worths: Vec<Worth<A>, A>,
+    line: u32,
+) -> Result<Worth<A>, ScriptError>
+    ensures { Gives worth_of result (set_with_of (map worth_of worths.items)) }
+{
+    let set = listed(alloc, worths, line)?;
+    let set = fitting(set, line)?;
+    Ok(Worth::Many(set))
+}
+
+#[tactic(auto, unfolding(crate::specs::Worths::range_with))]
+fn range_with<A: Allocator + Clone>(
+    alloc: &A,
+    worths: Vec<Worth<A>, A>,
+    line: u32,
+) -> Result<Worth<A>, ScriptError>
+    ensures { Gives worth_of result (range_with_of (map worth_of worths.items)) }
+{
+    let numbers = two_numbers(worths, line)?;
+    let set = range(alloc, numbers, line)?;
+    Ok(Worth::Many(set))
+}
+
+#[tactic(auto, unfolding(crate::specs::Worths::union_with))]
+fn union_with<A: Allocator + Clone>(
+    worths: Vec<Worth<A>, A>,
+    line: u32,
+) -> Result<Worth<A>, ScriptError>
+    ensures { Gives worth_of result (union_with_of (map worth_of worths.items)) }
+{
+    let (first, second) = two_sets(worths, line)?;
+    let set = union(first, second)?;
+    let set = fitting(set, line)?;
+    Ok(Worth::Many(set))
+}
+
+#[tactic(auto, unfolding(crate::specs::Worths::intersection_with))]
+fn intersection_with<A: Allocator>(
+    worths: Vec<Worth<A>, A>,
+    line: u32,
+) -> Result<Worth<A>, ScriptError>
+    ensures { Gives worth_of result (intersection_with_of (map worth_of worths.items)) }
+{
+    let (first, second) = two_sets(worths, line)?;
+    let set = intersection(first, &second);
+    Ok(Worth::Many(set))
+}
+
+#[tactic(auto, unfolding(crate::specs::Worths::difference_with))]
+fn difference_with<A: Allocator>(
+    worths: Vec<Worth<A>, A>,
+    line: u32,
+) -> Result<Worth<A>, ScriptError>
+    ensures { Gives worth_of result (difference_with_of (map worth_of worths.items)) }
+{
+    let (first, second) = two_sets(worths, line)?;
+    let set = difference(first, &second);
+    Ok(Worth::Many(set))
+}
+
+/// What a form makes of what its parts stand for.
+#[tactic(auto, unfolding(crate::specs::Worths::formed))]
+fn formed<A: Allocator + Clone>(
+    alloc: &A,
+    form: Form,
+    worths: Vec<Worth<A>, A>,
+    line: u32,
+) -> Result<Worth<A>, ScriptError>
+    ensures { Gives worth_of result (formed_of form (map worth_of worths.items)) }
+{
+    match form {
+        Form::Event | Form::Brackets => the_only(worths, line),
+        Form::Negation | Form::NegativeNumber => negated(worths, line),
+        Form::Operation(operator) => computed(operator, worths, line),
+        Form::EmptySet => nothing(alloc, worths, line),
+        Form::Set => set_with(alloc, worths, line),
+        Form::Range => range_with(alloc, worths, line),
+        Form::Union => union_with(worths, line),
+        Form::Intersection => intersection_with(worths, line),
+        Form::Difference => difference_with(worths, line),
+        _ => Err(fault(line, ScriptErrorKind::Expected)),
+    }
+}
+
+/// What a phrase stands for, where names stand for what the table says.
+///
+/// The fault has the line of the phrase that is at fault: `Expected` for a phrase of another kind, `UnknownName` for a
+/// name that the table lacks, `OutOfRange` for a number past its limits, `TooLarge` for a set of more than 65,536
+/// values.
+#[cycle(phrase)]
+#[tactic(auto, unfolding(crate::specs::Worths::worth))]
+pub fn stands_for<A: Allocator + Clone>(
+    alloc: &A,
+    known: &Known<A>,
+    tree: &Tree<A>,
+) -> Result<Worth<A>, ScriptError>
+    ensures { Gives worth_of result (worth_in (table known.now) (shape tree.now)) }
+{
+    match tree {
+        Tree::Name { line, text } => known.worth(text, *line),
+        Tree::Number { line, value } => {
+            let number = limited(i64::from(*value), *line)?;
+            Ok(Worth::One(Value::Number(number)))
+        }
+        Tree::Node { line, form, parts } => {
+            let worths = each_stands_for(alloc, known, parts)?;
+            formed(alloc, *form, worths, *line)
+        }
+    }
+}
+
+/// What each of the phrases stands for.
+#[cycle(phrase)]
+fn each_stands_for<A: Allocator + Clone>(
+    alloc: &A,
+    known: &Known<A>,
+    trees: &[Tree<A>],
+) -> Result<Vec<Worth<A>, A>, ScriptError>
+    ensures { Gives (λ v. map worth_of v.items) result (worths_in (table known.now) (syntaxes (shapes trees.now))) }
+{
+    let mut worths = Vec::new(alloc.clone()?);
+    for tree in trees {
+        worths.push(stands_for(alloc, known, tree)?)?;
+    }
+    Ok(worths)
+}
