@@ -5,3 +5,11 @@ pub mod Keys
 pub mod Told
 pub mod Made
 pub mod Progress
+pub mod Choices
+pub mod FirstPlaces
+pub mod SetsBelow
+pub mod EventNumbers
+pub mod Images
+pub mod Seen
+pub mod Rows
+pub mod Whole

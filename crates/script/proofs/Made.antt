@@ -38,7 +38,7 @@ pub bind_assoc : {A B C : Type 0} (o : Option A) (g : A → Option B) (f : B →
 bind_assoc None g f = refl
 bind_assoc (Some x) g f = refl
 
-bind_same : {A : Type 0} (o : Option A) (f : A → Option A) → ((x : A) → f x ≡ Some x) → (o >>= f) ≡ o
+pub bind_same : {A : Type 0} (o : Option A) (f : A → Option A) → ((x : A) → f x ≡ Some x) → (o >>= f) ≡ o
 bind_same None f h = refl
 bind_same (Some x) f h = h x
 

@@ -3,3 +3,4 @@ pub mod Bodies
 pub mod Phrases
 pub mod Denotes
 pub mod Making
+pub mod View

@@ -1,6 +1,7 @@
 -- Processes made of bodies: definitions get numbers as they are met, and nodes are counted.
 use Rattle.std.specs.Prelude.{◌≡◌, ℕ, zero, suc, ◌+◌, ◌-◌, ◌/◌, ◌≤◌, List, [], ◌∷◌, ◌++◌, length, take, drop, map, Bool, true, false, not, ◌&&◌, nat_lt, nat_eq, Option, Some, None, if◌then◌else◌}
 use Rattle.std.specs.List.{All, flat_map}
+use Rattle.std.specs.Cmp.Lexicographic.{pointwise}
 use Rattle.alphabet.specs.Channels.{Values, Channel, Parts, events, event_count}
 use Rattle.alphabet.specs.EventSets.{Set}
 use Rattle.term.specs.Traces.{Pairs}
@@ -11,9 +12,9 @@ use Rattle.syntax.specs.declared.form.Form.TheVariants as forms
 use Rattle.syntax.specs.declared.operator.Operator.{Operator}
 use Rattle.syntax.specs.declared.operator.Operator.TheVariants as operators
 use Rattle.syntax.specs.Grammar.{Syntax, Called, Numeral, Node, Syntaxes, NoSyntax, MoreSyntax}
-use Rattle.values.specs.Values.{◌>>=◌, Name}
+use Rattle.values.specs.Values.{◌>>=◌, Name, is_same}
 use Rattle.values.specs.Names.{Meaning, channel, datatype, constant_name, definition, meaning, same_name, is_process}
-use Rattle.script.specs.Events.{Events, unless_value, channel_fields, set_of, both, pairs_of, in_order}
+use Rattle.script.specs.Events.{Events, Beginning, unless_value, channel_fields, set_of, both, pairs_of, in_order}
 use Rattle.script.specs.Bodies.{Key, Body, numbered, names}
 use Rattle.script.specs.Phrases.{Scope, fitting, has_all, events_by}
 use Rattle.script.specs.Denotes.{place, with_key, with_keys, nodes, Reached}
@@ -81,6 +82,10 @@ choice_nodes (p ∷ ps) = length ps
 
 unfoldable pub make_choice : AllMade → Option Made
 make_choice x = spend (choice_nodes x.0) x.1 >>= λ u. Some (choice_over x.0, u)
+
+-- an event has this channel and these values
+abbrev pub is_event_of : Beginning → Parts → Bool
+is_event_of b p = same_name b.0 p.channel && pointwise is_same b.1 p.values
 
 -- ---- of a phrase, in the order of the work
 
