@@ -5,11 +5,11 @@ use Rattle.alphabet.specs.Channels.{Parts}
 use Rattle.alphabet.specs.declared.events.Event.{Event}
 use Rattle.alphabet.specs.declared.events.Event.TheVariants.{Tick as tick, Of as ev}
 use Rattle.alphabet.specs.Events.{is_event}
-use Rattle.alphabet.specs.EventSets.{Set, has, member}
+use Rattle.alphabet.specs.EventSets.{Set, member}
 use Rattle.values.specs.Values.{◌>>=◌}
 use Rattle.script.specs.Events.{Events, Beginning, at_number, number_in, set_below}
 use Rattle.script.specs.Making.{is_event_of}
-use Rattle.script.proofs.Made.{bind_same, bind_assoc}
+use Rattle.script.proofs.Made.{bind_same}
 use Rattle.script.proofs.SetsBelow.{is_in, member_is, is_below, more_is, split, lt_is, ge_is}
 
 -- ---- sets, event by event

@@ -1,12 +1,12 @@
 -- A table of names gives the numbers of definitions.
-use Rattle.std.proofs.Common.{◌≡◌, ℕ, zero, suc, ◌+◌, List, [], ◌∷◌, ◌++◌, map, Bool, true, false, not, ◌&&◌, ◌||◌, cond, nat_eq, Vec, refl, sym, ap, ap₂, ◌∙◌, arith}
+use Rattle.std.proofs.Common.{◌≡◌, ℕ, suc, ◌+◌, List, [], ◌∷◌, ◌++◌, map, Bool, true, false, not, ◌&&◌, ◌||◌, cond, nat_eq, Vec, refl, sym, ap, ap₂, ◌∙◌, arith}
 use Rattle.std.specs.List.{list_any, position_or_len}
 use Rattle.std.specs.Cmp.{nat_eq_equiv}
 use Rattle.std.specs.Cmp.Lexicographic.{pointwise}
 use Rattle.std.proofs.lemmas.List.{map-append}
 use Rattle.indexmap.specs.IndexSet.{insert_key}
 use Rattle.values.specs.Names.{same_name}
-use Rattle.script.specs.Bodies.{Key, same_key}
+use Rattle.script.specs.Bodies.{same_key}
 use Rattle.script.specs.Denotes.{place, has_key, with_key}
 use Rattle.script.specs.View.{key}
 use Rattle.script.proofs.Keys.{key_same}

@@ -1,16 +1,15 @@
 -- The pairs of a renaming in order.
-use Rattle.std.proofs.Common.{◌≡◌, ℕ, zero, suc, ◌+◌, ◌<◌, ◌≤◌, List, [], ◌∷◌, ◌++◌, length, map, take, get_or, filter, Bool, true, false, cond, ◌&&◌, ◌||◌, nat_eq, nat_lt, refl, sym, ap, ap₂, ◌∙◌, arith, take-suc, append_assoc, append-nil}
+use Rattle.std.proofs.Common.{◌≡◌, ℕ, zero, suc, ◌+◌, ◌<◌, List, [], ◌∷◌, ◌++◌, length, map, take, get_or, filter, Bool, true, false, cond, ◌&&◌, ◌||◌, nat_eq, refl, sym, ap, ap₂, ◌∙◌, arith, take-suc, append_assoc, append-nil}
 use Rattle.std.specs.List.{list_any, flat_map, range_with_len}
-use Rattle.std.specs.Cmp.{nat_eq_equiv}
 use Rattle.std.proofs.lemmas.List.{map-append}
 use Rattle.std.proofs.lemmas.List.Elements.{filter-append}
 use Rattle.std.proofs.lemmas.List.Concat.{flat_map-append}
 use Rattle.alphabet.specs.declared.events.Event.{Event}
-use Rattle.alphabet.specs.declared.events.Event.TheVariants.{Tick as tick, Of as ev}
+use Rattle.alphabet.specs.declared.events.Event.TheVariants.{Of as ev}
 use Rattle.alphabet.specs.Events.{is_event}
 use Rattle.alphabet.specs.EventSets.{Set, has, member}
 use Rattle.term.specs.Traces.{Pairs}
-use Rattle.script.specs.Events.{is_pair_of, in_order}
+use Rattle.script.specs.Events.{is_pair_of}
 
 any_push : {A : Type 0} (f : A → Bool) (xs : List A) (x : A) → list_any f (xs ++ x ∷ []) ≡ (f x || list_any f xs)
 any_push f [] x = refl

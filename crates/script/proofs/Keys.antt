@@ -1,5 +1,5 @@
 -- Places in a list of definitions that none stands in twice.
-use Rattle.std.proofs.Common.{◌≡◌, ℕ, zero, suc, ℤ, List, [], ◌∷◌, ◌++◌, Bool, true, false, cond, ◌&&◌, refl, sym, ap, ap₂, ◌∙◌, nat_eq}
+use Rattle.std.proofs.Common.{◌≡◌, suc, List, [], ◌∷◌, ◌++◌, Bool, true, false, cond, ◌&&◌, refl, ap, ap₂, ◌∙◌}
 use Rattle.std.specs.Cmp.Lexicographic.{pointwise, slice_cmp}
 use Rattle.std.specs.Cmp.{nat_eq_equiv}
 use Rattle.std.specs.Ordering.{ordering_reverse, int_cmp, nat_cmp, is_eq}
@@ -7,7 +7,7 @@ use Rattle.std.specs.declared.cmp.Ordering.{Ordering}
 use Rattle.std.specs.declared.cmp.Ordering.TheVariants.{Less, Equal, Greater}
 use Rattle.std.proofs.lemmas.Cmp.{int_cmp_total, nat_list_cmp_total}
 use Rattle.alphabet.specs.Channels.{FieldValue, number, constant, Values}
-use Rattle.values.specs.Values.{Name, value_cmp, is_same}
+use Rattle.values.specs.Values.{Name, is_same}
 use Rattle.values.specs.Names.{same_name}
 use Rattle.script.specs.Bodies.{Key, same_key}
 use Rattle.script.specs.Denotes.{place, has_key, with_key, with_keys}

@@ -1,5 +1,5 @@
 -- What is made of a phrase is made of the body that it denotes.
-use Rattle.std.proofs.Common.{◌≡◌, ℕ, zero, suc, ◌+◌, ◌-◌, ◌<◌, ◌≤◌, List, [], ◌∷◌, ◌++◌, length, map, Bool, true, false, cond, Option, Some, None, refl, sym, ap, ap₂, ◌∙◌, arith, append-nil}
+use Rattle.std.proofs.Common.{◌≡◌, ℕ, zero, suc, ◌+◌, ◌-◌, ◌<◌, ◌≤◌, List, [], ◌∷◌, ◌++◌, map, Bool, true, false, cond, Option, Some, None, refl, sym, ap, ap₂, ◌∙◌, arith, append-nil}
 use Rattle.std.specs.List.{flat_map}
 use Rattle.std.proofs.lemmas.List.{length-map}
 use Rattle.alphabet.specs.Channels.{Values, Parts, events, event_count}
@@ -8,19 +8,18 @@ use Rattle.term.specs.Proc as procs
 use Rattle.term.specs.Proc.{Proc}
 use Rattle.syntax.specs.declared.form.Form.{Form}
 use Rattle.syntax.specs.declared.form.Form.TheVariants as forms
-use Rattle.syntax.specs.declared.operator.Operator.{Operator}
 use Rattle.syntax.specs.declared.operator.Operator.TheVariants as operators
 use Rattle.syntax.specs.Grammar.{Syntax, Called, Numeral, Node, Syntaxes, NoSyntax, MoreSyntax}
 use Rattle.values.specs.Values.{◌>>=◌, Name}
 use Rattle.values.specs.Worths.{Worth, one, many}
 use Rattle.values.specs.Names.{Meaning, channel, datatype, constant_name, definition, meaning, same_name, is_process}
-use Rattle.script.specs.Events.{Events, unless_value, channel_fields, set_of, both, pairs_of, in_order}
+use Rattle.script.specs.Events.{Events, unless_value, channel_fields, set_of, pairs_of, in_order}
 use Rattle.script.specs.Bodies.{Key, Body, stop, skip, prefix, ext, int, seq, par, hide, ren, intr, name, names, numbered, choice_of}
 use Rattle.script.specs.Phrases.{Scope, fitting, with_branch, branches, prefixed, has_all, renamed, alphabetised, events_by, denoted, denoted_form}
 use Rattle.script.specs.Denotes.{place, with_key, with_keys, nodes, body_by, body_of}
 use Rattle.script.specs.Making.{Count, Made, AllMade, FoundBranch, room_left, spend, size_of, sizes_of, told, all_told, made, all_made, choice_over, choice_nodes, make_choice, refer, put, make_behind, make_branch, make_branches, make_prefixed, make_one, make_above, make_two, make_renamed, make_alphabetised, make, make_form, shallow, make_by, make_body}
 use Rattle.script.proofs.Keys.{keys_append}
-use Rattle.script.proofs.Told.{stays, all_stay, numbered_choice, names_choice, size_choice}
+use Rattle.script.proofs.Told.{stays, numbered_choice, names_choice, size_choice}
 
 -- ---- options
 
@@ -120,7 +119,6 @@ module _ (n : ℕ) (f : Proc → Proc → Proc) (g : Body → Body → Body)
     (hn : (h : Key → ℕ) (a b : Body) → numbered h (g a b) ≡ f (numbered h a) (numbered h b))
     (hk : (a b : Body) → names (g a b) ≡ names a ++ names b)
     (hs : (a b : Body) → size_of (g a b) ≡ size_of a + (size_of b + n)) where
-
   pay : (ks : List Key) (a b : Body) → f (told ks a) (told (with_keys ks (names a)) b) ≡ told ks (g a b)
   pay ks a b =
       ap₂ f (sym (stays a ks (names b))) (ap (λ ls. numbered (place ls) b) (sym (keys_append ks (names a) (names b))))
@@ -307,6 +305,7 @@ module _ (s : Scope) (next : Scope → Count → Option Made) (body : Scope → 
 
 mutual
   unfolding make denoted made
+
   pub made_is : (t : Syntax) (s : Scope) (w : Count) → make t s w ≡ made w (denoted t s)
   made_is (Called n) s w = refl
   made_is (Numeral n) s w = refl

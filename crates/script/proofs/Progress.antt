@@ -1,18 +1,18 @@
 -- Body by body through the definitions that are reached.
-use Rattle.std.proofs.Common.{◌≡◌, ℕ, zero, suc, ◌+◌, ◌-◌, ◌<◌, ◌≤◌, List, [], ◌∷◌, ◌++◌, length, take, drop, map, get_or, Option, Some, None, refl, sym, ap, ap₂, subst, ◌∙◌, arith, append_assoc, append-nil, take-suc}
+use Rattle.std.proofs.Common.{◌≡◌, ℕ, zero, suc, ◌+◌, ◌-◌, ◌<◌, ◌≤◌, List, [], ◌∷◌, ◌++◌, length, take, map, get_or, Option, Some, None, refl, sym, ap, ap₂, subst, ◌∙◌, arith, append_assoc, append-nil, take-suc}
 use Rattle.std.specs.List.{All, flat_map}
 use Rattle.std.proofs.lemmas.List.{length-map, length-append, map-append}
 use Rattle.std.proofs.lemmas.List.Elements.{All-append, All-get_or}
 use Rattle.term.specs.Proc.{Proc}
 use Rattle.term.specs.Proc as procs
-use Rattle.term.specs.Sizes.{size, depth}
+use Rattle.term.specs.Sizes.{depth}
 use Rattle.values.specs.Values.{◌>>=◌}
 use Rattle.script.specs.Bodies.{Key, Body, stop, skip, prefix, ext, int, seq, par, hide, ren, intr, name, names, numbered}
 use Rattle.script.specs.Phrases.{Scope}
-use Rattle.script.specs.Denotes.{body_of, place, with_key, with_keys, met, nodes, Reached}
-use Rattle.script.specs.Making.{Count, Made, room_left, size_of, sizes_of, told, made, shallow, make_body, Gathered}
+use Rattle.script.specs.Denotes.{body_of, place, with_keys, met, nodes, Reached}
+use Rattle.script.specs.Making.{Count, Made, size_of, sizes_of, told, made, shallow, make_body, Gathered}
 use Rattle.script.proofs.Keys.{keys_append}
-use Rattle.script.proofs.Told.{stays, same_size, same_depth, same_nodes}
+use Rattle.script.proofs.Told.{stays, same_depth, same_nodes}
 use Rattle.script.proofs.Made.{split, room_enough, room_less, body_is}
 use Rattle.script.proofs.Reached.{some_is, get_or_view, get_front, take_whole, keys_grow, met_front, one_reached}
 

@@ -1,13 +1,12 @@
 -- Sets of events as numbers, by their members.
-use Rattle.std.proofs.Common.{◌≡◌, ℕ, zero, suc, ◌+◌, ◌-◌, ◌*◌, ◌^◌, ◌<◌, ◌≤◌, Bool, true, false, cond, not, ◌&&◌, ◌||◌, nat_eq, nat_lt, refl, sym, ap, ap₂, ◌∙◌, arith}
+use Rattle.std.proofs.Common.{◌≡◌, ℕ, zero, suc, ◌+◌, ◌-◌, ◌*◌, ◌^◌, ◌<◌, ◌≤◌, Bool, true, false, cond, ◌&&◌, nat_eq, nat_lt, refl, sym, ap, ◌∙◌, arith}
 use Rattle.std.specs.Int.{bit_at}
-use Rattle.std.proofs.lemmas.Nat.Bits.{bit_at_cat_low, bit_at_cat_high, bit_at_above, bit_at_lowest, bit_at-zero}
+use Rattle.std.proofs.lemmas.Nat.Bits.{bit_at_cat_low, bit_at_cat_high, bit_at_above, bit_at-zero}
 use Rattle.alphabet.specs.declared.events.Event.{Event}
 use Rattle.alphabet.specs.declared.events.Event.TheVariants.{Tick as tick, Of as ev}
-use Rattle.alphabet.specs.Events.{is_event, is_numbered_below}
 use Rattle.alphabet.specs.EventSets.{Set, has, member}
 use Rattle.alphabet.proofs.Sets.{same_set}
-use Rattle.script.specs.Events.{Events, no_events, either, both, less, set_below}
+use Rattle.script.specs.Events.{Events, set_below}
 
 -- the events below n that are in the set
 abbrev pub is_in : ℕ → Events → Event → Bool

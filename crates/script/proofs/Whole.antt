@@ -1,5 +1,5 @@
 -- What a script denotes is what it declares, with the bodies of what is reached.
-use Rattle.std.proofs.Common.{◌≡◌, List, [], Option, refl, sym, subst}
+use Rattle.std.proofs.Common.{◌≡◌, List, [], sym, subst}
 use Rattle.alphabet.specs.Channels.{Channel}
 use Rattle.term.specs.Proc.{Proc}
 use Rattle.term.specs.Specs.{Specified}

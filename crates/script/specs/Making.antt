@@ -1,15 +1,13 @@
 -- Processes made of bodies: definitions get numbers as they are met, and nodes are counted.
-use Rattle.std.specs.Prelude.{◌≡◌, ℕ, zero, suc, ◌+◌, ◌-◌, ◌/◌, ◌≤◌, List, [], ◌∷◌, ◌++◌, length, take, drop, map, Bool, true, false, not, ◌&&◌, nat_lt, nat_eq, Option, Some, None, if◌then◌else◌}
+use Rattle.std.specs.Prelude.{◌≡◌, ℕ, zero, suc, ◌-◌, ◌/◌, ◌≤◌, List, [], ◌∷◌, length, take, drop, map, Bool, not, ◌&&◌, nat_lt, Option, Some, None, if◌then◌else◌}
 use Rattle.std.specs.List.{All, flat_map}
 use Rattle.std.specs.Cmp.Lexicographic.{pointwise}
-use Rattle.alphabet.specs.Channels.{Values, Channel, Parts, events, event_count}
-use Rattle.alphabet.specs.EventSets.{Set}
+use Rattle.alphabet.specs.Channels.{Values, Parts, events, event_count}
 use Rattle.term.specs.Traces.{Pairs}
 use Rattle.term.specs.Proc.{Proc, stop, skip, prefix, ext, int, seq, par, hide, ren, intr, name}
 use Rattle.term.specs.Sizes.{size, depth}
 use Rattle.syntax.specs.declared.form.Form.{Form}
 use Rattle.syntax.specs.declared.form.Form.TheVariants as forms
-use Rattle.syntax.specs.declared.operator.Operator.{Operator}
 use Rattle.syntax.specs.declared.operator.Operator.TheVariants as operators
 use Rattle.syntax.specs.Grammar.{Syntax, Called, Numeral, Node, Syntaxes, NoSyntax, MoreSyntax}
 use Rattle.values.specs.Values.{◌>>=◌, Name, is_same}

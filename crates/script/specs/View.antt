@@ -1,9 +1,8 @@
 -- What is in memory as plain values.
 use Rattle.std.specs.Prelude.{ℕ, List, [], map}
 use Rattle.std.specs.declared.vec.Vec.{Vec}
-use Rattle.alphabet.specs.Channels.{FieldValue, Values, Channel, Parts}
-use Rattle.values.specs.Values.{Name}
-use Rattle.values.specs.View.{value, values}
+use Rattle.alphabet.specs.Channels.{Values, Parts}
+use Rattle.values.specs.View.{value}
 use Rattle.values.specs.declared.value.Value.{Value}
 use Rattle.script.specs.declared.work.Work.{Work}
 use Rattle.script.specs.declared.row.Row.{Row}

@@ -1,4 +1,4 @@
-use Rattle.std.proofs.Common.{rules, arith, ap, sym, ◌∙◌}
+use Rattle.std.proofs.Common.{arith, ap, sym, ◌∙◌}
 use Rattle.alphabet.specs.EventSets.{member}
 use Rattle.script.specs.Events.{begins_so}
 use Rattle.script.specs.View.{beginning, row}
