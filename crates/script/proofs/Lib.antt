@@ -1,3 +1,15 @@
 pub mod Examples
 pub mod Reached
 pub mod Unique
+pub mod Keys
+pub mod Told
+pub mod Made
+pub mod Progress
+pub mod Choices
+pub mod FirstPlaces
+pub mod SetsBelow
+pub mod EventNumbers
+pub mod Images
+pub mod Seen
+pub mod Rows
+pub mod Whole

@@ -8,17 +8,17 @@ use Rattle.script.specs.Denotes.{body_of, has_key, with_key, with_keys, met, Rea
 
 -- ---- lists
 
-get_or_view : {A B : Type 0} (view : A → B) (xs : List A) (n : ℕ) (d : B) (e : A) → n < length xs → get_or (map view xs) n d ≡ view (get_or xs n e)
+pub get_or_view : {A B : Type 0} (view : A → B) (xs : List A) (n : ℕ) (d : B) (e : A) → n < length xs → get_or (map view xs) n d ≡ view (get_or xs n e)
 get_or_view view [] n d e h = absurd (omega (arith, h))
 get_or_view view (x ∷ xs) zero d e h = refl
 get_or_view view (x ∷ xs) (suc n) d e h = get_or_view view xs n d e (omega (arith, h))
 
-get_front : {A : Type 0} (xs ys : List A) (n : ℕ) (d : A) → n < length xs → get_or (xs ++ ys) n d ≡ get_or xs n d
+pub get_front : {A : Type 0} (xs ys : List A) (n : ℕ) (d : A) → n < length xs → get_or (xs ++ ys) n d ≡ get_or xs n d
 get_front [] ys n d h = absurd (omega (arith, h))
 get_front (x ∷ xs) ys zero d h = refl
 get_front (x ∷ xs) ys (suc n) d h = get_front xs ys n d (omega (arith, h))
 
-take_whole : {A : Type 0} (n : ℕ) (xs : List A) → length xs ≤ n → take n xs ≡ xs
+pub take_whole : {A : Type 0} (n : ℕ) (xs : List A) → length xs ≤ n → take n xs ≡ xs
 take_whole zero [] h = refl
 take_whole zero (x ∷ xs) h = absurd (omega (arith, h))
 take_whole (suc n) [] h = refl
@@ -33,7 +33,7 @@ key_grow : (ks : List Key) (n : Key) → (rest : List Key) × (with_key ks n ≡
 unfolding with_key
 key_grow ks n = elim (has_key ks n) as (λ b. (rest : List Key) × (cond b ks (ks ++ n ∷ []) ≡ ks ++ rest)) [ true ↦ ([], sym (append-nil ks)) | false ↦ (n ∷ [], refl) ]
 
-keys_grow : (ns ks : List Key) → (rest : List Key) × (with_keys ks ns ≡ ks ++ rest)
+pub keys_grow : (ns ks : List Key) → (rest : List Key) × (with_keys ks ns ≡ ks ++ rest)
 unfolding with_keys
 keys_grow [] ks = ([], sym (append-nil ks))
 keys_grow (n ∷ ns) ks =
@@ -52,7 +52,7 @@ names_parts (suc k) [] = refl
 names_parts (suc k) (p ∷ ps) = append_assoc (names p) (flat_map names (take k ps)) (flat_map names (drop k ps)) ∙ ap (λ ns. names p ++ ns) (names_parts k ps)
 
 -- definitions met from the first bodies are the first of those met from all
-met_front : (root : Key) (n : ℕ) (bs : List Body) → (rest : List Key) × (met root bs ≡ met root (take n bs) ++ rest)
+pub met_front : (root : Key) (n : ℕ) (bs : List Body) → (rest : List Key) × (met root bs ≡ met root (take n bs) ++ rest)
 unfolding met
 met_front root n bs =
     let (rest, h) = keys_grow (flat_map names (drop n bs)) (with_keys (root ∷ []) (flat_map names (take n bs))) in

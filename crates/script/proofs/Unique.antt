@@ -26,7 +26,7 @@ module _ {X Y : Type 0} (R : X → Y → Type 0) (f g : X → Option Y) (fs : (x
 one_known : (es : List Entry) (f g : Known) → Stands es f → Stands es g → f ≡ g
 one_known es f g = same_functions (λ n w. (k : ℕ) × (known_in es k n ≡ Some w)) f g
 
-one_sets : (cs : List Channel) (known : Known) (es : List Entry) (f g : KnownEvents) → EventsStand cs known es f → EventsStand cs known es g → f ≡ g
+pub one_sets : (cs : List Channel) (known : Known) (es : List Entry) (f g : KnownEvents) → EventsStand cs known es f → EventsStand cs known es g → f ≡ g
 one_sets cs known es f g = same_functions (λ n A. (k : ℕ) × (events_in cs known es k n ≡ Some A)) f g
 
 -- what a script declares is one thing
