@@ -361,6 +361,11 @@ fn operand<'t, A: Allocator + Clone + Drop>(
     }
 }
 
+/// The line of a tree's first token. No clause: where trees lie in the text is no part of the proofs here.
+fn first_line<A: Allocator>(tree: &Tree<A>) -> u32 {
+    tree.line()
+}
+
 /// What an operator makes of its left side and of what stands behind it.
 #[cycle(reading)]
 #[tactic(auto, unfolding(crate::specs::Parsing::grown))]
@@ -375,7 +380,7 @@ fn grown<'t, A: Allocator + Clone + Drop>(
     ensures read { Gives (λ x. (shape x.0.tree, lexemes x.1.now)) result (grown_of (reader limits.brackets (limits.room - 1) 4) (may_open_of limits.brackets) operator (shape left.tree) (lexemes tokens.now)) }
     ensures high { IfOk result (λ x. x.0.height ≤ limits.room) }
 {
-    let line = left.tree.line();
+    let line = first_line(&left.tree);
     let parts = Parts::new(alloc)?.with(left)?;
     let limits = Limits {
         brackets: limits.brackets,

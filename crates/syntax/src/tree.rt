@@ -1,4 +1,5 @@
 //! Syntax trees.
+ghost use Rattle.std.specs.Prelude.{◌≡◌};
 
 use crate::form::Form;
 use std::alloc::Allocator;
@@ -23,8 +24,12 @@ pub enum Tree<A: Allocator> {
 }
 
 impl<A: Allocator> Tree<A> {
+    ghost use Rattle.syntax.specs.View.{line_of};
+
     /// The line of its first token.
-    pub fn line(&self) -> u32 {
+    pub fn line(&self) -> u32
+        ensures { result ≡ line_of self.now }
+    {
         match self {
             Tree::Name { line, .. } | Tree::Number { line, .. } | Tree::Node { line, .. } => *line,
         }
