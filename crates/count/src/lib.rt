@@ -31,6 +31,6 @@ impl Count {
     pub fn after(_before: &Count) -> Count
         ensures { result.n ≡ _before.now.n + 1 }
     {
-        Count {}
+        Count {} // the proof gives its number
     }
 }
