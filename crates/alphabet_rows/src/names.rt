@@ -124,6 +124,22 @@ fn fields_place_by_place(rt: HostRuntime) -> Result<(), Fail> {
 }
 
 #[test]
+fn a_field_without_values(rt: HostRuntime) -> Result<(), Fail> {
+    let mut alphabet = Alphabet::new(rt.alloc());
+    let fields = [two(rt.alloc())?, Vec::new(rt.alloc())];
+    alphabet.declare(b"c", &fields)?;
+    assert_eq!(rt; alphabet.len(), 0);
+    assert_eq!(rt; alphabet.channels(), 1);
+    assert!(rt;
+        matches!(alphabet.channel(0), Some((name, fields)) if name == b"c".as_slice() && fields.len() == 2)
+    );
+    assert_eq!(rt; alphabet.event_at(0, 0), None);
+    assert!(rt; are_names(&alphabet, rt.alloc(), "_tick")?);
+    assert!(rt; are_no_names(&alphabet, "c\nc.\nc.2\nc.2."));
+    Ok(())
+}
+
+#[test]
 fn from_events_to_values(rt: HostRuntime) -> Result<(), Fail> {
     let alphabet = two_fields(rt.alloc())?;
     let Some(event) = alphabet.event(b"c.x.2") else {

@@ -65,5 +65,11 @@ fn faults(rt: HostRuntime) -> Result<(), Fail> {
         AlphabetError::Memory
     )?;
     assert_eq!(rt; text.as_str(), "5 redeclared, 8 events, 40 memory");
+    assert_eq!(rt; AlphabetError::Redeclared.code(), 5);
+    assert_eq!(rt; AlphabetError::Redeclared.word(), "redeclared");
+    assert_eq!(rt; AlphabetError::TooManyEvents.code(), 8);
+    assert_eq!(rt; AlphabetError::TooManyEvents.word(), "events");
+    assert_eq!(rt; AlphabetError::Memory.code(), 40);
+    assert_eq!(rt; AlphabetError::Memory.word(), "memory");
     Ok(())
 }
