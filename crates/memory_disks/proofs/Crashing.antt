@@ -1,10 +1,15 @@
 -- What the calls of a disk that keeps its calls do to what a crash may leave.
-use Rattle.std.proofs.Common.{◌≡◌, ◌⊎◌, inl, inr, ⊎_elim, ℕ, suc, zero, Vec, Result, Ok, Err, OnOk, ◌+◌, ◌-◌, ◌<◌, ◌≤◌, List, [], ◌∷◌, ◌++◌, length, take, drop, refl, sym, ◌∙◌, ap, subst, arith, append_assoc, length-append, take-append-drop}
-use Rattle.std.proofs.lemmas.List.{take_all, drop_all, append-nil, length-take, length-drop, drop-drop, take-append-le}
+use Rattle.std.proofs.Common.{◌≡◌, ◌⊎◌, inl, inr, ⊎_elim, ℕ, suc, zero, true, false, nat_le, if◌then◌else◌, replicate, Vec, ◌+◌, ◌-◌, ◌<◌, ◌≤◌, List, [], ◌∷◌, ◌++◌, length, take, drop, refl, sym, ◌∙◌, ap, subst, arith, append_assoc, length-append, take-append-drop}
+use Rattle.std.proofs.lemmas.List.{take_all, drop_all, append-nil, length-take, length-drop, length-replicate, drop-drop, take-append-le}
+use Rattle.std.proofs.Math.Seq.{take-add}
 use Rattle.disk.specs.Calls.{Torn, CutShort, Follows, AddsNone, IsDurable, Elapses, overwritten}
 use Rattle.memory_disks.specs.declared.crash.Call.{Call}
 use Rattle.memory_disks.specs.declared.crash.Call.TheVariants.{Write, Cut, Sync}
-use Rattle.memory_disks.specs.Replay.{Image, after_call, replay, Reaches, Leaves, IsBoth, image_at, start, of_calls}
+use Rattle.disk.proofs.Parts.{torn_none, cut_none}
+use Rattle.memory_disks.specs.declared.crash.Part.{Part}
+use Rattle.memory_disks.specs.declared.crash.Part.TheVariants.{Nothing, Everything, FirstByte, Plus}
+use Rattle.memory_disks.specs.Replay.{Image, after_call, replay, Leaves, image_at, start, of_calls}
+use Rattle.memory_disks.specs.Remains.{part_of, written_in, cut_in, IsBoth}
 
 pub replay_push : {A : Type 0} (m : Image A) (calls : List (Call A)) (call : Call A) → replay m (calls ++ call ∷ []) ≡ after_call (replay m calls) call
 replay_push m [] call = refl
@@ -98,19 +103,44 @@ torn_wider at m n old new le torn =
 pub torn_other : (at n : ℕ) (bytes old new : List ℕ) → length bytes ≤ n → new ≡ overwritten at bytes old → Torn at n old new
 torn_other at n bytes old new le is = torn_wider at (length bytes) n old new le (subst (λ (l : List ℕ). Torn at (length bytes) old l) (sym is) (torn_done at bytes old))
 
-pub on_ok_torn : {T E : Type 0} (r : Result T E) (at n : ℕ) (bytes old new : List ℕ) → length bytes ≤ n → OnOk r (new ≡ overwritten at bytes old) → OnOk r (Torn at n old new)
-on_ok_torn (Ok x) at n bytes old new le done = torn_other at n bytes old new le done
-on_ok_torn (Err e) at n bytes old new le done = done
+short_part : (part : Part) (bytes : List ℕ) → length (part_of part bytes) ≤ length bytes
+short_part Nothing bytes = omega arith
+short_part Everything bytes = omega arith
+short_part FirstByte bytes = omega (arith, length-take 1 bytes)
+short_part Plus bytes = omega (arith, length-replicate {A = ℕ} (length bytes) 43)
 
--- one call more, on the file as it reads and on one that a crash leaves
-pub both_write : {A : Type 0} (m : Image A) (at : ℕ) (v : Vec ℕ A) (bytes w w' l l' : List ℕ) → bytes ≡ v.items → w' ≡ overwritten at bytes w → Torn at (length bytes) l l' → w ≡ m.bytes → Reaches m.durable m.pending l → IsBoth (after_call m (Write at v)) w' l'
-both_write m at v bytes w w' l l' same done torn is reach = (done ∙ (λ i. overwritten at (same i) (is i)), (l, reach, subst (λ (b : List ℕ). Torn at (length b) l l') same torn))
+-- a part of a write is one that a crash may leave
+pub torn_in : (part : Part) (at : ℕ) (bytes old : List ℕ) → Torn at (length bytes) old (written_in part at bytes old)
+torn_in part at bytes old =
+    elim (nat_le at (length old)) as (λ b. Torn at (length bytes) old (if b then overwritten at (part_of part bytes) old else old)) [
+      | true ↦ torn_other at (length bytes) (part_of part bytes) old (overwritten at (part_of part bytes) old) (short_part part bytes) refl
+      | false ↦ torn_none at (length bytes) old
+    ]
 
-pub both_cut : {A : Type 0} (m : Image A) (len : ℕ) (w w' l l' : List ℕ) → w' ≡ take len w → CutShort len l l' → w ≡ m.bytes → Reaches m.durable m.pending l → IsBoth (after_call m (Cut len)) w' l'
-both_cut m len w w' l l' done short is reach = (done ∙ ap (λ (b : List ℕ). take len b) is, (l, reach, short))
+-- and so is a part of a cut
+pub short_in : (part : Part) (len : ℕ) (old : List ℕ) → CutShort len old (cut_in part len old)
+short_in Nothing len old = cut_none len old
+short_in Everything len old = record { more = []; is = sym (append-nil (take len old)) }
+short_in FirstByte len old = record { more = take 1 (drop len old); is = take-add len 1 old }
+short_in Plus len old = record { more = replicate (length old - len) 43; is = refl }
 
-pub both_sync : {A : Type 0} (m : Image A) (w l' : List ℕ) → l' ≡ w → w ≡ m.bytes → IsBoth (after_call m Sync) w l'
-both_sync m w l' same is = (is, same ∙ is)
+-- one call more, on the file as it reads and on what a part of its unsynced calls leaves
+pub both_write : {A : Type 0} (part : Part) (m : Image A) (at : ℕ) (v : Vec ℕ A) (bytes again w w' l l' : List ℕ) → bytes ≡ v.items → again ≡ v.items → w' ≡ overwritten at bytes w → l' ≡ written_in part at again l → IsBoth part m w l → IsBoth part (after_call m (Write at v)) w' l'
+both_write part m at v bytes again w w' l l' same too whole some both = record {
+  reads = whole ∙ (λ i. overwritten at (same i) (both.reads i));
+  reached = (l, both.reached, subst (λ (c : List ℕ). Torn at (length v.items) l c) (sym (some ∙ ap (λ (b : List ℕ). written_in part at b l) too)) (torn_in part at v.items l));
+  exact = some ∙ (λ i. written_in part at (too i) (both.exact i));
+}
+
+pub both_cut : {A : Type 0} (part : Part) (m : Image A) (len : ℕ) (w w' l l' : List ℕ) → w' ≡ take len w → l' ≡ cut_in part len l → IsBoth part m w l → IsBoth part (after_call m (Cut len)) w' l'
+both_cut part m len w w' l l' whole some both = record {
+  reads = whole ∙ ap (λ (b : List ℕ). take len b) both.reads;
+  reached = (l, both.reached, subst (λ (c : List ℕ). CutShort len l c) (sym some) (short_in part len l));
+  exact = some ∙ ap (λ (b : List ℕ). cut_in part len b) both.exact;
+}
+
+pub both_sync : {A : Type 0} (part : Part) (m : Image A) (w l l' : List ℕ) → l' ≡ w → IsBoth part m w l → IsBoth part (after_call m Sync) w l'
+both_sync part m w l l' same both = record { reads = both.reads; reached = same ∙ both.reads; exact = same ∙ both.reads }
 
 -- the image after one call more
 pub image_more : {A : Type 0} (first : List ℕ) (calls : List (Call A)) (i : ℕ) (call : Call A) → take (i + 1) calls ≡ take i calls ++ call ∷ [] → image_at first calls (i + 1) ≡ after_call (image_at first calls i) call

@@ -1,3 +1,4 @@
 pub mod Shown
 pub mod Replay
+pub mod Remains
 pub mod Kept

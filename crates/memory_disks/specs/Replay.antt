@@ -35,10 +35,6 @@ Reaches durable (call ∷ earlier) c = (d : List ℕ) × Reaches durable earlier
 abbrev pub Leaves : {A : Type 0} → Image A → List ℕ → Type 0
 Leaves m c = (c ≡ m.bytes) ⊎ Reaches m.durable m.pending c
 
--- the first list is the file as it reads, the second one that a crash leaves of its unsynced calls
-abbrev pub IsBoth : {A : Type 0} → Image A → List ℕ → List ℕ → Type 0
-IsBoth m written left = (written ≡ m.bytes) × Reaches m.durable m.pending left
-
 -- all of it is on the disk
 abbrev pub start : {A : Type 0} → List ℕ → Image A
 start bytes = record { bytes = bytes; durable = bytes; pending = [] }

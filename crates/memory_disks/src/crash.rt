@@ -1,7 +1,8 @@
 // A file in memory that keeps its calls, and says what a crash at each moment may leave.
 ghost use Rattle.std.specs.Prelude.{◌≡◌, ◌<◌, ◌≤◌, ◌+◌, ◌^◌, length, ◌++◌, [], ◌∷◌, List, ℕ, take, OnOk, OnErr, IfOk, vec_len, vec_capacity};
-ghost use Rattle.disk.specs.Calls.{overwritten, Torn, CutShort};
-ghost use Rattle.memory_disks.specs.Replay.{Image, replay, start, of_calls, image_at, after_call, Reaches, Leaves, IsBoth};
+ghost use Rattle.disk.specs.Calls.{overwritten};
+ghost use Rattle.memory_disks.specs.Replay.{Image, replay, start, of_calls, image_at, after_call, Reaches, Leaves};
+ghost use Rattle.memory_disks.specs.Remains.{written_in, cut_in, remains, IsBoth};
 
 use crate::bytes::{fill, overwrite};
 use count::Count;
@@ -100,7 +101,7 @@ fn write_part<A: Allocator + Clone>(
     bytes: &[u8],
     part: Part,
 ) -> Result<(), AllocError>
-    ensures { OnOk result (Torn at (length bytes.now) file.old.items file.new.items) }
+    ensures { OnOk result (file.new.items ≡ written_in part at bytes.now file.old.items) }
 {
     if at > file.len() {
         return Ok(());
@@ -108,31 +109,12 @@ fn write_part<A: Allocator + Clone>(
     match part {
         Part::Nothing => Ok(()),
         Part::Everything => put_over(file, at, bytes),
-        Part::FirstByte => {
-            if bytes.is_empty() {
-                return Ok(());
-            }
-            let first = [bytes[0]];
-            put_over(file, at, &first)
-        }
+        Part::FirstByte => put_over(file, at, &bytes[..bytes.len().min(1)]),
         Part::Plus => {
             let plus = vec![in alloc.clone()?; b'+'; bytes.len()]?;
             put_over(file, at, &plus)
         }
     }
-}
-
-// Cuts to a length, and adds these bytes.
-fn cut_and_add<A: Allocator>(
-    file: &mut Vec<u8, A>,
-    len: usize,
-    more: &[u8],
-) -> Result<(), AllocError>
-    ensures { OnOk result (CutShort len file.old.items file.new.items) }
-{
-    file.truncate(len);
-    file.extend_from_slice(more)?;
-    Ok(())
 }
 
 // Does this part of a cut.
@@ -142,26 +124,28 @@ fn cut_part<A: Allocator + Clone>(
     len: usize,
     part: Part,
 ) -> Result<(), AllocError>
-    ensures { OnOk result (CutShort len file.old.items file.new.items) }
+    ensures { OnOk result (file.new.items ≡ cut_in part len file.old.items) }
 {
-    if len >= file.len() {
-        return Ok(());
-    }
     match part {
         Part::Nothing => Ok(()),
-        Part::Everything => cut_and_add(file, len, b""),
+        Part::Everything => {
+            file.truncate(len);
+            Ok(())
+        }
         Part::FirstByte => {
-            let first = [file[len]];
-            cut_and_add(file, len, &first)
+            file.truncate(len.saturating_add(1));
+            Ok(())
         }
         Part::Plus => {
-            let plus = vec![in alloc.clone()?; b'+'; file.len() - len]?;
-            cut_and_add(file, len, &plus)
+            let plus = vec![in alloc.clone()?; b'+'; file.len().saturating_sub(len)]?;
+            file.truncate(len);
+            file.extend_from_slice(&plus)?;
+            Ok(())
         }
     }
 }
 
-// One call more: `written` is the file as it reads, `left` one that a crash leaves.
+// One call more: `written` is the file as it reads, `left` what this part of its unsynced calls leaves of it.
 fn step<A: Allocator + Clone>(
     alloc: &A,
     written: &mut Vec<u8, A>,
@@ -169,8 +153,8 @@ fn step<A: Allocator + Clone>(
     call: &Call<A>,
     part: Part,
 ) -> Result<(), AllocError>
-    ensures { OnOk result ((m : Image _) → written.old.items ≡ m.bytes → Reaches m.durable m.pending left.old.items
-        → IsBoth (after_call m call.now) written.new.items left.new.items) }
+    ensures { OnOk result ((m : Image _) → IsBoth part m written.old.items left.old.items
+        → IsBoth part (after_call m call.now) written.new.items left.new.items) }
 {
     match call {
         Call::Write(at, bytes) => {
@@ -221,7 +205,9 @@ impl<A: Allocator + Clone> CrashDisk<A> {
     /// follows is done in this part.
     pub fn left_after(&self, count: usize, part: Part) -> Result<Vec<u8, A>, AllocError>
         requires { count ≤ length (calls_of self.now) }
-        ensures { IfOk result (λ file. Leaves (image_at (first_bytes self.now) (calls_of self.now) count) file.items) }
+        ensures left { IfOk result (λ file. Leaves (image_at (first_bytes self.now) (calls_of self.now) count) file.items) }
+        ensures part { IfOk result (λ file. let m = image_at (first_bytes self.now) (calls_of self.now) count in
+            file.items ≡ remains part m.durable m.pending) }
     {
         let mut written = self.first.to_vec(self.alloc.clone()?)?;
         let mut left = self.first.to_vec(self.alloc.clone()?)?;

@@ -50,11 +50,13 @@ fn fails_now(left: &mut u64, afterwards: Afterwards) -> bool
 }
 
 impl<A: Allocator> FaultDisk<A> {
-    ghost use Rattle.memory_disks.specs.Shown.{fault_bytes};
+    ghost use Rattle.memory_disks.specs.Shown.{fault_bytes, calls_to_fault, afterwards_of};
 
     /// A disk whose file has these bytes, and whose k-th call fails, counted from 1. With k = 0 none fails.
     pub fn new(bytes: Vec<u8, A>, k: u64, afterwards: Afterwards) -> FaultDisk<A>
-        ensures { fault_bytes result ≡ bytes.items }
+        ensures bytes { fault_bytes result ≡ bytes.items }
+        ensures call { calls_to_fault result ≡ k }
+        ensures afterwards { afterwards_of result ≡ afterwards }
     {
         FaultDisk {
             inner: MemoryDisk::new(bytes),

@@ -1,6 +1,7 @@
 use Rattle.std.proofs.Common.{◌≡◌, ◌+◌, ◌++◌, ◌∷◌, [], take, sym, ◌∙◌, subst}
 use Rattle.std.proofs.lemmas.List.{take_more}
-use Rattle.memory_disks.specs.Replay.{Image, image_at, IsBoth}
+use Rattle.memory_disks.specs.Replay.{Image, image_at}
+use Rattle.memory_disks.specs.Remains.{IsBoth}
 use Rattle.memory_disks.proofs.Crashing.{image_more}
 use Rattle.memory_disks.proofs.crash.CrashDisk.left_after.Goals as goal
 
@@ -11,5 +12,4 @@ loop-call-preserved g c =
     let i = c.loop-call.call-index in
     let call = c.call-item.result in
     let more : take (i + 1) calls ≡ take i calls ++ call ∷ [] = take_more calls i call c.loop-call-test.true ∙ (λ k. take i calls ++ sym c.call-item.is k ∷ []) in
-    let before = c.loop-call.invariant in
-    subst (λ (m : Image _). IsBoth m c.step.new.written.items c.step.new.left.items) (sym (image_more first calls i call more)) (c.in_ok-step.ensures (image_at first calls i) before.0 before.1)
+    subst (λ (m : Image _). IsBoth c.args.part m c.step.new.written.items c.step.new.left.items) (sym (image_more first calls i call more)) (c.in_ok-step.ensures (image_at first calls i) c.loop-call.invariant)
