@@ -1,5 +1,5 @@
 // Each row's expected values are worked by hand from the format and from the rules of `put` and `open`.
-ghost use Rattle.std.specs.Prelude.{All};
+ghost use Rattle.std.specs.Prelude.{All, ◌<◌};
 ghost use Rattle.journal.specs.Format.{IsRecordable};
 
 use alphabet::{Alphabet, Event, EventSet, Report};
@@ -28,6 +28,57 @@ fn changed(alloc: Global, at: usize, byte: u8) -> Result<Vec<u8>, AllocError> {
         file[at] = byte;
     }
     Ok(file)
+}
+
+// The header, then this gate with the line of the first record and a closed gate behind it, cut to a length.
+fn with_first(alloc: Global, gate: u8, len: usize) -> Result<Vec<u8>, AllocError> {
+    let mut file = changed(alloc, 69, gate)?;
+    if file.len() > 79 {
+        file[79] = b'.';
+    }
+    file.truncate(len);
+    Ok(file)
+}
+
+// Whether these are the worked file's first record, or none where it is not wanted.
+fn is_history(records: &[Record<Global>], first: bool) -> bool {
+    match records {
+        [] => !first,
+        [read] => {
+            first
+                && read.seat == 1
+                && read.number == 1
+                && read.kind == Kind::Event
+                && read.verdict
+                && read.names.len() == 1
+                && read
+                    .names
+                    .iter()
+                    .all(|name| name.as_slice() == b"a".as_slice())
+        }
+        _ => false,
+    }
+}
+
+// Whether an opening of this file finds the worked file's first record, or none where it is not wanted, and leaves the
+// header and that record with a closed gate.
+fn reopens_with(alloc: Global, file: &[u8], first: bool) -> Result<bool, AllocError> {
+    let Ok((journal, header, records)) = Journal::open(alloc, MemoryDisk::new(file.to_vec(alloc)?))
+    else {
+        return Ok(false);
+    };
+    let left = if first {
+        with_first(alloc, b'+', 80)?
+    } else {
+        empty_file(alloc)?
+    };
+    let disk = journal.into_disk();
+    Ok(
+        is_history(&records, first)
+            && disk.bytes() == left.as_slice()
+            && header.script.as_slice() == SCRIPT
+            && header.root.as_slice() == b"P".as_slice(),
+    )
 }
 
 // The lines of these records.
@@ -147,7 +198,7 @@ fn changed_files(rt: HostRuntime) -> Result<(), Fail> {
 }
 
 #[test]
-fn each_length(rt: HostRuntime) -> Result<(), Fail> {
+fn fault_rows_of_each_length(rt: HostRuntime) -> Result<(), Fail> {
     let alloc = rt.alloc();
     for len in 0..101 {
         let (found, file) = opening(alloc, FILE[..len].to_vec(alloc)?)?;
@@ -162,68 +213,62 @@ fn each_length(rt: HostRuntime) -> Result<(), Fail> {
     Ok(())
 }
 
+// The file that is read after the put of the worked file's first record on a file without records, of which this call,
+// counted from 1, has failed; none where the put did not fail.
+fn after_failing(
+    alloc: Global,
+    line: &Prepared<Global>,
+    call: u64,
+    afterwards: Afterwards,
+) -> Result<Option<Vec<u8>>, AllocError>
+    requires { call < 100 }
+{
+    // the five calls of an opening come first
+    let disk = FaultDisk::new(empty_file(alloc)?, call + 5, afterwards);
+    let Ok((mut journal, _, _)) = Journal::open(alloc, disk) else {
+        return Ok(None);
+    };
+    if journal.put(line).is_ok() {
+        return Ok(None);
+    }
+    Ok(Some(journal.into_disk().bytes().to_vec(alloc)?))
+}
+
 #[test]
-fn each_call_of_a_put_fails(rt: HostRuntime) -> Result<(), Fail> {
+fn fault_rows_of_a_put(rt: HostRuntime) -> Result<(), Fail> {
     let alloc = rt.alloc();
     let lines = worked_lines(alloc)?;
-    for (k, len, count) in [(1, 70, 0), (2, 80, 0), (3, 80, 0), (4, 80, 1)] {
-        // an opening is five calls
-        let disk = FaultDisk::new(empty_file(alloc)?, k + 5, Afterwards::GoOn);
-        let Ok((mut journal, _, _)) = Journal::open(alloc, disk) else {
-            return Err(AllocError.into());
-        };
-        for line in lines.iter().take(1) {
-            assert!(rt; journal.put(line).is_err());
-        }
-        let disk = journal.into_disk();
-        assert_eq!(rt; disk.bytes().len(), len, "call {k}");
-        let Ok((journal, _, records)) = Journal::open(alloc, disk) else {
-            return Err(AllocError.into());
-        };
-        assert_eq!(rt; records.len(), count, "call {k}");
-        assert_eq!(rt;
-            journal.into_disk().bytes().len(),
-            70 + 10 * count,
-            "call {k}"
-        );
-    }
-    // each call of an opening fails, and all behind it
-    for k in 1..6 {
-        let disk = FaultDisk::new(FILE.to_vec(alloc)?, k, Afterwards::Fail);
-        match Journal::open(alloc, disk) {
-            Ok(_) => return Err(AllocError.into()),
-            Err((error, disk)) => {
-                assert_eq!(rt; error, JournalError::Device, "call {k}");
-                assert_eq!(rt; disk.bytes(), FILE);
-            }
+    let Some(line) = lines.first() else {
+        return Err(AllocError.into());
+    };
+    for (call, gate, len, first) in [
+        (1, b'.', 70, false),
+        (2, b'.', 80, false),
+        (3, b'.', 80, false),
+        (4, b'+', 80, true),
+    ] {
+        for afterwards in [Afterwards::GoOn, Afterwards::Fail] {
+            let Some(file) = after_failing(alloc, line, call, afterwards)? else {
+                return Err(AllocError.into());
+            };
+            assert_eq!(rt; file, with_first(alloc, gate, len)?, "call {call}");
+            assert!(rt; reopens_with(alloc, &file, first)?, "call {call}");
         }
     }
+    assert!(rt; after_failing(alloc, line, 5, Afterwards::Fail)?.is_none());
     Ok(())
 }
 
 #[test]
-fn a_crash_after_each_call(rt: HostRuntime) -> Result<(), Fail> {
+fn fault_rows_of_an_opening(rt: HostRuntime) -> Result<(), Fail> {
     let alloc = rt.alloc();
-    let lines = worked_lines(alloc)?;
-    let parts = [Part::Nothing, Part::Everything, Part::FirstByte, Part::Plus];
-    let disk = CrashDisk::new(alloc, empty_file(alloc)?)?;
-    let Ok((mut journal, _, _)) = Journal::open(alloc, disk) else {
-        return Err(AllocError.into());
-    };
-    for line in lines.iter().take(1) {
-        assert!(rt; journal.put(line).is_ok());
-    }
-    // an opening syncs, cuts and syncs; a `put` writes, syncs, writes and syncs
-    let disk = journal.into_disk();
-    assert_eq!(rt; disk.calls(), 7);
-    for count in 0..8 {
-        for part in parts {
-            if count <= disk.calls() {
-                let (found, _) = opening(alloc, disk.left_after(count, part)?)?;
-                match count {
-                    0..=5 => assert_eq!(rt; found, Ok(0), "after call {count}"),
-                    6 => assert!(rt; found == Ok(0) || found == Ok(1)),
-                    _ => assert_eq!(rt; found, Ok(1)),
+    for call in 1..6 {
+        for afterwards in [Afterwards::GoOn, Afterwards::Fail] {
+            match Journal::open(alloc, FaultDisk::new(FILE.to_vec(alloc)?, call, afterwards)) {
+                Ok(_) => return Err(AllocError.into()),
+                Err((error, disk)) => {
+                    assert_eq!(rt; error, JournalError::Device, "call {call}");
+                    assert_eq!(rt; disk.bytes(), FILE);
                 }
             }
         }
@@ -232,7 +277,46 @@ fn a_crash_after_each_call(rt: HostRuntime) -> Result<(), Fail> {
 }
 
 #[test]
-fn a_crash_of_an_opening(rt: HostRuntime) -> Result<(), Fail> {
+fn crash_rows_of_a_put(rt: HostRuntime) -> Result<(), Fail> {
+    let alloc = rt.alloc();
+    let lines = worked_lines(alloc)?;
+    let Some(line) = lines.first() else {
+        return Err(AllocError.into());
+    };
+    let disk = CrashDisk::new(alloc, empty_file(alloc)?)?;
+    let Ok((mut journal, _, _)) = Journal::open(alloc, disk) else {
+        return Err(AllocError.into());
+    };
+    assert!(rt; journal.put(line).is_ok());
+    // an opening syncs, cuts and syncs; a `put` writes, syncs, writes and syncs
+    let disk = journal.into_disk();
+    assert_eq!(rt; disk.calls(), 7);
+    for count in 0..8 {
+        for part in [Part::Nothing, Part::Everything, Part::FirstByte, Part::Plus] {
+            if count <= disk.calls() {
+                let file = disk.left_after(count, part)?;
+                // behind the gate's own write either history: the gate is one byte, which is `+` in every part but none
+                let first = count == 7 || count == 6 && part != Part::Nothing;
+                assert!(rt; reopens_with(alloc, &file, first)?, "after call {count}");
+            }
+        }
+    }
+    // the line's write torn: all that a crash may leave of it stands behind a closed gate
+    if disk.calls() == 7 {
+        let mut torn = empty_file(alloc)?;
+        torn.extend_from_slice(b"++++++++++")?;
+        assert_eq!(rt; disk.left_after(4, Part::Plus)?, torn);
+        assert_eq!(rt;
+            disk.left_after(4, Part::Everything)?,
+            with_first(alloc, b'.', 80)?
+        );
+        assert_eq!(rt; disk.left_after(4, Part::Nothing)?, empty_file(alloc)?);
+    }
+    Ok(())
+}
+
+#[test]
+fn crash_rows_of_an_opening(rt: HostRuntime) -> Result<(), Fail> {
     let alloc = rt.alloc();
     let mut junk = FILE.to_vec(alloc)?;
     junk.extend_from_slice(b"+junk")?;
