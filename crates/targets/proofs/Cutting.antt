@@ -1,12 +1,12 @@
 -- Cuts of a whole, made of cuts of its parts.
-use Rattle.std.proofs.Common.{◌≡◌, ◌↔◌, ℕ, zero, suc, ◌+◌, ◌<◌, ◌≤◌, ◌⊎◌, inl, inr, List, [], ◌∷◌, ◌++◌, length, map, take, drop, min, refl, sym, ap, ◌∙◌, subst, arith, length-append}
+use Rattle.std.proofs.Common.{◌≡◌, ◌↔◌, ℕ, suc, ◌+◌, ◌<◌, ◌≤◌, ◌⊎◌, inl, inr, List, [], ◌∷◌, ◌++◌, length, map, take, drop, min, refl, sym, ap, ◌∙◌, subst, arith, length-append}
 use Rattle.std.proofs.lemmas.List.{take-append-drop, take_all, length-take, length-map}
 use Rattle.std.proofs.lemmas.Bool.{cases_lt}
 use Rattle.term.specs.Traces.{In, here, there}
 use Rattle.term.specs.Proc.{Proc}
 use Rattle.term.specs.Limits.{Terms, Distinct}
 use Rattle.step.specs.Targets.{pairs_of}
-use Rattle.step.proofs.ActList.{append-In, In-append_l, In-append_r, In-map, map-In, In-pairs, pairs-In}
+use Rattle.step.proofs.ActList.{append-In, In-append_l, In-map, map-In, In-pairs, pairs-In}
 use Rattle.targets.specs.Cuts.{CutOf}
 use Rattle.targets.specs.Among.{InEither}
 

@@ -1,17 +1,16 @@
 -- How deep the targets of each form are, by those of its parts. n is the limit.
-use Rattle.std.proofs.Common.{◌≡◌, ◌↔◌, IsTrue, ℕ, suc, ◌+◌, ◌-◌, ◌<◌, ◌≤◌, max, ◌⊎◌, inl, inr, Bool, true, false, not, ◌&&◌, ◌||◌, refl, sym, ap, ◌∙◌, subst, arith}
+use Rattle.std.proofs.Common.{◌≡◌, ◌↔◌, IsTrue, ℕ, suc, ◌-◌, ◌<◌, max, ◌⊎◌, inl, inr, Bool, true, false, not, ◌&&◌, ◌||◌, refl, sym, ◌∙◌, subst, arith}
 use Rattle.std.proofs.lemmas.Bool.{cases_lt}
 use Rattle.alphabet.specs.EventSets.{Set, has, member}
-use Rattle.term.specs.Traces.{Pairs, In, images, some_in}
-use Rattle.term.specs.Proc.{Proc, stop, skip, prefix, ext, int, seq, par, hide, ren, intr, name}
+use Rattle.term.specs.Traces.{Pairs, images, some_in}
+use Rattle.term.specs.Proc.{Proc, skip, prefix, ext, int, seq, par, hide, ren, intr, name}
 use Rattle.term.specs.SameLaws.{and-cases, and-both}
 use Rattle.term.specs.Steps.{is_skip, Ticks, Act, a-par-l, a-par-r, a-par-b, Hid, Stable}
-use Rattle.term.specs.Limits.{Terms}
 use Rattle.term.specs.Sizes.{depth}
 use Rattle.term.proofs.Bools.{or-cases, or-left, or-right}
 use Rattle.step.specs.Offers.{Offers}
 use Rattle.targets.specs.Cuts.{HasDeeper}
-use Rattle.targets.specs.Among.{ActsIn, Joint}
+use Rattle.targets.specs.Among.{ActsIn}
 use Rattle.targets.proofs.Cutting.{Image}
 use Rattle.targets.proofs.Saying.{says-or, says-and, says-to}
 use Rattle.targets.proofs.Forms.{quiet, silent, silent-acts, quiet-moves}

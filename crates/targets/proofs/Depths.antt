@@ -1,11 +1,10 @@
 -- How deep targets are, told by the depth of parts.
-use Rattle.std.proofs.Common.{◌≡◌, ◌↔◌, IsTrue, ℕ, zero, suc, ◌+◌, ◌-◌, ◌<◌, ◌≤◌, max, ◌⊎◌, inl, inr, Bool, true, false, not, ◌&&◌, ◌||◌, refl, sym, ap, ◌∙◌, subst, arith}
+use Rattle.std.proofs.Common.{◌≡◌, ◌↔◌, IsTrue, ℕ, suc, ◌-◌, ◌<◌, max, ◌⊎◌, inl, inr, Bool, true, false, not, refl, subst, arith}
 use Rattle.std.proofs.lemmas.Bool.{cases_lt}
-use Rattle.alphabet.specs.EventSets.{Set, has}
 use Rattle.term.specs.Proc.{Proc, stop, skip, prefix, ext, int, seq, par, hide, ren, intr, name}
 use Rattle.term.specs.Limits.{Terms}
 use Rattle.term.specs.Sizes.{depth}
-use Rattle.term.specs.Steps.{is_skip, Ticks, Hid, Stable, Act, h-int-l, h-ext-l, h-ext-r, h-seq, h-seq-t, h-par-l, h-par-r, h-par-tl, h-par-tr, h-hide, h-hide-a, h-ren, h-intr-l, h-intr-r, h-name}
+use Rattle.term.specs.Steps.{is_skip, Ticks, Hid, Stable, h-int-l, h-ext-l, h-ext-r, h-seq, h-seq-t, h-par-l, h-par-r, h-par-tl, h-par-tr, h-hide, h-hide-a, h-ren, h-intr-l, h-intr-r, h-name}
 use Rattle.term.proofs.Bools.{true-or-false}
 use Rattle.step.specs.Targets.{ticks}
 use Rattle.step.specs.Offers.{offered}
@@ -14,7 +13,6 @@ use Rattle.step.proofs.HidList.{ticks-Ticks, Ticks-ticks}
 use Rattle.step.proofs.Offered.{offered-Offers}
 use Rattle.step.proofs.Rest.{resting-says}
 use Rattle.targets.specs.Cuts.{HasDeeper}
-use Rattle.targets.specs.Among.{ActsIn}
 use Rattle.targets.proofs.Cutting.{Image}
 use Rattle.targets.proofs.Saying.{some_event}
 

@@ -1,23 +1,21 @@
 -- The cuts of each form, by the cuts of its parts. k is the bound.
-use Rattle.std.proofs.Common.{◌≡◌, ◌↔◌, IsTrue, ℕ, suc, ◌+◌, ◌<◌, ◌≤◌, ◌⊎◌, inl, inr, Bool, true, false, not, ◌&&◌, ◌||◌, List, [], ◌∷◌, ◌++◌, map, take, Result, Ok, Err, IfOk, refl, sym, ap, ◌∙◌, subst, arith}
-use Rattle.std.proofs.lemmas.Bool.{cases_lt}
-use Rattle.alphabet.specs.EventSets.{Set, has, member}
+use Rattle.std.proofs.Common.{◌≡◌, ◌↔◌, IsTrue, ℕ, ◌⊎◌, inl, inr, Bool, true, false, ◌&&◌, List, [], ◌∷◌, ◌++◌, map, Result, Ok, Err, IfOk, refl, sym, ap, ◌∙◌, subst}
+use Rattle.alphabet.specs.EventSets.{Set, has}
 use Rattle.term.specs.Traces.{In, images, some_in}
 use Rattle.term.specs.Traces as traces
 use Rattle.alphabet.specs.declared.events.Event.{Event}
 use Rattle.alphabet.specs.declared.events.Event.TheVariants.{Tick as tick, Of as ev}
 use Rattle.term.specs.Proc.{Proc, proc, prefix_of, stop, skip, prefix, ext, int, seq, par, hide, ren, intr, name}
-use Rattle.term.specs.Specs.{LiesIn}
 use Rattle.term.specs.Steps.{is_skip, Ticks, Act, a-prefix, a-ext-l, a-ext-r, a-seq, a-par-l, a-par-r, a-par-b, a-hide, a-ren, a-intr-l, a-intr-r, Hid, h-int-l, h-int-r, h-ext-l, h-ext-r, h-seq, h-seq-t, h-par-l, h-par-r, h-par-tl, h-par-tr, h-hide, h-hide-a, h-ren, h-intr-l, h-intr-r, h-name}
 use Rattle.term.specs.declared.terms.Term.{Term}
 use Rattle.term.specs.Limits.{Terms}
 use Rattle.step.specs.Offers.{Offers}
-use Rattle.step.specs.Targets.{where_, pairs_of}
+use Rattle.step.specs.Targets.{where_}
 use Rattle.targets.specs.Cuts.{CutOf}
-use Rattle.targets.specs.Among.{ActsIn, Joint, JointBelow, Joined}
-use Rattle.targets.proofs.Cutting.{Image, Pairs, cut-to, cut-none, cut-one, cut-map, cut-pairs}
-use Rattle.targets.proofs.Lists.{joined-cut, joined-none}
-use Rattle.targets.proofs.Inverting.{OrEnd, prefix-acts, prefix-none, ext-acts, seq-acts, intr-acts, hide-acts, par-acts, offered-acts, ren-acts, ext-hids, intr-hids, int-hids, seq-hids, par-hids, hide-hids, ren-hids, name-hids}
+use Rattle.targets.specs.Among.{ActsIn, Joined}
+use Rattle.targets.proofs.Cutting.{Image, cut-to, cut-none, cut-one, cut-map}
+use Rattle.targets.proofs.Lists.{joined-cut}
+use Rattle.targets.proofs.Inverting.{OrEnd, prefix-acts, prefix-none, ext-acts, seq-acts, offered-acts, ext-hids, intr-hids, int-hids, seq-hids, par-hids, hide-hids, ren-hids, name-hids}
 
 -- an answer that follows from another of the same result
 pub so : {T E : Type 0} (r : Result T E) (P Q : T → Type 0) → IfOk r P → ((x : T) → P x → Q x) → IfOk r Q
@@ -98,7 +96,7 @@ pub quiet-moves : (B : ℕ → Proc) (P R : Proc) → quiet P ≡ true → Hid B
 quiet-moves B P R e d = no-hid d e
 
 module _ (k : ℕ) where
-  placed-cut : (f : Proc → Proc) → ((P Q : Proc) → f P ≡ f Q → P ≡ Q) → (S : Terms) (l m : List Proc) → CutOf S k l → m ≡ map f l → CutOf (Image f S) k m
+  pub placed-cut : (f : Proc → Proc) → ((P Q : Proc) → f P ≡ f Q → P ≡ Q) → (S : Terms) (l m : List Proc) → CutOf S k l → m ≡ map f l → CutOf (Image f S) k m
   placed-cut f inj S l m c e = subst (CutOf (Image f S) k) (sym e) (cut-map f inj S k l c)
 
   pub where_-cut : (b : Bool) (X : Type 0) (Q : Proc) → IsTrue b ↔ X → CutOf (λ R. X × (R ≡ Q)) k (where_ b (Q ∷ []))
@@ -130,69 +128,6 @@ module _ (k : ℕ) where
     seq-act-cut P Q l t c e =
         cut-to (Image (λ p. seq p Q) (ActsIn S P)) (ActsIn S (seq P Q)) k t (seq-acts S P Q)
         (placed-cut (λ p. seq p Q) (λ x y g. cc g) (ActsIn S P) l t c e)
-
-    pub intr-act-cut : (P Q : Proc) (l l' r t : List Proc) → CutOf (ActsIn S P) k l → l' ≡ map (λ p. intr p Q) l → CutOf (ActsIn S Q) k r → Joined k l' r t → CutOf (ActsIn S (intr P Q)) k t
-    intr-act-cut P Q l l' r t c e d j =
-        cut-to (λ R. Image (λ p. intr p Q) (ActsIn S P) R ⊎ ActsIn S Q R) (ActsIn S (intr P Q)) k t (intr-acts S P Q)
-        (joined-cut (Image (λ p. intr p Q) (ActsIn S P)) (ActsIn S Q) k l' r t (placed-cut (λ p. intr p Q) (λ x y g. cc g) (ActsIn S P) l l' c e) d j)
-
-    pub hide-act-cut : (A alone : Set) → ((a : ℕ) → has alone a ≡ (has S a && not (has A a))) → (P : Proc) (l t : List Proc) → CutOf (ActsIn alone P) k l → t ≡ map (hide A) l → CutOf (ActsIn S (hide A P)) k t
-    hide-act-cut A alone is P l t c e =
-        cut-to (Image (hide A) (ActsIn alone P)) (ActsIn S (hide A P)) k t (hide-acts S A alone is P)
-        (placed-cut (hide A) (λ x y g. cc g) (ActsIn alone P) l t c e)
-
-    pub ren-act-cut : (N : traces.Pairs) (o f s : Set) (P : Proc) (l t : List Proc) → ((a : ℕ) → IsTrue (has o a) ↔ Offers P a) → ((a : ℕ) → has f a ≡ some_in (images N a) (member S)) → ((a : ℕ) → has s a ≡ (has o a && has f a)) → CutOf (ActsIn s P) k l → t ≡ map (ren N) l → CutOf (ActsIn S (ren N P)) k t
-    ren-act-cut N o f s P l t says from is c e =
-        cut-to (Image (ren N) (ActsIn f P)) (ActsIn S (ren N P)) k t (λ R. ren-acts S N f P R from)
-        (placed-cut (ren N) (λ x y g. cc g) (ActsIn f P) l t (cut-to (ActsIn s P) (ActsIn f P) k l (λ R. offered-acts f o s P R says is) c) e)
-
-    pub par-act-cut : (A alone both : Set) → ((a : ℕ) → has alone a ≡ (has S a && not (has A a))) → ((a : ℕ) → has both a ≡ (has S a && has A a)) → (n m : ℕ) → n ≤ 256 → (P Q : Proc) → LiesIn n m P → (l l' r r' b i t : List Proc) → CutOf (ActsIn alone P) k l → l' ≡ map (λ p. par A p Q) l → CutOf (ActsIn alone Q) k r → r' ≡ map (λ q. par A P q) r → CutOf (JointBelow 256 A both P Q) k b → Joined k l' r' i → Joined k i b t → CutOf (ActsIn S (par A P Q)) k t
-    par-act-cut A alone both alone-is both-is n m small P Q lies l l' r r' b i t c e d g h j j' =
-        cut-to (λ R. (Image (λ p. par A p Q) (ActsIn alone P) R ⊎ Image (λ q. par A P q) (ActsIn alone Q) R) ⊎ JointBelow 256 A both P Q R) (ActsIn S (par A P Q)) k t (par-acts S A alone alone-is both both-is n m small P Q lies)
-        (joined-cut (λ R. Image (λ p. par A p Q) (ActsIn alone P) R ⊎ Image (λ q. par A P q) (ActsIn alone Q) R) (JointBelow 256 A both P Q) k i b t
-        (joined-cut (Image (λ p. par A p Q) (ActsIn alone P)) (Image (λ q. par A P q) (ActsIn alone Q)) k l' r' i
-        (placed-cut (λ p. par A p Q) (λ x y z. cc z) (ActsIn alone P) l l' c e) (placed-cut (λ q. par A P q) (λ x y z. cc z) (ActsIn alone Q) r r' d g) j) h j')
-
-  -- ---- by events that both sides of a parallel take
-  module _ (A S : Set) (P Q : Proc) where
-    pub joint-none : CutOf (JointBelow 0 A S P Q) k []
-    joint-none = cut-none (JointBelow 0 A S P Q) k (λ R (a, h, y, w). absurd (omega arith))
-
-    pub joint-nowhere : (n : ℕ) → ((a : ℕ) → has S a ≡ false) → CutOf (JointBelow n A S P Q) k []
-    joint-nowhere n none = cut-none (JointBelow n A S P Q) k (λ R (a, h, y, w). let e = none a in absurd (cc))
-
-    pub joint-skip : (n : ℕ) (t : List Proc) → has S n ≡ false → CutOf (JointBelow n A S P Q) k t → CutOf (JointBelow (n + 1) A S P Q) k t
-    joint-skip n t absent c = cut-to (JointBelow n A S P Q) (JointBelow (n + 1) A S P Q) k t same c
-      where
-        same : (R : Proc) → JointBelow n A S P Q R ↔ JointBelow (n + 1) A S P Q R
-        same R = (
-          (λ (a, h, y, w). (a, omega arith, y, w)),
-          (λ (a, h, y, w). elim (cases_lt a n) [
-            | inl l ↦ (a, l, y, w)
-            | inr l ↦ let e : a ≡ n = omega arith in let z : has S a ≡ has S n = ap (has S) e in absurd (cc)
-          ]),
-        )
-
-    pub joint-more : (n : ℕ) (one : Set) → ((a : ℕ) → (has one a ≡ true) ↔ (n ≡ a)) → has S n ≡ true → (t l r ps u : List Proc) → CutOf (JointBelow n A S P Q) k t → CutOf (ActsIn one P) k l → CutOf (ActsIn one Q) k r → ps ≡ take (k + 1) (pairs_of (par A) l r) → Joined k t ps u → CutOf (JointBelow (n + 1) A S P Q) k u
-    joint-more n one is present t l r ps u c d e g j =
-        cut-to (λ R. JointBelow n A S P Q R ⊎ Pairs (par A) (ActsIn one P) (ActsIn one Q) R) (JointBelow (n + 1) A S P Q) k u same
-        (joined-cut (JointBelow n A S P Q) (Pairs (par A) (ActsIn one P) (ActsIn one Q)) k t ps u c
-        (cut-pairs (par A) (λ x y z w h. (cc h, cc h)) (ActsIn one P) (ActsIn one Q) k l r ps d e g) j)
-      where
-        same : (R : Proc) → (JointBelow n A S P Q R ⊎ Pairs (par A) (ActsIn one P) (ActsIn one Q) R) ↔ JointBelow (n + 1) A S P Q R
-        same R = (
-          (λ s. elim s [
-            | inl (a, h, y, w) ↦ (a, omega arith, y, w)
-            | inr (P', Q', (a, h, d'), (b, h', d''), z) ↦
-                let x = (is a).0 h in
-                let y = (is b).0 h' in
-                (n, omega arith, present, (P', Q', subst (λ v. Act P v P') (sym x) d', subst (λ v. Act Q v Q') (sym y) d'', z))
-          ]),
-          (λ (a, h, y, (P', Q', d', d'', z)). elim (cases_lt a n) [
-            | inl l' ↦ inl (a, l', y, (P', Q', d', d'', z))
-            | inr l' ↦ let o : n ≡ a = omega arith in inr (P', Q', (a, (is a).1 o, d'), (a, (is a).1 o, d''), z)
-          ]),
-        )
 
   -- ---- by hidden steps
   module _ (B : ℕ → Proc) where

@@ -1,17 +1,13 @@
 -- The targets of each form, told by the targets of its parts.
-use Rattle.std.proofs.Common.{◌≡◌, ◌↔◌, IsTrue, ℕ, ◌<◌, ◌≤◌, ◌⊎◌, inl, inr, Bool, true, false, not, ◌&&◌, refl, sym, ap, ◌∙◌, subst, arith}
+use Rattle.std.proofs.Common.{◌≡◌, ◌↔◌, IsTrue, ℕ, ◌⊎◌, inl, inr, Bool, true, false, not, ◌&&◌, List, refl, sym, ap, ◌∙◌, subst}
 use Rattle.alphabet.specs.EventSets.{Set, has, member}
-use Rattle.alphabet.specs.declared.events.Event.TheVariants.{Of as ev}
 use Rattle.term.specs.Traces.{Pairs, In, images, some_in}
-use Rattle.term.specs.Proc.{Proc, stop, skip, prefix, ext, int, seq, par, hide, ren, intr, name}
-use Rattle.term.specs.Specs.{LiesIn}
+use Rattle.term.specs.Proc.{Proc, skip, prefix, ext, int, seq, par, hide, ren, intr, name}
 use Rattle.term.specs.SameLaws.{and-cases, and-both}
 use Rattle.term.specs.Steps.{is_skip, Ticks, Act, a-prefix, a-ext-l, a-ext-r, a-seq, a-par-l, a-par-r, a-par-b, a-hide, a-ren, a-intr-l, a-intr-r, Hid, h-int-l, h-int-r, h-ext-l, h-ext-r, h-seq, h-seq-t, h-par-l, h-par-r, h-par-tl, h-par-tr, h-hide, h-hide-a, h-ren, h-intr-l, h-intr-r, h-name}
-use Rattle.term.proofs.Bools.{true-or-false}
-use Rattle.term.proofs.Closed.{act-in}
 use Rattle.term.proofs.Decide.{some_in-In, In-some_in}
 use Rattle.step.specs.Offers.{Offers}
-use Rattle.targets.specs.Among.{ActsIn, Joint, JointBelow}
+use Rattle.targets.specs.Among.{ActsIn, Joint, JointOf}
 use Rattle.targets.proofs.Cutting.{Image}
 
 -- ---- one step backwards
@@ -87,41 +83,6 @@ module _ (S : Set) where
       (λ (a, h, d). let (n, (P', k, e)) = hide-act d in (P', (a, minus-whole (has alone a) (has S a) (has A a) (alone-is a) h n, k), e)),
     )
 
-    pub par-acts : (both : Set) → ((a : ℕ) → has both a ≡ (has S a && has A a)) → (n m : ℕ) → n ≤ 256 → (P Q : Proc) → LiesIn n m P → (R : Proc) → ((Image (λ p. par A p Q) (ActsIn alone P) R ⊎ Image (λ q. par A P q) (ActsIn alone Q) R) ⊎ JointBelow 256 A both P Q R) ↔ ActsIn S (par A P Q) R
-    par-acts both both-is n m small P Q lies R = (
-      (λ s. elim s [
-        | inl t ↦ elim t [
-          | inl (P', (a, h, d), e) ↦
-              let (s, o) = minus-parts (has alone a) (has S a) (has A a) (alone-is a) h in
-              (a, s, subst (λ r. Act (par A P Q) a r) (sym e) (a-par-l o d))
-          | inr (Q', (a, h, d), e) ↦
-              let (s, o) = minus-parts (has alone a) (has S a) (has A a) (alone-is a) h in
-              (a, s, subst (λ r. Act (par A P Q) a r) (sym e) (a-par-r o d))
-        ]
-        | inr (a, l, h, (P', Q', d, d', e)) ↦
-            let (s, y) = and-cases (has S a) (has A a) (sym (both-is a) ∙ h) in
-            (a, s, subst (λ r. Act (par A P Q) a r) (sym e) (a-par-b y d d'))
-      ]),
-      (λ (a, h, d). elim (par-act d) [
-        | inl (o, t) ↦
-            let k = minus-whole (has alone a) (has S a) (has A a) (alone-is a) h o in
-            elim t [
-              | inl (P', d', e) ↦ inl (inl (P', (a, k, d'), e))
-              | inr (Q', d', e) ↦ inl (inr (Q', (a, k, d'), e))
-            ]
-        | inr (y, (P', Q', d', d'', e)) ↦
-            let l = act-in n m d' lies in
-            inr (a, omega arith, both-is a ∙ and-both (has S a) (has A a) h y, (P', Q', d', d'', e))
-      ]),
-    )
-
-  -- events that are not offered don't count
-  pub offered-acts : (o s : Set) (P R : Proc) → ((a : ℕ) → IsTrue (has o a) ↔ Offers P a) → ((a : ℕ) → has s a ≡ (has o a && has S a)) → ActsIn s P R ↔ ActsIn S P R
-  offered-acts o s P R says is = (
-    (λ (a, h, d). (a, (and-cases (has o a) (has S a) (sym (is a) ∙ h)).1, d)),
-    (λ (a, h, d). (a, is a ∙ and-both (has o a) (has S a) ((says a).1 (R, d)) h, d)),
-  )
-
   pub ren-acts : (N : Pairs) (s : Set) (P R : Proc) → ((a : ℕ) → has s a ≡ some_in (images N a) (member S)) → Image (ren N) (ActsIn s P) R ↔ ActsIn S (ren N P) R
   ren-acts N s P R is = (
     (λ (P', (a, h, d), e).
@@ -131,6 +92,54 @@ module _ (S : Set) where
         let (a, i, (P', k, e)) = ren-act d in
         (P', (a, is a ∙ In-some_in i (member S) h, k), e)),
   )
+
+  -- events that are not offered don't count
+  pub offered-acts : (o s : Set) (P R : Proc) → ((a : ℕ) → IsTrue (has o a) ↔ Offers P a) → ((a : ℕ) → has s a ≡ (has o a && has S a)) → ActsIn s P R ↔ ActsIn S P R
+  offered-acts o s P R says is = (
+    (λ (a, h, d). (a, (and-cases (has o a) (has S a) (sym (is a) ∙ h)).1, d)),
+    (λ (a, h, d). (a, is a ∙ and-both (has o a) (has S a) ((says a).1 (R, d)) h, d)),
+  )
+
+  -- a renaming's part asked for no event that it doesn't offer
+  pub ren-offered : (N : Pairs) (o s : Set) (P R : Proc) → ((a : ℕ) → IsTrue (has o a) ↔ Offers P a) → ((a : ℕ) → has s a ≡ (has o a && some_in (images N a) (member S))) → Image (ren N) (ActsIn s P) R ↔ ActsIn S (ren N P) R
+  ren-offered N o s P R says is = (
+    (λ (P', (a, h, d), e).
+        let (x, y) = and-cases (has o a) (some_in (images N a) (member S)) (sym (is a) ∙ h) in
+        let (b, i, k) = some_in-In (images N a) (member S) y in
+        (b, k, subst (λ r. Act (ren N P) b r) (sym e) (a-ren i d))),
+    (λ (b, h, d).
+        let (a, i, (P', k, e)) = ren-act d in
+        (P', (a, is a ∙ and-both (has o a) (some_in (images N a) (member S)) ((says a).1 (P', k)) (In-some_in i (member S) h), k), e)),
+  )
+
+-- The targets of the steps from P with an event of S that is not in A.
+abbrev pub Alone : Set → Set → Proc → Proc → Type 0
+Alone S A P R = (a : ℕ) × (has S a ≡ true) × (has A a ≡ false) × Act P a R
+
+pub alone-acts : (S A T : Set) → ((a : ℕ) → has T a ≡ (has S a && not (has A a))) → (P R : Proc) → ActsIn T P R ↔ Alone S A P R
+alone-acts S A T is P R = (
+  (λ (a, h, d). let (s, n) = minus-parts (has T a) (has S a) (has A a) (is a) h in (a, s, n, d)),
+  (λ (a, s, n, d). (a, minus-whole (has T a) (has S a) (has A a) (is a) s n, d)),
+)
+
+-- a parallel's steps, where the events of S that its sides take together are among the joint ones
+pub par-asked : (S A : Set) (joint : List ℕ) (P Q : Proc) → ((a : ℕ) → In a joint → has A a ≡ true) → ((a : ℕ) (P' : Proc) → has S a ≡ true → has A a ≡ true → Act P a P' → In a joint) → (R : Proc) → ((Image (λ p. par A p Q) (Alone S A P) R ⊎ Image (λ q. par A P q) (Alone S A Q) R) ⊎ JointOf joint A S P Q R) ↔ ActsIn S (par A P Q) R
+par-asked S A joint P Q only all R = (
+  (λ s. elim s [
+    | inl t ↦ elim t [
+      | inl (P', (a, h, o, d), e) ↦ (a, h, subst (λ r. Act (par A P Q) a r) (sym e) (a-par-l o d))
+      | inr (Q', (a, h, o, d), e) ↦ (a, h, subst (λ r. Act (par A P Q) a r) (sym e) (a-par-r o d))
+    ]
+    | inr (a, i, h, (P', Q', d, d', e)) ↦ (a, h, subst (λ r. Act (par A P Q) a r) (sym e) (a-par-b (only a i) d d'))
+  ]),
+  (λ (a, h, d). elim (par-act d) [
+    | inl (o, t) ↦ elim t [
+      | inl (P', d', e) ↦ inl (inl (P', (a, h, o, d'), e))
+      | inr (Q', d', e) ↦ inl (inr (Q', (a, h, o, d'), e))
+    ]
+    | inr (y, (P', Q', d', d'', e)) ↦ inr (a, all a P' h y d', h, (P', Q', d', d'', e))
+  ]),
+)
 
 -- ---- hidden steps
 -- Q or a part of it that becomes SKIP

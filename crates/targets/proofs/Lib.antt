@@ -8,3 +8,5 @@ pub mod Forms
 pub mod DeepForms
 pub mod Doing
 pub mod Single
+pub mod Zips
+pub mod Asked

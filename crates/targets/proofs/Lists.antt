@@ -1,12 +1,11 @@
 -- Lists that are joined without repeats, or filled as far as a bound.
 use Rattle.std.proofs.Common.{◌≡◌, ◌↔◌, ℕ, zero, suc, ◌+◌, ◌<◌, ◌≤◌, ◌⊎◌, inl, inr, IsTrue, Bool, true, false, List, [], ◌∷◌, ◌++◌, length, map, take, drop, get_or, min, refl, sym, ap, ◌∙◌, subst, arith, length-append}
-use Rattle.std.proofs.lemmas.List.{append_assoc, append-nil, map-append, take_all, take-append-le, take-append-drop, length-take}
+use Rattle.std.proofs.lemmas.List.{append_assoc, map-append, take_all, take-append-le, take-append-drop, length-take}
 use Rattle.term.specs.declared.terms.Term.{Term}
 use Rattle.term.specs.Traces.{In, here, there}
 use Rattle.term.specs.Proc.{Proc, proc}
 use Rattle.term.specs.Limits.{Terms, Distinct}
-use Rattle.step.specs.Targets.{pairs_of}
-use Rattle.step.proofs.Lists.{map_more, pairs_of_more}
+use Rattle.step.proofs.Lists.{map_more}
 use Rattle.step.proofs.ActList.{append-In, In-append_l, In-append_r}
 use Rattle.targets.specs.Cuts.{CutOf}
 use Rattle.targets.specs.Among.{InEither, Joined}

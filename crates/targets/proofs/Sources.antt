@@ -1,5 +1,5 @@
 -- The events that a renaming takes to one of a set, one pair more.
-use Rattle.std.proofs.Common.{◌≡◌, ℕ, Bool, true, false, not, ◌&&◌, ◌||◌, List, [], ◌∷◌, ◌++◌, nat_eq, refl, sym, ap, ◌∙◌}
+use Rattle.std.proofs.Common.{◌≡◌, ℕ, Bool, true, false, ◌&&◌, ◌||◌, List, [], ◌∷◌, ◌++◌, nat_eq, refl, sym, ap, ◌∙◌}
 use Rattle.alphabet.specs.declared.events.Event.TheVariants.{Of as ev}
 use Rattle.term.specs.Traces.{Refusal, Pairs, partners, images, or_itself, some_in}
 use Rattle.term.proofs.Bools.{or-false}

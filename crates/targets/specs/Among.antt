@@ -1,5 +1,5 @@
 -- Sets of processes that the parts of a step are told by.
-use Rattle.std.specs.Prelude.{◌≡◌, ℕ, ◌<◌, true, ◌⊎◌, List}
+use Rattle.std.specs.Prelude.{◌≡◌, ℕ, true, ◌⊎◌, List}
 use Rattle.alphabet.specs.EventSets.{Set, has}
 use Rattle.term.specs.Traces.{In}
 use Rattle.term.specs.Proc.{Proc, par}
@@ -15,9 +15,9 @@ ActsIn S P Q = (a : ℕ) × (has S a ≡ true) × Act P a Q
 abbrev pub Joint : Set → Proc → Proc → ℕ → Terms
 Joint A P Q a R = (P' Q' : Proc) × Act P a P' × Act Q a Q' × (R ≡ par A P' Q')
 
--- The same for the events of S below n.
-abbrev pub JointBelow : ℕ → Set → Set → Proc → Proc → Terms
-JointBelow n A S P Q R = (a : ℕ) × (a < n) × (has S a ≡ true) × Joint A P Q a R
+-- The same for the events of S that are among these.
+abbrev pub JointOf : List ℕ → Set → Set → Proc → Proc → Terms
+JointOf joint A S P Q R = (a : ℕ) × In a joint × (has S a ≡ true) × Joint A P Q a R
 
 -- What stands in one of the lists.
 abbrev pub InEither : List Proc → List Proc → Terms

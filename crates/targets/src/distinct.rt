@@ -17,8 +17,7 @@ use term::{Spec, Term};
 ///
 /// No list on the way is longer than `most + 1` terms. Terms are compared with each other where two lists are joined,
 /// so the time grows with the square of `most` at worst. It grows with the term's size and the number of events, and not
-/// with the number of targets; but where renamings that take one event to several stand round parallels that
-/// take events together, it may double with each such renaming.
+/// with the number of targets. The lists for all events that the sides of a parallel take together are in memory at once.
 pub fn distinct_targets<A: Allocator + Clone>(
     spec: &Spec<A>,
     term: &Term<A>,

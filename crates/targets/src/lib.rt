@@ -1,6 +1,8 @@
 //! The targets of a term's steps as far as a bound: each once, and no more of them than are asked for.
 #![tactic(auto)]
 
+mod asking;
+mod cut_lists;
 mod cuts;
 mod deep;
 mod distinct;

@@ -80,6 +80,40 @@ fn renamed(alloc: Global, times: u16, inner: Term<Global>) -> Made
     Ok(term)
 }
 
+/// The set of the events a and b.
+fn both_events() -> EventSet
+    ensures { SetInSigma 2 result }
+{
+    only_a().with(Event::Of(1))
+}
+
+/// The process `a -> STOP [] b -> STOP`.
+fn either(alloc: Global) -> Made
+    ensures { IfOk result (λ term. LiesIn 2 1 (proc term)) }
+{
+    let left = prefix(alloc, 0, Term::Stop)?;
+    let right = prefix(alloc, 1, Term::Stop)?;
+    Ok(Term::Ext(Box::new(alloc, left)?, Box::new(alloc, right)?))
+}
+
+/// Renamings of each of the events a and b to both, so many of them, each round a parallel of the one before with a
+/// choice of a and b, by both events together.
+fn nested(alloc: Global, times: u8) -> Made
+    ensures { IfOk result (λ term. LiesIn 2 1 (proc term)) }
+{
+    let mut term = either(alloc)?;
+    for _ in 0..times {
+        let beside = either(alloc)?;
+        let pair = Term::Par(
+            both_events(),
+            Box::new(alloc, term)?,
+            Box::new(alloc, beside)?,
+        );
+        term = renamed(alloc, 1, pair)?;
+    }
+    Ok(term)
+}
+
 /// The specification of the events a and b with the one body `a -> STOP`.
 fn specified(rt: &impl Abort, alloc: Global) -> Result<Spec<Global>, Fail>
     ensures events { IfOk result (λ spec. event_count spec.alphabet ≡ 2) }
@@ -154,6 +188,14 @@ fn exponentially_many_targets(rt: HostRuntime) -> Result<(), Fail> {
     assert_hidden(&rt, alloc, true, 1)?;
     assert_renamed(&rt, alloc, 2)?;
     Ok(())
+}
+
+#[test]
+fn nested_renamings(rt: HostRuntime) -> Result<(), Fail> {
+    let alloc = rt.alloc();
+    let term = nested(alloc, 20)?;
+    assert_count(&rt, alloc, &term, BY_A, 4096, 1)?;
+    assert_count(&rt, alloc, &hiding(alloc, term)?, Label::Tau, 4096, 1)
 }
 
 #[test]

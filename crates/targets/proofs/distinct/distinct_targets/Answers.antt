@@ -1,8 +1,8 @@
-use Rattle.std.proofs.Common.{◌≡◌, ◌↔◌, IsTrue, IfOk, ℕ, ◌≤◌, Bool, true, false, List, [], ◌∷◌, map, length, refl, ap, ◌∙◌, sym, subst}
+use Rattle.std.proofs.Common.{◌≡◌, IfOk, ℕ, ◌≤◌, [], ◌∷◌, map, length, refl, ap, ◌∙◌, sym, subst}
 use Rattle.alphabet.specs.Channels.{event_count}
 use Rattle.alphabet.specs.declared.events.Event.TheVariants.{Of as ev, Tick as tick}
 use Rattle.term.specs.declared.terms.Term.TheVariants.{Stop}
-use Rattle.term.specs.Proc.{Proc, proc, bodies_of, stop}
+use Rattle.term.specs.Proc.{proc, bodies_of, stop}
 use Rattle.term.specs.Specs.{LiesIn}
 use Rattle.term.specs.Steps.{Act, Hid, Ticks}
 use Rattle.step.specs.declared.targets.Label.TheVariants as label

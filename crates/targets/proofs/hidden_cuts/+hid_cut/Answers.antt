@@ -1,7 +1,6 @@
-use Rattle.std.proofs.Common.{◌≡◌, ◌↔◌, IsTrue, IfOk, inl, inr, ℕ, ◌≤◌, Bool, true, false, List, [], ◌∷◌, ◌++◌, map, ap, ◌∙◌, sym, subst, rules}
-use Rattle.alphabet.specs.EventSets.{has}
+use Rattle.std.proofs.Common.{◌≡◌, inl, inr, ℕ, ◌≤◌, true, [], ◌∷◌, map, ap, ◌∙◌}
 use Rattle.alphabet.specs.declared.events.Event.TheVariants.{Of as ev}
-use Rattle.term.specs.Proc.{Proc, proc, bodies_of, ext, int, seq, par, hide, ren, intr, name}
+use Rattle.term.specs.Proc.{proc, bodies_of, ext, int, seq, par, hide, ren, intr}
 use Rattle.term.specs.Specs.{LiesIn}
 use Rattle.term.specs.Steps.{Hid}
 use Rattle.step.specs.Targets.{where_}
