@@ -1,5 +1,5 @@
 //! Texts, and whether they have a tree.
-use crate::parse;
+use crate::{Tree, parse};
 use std::alloc::{AllocError, Global};
 
 /// `ok` where there is a tree, else the line and the fault.
@@ -215,5 +215,44 @@ fn large_rows(rt: HostRuntime) -> Result<(), AllocError> {
 fn zero_byte(rt: HostRuntime) -> Result<(), AllocError> {
     let got = answer(rt.alloc(), b"channel a\nP = \x00 STOP")?;
     assert_eq!(rt; got.as_str(), "2: 1 byte");
+    Ok(())
+}
+
+/// The lines of a tree's parts, each behind a blank.
+fn lines_of_parts(alloc: Global, tree: &Tree<Global>) -> Result<String, AllocError> {
+    let mut lines = String::new(alloc);
+    if let Tree::Node { parts, .. } = tree {
+        for part in parts {
+            let line = part.line();
+            let text = format!(in alloc; " {line}")?;
+            lines.push_str(&text)?;
+        }
+    }
+    Ok(lines)
+}
+
+fn last_part(tree: &Tree<Global>) -> Option<&Tree<Global>> {
+    match tree {
+        Tree::Node { parts, .. } => parts.last(),
+        _ => None,
+    }
+}
+
+#[test]
+fn lines_of_trees(rt: HostRuntime) -> Result<(), AllocError> {
+    let text = b"\n{- a\n -}channel\na, b\nP =\n a ->\n -- b\n b\n -> STOP";
+    let Ok(script) = parse(rt.alloc(), text) else {
+        return Err(AllocError);
+    };
+    assert_eq!(rt; script.line(), 3);
+    assert_eq!(rt; lines_of_parts(rt.alloc(), &script)?.as_str(), " 3 5");
+    let Some(definition) = last_part(&script) else {
+        return Err(AllocError);
+    };
+    assert_eq!(rt; lines_of_parts(rt.alloc(), definition)?.as_str(), " 5 6");
+    let Some(body) = last_part(definition) else {
+        return Err(AllocError);
+    };
+    assert_eq!(rt; lines_of_parts(rt.alloc(), body)?.as_str(), " 6 8");
     Ok(())
 }
