@@ -1,0 +1,5 @@
+pub mod Examples
+pub mod Lists
+pub mod Members
+pub mod NameLists
+pub mod Parts

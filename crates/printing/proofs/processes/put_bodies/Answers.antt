@@ -1,0 +1,9 @@
+use Rattle.term.specs.Proc.{bodies_of}
+use Rattle.printing.specs.Printed.{body_line}
+use Rattle.printing.proofs.Lists.{next_number}
+use Rattle.printing.proofs.processes.put_bodies.Goals as goal
+
+pub loop-number-preserved : goal.loop-number-preserved
+loop-number-preserved g c =
+    next_number (λ k. body_line c.args.spec.now.alphabet c.args.primes k (bodies_of c.args.spec.now.bodies k)) c.args.text.now.items c.loop-number.text.items c.put_body.new.text.items
+    c.loop-number.number c.loop-number.invariant c.in_ok-put_body.ensures

@@ -1,0 +1,9 @@
+//! The printed form of a specification: a text of the language that stands for it.
+#![tactic(auto)]
+
+mod declarations;
+mod names;
+mod processes;
+mod whole;
+
+pub use whole::print;
