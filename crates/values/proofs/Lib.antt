@@ -4,3 +4,4 @@ pub mod ValueSets
 pub mod Parts
 pub mod Lists
 pub mod Named
+pub mod Inputs

@@ -1,6 +1,6 @@
 -- Lists of what phrases stand for.
-use Rattle.std.proofs.Common.{◌≡◌, ◌≢◌, ℕ, zero, suc, ◌<◌, List, [], ◌∷◌, ◌++◌, map, length, Option, Some, None, Bool, true, false, cond, Vec, Bor, ◌↔◌, IsSome, refl, sym, ap, ◌∙◌, arith}
-use Rattle.std.proofs.lemmas.List.{map-append, length-append}
+use Rattle.std.proofs.Common.{◌≡◌, ◌≢◌, ℕ, zero, suc, ◌+◌, ◌<◌, ◌≤◌, take, get_or, ap₂, List, [], ◌∷◌, ◌++◌, map, length, Option, Some, None, Bool, true, false, cond, Vec, Bor, ◌↔◌, IsSome, refl, sym, ap, ◌∙◌, arith}
+use Rattle.std.proofs.lemmas.List.{map-append, length-append, take_more, take_all}
 use Rattle.values.specs.declared.worth.Worth.{Worth}
 use Rattle.values.specs.declared.value.Value.{Value}
 use Rattle.std.specs.Ordering.{on}
@@ -10,12 +10,13 @@ use Rattle.std.specs.Map.{lookup}
 use Rattle.indexmap.specs.IndexMap.{insert_entry}
 use Rattle.std.specs.Cmp.Lexicographic.{pointwise, bytes_decides}
 use Rattle.std.specs.BTreeSet.{insert_key}
+use Rattle.std.specs.List.{AllZip}
 use Rattle.tokens.specs.declared.error.ScriptErrorKind.{ScriptErrorKind}
 use Rattle.tokens.specs.declared.error.ScriptErrorKind.TheVariants as kinds
-use Rattle.alphabet.specs.Channels.{FieldValue, Values}
+use Rattle.alphabet.specs.Channels.{FieldValue, constant, Values}
 use Rattle.values.specs.Values.{◌>>=◌, Name, value_cmp, set_of}
 use Rattle.values.specs.Names.{same_name}
-use Rattle.values.specs.Worths.{Worth as Plain, the_only, the_two, the_value, all_values, set_of_all, nothing_of, many}
+use Rattle.values.specs.Worths.{Worth as Plain, the_only, the_two, the_value, all_values, set_of_all, nothing_of, one, many}
 use Rattle.values.specs.Tables.{known_by, entries}
 use Rattle.values.proofs.ValueSets.{insert_view}
 use Rattle.values.specs.View.{value, worth, Fails}
@@ -172,6 +173,34 @@ pub listed_end : {A : Type 0} (ws : List (Worth A)) (ks : List (Value A)) (whole
 unfolding onto all_values
 listed_end [] ks whole inv h = sym inv
 listed_end (w ∷ ws) ks whole inv h = absurd (omega (arith, h))
+
+-- ---- lists of constants
+
+pub same_bytes : (xs ys : List ℕ) → AllZip (λ x y. y ≡ x) xs ys → ys ≡ xs
+same_bytes [] [] h = refl
+same_bytes [] (y ∷ ys) h = absurd h
+same_bytes (x ∷ xs) [] h = absurd h
+same_bytes (x ∷ xs) (y ∷ ys) h = ap₂ (λ v vs. v ∷ vs) h.0 (same_bytes xs ys h.1)
+
+abbrev pub constant_worth : {A : Type 0} → Vec ℕ A → Plain
+constant_worth n = one (constant n.items)
+
+pub constants_start : {A : Type 0} (ns : List (Vec ℕ A)) (ws : List (Worth A)) → ws ≡ [] → map worth ws ≡ map constant_worth (take 0 ns)
+constants_start ns ws h = ap (map worth) h
+
+pub constants_more : {A : Type 0} (ns : List (Vec ℕ A)) (i : ℕ) (n m : Vec ℕ A) (ws new : List (Worth A)) (w : Worth A) → map worth ws ≡ map constant_worth (take i ns) → i < length ns → n ≡ get_or ns i n → m.items ≡ n.items → worth w ≡ constant_worth m → new ≡ ws ++ w ∷ [] → map worth new ≡ map constant_worth (take (i + 1) ns)
+constants_more ns i n m ws new w inv h is same made put =
+    ap (map worth) put ∙ map-append worth ws (w ∷ []) ∙ ap₂ (λ xs x. xs ++ x ∷ []) inv (made ∙ ap (λ x. one (constant x)) same)
+    ∙ sym (map-append constant_worth (take i ns) (n ∷ [])) ∙ sym (ap (map constant_worth) (take_more ns i n h ∙ ap (λ x. take i ns ++ x ∷ []) (sym is)))
+
+constants_all : {A : Type 0} (ns : List (Vec ℕ A)) → all_values (map constant_worth ns) ≡ Some (map (λ n. constant n.items) ns)
+unfolding all_values the_value
+constants_all [] = refl
+constants_all (n ∷ ns) = ap (λ o. o >>= λ vs. Some (constant n.items) >>= λ v. some_values (v ∷ vs)) (constants_all ns)
+
+pub constants_end : {A : Type 0} (ns : List (Vec ℕ A)) (ws : List (Worth A)) (i : ℕ) → map worth ws ≡ map constant_worth (take i ns) → length ns ≤ i → set_of_all (map worth ws) ≡ Some (set_of (map (λ n. constant n.items) ns))
+unfolding set_of_all
+constants_end ns ws i inv h = ap (λ xs. all_values xs >>= λ vs. some_values (set_of vs)) (inv ∙ ap (map constant_worth) (take_all i ns h)) ∙ ap (λ o. o >>= λ vs. some_values (set_of vs)) (constants_all ns)
 
 -- a table with what a name stands for
 pub inserted : {A : Type 0} (es : List (Vec ℕ A × Worth A)) (key : Vec ℕ A) (w : Worth A) (n : Name) → known_by (entries (insert_entry (λ a b. pointwise nat_eq a.items b.items) es key w)) n ≡ cond (same_name n key.items) (Some (worth w)) (known_by (entries es) n)

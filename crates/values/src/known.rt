@@ -1,9 +1,9 @@
 //! What names stand for.
-ghost use Rattle.std.specs.Prelude.{◌≡◌, ℕ, List, Some, None, OnOk, OnErr, if◌then◌else◌};
+ghost use Rattle.std.specs.Prelude.{◌≡◌, ℕ, List, Some, None, is_some, OnOk, OnErr, if◌then◌else◌};
 ghost use Rattle.std.specs.Option.{option_map};
 ghost use Rattle.values.specs.Names.{same_name};
 ghost use Rattle.values.specs.View.{Gives, worth as worth_of};
-ghost use Rattle.values.specs.Tables.{table};
+ghost use Rattle.values.specs.Tables.{table, names_value};
 
 use crate::number::fault;
 use crate::worth::Worth;
@@ -32,6 +32,37 @@ impl<A: Allocator + Copy> Known<A> {
     }
 }
 
+impl<A: Allocator> Known<A> {
+    /// What the name stands for.
+    fn get(&self, name: &[u8]) -> Option<&Worth<A>>
+        ensures { option_map (λ w. worth_of w.now) result ≡ table self.now name.now }
+    {
+        self.worths.get(name)
+    }
+
+    /// Whether the table says what the name stands for.
+    pub fn has(&self, name: &[u8]) -> bool
+        ensures { result ≡ is_some (table self.now name.now) }
+    {
+        match self.get(name) {
+            Some(_) => true,
+            None => false,
+        }
+    }
+
+    /// Whether the name stands for one value.
+    #[tactic(auto, unfolding(crate::specs::Tables::names_value))]
+    pub(crate) fn is_one(&self, name: &[u8]) -> bool
+        ensures { result ≡ names_value (table self.now name.now) }
+    {
+        match self.get(name) {
+            Some(Worth::One(_)) => true,
+            Some(Worth::Many(_)) => false,
+            None => false,
+        }
+    }
+}
+
 impl<A: Allocator + Clone> Known<A> {
     /// Says what the name stands for, in place of what it stood for. Where memory is refused the table stays. Costs one
     /// look-up by the name's hash.
@@ -42,13 +73,6 @@ impl<A: Allocator + Clone> Known<A> {
     {
         let _old = self.worths.insert(name, worth)?;
         Ok(())
-    }
-
-    /// What the name stands for.
-    fn get(&self, name: &[u8]) -> Option<&Worth<A>>
-        ensures { option_map (λ w. worth_of w.now) result ≡ table self.now name.now }
-    {
-        self.worths.get(name)
     }
 
     /// A copy of what the name stands for; `UnknownName` where the table hasn't got it.

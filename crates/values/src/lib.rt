@@ -1,6 +1,7 @@
 //! What numbers, sets and names of a script stand for.
 #![tactic(auto)]
 
+mod input;
 mod known;
 mod law;
 mod number;
@@ -9,12 +10,13 @@ mod sets;
 mod value;
 mod worth;
 
+pub use input::{Input, is_value};
 pub use known::Known;
 pub use law::steps_reach_all;
 pub use phrase::stands_for;
 pub use sets::{SET_LIMIT, Values};
 pub use value::Value;
-pub use worth::Worth;
+pub use worth::{Worth, constant_set, the_set, the_value};
 
 #[cfg(test)]
 mod tests;

@@ -4,8 +4,9 @@ ghost use Rattle.syntax.specs.View.{shape, shapes};
 ghost use Rattle.syntax.specs.Parsing.{syntaxes};
 ghost use Rattle.values.specs.Worths.{calculated as calculated_of, computed as computed_of, negated as negated_of, nothing_of, set_with as set_with_of, range_with as range_with_of, union_with as union_with_of, intersection_with as intersection_with_of, difference_with as difference_with_of, formed as formed_of, worth as worth_in, worths as worths_in};
 ghost use Rattle.values.specs.View.{Gives, worth as worth_of};
-ghost use Rattle.values.specs.Tables.{table};
+ghost use Rattle.values.specs.Tables.{table, input, behind};
 
+use crate::input::{Input, worth_behind};
 use crate::known::Known;
 use crate::number::{difference as number_difference, fault, limited, product, remainder, sum};
 use crate::sets::{difference, fitting, intersection, range, union};
@@ -159,28 +160,30 @@ fn formed<A: Allocator + Clone>(
     }
 }
 
-/// What a phrase stands for, where names stand for what the table says.
+/// What a phrase stands for behind these inputs, where other names stand for what the table says. The last input of a
+/// name is the one that counts.
 ///
 /// The fault has the line of the phrase that is at fault: `Expected` for a phrase of another kind, `UnknownName` for a
-/// name that the table lacks, `OutOfRange` for a number past its limits, `TooLarge` for a set of more than 65,536
+/// name that neither the inputs nor the table have, `OutOfRange` for a number past its limits, `TooLarge` for a set of more than 65,536
 /// values.
 #[cycle(phrase)]
 #[tactic(auto, unfolding(crate::specs::Worths::worth))]
 pub fn stands_for<A: Allocator + Clone>(
     alloc: &A,
     known: &Known<A>,
+    inputs: &[Input<A>],
     tree: &Tree<A>,
 ) -> Result<Worth<A>, ScriptError>
-    ensures { Gives worth_of result (worth_in (table known.now) (shape tree.now)) }
+    ensures { Gives worth_of result (worth_in (behind (table known.now) (map input inputs.now)) (shape tree.now)) }
 {
     match tree {
-        Tree::Name { line, text } => known.worth(text, *line),
+        Tree::Name { line, text } => worth_behind(known, inputs, text, *line),
         Tree::Number { line, value } => {
             let number = limited(i64::from(*value), *line)?;
             Ok(Worth::One(Value::Number(number)))
         }
         Tree::Node { line, form, parts } => {
-            let worths = each_stands_for(alloc, known, parts)?;
+            let worths = each_stands_for(alloc, known, inputs, parts)?;
             formed(alloc, *form, worths, *line)
         }
     }
@@ -191,13 +194,14 @@ pub fn stands_for<A: Allocator + Clone>(
 fn each_stands_for<A: Allocator + Clone>(
     alloc: &A,
     known: &Known<A>,
+    inputs: &[Input<A>],
     trees: &[Tree<A>],
 ) -> Result<Vec<Worth<A>, A>, ScriptError>
-    ensures { Gives (λ v. map worth_of v.items) result (worths_in (table known.now) (syntaxes (shapes trees.now))) }
+    ensures { Gives (λ v. map worth_of v.items) result (worths_in (behind (table known.now) (map input inputs.now)) (syntaxes (shapes trees.now))) }
 {
     let mut worths = Vec::new(alloc.clone()?);
     for tree in trees {
-        worths.push(stands_for(alloc, known, tree)?)?;
+        worths.push(stands_for(alloc, known, inputs, tree)?)?;
     }
     Ok(worths)
 }

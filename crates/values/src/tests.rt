@@ -54,7 +54,7 @@ fn answer(alloc: Global, text: &[u8]) -> Result<String, AllocError> {
         } = part
         {
             if let [Tree::Name { text, .. }, body] = parts.as_slice() {
-                match stands_for(&alloc, &known, body) {
+                match stands_for(&alloc, &known, &[], body) {
                     Ok(worth) => {
                         last = worth_text(alloc, &worth)?;
                         known.insert(Vec::from_slice(alloc, text)?, worth)?;

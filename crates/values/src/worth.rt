@@ -1,5 +1,6 @@
 //! What phrases stand for: values, and sets of values.
 ghost use Rattle.std.specs.Prelude.{◌≡◌, Some, IfOk, map};
+ghost use Rattle.alphabet.specs.Channels.{constant};
 ghost use Rattle.values.specs.Values.{set_of};
 ghost use Rattle.values.specs.Worths.{the_value as the_value_of, the_number as the_number_of, the_set as the_set_of, the_only as the_only_of, the_two as the_two_of, two_numbers as two_numbers_of, two_sets as two_sets_of, set_of_all};
 ghost use Rattle.values.specs.View.{Gives, value, values, worth as worth_of};
@@ -32,9 +33,9 @@ impl<A: Allocator + Clone> Worth<A> {
     }
 }
 
-/// The value, where it is one.
+/// The value, where it is one; else `Expected`.
 #[tactic(auto, unfolding(crate::specs::Worths::the_value))]
-fn the_value<A: Allocator>(worth: Worth<A>, line: u32) -> Result<Value<A>, ScriptError>
+pub fn the_value<A: Allocator>(worth: Worth<A>, line: u32) -> Result<Value<A>, ScriptError>
     ensures { Gives value result (the_value_of (worth_of worth)) }
 {
     match worth {
@@ -55,9 +56,9 @@ pub(crate) fn the_number<A: Allocator>(worth: Worth<A>, line: u32) -> Result<i64
     }
 }
 
-/// The set, where it is one.
+/// The set, where it is one; else `Expected`.
 #[tactic(auto, unfolding(crate::specs::Worths::the_set))]
-fn the_set<A: Allocator>(worth: Worth<A>, line: u32) -> Result<Values<A>, ScriptError>
+pub fn the_set<A: Allocator>(worth: Worth<A>, line: u32) -> Result<Values<A>, ScriptError>
     ensures { Gives values result (the_set_of (worth_of worth)) }
 {
     match worth {
@@ -146,4 +147,19 @@ pub(crate) fn listed<A: Allocator + Clone>(
         let _added = set.insert(value)?;
     }
     Ok(set)
+}
+
+/// The set of the constants with these names.
+#[tactic(auto, using(crate::proofs::Lists::constants_start, crate::proofs::Lists::constants_more, crate::proofs::Lists::constants_end))]
+pub fn constant_set<A: Allocator + Clone>(
+    alloc: &A,
+    names: &[Vec<u8, A>],
+) -> Result<Values<A>, ScriptError>
+    ensures { Gives values result (Some (set_of (map (λ n. constant n.items) names.now))) }
+{
+    let mut worths = Vec::new(alloc.clone()?);
+    for name in names {
+        worths.push(Worth::One(Value::Constant(name.clone()?)))?;
+    }
+    listed(alloc, worths, 1)
 }
