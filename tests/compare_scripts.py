@@ -1,0 +1,290 @@
+#!/usr/bin/env python3
+"""Compares what `cspwatch print` makes of scripts with what a second reader of the language makes of them.
+
+    compare_scripts.py REFERENCE [SEED] [COUNT] [--program FILE] [--keep FOLDER]
+
+REFERENCE is a folder with the package `cspref`, a reader in Python that was written apart from this one. The scripts are
+made from the seed: they declare channels, datatypes, numbers, sets and processes, and most are at fault somewhere or other.
+Each is printed by the program (crates/cspwatch/out/cspwatch, or FILE) and by the reference; their texts, or the line, the
+number and the word of the fault, have to be the same. Each difference is printed, and its script is kept in FOLDER; the
+exit status is 1 where there is one.
+"""
+import argparse
+import collections
+import concurrent.futures
+import os
+import random
+import subprocess
+import sys
+import tempfile
+
+TOP = os.path.dirname(os.path.dirname(os.path.abspath(__file__)))
+PROGRAM = os.path.join(TOP, "crates", "cspwatch", "out", "cspwatch")
+WORDS = {1: "byte", 2: "token", 3: "expected", 4: "unknown", 5: "redeclared", 6: "fields", 7: "range", 8: "events",
+         9: "depth", 10: "large", 11: "unsupported", 12: "process", 40: "memory"}
+
+
+class Scripts:
+    """One generated script: what it has declared so far, and its text."""
+
+    def __init__(self, rng):
+        self.rng = rng
+        # how often a part is chosen without regard to its kind or its declaration
+        self.wild = rng.choice([0, 0, 0.004, 0.02, 0.06])
+        self.numbers, self.value_sets, self.event_sets, self.processes = [], [], [], []
+        self.constants, self.datatypes, self.channels = [], [], {}
+        self.lines = []
+
+    def chance(self, share):
+        return self.rng.random() < share
+
+    # ---- values and sets of values
+
+    def stray(self):
+        every = (self.numbers + self.value_sets + self.event_sets + self.processes + self.constants + self.datatypes
+                 + list(self.channels) + ["X", "CHAOS", "Int", "STOP", "{}", "{0..1}", "1", "Events"])
+        return self.rng.choice(every)
+
+    def number(self, inputs, depth=2):
+        rng = self.rng
+        if self.chance(self.wild):
+            return self.stray()
+        kind = rng.randrange(8)
+        if depth <= 0 or kind < 3:
+            return str(rng.choice([0, 1, 1, 2, 3, 7]))
+        if kind == 3 and self.numbers:
+            return rng.choice(self.numbers)
+        if kind == 4 and inputs:
+            return rng.choice(inputs)
+        if kind == 5:
+            return "(%s)" % self.number(inputs, depth - 1)
+        if kind == 6:
+            return "- %s" % rng.choice(["1", "2", "(1 + 1)"])
+        sign = rng.choice(["+", "+", "-", "*", "%"])
+        return "%s %s %s" % (self.number(inputs, depth - 1), sign, self.number(inputs, depth - 1))
+
+    def value(self, inputs):
+        if self.constants and self.chance(0.3):
+            return self.rng.choice(self.constants)
+        return self.number(inputs)
+
+    def values(self, inputs, depth=2):
+        rng = self.rng
+        if self.chance(self.wild):
+            return self.stray()
+        kind = rng.randrange(9)
+        if kind < 3 or depth <= 0:
+            low = rng.choice([0, 0, 0, 1, -1])
+            return "{%s%d..%d}" % (" " if low < 0 else "", low, low + rng.choice([0, 1, 1, 2, 3, -1 if depth > 1 else 1]))
+        if kind == 3:
+            return "{%s}" % ", ".join(" " + self.value(inputs) for _ in range(rng.randint(1, 3)))
+        if kind == 4 and self.datatypes:
+            return rng.choice(self.datatypes)
+        if kind == 5 and self.value_sets:
+            return rng.choice(self.value_sets)
+        if kind == 6:
+            return "%s(%s, %s)" % (rng.choice(["union", "inter", "diff"]), self.values(inputs, depth - 1), self.values(inputs, depth - 1))
+        if kind == 7:
+            return "(%s)" % self.values(inputs, depth - 1)
+        return rng.choice(["{0, 1}", "{1..2}", "{}"] if depth > 1 else ["{0, 1}", "{1..2}"])
+
+    # ---- events
+
+    def channel(self):
+        if self.channels and not self.chance(self.wild):
+            return self.rng.choice(list(self.channels))
+        return self.stray() if self.chance(0.5) else "c"
+
+    def given(self, fields, inputs):
+        """A value that is likely to be one of the field's."""
+        rng = self.rng
+        if fields is not None and rng.random() < 0.9:
+            if fields == "constants" and self.constants:
+                return rng.choice(self.constants)
+            return rng.choice(["0", "1", "1", "(1 - 1)"] + list(inputs))
+        return rng.choice(["0", "1", "2", "-1", "(%s)" % self.number(inputs, 1)] + list(inputs) + self.constants[:1])
+
+    def event(self, inputs, whole=True):
+        rng = self.rng
+        name = self.channel()
+        fields = self.channels.get(name, [])
+        count = len(fields) if whole else rng.randint(0, len(fields))
+        if self.chance(self.wild):
+            count = rng.randint(0, 3)
+        parts = [rng.choice("..!") + self.given(fields[place] if place < len(fields) else None, inputs) for place in range(count)]
+        return name + "".join(parts)
+
+    def guard(self, inputs):
+        """An event before an arrow, and the names that stand for values behind it."""
+        rng = self.rng
+        name = self.channel()
+        fields = self.channels.get(name, [])
+        count = len(fields) if not self.chance(self.wild) else rng.randint(0, 3)
+        inner, out = list(inputs), name
+        for place in range(count):
+            kind = rng.randrange(5)
+            if kind < 2:
+                out += rng.choice(".!") + self.given(fields[place] if place < len(fields) else None, inner)
+                continue
+            bound = rng.choice(["x", "y", "z", "x", "v'"] + (self.constants[:1] if self.chance(self.wild) else []))
+            out += "?" + bound
+            if kind == 4:
+                out += ":" + rng.choice(["{0..1}", "{1, 2}", "(%s)" % self.values(inner, 1)] + self.value_sets + self.datatypes)
+            inner.append(bound)
+        return out, inner
+
+    def events(self, inputs, depth=2):
+        rng = self.rng
+        if self.chance(self.wild):
+            return self.stray()
+        kind = rng.randrange(9)
+        if kind < 3:
+            return "{|%s|}" % ", ".join(self.event(inputs, whole=False) for _ in range(rng.randint(0, 2)))
+        if kind < 5 or depth <= 0:
+            return "{%s}" % ", ".join(self.event(inputs) for _ in range(rng.randint(0, 3)))
+        if kind == 5 and self.event_sets:
+            return rng.choice(self.event_sets)
+        if kind == 6:
+            return "%s(%s, %s)" % (rng.choice(["union", "inter", "diff"]), self.events(inputs, depth - 1), self.events(inputs, depth - 1))
+        return "Events" if kind == 7 else "(%s)" % self.events(inputs, depth - 1)
+
+    # ---- processes
+
+    def process(self, inputs, depth):
+        rng = self.rng
+        if self.chance(self.wild):
+            return self.stray()
+        if depth <= 0 or rng.random() < 0.1:
+            return rng.choice(["STOP", "SKIP"] + self.processes * 3)
+        part = lambda: self.process(inputs, depth - 1)
+        kind = rng.randrange(14)
+        if kind < 5:
+            event, inner = self.guard(inputs)
+            return "%s -> %s" % (event, self.wrapped(self.process(inner, depth - 1)))
+        if kind < 10:
+            sign = rng.choice(["[]", "[]", "|~|", ";", "|||", "/\\"])
+            return "%s %s %s" % (self.wrapped(part()), sign, self.wrapped(part()))
+        if kind == 10:
+            return "%s [| %s |] %s" % (self.wrapped(part()), self.events(inputs), self.wrapped(part()))
+        if kind == 11:
+            return "%s [ %s || %s ] %s" % (self.wrapped(part()), self.events(inputs), self.events(inputs), self.wrapped(part()))
+        if kind == 12:
+            return "%s \\ %s" % (self.wrapped(part()), self.events(inputs))
+        pairs = ", ".join("%s <- %s" % self.pair(inputs) for _ in range(rng.randint(1, 3)))
+        return "(%s)[[%s]]" % (part(), pairs)
+
+    def pair(self, inputs):
+        left = self.event(inputs, whole=False)
+        if self.chance(0.6):
+            name = left.split(".")[0].split("!")[0]
+            same = [other for other in self.channels if self.channels[other] == self.channels.get(name)]
+            if same:
+                return left, self.rng.choice(same) + left[len(name):]
+        return left, self.event(inputs, whole=False)
+
+    def wrapped(self, text):
+        return "(%s)" % text if self.chance(0.85) else text
+
+    # ---- declarations
+
+    def add(self, text):
+        self.lines.append(text)
+
+    def declare(self):
+        rng = self.rng
+        for name, members in (("D", ["y", "x", "red"]), ("E'", ["on", "off"])):
+            if self.chance(0.4):
+                members = members[:rng.randint(1, len(members))]
+                self.datatypes.append(name)
+                self.constants += members
+                self.add("datatype %s = %s" % (name, " | ".join(members)))
+        for name in ("N", "M1", "M2"):
+            if self.chance(0.4):
+                self.add("%s = %s" % (name, self.number([])))
+                self.numbers.append(name)
+        for name in ("S", "S2"):
+            if self.chance(0.4):
+                self.add("%s = %s" % (name, self.values([])))
+                self.value_sets.append(name)
+        for name in rng.sample(["a", "b", "c", "d", "P0", "T"], rng.randint(1, 4)):
+            fields = [rng.choice(["numbers", "numbers", "constants"]) for _ in range(rng.choice([0, 0, 1, 1, 2]))]
+            sets = [rng.choice(self.datatypes) if kind == "constants" and self.datatypes else self.values([], 1) for kind in fields]
+            self.channels[name] = fields
+            self.add("channel %s%s" % (name, " : " + ".".join(sets) if sets else ""))
+        if self.chance(0.1):
+            self.add("channel e, f : {0..%d}" % rng.choice([1, 126, 127, 128, 255]))
+            self.channels["e"] = self.channels["f"] = ["numbers"]
+        for name in ("A", "B"):
+            if self.chance(0.4):
+                self.add("%s = %s" % (name, self.events([])))
+                self.event_sets.append(name)
+        self.processes = ["P"] + rng.sample(["Q", "R", "Q'", "W"], rng.randint(0, 4))
+        for name in self.processes:
+            self.add("%s = %s" % (name, self.process([], rng.randint(0, 4))))
+        if self.chance(self.wild):
+            self.add(rng.choice(["P = STOP", "channel a", "datatype P = q", "K(n) = STOP", "N = 1", "L = Q", "P2 = (P)"]))
+
+    def text(self):
+        self.declare()
+        rng = self.rng
+        if self.chance(0.5):
+            rng.shuffle(self.lines)
+        root = "P" if self.chance(0.95) else rng.choice(["Q", "N", "S", "a", "X", "x", "D", "A"])
+        return ("\n".join(self.lines) + "\n").encode("ascii"), root
+
+
+def reference_answers(folder, cases):
+    sys.path.insert(0, folder)
+    os.environ["CSPREF_STAGE"] = "15"
+    sys.setrecursionlimit(100_000)
+    from cspref.elaborate import read
+    from cspref.faults import ScriptFault
+    from cspref.printing import print_spec
+    for text, root in cases:
+        try:
+            printed = print_spec(read(text, root.encode()))
+            yield printed.encode("latin-1") if isinstance(printed, str) else printed
+        except ScriptFault as fault:
+            yield b"p.csp:%d: %d %s\n" % (fault.line, fault.code, WORDS[fault.code].encode())
+
+
+def own_answer(program, case):
+    text, root = case
+    with tempfile.TemporaryDirectory(prefix="script-") as folder:
+        with open(os.path.join(folder, "p.csp"), "wb") as file:
+            file.write(text)
+        done = subprocess.run([program, "print", "p.csp", root], cwd=folder, stdin=subprocess.DEVNULL, capture_output=True, timeout=120)
+        return done.stdout + done.stderr
+
+
+def main():
+    words = argparse.ArgumentParser(description=__doc__, formatter_class=argparse.RawDescriptionHelpFormatter)
+    words.add_argument("reference")
+    words.add_argument("seed", nargs="?", type=int, default=random.randrange(1_000_000))
+    words.add_argument("count", nargs="?", type=int, default=10_000)
+    words.add_argument("--program", default=PROGRAM)
+    words.add_argument("--keep")
+    given = words.parse_args()
+    print("seed %d, %d scripts" % (given.seed, given.count), flush=True)
+    rng = random.Random(given.seed)
+    cases = [Scripts(rng).text() for _ in range(given.count)]
+    outcomes, differences = collections.Counter(), 0
+    with concurrent.futures.ThreadPoolExecutor(max_workers=os.cpu_count()) as pool:
+        answers = pool.map(lambda case: own_answer(given.program, case), cases)
+        for place, (case, own, wanted) in enumerate(zip(cases, answers, reference_answers(given.reference, cases))):
+            outcomes[wanted.split(b": ")[-1].decode().strip() if wanted.startswith(b"p.csp:") else "printed"] += 1
+            if own == wanted:
+                continue
+            differences += 1
+            if given.keep:
+                with open(os.path.join(given.keep, "%d.csp" % place), "wb") as file:
+                    file.write(case[0])
+            if differences <= 20:
+                print("---- %d, root %s\n%s\nreference: %s\nown:       %s" % (place, case[1], case[0].decode(), wanted[:600], own[:600]))
+    print(", ".join("%d %s" % (times, outcome) for outcome, times in outcomes.most_common()))
+    print("%d differences" % differences)
+    return 1 if differences else 0
+
+
+if __name__ == "__main__":
+    sys.exit(main())
