@@ -13,3 +13,10 @@ pub mod Images
 pub mod Seen
 pub mod Rows
 pub mod Whole
+pub mod Shapes
+pub mod FormLaws
+pub mod EventLaws
+pub mod EventSetLaws
+pub mod Places
+pub mod Turns
+pub mod Renamings

@@ -147,6 +147,10 @@ set_below (suc n) A = (if A n then 2 ^ (suc n) else 0) + set_below n A
 abbrev pub set_of : List Channel → Events → Set
 set_of cs A = set_below (event_count cs) A
 
+-- the same where there may be none
+unfoldable pub masked : List Channel → Option Events → Option Set
+masked cs o = o >>= λ A. Some (set_of cs A)
+
 -- ---- renamings
 
 -- the number of the event with these parts

@@ -4,3 +4,6 @@ pub mod Phrases
 pub mod Denotes
 pub mod Making
 pub mod View
+pub mod Forms
+pub mod Shapes
+pub mod EventForms

@@ -1,8 +1,9 @@
 -- Processes made of bodies: definitions get numbers as they are met, and nodes are counted.
-use Rattle.std.specs.Prelude.{◌≡◌, ℕ, zero, suc, ◌-◌, ◌/◌, ◌≤◌, List, [], ◌∷◌, length, take, drop, map, Bool, not, ◌&&◌, nat_lt, Option, Some, None, if◌then◌else◌}
+use Rattle.std.specs.Prelude.{◌≡◌, ℕ, zero, suc, ◌-◌, ◌/◌, ◌≤◌, List, [], ◌∷◌, ◌++◌, length, take, drop, map, Bool, not, ◌&&◌, nat_lt, Option, Some, None, if◌then◌else◌}
 use Rattle.std.specs.List.{All, flat_map}
 use Rattle.std.specs.Cmp.Lexicographic.{pointwise}
 use Rattle.alphabet.specs.Channels.{Values, Parts, events, event_count}
+use Rattle.alphabet.specs.EventSets.{has}
 use Rattle.term.specs.Traces.{Pairs}
 use Rattle.term.specs.Proc.{Proc, stop, skip, prefix, ext, int, seq, par, hide, ren, intr, name}
 use Rattle.term.specs.Sizes.{size, depth}
@@ -12,9 +13,13 @@ use Rattle.syntax.specs.declared.operator.Operator.TheVariants as operators
 use Rattle.syntax.specs.Grammar.{Syntax, Called, Numeral, Node, Syntaxes, NoSyntax, MoreSyntax}
 use Rattle.values.specs.Values.{◌>>=◌, Name, is_same}
 use Rattle.values.specs.Names.{Meaning, channel, datatype, constant_name, definition, meaning, same_name, is_process}
-use Rattle.script.specs.Events.{Events, Beginning, unless_value, channel_fields, set_of, both, pairs_of, in_order}
+use Rattle.script.specs.Events.{Events, Beginning, unless_value, channel_fields, set_of, masked, both, pairs_of, in_order}
 use Rattle.script.specs.Bodies.{Key, Body, numbered, names}
 use Rattle.script.specs.Phrases.{Scope, fitting, has_all, events_by}
+use Rattle.syntax.specs.Parsing.{syntaxes}
+use Rattle.script.specs.declared.forms.Join.{Join}
+use Rattle.script.specs.declared.forms.Join.TheVariants as joins
+use Rattle.script.specs.Forms.{Phrase, stops, skips, called, inside, prefixed, joined, sharing, alphabetised, hiding, renaming}
 use Rattle.script.specs.Denotes.{place, with_key, with_keys, nodes, Reached}
 
 -- the definitions met so far, and how many nodes may still be made
@@ -113,6 +118,10 @@ make_branches next c ts sets s a [] w = Some ([], w)
 make_branches next c ts sets s a (p ∷ ps) w =
     make_branch next c ts sets s a p w >>= λ x. make_branches next c ts sets s (suc a) ps x.1 >>= λ y. Some (put x.0 y.0, y.1)
 
+-- with these branches in front
+unfoldable pub branches_behind : List Proc → Option AllMade → Option AllMade
+branches_behind front o = o >>= λ x. Some (front ++ x.0, x.1)
+
 unfoldable pub make_prefixed : Scope → Syntax → (Scope → Count → Option Made) → Count → Option Made
 make_prefixed s (Node forms.Event (MoreSyntax (Called c) ts)) next w =
     channel_fields s.channels s.known c >>= λ sets. if has_all ts sets then (make_branches next c ts sets s 0 (events s.channels) w >>= make_choice) else None
@@ -169,6 +178,28 @@ unfoldable mutual
   make_form (forms.Operation operators.Hiding) (MoreSyntax t (MoreSyntax a NoSyntax)) s w = make t s w >>= λ p. events_by s a >>= λ A. make_one (hide (set_of s.channels A)) p
   make_form (forms.Operation operators.Renaming) (MoreSyntax t ts) s w = make t s w >>= λ p. pairs_of s.channels s.known ts >>= λ R. make_renamed (event_count s.channels) R p
   make_form f ts s w = None
+
+-- what a join makes of two processes
+unfoldable pub join_of : Join → Proc → Proc → Proc
+join_of joins.Sequence = seq
+join_of joins.Interrupt = intr
+join_of joins.External = ext
+join_of joins.Internal = int
+join_of joins.Interleaving = par 0
+
+-- the same of a phrase by its form
+unfoldable pub make_phrase : Phrase → Scope → Count → Option Made
+make_phrase stops s w = spend 1 w >>= λ u. Some (stop, u)
+make_phrase skips s w = spend 1 w >>= λ u. Some (skip, u)
+make_phrase (called n) s w = unless_value (s.known n) (if is_process s.entries n then refer (n, []) w else None)
+make_phrase (inside t) s w = make t s w
+make_phrase (prefixed e t) s w = make_prefixed s e (make t) w
+make_phrase (joined j t u) s w = make_two (join_of j) (make t s w) (make u s)
+make_phrase (sharing t a u) s w = make t s w >>= λ p. masked s.channels (events_by s a) >>= λ A. make u s p.1 >>= make_above 1 (par A) p
+make_phrase (alphabetised t a b u) s w =
+    make t s w >>= λ p. masked s.channels (events_by s a) >>= λ A. masked s.channels (events_by s b) >>= λ B. make u s p.1 >>= make_above 5 (make_alphabetised s (has A) (has B)) p
+make_phrase (hiding t a) s w = make t s w >>= λ p. masked s.channels (events_by s a) >>= λ A. make_one (hide A) p
+make_phrase (renaming t ts) s w = make t s w >>= λ p. pairs_of s.channels s.known (syntaxes ts) >>= λ R. make_renamed (event_count s.channels) R p
 
 -- a process that isn't too deep
 unfoldable pub shallow : Made → Option Made

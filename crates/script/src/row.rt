@@ -19,7 +19,7 @@ pub(crate) struct Row<A: Allocator> {
 
 /// Whether these are one value.
 #[tactic(auto, using(crate::proofs::Rows::same_value))]
-fn is_equal<A: Allocator>(first: &Value<A>, second: &Value<A>) -> bool
+pub(crate) fn is_equal<A: Allocator>(first: &Value<A>, second: &Value<A>) -> bool
     ensures { result ≡ is_same (value first.now) (value second.now) }
 {
     first == second
