@@ -1,0 +1,5 @@
+//! Worked sessions.
+#![tactic(auto)]
+
+#[cfg(test)]
+mod tests;
