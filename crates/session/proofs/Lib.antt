@@ -1,3 +1,0 @@
-pub mod SetLemmas
-pub mod ReplayLemmas
-pub mod Keeping

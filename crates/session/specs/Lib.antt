@@ -1,4 +1,0 @@
-pub mod Records
-pub mod Told
-pub mod Faults
-pub mod Replays

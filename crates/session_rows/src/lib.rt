@@ -1,5 +1,0 @@
-//! Worked sessions.
-#![tactic(auto)]
-
-#[cfg(test)]
-mod tests;
