@@ -1,0 +1,15 @@
+//! Histories: what seats reported and how it was judged, one entry a report.
+//!
+//! `History` is a list of entries that counts those of each seat as it grows. `LegalHistory` holds one beside a monitor: each
+//! entry has the verdict of the specification after the accepted events before it, and is its seat's next.
+#![tactic(auto)]
+
+mod entry;
+mod history;
+mod legal;
+mod seat;
+
+pub use entry::{Entry, Summary};
+pub use history::{HISTORY_LIMIT, History};
+pub use legal::{Candidate, LegalHistory};
+pub use seat::SeatNumber;
