@@ -147,6 +147,24 @@ fn fault_rows(rt: HostRuntime) -> Result<(), Fail> {
     Ok(())
 }
 
+/// Twelve copies of a choice that doubles the targets with each copy make as many states as there may be, thirteen and
+/// twenty make too many. A level that has too many states and one that is too deep is too deep.
+#[test]
+fn limit_rows(rt: HostRuntime) -> Result<(), Fail> {
+    let alloc = rt.alloc();
+    let twelve = repeated(alloc, &[("&a.", 11), ("+a0ab0", 12), (":Ea+ Rb+ R_+", 1)])?;
+    assert_row(&rt, alloc, &twelve)?;
+    let thirteen = repeated(alloc, &[("&a.", 12), ("+a0ab0", 13), (":Ea21 R_+", 1)])?;
+    assert_row(&rt, alloc, &thirteen)?;
+    let twenty = repeated(alloc, &[("&a.", 19), ("+a0ab0", 20), (":Ea21 R_+", 1)])?;
+    assert_row(&rt, alloc, &twenty)?;
+    let five = "&.&.&.&.&.QQQQQR/|a0b0/";
+    let both = repeated(alloc, &[(five, 1), ("\\c.", 100), ("R:20", 1)])?;
+    assert_row(&rt, alloc, &both)?;
+    let many = repeated(alloc, &[(five, 1), ("\\c.", 99), ("R:21", 1)])?;
+    assert_row(&rt, alloc, &many)
+}
+
 /// 150 events of a recursion, a chain of 150 names, and a recursion that grows deeper by each event.
 #[test]
 fn long_rows(rt: HostRuntime) -> Result<(), Fail> {
