@@ -104,7 +104,6 @@ const WORKED: &str = "abP:Na Ea+ Ea- Eb+ T2
 1:N_ Rabc+ R_- E_+ Ra_+ E_- N
 +1a0:Ra+ R_- Ea+ Rabc_+
 P:R- Ea- N
-+Pa0:20
 \\a.ab0:Ra+ Rb- Ea- Eb+
 \\a.Q/aQ:R- N
 &.1a1:R_+ Ra- E_- Ea+ E_+
@@ -118,11 +117,10 @@ P:R- Ea- N
 &.&.&.&.QQQQQ/|a0b0:Ea+ Ea+ Rab- Nab
 %acbd.+a0b0:Ncd Rab+ Ed+";
 
-/// A loop beside `SKIP`, a choice that a hidden step doesn't resolve, a limit that an event meets while reports are still
-/// judged, as many states as there may be and one more, and interrupts.
+/// A loop beside `SKIP`, a choice that a hidden step doesn't resolve, as many states as there may be and one more, and
+/// interrupts.
 const FURTHER: &str = "+1Q/Q:Rabc+
 +|a0b0c0:Rc- Ec+
-aQ/+Qb0:Eb- Ea20 Ea20 Rb+ T0
 c&.&.&.&.&.QQQQQQ/|a0b0:Ec+ Ea21 Rab-
 cQ/&.&.&.&.&.RRRRRR/|a0b0:Ec21 Ec21 Ra+ T0
 ^ab01:Na_ Ea+ Nb_ R_- E_+ N
@@ -130,10 +128,19 @@ cQ/&.&.&.&.&.RRRRRR/|a0b0:Ec21 Ec21 Ra+ T0
 +;1a0b0:Ra- Nab Rc+
 ;|1a0b0:Nab Rb+ Ra+ Rab- Ea+ N";
 
+/// States that grow too deep at the opening, and by an event, while reports are still judged.
+const DEEP: &str = "+Pa0:20
+aQ/+Qb0:Eb- Ea20 Ea20 Rb+ T0";
+
 #[test]
 fn verdict_rows(rt: HostRuntime) -> Result<(), Fail> {
     assert_rows(&rt, rt.alloc(), WORKED)?;
     assert_rows(&rt, rt.alloc(), FURTHER)
+}
+
+#[test]
+fn deep_rows(rt: HostRuntime) -> Result<(), Fail> {
+    assert_rows(&rt, rt.alloc(), DEEP)
 }
 
 /// The faults' numbers and words.
