@@ -10,3 +10,6 @@ mod standing;
 pub use entries::{Entries, Entry, Meaning};
 pub use naming::distinct_entries;
 pub use standing::table_of_names;
+
+#[cfg(test)]
+mod tests;
