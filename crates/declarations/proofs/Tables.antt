@@ -1,0 +1,81 @@
+-- The table of declared names.
+use Rattle.std.proofs.Common.{◌≡◌, ℕ, List, [], ◌∷◌, ◌++◌, map, Bool, true, false, cond, ◌||◌, Option, Some, None, Vec, is_some, refl, sym, ap, ◌∙◌}
+use Rattle.std.proofs.lemmas.List.{map-append}
+use Rattle.std.specs.Option.{option_map}
+use Rattle.std.specs.Prelude.{nat_eq}
+use Rattle.std.specs.Map.{lookup}
+use Rattle.std.specs.Cmp.Lexicographic.{pointwise}
+use Rattle.indexmap.specs.IndexMap.{insert_entry}
+use Rattle.values.specs.Values.{Name}
+use Rattle.alphabet.specs.Channels.{Values, constant}
+use Rattle.values.specs.Values.{set_of}
+use Rattle.values.specs.Worths.{Worth, many, Known}
+use Rattle.values.specs.Names.{Entry as PlainEntry, meaning, worth_of}
+use Rattle.declarations.specs.declared.entries.Entry.{Entry}
+use Rattle.declarations.specs.declared.entries.Meaning.{Meaning}
+use Rattle.declarations.specs.declared.entries.Meaning.TheVariants.{Datatype}
+use Rattle.declarations.specs.View.{meaning_of}
+use Rattle.declarations.specs.Entering.{has_name}
+
+abbrev pub Stored : Type 0 → Type 0
+Stored A = List (Vec ℕ A × Entry A)
+
+abbrev pub listed : {A : Type 0} → Stored A → List PlainEntry
+listed = map (λ e. (e.0.items, meaning_of e.1.meaning))
+
+abbrev finds : {A : Type 0} → Name → Vec ℕ A → Bool
+finds n k = pointwise nat_eq n k.items
+
+pub looked_up : {A : Type 0} (es : Stored A) (n : Name) → option_map (λ (e : Entry A). meaning_of e.meaning) (lookup (λ (k : Vec ℕ A). pointwise nat_eq n k.items) es) ≡ meaning (listed es) n
+unfolding meaning
+looked_up [] n = refl
+looked_up {A = A} (e ∷ es) n = by (pointwise nat_eq n e.0.items) (looked_up es n)
+  where
+    by : (b : Bool) → option_map (λ (e : Entry A). meaning_of e.meaning) (lookup (λ (k : Vec ℕ A). pointwise nat_eq n k.items) es) ≡ meaning (listed es) n → option_map (λ (e : Entry A). meaning_of e.meaning) (cond b (Some e.1) (lookup (λ (k : Vec ℕ A). pointwise nat_eq n k.items) es)) ≡ cond b (Some (meaning_of e.1.meaning)) (meaning (listed es) n)
+    by true h = refl
+    by false h = h
+
+-- a name that is found is among the names
+pub is_there : {A : Type 0} (es : Stored A) (n : Name) → is_some (lookup (λ (k : Vec ℕ A). pointwise nat_eq n k.items) es) ≡ has_name (listed es) n
+is_there [] n = refl
+is_there {A = A} (e ∷ es) n = by (pointwise nat_eq n e.0.items) (is_there es n)
+  where
+    by : (b : Bool) → is_some (lookup (λ (k : Vec ℕ A). pointwise nat_eq n k.items) es) ≡ has_name (listed es) n → is_some (cond b (Some e.1) (lookup (λ (k : Vec ℕ A). pointwise nat_eq n k.items) es)) ≡ (b || has_name (listed es) n)
+    by true h = refl
+    by false h = h
+
+-- a new name stands behind the others
+insert_new : {A : Type 0} (es : Stored A) (k : Vec ℕ A) (v : Entry A) → has_name (listed es) k.items ≡ false → insert_entry (λ a b. pointwise nat_eq a.items b.items) es k v ≡ es ++ (k, v) ∷ []
+insert_new [] k v h = refl
+insert_new {A = A} (e ∷ es) k v h = by (pointwise nat_eq k.items e.0.items) h (insert_new es k v)
+  where
+    by : (b : Bool) → (b || has_name (listed es) k.items) ≡ false → (has_name (listed es) k.items ≡ false → insert_entry (λ a b. pointwise nat_eq a.items b.items) es k v ≡ es ++ (k, v) ∷ []) → cond b ((e.0, v) ∷ es) (e ∷ insert_entry (λ a b. pointwise nat_eq a.items b.items) es k v) ≡ e ∷ (es ++ (k, v) ∷ [])
+    by true h ih = absurd cc
+    by false h ih = ap (λ xs. e ∷ xs) (ih h)
+
+pub appended : {A : Type 0} (es new : Stored A) (k : Vec ℕ A) (v : Entry A) (n : Name) → k.items ≡ n → has_name (listed es) n ≡ false → new ≡ insert_entry (λ a b. pointwise nat_eq a.items b.items) es k v → listed new ≡ listed es ++ (n, meaning_of v.meaning) ∷ []
+appended es new k v n i h e =
+    ap listed (e ∙ insert_new es k v (ap (has_name (listed es)) i ∙ h))
+    ∙ map-append (λ e. (e.0.items, meaning_of e.1.meaning)) es ((k, v) ∷ [])
+    ∙ ap (λ m. listed es ++ (m, meaning_of v.meaning) ∷ []) i
+
+pub pushed : {A : Type 0} (ns new : List (Vec ℕ A)) (n : Vec ℕ A) (m : Name) → new ≡ ns ++ n ∷ [] → n.items ≡ m → map (λ (v : Vec ℕ A). v.items) new ≡ map (λ (v : Vec ℕ A). v.items) ns ++ m ∷ []
+pushed ns new n m h e = ap (map (λ v. v.items)) h ∙ map-append (λ v. v.items) ns (n ∷ []) ∙ ap (λ x. map (λ v. v.items) ns ++ x ∷ []) e
+
+-- ---- datatypes
+
+two_maps : {A : Type 0} (ns : List (Vec ℕ A)) → map constant (map (λ (n : Vec ℕ A). n.items) ns) ≡ map (λ (n : Vec ℕ A). constant n.items) ns
+two_maps [] = refl
+two_maps (n ∷ ns) = ap (λ vs. constant n.items ∷ vs) (two_maps ns)
+
+abbrev many_of : Option Values → Option Worth
+many_of None = None
+many_of (Some vs) = Some (many vs)
+
+pub datatype_worth : {A : Type 0} (f : Known) (n : Name) (m : Meaning A) (v : Vec (Vec ℕ A) A) (ns : List (Vec ℕ A)) (vs : Values) → m ≡ Datatype v → ns ≡ v.items → Some (set_of (map (λ (n : Vec ℕ A). constant n.items) ns)) ≡ Some vs → worth_of f n (meaning_of m) ≡ Some (many vs)
+unfolding worth_of
+datatype_worth f n m v ns vs h is e =
+    ap (λ x. worth_of f n (meaning_of x)) h
+    ∙ ap (λ xs. let o : Option Worth = Some (many (set_of xs)) in o) (two_maps v.items)
+    ∙ ap (λ xs. let o : Option Worth = Some (many (set_of (map (λ n. constant n.items) xs))) in o) (sym is)
+    ∙ ap many_of e

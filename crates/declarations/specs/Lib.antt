@@ -1,0 +1,4 @@
+pub mod View
+pub mod Steps
+pub mod Entering
+pub mod Standing
