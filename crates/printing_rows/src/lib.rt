@@ -1,0 +1,5 @@
+//! Tests of the printed form of specifications.
+#![tactic(auto)]
+
+#[cfg(test)]
+mod tests;
