@@ -1,0 +1,4 @@
+pub mod Records
+pub mod Told
+pub mod Faults
+pub mod Replays
