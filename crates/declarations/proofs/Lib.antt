@@ -4,3 +4,9 @@ pub mod Tables
 pub mod Entered
 pub mod Learning
 pub mod Scripts
+pub mod Constants
+pub mod Fields
+pub mod Parted
+pub mod Entire
+pub mod Meanings
+pub mod Whole

@@ -2,3 +2,5 @@ pub mod View
 pub mod Steps
 pub mod Entering
 pub mod Standing
+pub mod Naming
+pub mod Sigma

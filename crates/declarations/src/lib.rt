@@ -1,12 +1,15 @@
-//! What a script declares: its names, and what they stand for.
+//! What a script declares: its names, what they stand for, and the events of its channels.
 #![tactic(auto)]
 
+mod declared;
 mod entries;
 mod naming;
 mod order;
 mod part;
+mod sigma;
 mod standing;
 
+pub use declared::{Declared, declare};
 pub use entries::{Entries, Entry, Meaning};
 pub use naming::distinct_entries;
 pub use standing::table_of_names;

@@ -1,0 +1,119 @@
+-- What is found is what a script declares.
+use Rattle.std.proofs.Common.{◌≡◌, ℕ, ◌≤◌, List, [], ◌∷◌, Bool, true, false, ◌&&◌, cond, Option, Some, None, refl, sym, ap, subst, ◌∙◌, arith}
+use Rattle.std.proofs.lemmas.Bool.{ltb-true, ltb-false}
+use Rattle.std.specs.Prelude.{nat_lt}
+use Rattle.alphabet.specs.Channels.{Channel, event_count}
+use Rattle.tokens.specs.declared.error.ScriptErrorKind.{ScriptErrorKind}
+use Rattle.tokens.specs.declared.error.ScriptErrorKind.TheVariants.{Memory}
+use Rattle.syntax.specs.declared.form.Form.TheVariants as forms
+use Rattle.syntax.specs.Grammar.{Syntax, Called, Numeral, Node, Syntaxes}
+use Rattle.values.specs.Values.{◌>>=◌, Name}
+use Rattle.values.specs.Worths.{Worth, Known}
+use Rattle.values.specs.Names.{Entry, declared, declared_by_all, are_distinct, Stands}
+use Rattle.values.specs.Channels.{channels_of, Declares}
+use Rattle.values.specs.View.{Fails}
+use Rattle.values.proofs.Lists.{fails_on}
+use Rattle.declarations.specs.Steps.{steps}
+use Rattle.declarations.specs.Naming.{has_names, have_names}
+use Rattle.declarations.specs.Entering.{script_parts, put_declaration, distinct_entries}
+use Rattle.declarations.specs.Sigma.{enter_declaration, KeepDeclared}
+use Rattle.declarations.proofs.Constants.{bind_some, some_same}
+use Rattle.declarations.proofs.Scripts.{parts_declared, parts_none}
+use Rattle.declarations.proofs.Entire.{entire}
+use Rattle.declarations.proofs.Meanings.{keeps}
+
+-- ---- the declarations of a script
+
+parts_named : (t : Syntax) (ts : Syntaxes) → script_parts t ≡ Some ts → has_names t ≡ true → have_names ts ≡ true
+unfolding script_parts has_names
+parts_named (Called n) ts h k = absurd cc
+parts_named (Numeral n) ts h k = absurd cc
+parts_named (Node forms.Script us) ts h k = ap have_names (sym (some_same h)) ∙ k
+parts_named (Node f us) ts h k = absurd cc
+
+-- ---- what is found
+
+distinct : (t : Syntax) (es : List Entry) → distinct_entries t ≡ Some es → (declared t ≡ Some es) × (are_distinct es ≡ true)
+unfolding distinct_entries
+distinct t es h =
+    let (fs, a, b) = bind_some (declared t) (λ es. cond (are_distinct es) (Some es) None) es h in
+    let r = by fs (are_distinct fs) refl b in
+    (a ∙ ap (λ xs. let o : Option (List Entry) = Some xs in o) r.0, ap are_distinct (sym r.0) ∙ r.1)
+  where
+    by : (fs : List Entry) (b : Bool) → are_distinct fs ≡ b → cond b (Some fs) None ≡ Some es → (fs ≡ es) × (are_distinct fs ≡ true)
+    by fs true p q = (some_same q, p)
+    by fs false p q = absurd cc
+
+small_one : (known : Known) (es : List Entry) (cs : List Channel) → (channels_of known es >>= λ cs. cond (nat_lt 256 (event_count cs)) None (Some cs)) ≡ Some cs → (channels_of known es ≡ Some cs) × (event_count cs ≤ 256)
+small_one known es cs h =
+    let (ds, a, b) = bind_some (channels_of known es) (λ cs. cond (nat_lt 256 (event_count cs)) None (Some cs)) cs h in
+    let r = by ds (nat_lt 256 (event_count ds)) refl b in
+    (a ∙ ap (λ xs. let o : Option (List Channel) = Some xs in o) r.0, subst (λ xs. event_count xs ≤ 256) r.0 r.1)
+  where
+    by : (ds : List Channel) (b : Bool) → nat_lt 256 (event_count ds) ≡ b → cond b None (Some ds) ≡ Some cs → (ds ≡ cs) × (event_count ds ≤ 256)
+    by ds true p q = absurd cc
+    by ds false p q = (some_same q, ltb-false 256 (event_count ds) p)
+
+module _ (t : Syntax) (ts : Syntaxes) where
+  pub found : (es : List Entry) (f : Known) (cs : List Channel) → script_parts t ≡ Some ts → distinct_entries t ≡ Some es → Stands es f → steps (enter_declaration f) [] ts ≡ Some cs → Declares t es f cs
+  found es f cs p e s h =
+      let d = distinct t es e in
+      let r = small_one f es cs (sym (entire f ts es (sym (parts_declared t ts p) ∙ d.0) d.1) ∙ h) in
+      record { named = d.0; once = d.1; stands = s; fielded = r.0; small = r.1 }
+
+  pub keeps_declared : (es : List Entry) (f : Known) → has_names t ≡ true → script_parts t ≡ Some ts → distinct_entries t ≡ Some es → Stands es f → KeepDeclared f [] ts
+  keeps_declared es f n p e s =
+      let d = distinct t es e in
+      keeps ts es f (sym (parts_declared t ts p) ∙ d.0) d.1 (parts_named t ts p n) s
+
+-- ---- what is declared is found
+
+-- two tables of what names stand for are one
+pub one_table : (es : List Entry) (f g : Known) → Stands es f → Stands es g → f ≡ g
+one_table es f g h k = λ i n. same n i
+  where
+    by : (n : Name) (o p : Option Worth) → f n ≡ o → g n ≡ p → o ≡ p
+    by n None None a b = refl
+    by n (Some v) p a b = sym ((k n v).1 ((h n v).0 a)) ∙ b
+    by n None (Some w) a b = sym a ∙ (h n w).1 ((k n w).0 b)
+
+    same : (n : Name) → f n ≡ g n
+    same n = by n (f n) (g n) refl refl
+
+pub declares_entries : (t : Syntax) (es : List Entry) (f : Known) (cs : List Channel) → Declares t es f cs → distinct_entries t ≡ Some es
+unfolding distinct_entries
+declares_entries t es f cs d = ap (λ o. o >>= λ es. cond (are_distinct es) (Some es) None) d.named ∙ ap (λ b. cond b (Some es) None) d.once
+
+pub declares_channels : (t : Syntax) (ts : Syntaxes) (es fs : List Entry) (f g : Known) (cs : List Channel) → Declares t es f cs → script_parts t ≡ Some ts → distinct_entries t ≡ Some fs → Stands fs g → (fs ≡ es) × (g ≡ f) × (steps (enter_declaration g) [] ts ≡ Some cs)
+declares_channels t ts es fs f g cs d p e s =
+    let same : fs ≡ es = some_same (sym e ∙ declares_entries t es f cs d) in
+    let table : g ≡ f = one_table es g f (subst (λ xs. Stands xs g) same s) d.stands in
+    let all = entire f ts es (sym (parts_declared t ts p) ∙ d.named) d.once in (
+      same,
+      table,
+      ap (λ x. steps (enter_declaration x) [] ts) table ∙ all ∙ ap (λ o. o >>= λ cs. cond (nat_lt 256 (event_count cs)) None (Some cs)) d.fielded ∙ by (nat_lt 256 (event_count cs)) refl d.small,
+    )
+  where
+    by : (b : Bool) → nat_lt 256 (event_count cs) ≡ b → event_count cs ≤ 256 → cond b None (Some cs) ≡ Some cs
+    by true q h = absurd (let k = ltb-true 256 (event_count cs) q in omega (arith, h, k))
+    by false q h = refl
+
+-- ---- faults
+
+fails_some : {X Y : Type 0} (k : ScriptErrorKind) (o : Option X) (x : X) (p : Option Y) → o ≡ Some x → Fails k o → Fails k p
+fails_some k o x p h e = fails_on k o p (λ n. absurd (let z : None ≡ Some x = sym n ∙ h in cc)) e
+
+pub entries_fail : {Y : Type 0} (k : ScriptErrorKind) (t : Syntax) (es : List Entry) (f : Known) (cs : List Channel) (p : Option Y) → Declares t es f cs → Fails k (distinct_entries t) → Fails k p
+entries_fail k t es f cs p d e = fails_some k (distinct_entries t) es p (declares_entries t es f cs d) e
+
+pub parts_fail : {Y : Type 0} (k : ScriptErrorKind) (t : Syntax) (es : List Entry) (f : Known) (cs : List Channel) (p : Option Y) → Declares t es f cs → Fails k (script_parts t) → Fails k p
+parts_fail k t es f cs p d e = entries_fail k t es f cs p d (parts_none k t e)
+
+pub memory_fails : {Y : Type 0} (k : ScriptErrorKind) (p : Option Y) → k ≡ Memory → Fails k p
+memory_fails k p h = subst (λ x. Fails x p) (sym h) tt
+
+pub channels_fail : {Y : Type 0} (k : ScriptErrorKind) (t : Syntax) (ts : Syntaxes) (es fs : List Entry) (f g : Known) (cs : List Channel) (p : Option Y) → Declares t es f cs → script_parts t ≡ Some ts → distinct_entries t ≡ Some fs → Stands fs g → Fails k (steps (enter_declaration g) [] ts) → Fails k p
+channels_fail k t ts es fs f g cs p d q e s h = fails_some k (steps (enter_declaration g) [] ts) cs p (declares_channels t ts es fs f g cs d q e s).2 h
+
+pub same_all : (es fs : List Entry) (f g : Known) (cs ds : List Channel) → es ≡ fs → f ≡ g → cs ≡ ds → (let a : Option (List Entry × Known × List Channel) = Some (es, f, cs) in let b : Option (List Entry × Known × List Channel) = Some (fs, g, ds) in a ≡ b)
+same_all es fs f g cs ds a b c = λ i. Some (a i, b i, c i)

@@ -1,0 +1,61 @@
+//! What a script declares.
+ghost use Rattle.std.specs.Prelude.{◌≡◌, List, Some, IfOk, IsTrue};
+ghost use Rattle.alphabet.specs.Channels.{Channel};
+ghost use Rattle.syntax.specs.View.{shape};
+ghost use Rattle.values.specs.Channels.{Declares};
+ghost use Rattle.values.specs.Names.{Entry};
+ghost use Rattle.values.specs.Tables.{table};
+ghost use Rattle.values.specs.View.{Gives};
+ghost use Rattle.values.specs.Worths.{Known as Knowledge};
+ghost use Rattle.declarations.specs.Naming.{has_names};
+ghost use Rattle.declarations.specs.View.{entries as entries_of};
+
+use crate::entries::Entries;
+use crate::naming::{declarations_of, distinct_entries};
+use crate::sigma::alphabet_of;
+use crate::standing::table_of_names;
+use alphabet::Alphabet;
+use std::alloc::Allocator;
+use syntax::Tree;
+use tokens::ScriptError;
+use values::Known;
+
+/// What a script declares.
+#[derive(Drop)]
+pub struct Declared<'a, A: Allocator> {
+    /// The declared names in text order, none twice.
+    pub entries: Entries<'a, A>,
+    /// What the names of numbers, constants and sets of values stand for.
+    pub known: Known<A>,
+    /// The channels with the values of their fields.
+    pub alphabet: Alphabet<A>,
+}
+
+/// What the script with this tree declares. Each name in the tree is a name of the language.
+///
+/// Tells `Unsupported` at the first definition with parameters; else `Redeclared` where a name stands for the second
+/// time; else, for the first channel that is at fault, the fault of a phrase in the sets of its fields, or
+/// `TooManyEvents` at its name where there would be more than 256 events. `Memory` is told on line 1.
+///
+/// Costs a turn for each name and each use of one, and what it takes to find what each named number and set stands for,
+/// once: also of those that nothing uses.
+pub fn declare<'a, A: Allocator + Copy>(
+    alloc: A,
+    tree: &'a Tree<A>,
+) -> Result<Declared<'a, A>, ScriptError>
+    requires { IsTrue (has_names (shape tree.now)) }
+    // What is found is what the script declares.
+    ensures found { IfOk result (λ d. Declares (shape tree.now) (entries_of d.entries) (table d.known) d.alphabet) }
+    // What a script declares is found, and nothing else, unless memory runs out.
+    ensures only { (es : List Entry) (known : Knowledge) (cs : List Channel) → Declares (shape tree.now) es known cs
+        → Gives {Y = List Entry × Knowledge × List Channel} (λ d. (entries_of d.entries, table d.known, d.alphabet)) result (Some (es, known, cs)) }
+{
+    let entries = distinct_entries(alloc, tree)?;
+    let known = table_of_names(alloc, &entries)?;
+    let alphabet = alphabet_of(alloc, &known, declarations_of(tree)?)?;
+    Ok(Declared {
+        entries,
+        known,
+        alphabet,
+    })
+}
