@@ -10,3 +10,4 @@ pub mod Parted
 pub mod Entire
 pub mod Meanings
 pub mod Whole
+pub mod TreeNames

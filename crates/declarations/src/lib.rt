@@ -3,6 +3,7 @@
 
 mod declared;
 mod entries;
+mod named;
 mod naming;
 mod order;
 mod part;
@@ -11,6 +12,7 @@ mod standing;
 
 pub use declared::{Declared, declare};
 pub use entries::{Entries, Entry, Meaning};
+pub use named::has_names;
 pub use naming::distinct_entries;
 pub use standing::table_of_names;
 

@@ -1,5 +1,5 @@
 //! Scripts, and what their names stand for.
-use crate::{distinct_entries, table_of_names};
+use crate::{declare, distinct_entries, has_names, table_of_names};
 use std::alloc::{AllocError, Global};
 use syntax::parse;
 use values::{Known, Value, Worth};
@@ -120,5 +120,66 @@ fn first_of_chain(alloc: Global, count: u32) -> Result<String, AllocError> {
 fn long_chains(rt: HostRuntime) -> Result<(), AllocError> {
     let got = first_of_chain(rt.alloc(), 3_500)?;
     assert_eq!(rt; got.as_str(), "1");
+    Ok(())
+}
+
+/// The names of the events that the script declares; else the fault.
+fn events(alloc: Global, text: &[u8]) -> Result<String, AllocError> {
+    let tree = match parse(alloc, text) {
+        Ok(tree) => tree,
+        Err(error) => return format!(in alloc; "{error}"),
+    };
+    if !has_names(&tree) {
+        return String::from_str(alloc, "no names");
+    }
+    let declared = match declare(alloc, &tree) {
+        Ok(declared) => declared,
+        Err(error) => return format!(in alloc; "{error}"),
+    };
+    let mut names = Vec::new(alloc);
+    for place in 1..=declared.alphabet.len() {
+        if let Some(event) = declared.alphabet.at(place) {
+            declared.alphabet.name_into(event, &mut names)?;
+            names.push(b' ')?;
+        }
+    }
+    names.extend_from_slice(b"end")?;
+    String::from_str(alloc, str::from_utf8(&names).unwrap_or("no text"))
+}
+
+/// Scripts, with `$` for a line feed, and their events or the fault.
+const EVENT_ROWS: &str = "\
+channel c$channel d : {0..1}.{2} => c d.0.2 d.1.2 end
+channel c, c => 1: 5 redeclared
+channel c : {0..256} => 1: 8 events
+channel a$channel c : {0..254}$channel d => 3: 8 events
+channel c :$ {0..1}.{X} => 2: 4 unknown
+channel c : N$N = {0..M}$M = K + 1$K = 0 => c.0 c.1 end
+N = 1 + X => end
+channel c : t$datatype t = y | x => c.x c.y end
+channel a, b : {0} => a.0 b.0 end
+channel c : 1 => 1: 3 expected
+channel c : {1, red} => 1: 4 unknown
+channel c : { -1..1} => c.-1 c.0 c.1 end
+channel c : {1000000 + 1} => 1: 7 range
+channel c : union(t, {1})$datatype t = x => c.1 c.x end
+channel c : {0} . {1..0}$channel d => d end
+channel c : {{}} => 1: 3 expected
+channel c : Events => 1: 3 expected
+channel c : (N)$N = ({1}) => c.1 end
+channel c : {1 % 0} => 1: 7 range
+channel c : {0..65536} => 1: 10 large
+channel c : 1 + {} => 1: 3 expected
+channel c : {0..65535}.{0..65535}.{}$channel d => d end
+";
+
+#[test]
+fn event_rows(rt: HostRuntime) -> Result<(), AllocError> {
+    for row in EVENT_ROWS.lines() {
+        let (text, want) = row.split_once(" => ").unwrap_or((row, "no row"));
+        let text = text.replace(rt.alloc(), '$', "\n")?;
+        let got = events(rt.alloc(), text.as_bytes())?;
+        assert_eq!(rt; got.as_str(), want, "at {row}");
+    }
     Ok(())
 }
