@@ -1,0 +1,16 @@
+-- A text's tokens, and the tree that they have.
+use Rattle.std.proofs.Common.{◌≡◌, ℕ, List, Result, Ok, Err, IsErr, IsErrAnd, MatchResult, ap, ◌∙◌}
+use Rattle.tokens.specs.Lexeme.{Lexeme}
+use Rattle.tokens.specs.declared.error.ScriptErrorKind.TheVariants as errors
+use Rattle.tokens.specs.declared.error.ScriptError.{ScriptError}
+use Rattle.tokens.specs.Text.{HasTokens}
+use Rattle.syntax.specs.Grammar.{Syntax}
+use Rattle.syntax.specs.Script.{IsScript, HasTree}
+
+pub has_tree : (text : List ℕ) (toks : List Lexeme) (t : Syntax) → HasTokens text toks → IsScript toks t → HasTree text t
+has_tree text toks t h i = record { tokens = toks; read = h; is = i }
+
+-- an error that is handed on
+pub only_memory : {X : Type 0} (P : X → Type 0) (r : Result X ScriptError) (e : ScriptError) → IsErr r → IsErrAnd r (λ x. x ≡ e) → e.kind ≡ errors.Memory → MatchResult r P (λ e. e.kind ≡ errors.Memory)
+only_memory P (Ok x) e h i k = absurd cc
+only_memory P (Err x) e h i k = ap (λ (e : ScriptError). e.kind) i ∙ k
