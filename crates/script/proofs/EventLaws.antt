@@ -1,18 +1,18 @@
 -- What events, sets of events, fields and prefixes are, by their forms.
-use Rattle.std.proofs.Common.{◌≡◌, ℕ, zero, suc, ◌<◌, List, [], ◌∷◌, ◌++◌, length, Bool, true, false, cond, ◌&&◌, nat_eq, Option, Some, None, refl, sym, ap, ◌∙◌, arith, append_assoc}
-use Rattle.alphabet.specs.Channels.{FieldValue, Values, Channel, events}
+use Rattle.std.proofs.Common.{◌≡◌, suc, ◌<◌, List, [], ◌∷◌, length, Bool, true, false, cond, ◌&&◌, nat_eq, Option, Some, None, refl, sym, ap, ◌∙◌, arith}
+use Rattle.alphabet.specs.Channels.{FieldValue, Values, Channel}
 use Rattle.syntax.specs.declared.form.Form.{Form}
 use Rattle.syntax.specs.declared.form.Form.TheVariants as forms
 use Rattle.syntax.specs.Grammar.{Syntax, Called, Numeral, Node, Syntaxes, NoSyntax, MoreSyntax}
 use Rattle.syntax.specs.Parsing.{syntaxes}
 use Rattle.values.specs.Values.{◌>>=◌, Name, is_among}
-use Rattle.values.specs.Worths.{Worth, one, many, Known, worth, the_value}
+use Rattle.values.specs.Worths.{Worth, one, many, Known}
 use Rattle.values.specs.Tables.{names_value}
-use Rattle.script.specs.Forms.{SetPhrase, FieldPhrase, part_list, node_of, name_of, if_none, first_of, one_of, two_of, combined_phrase, set_form, set_phrase_of, event_form, event_of, bracket_form, in_brackets, pair_form, sides_of, field_form, field_of}
+use Rattle.script.specs.Forms.{FieldPhrase, part_list, node_of, name_of, if_none, first_of, one_of, two_of, combined_phrase, set_form, set_phrase_of, event_form, event_of, bracket_form, in_brackets, pair_form, sides_of, field_form, field_of}
 use Rattle.script.specs.declared.forms.Extent.TheVariants as extents
-use Rattle.script.specs.Events.{Events, KnownEvents, Beginning, unless_value, channel_fields, field_value, field_values, are_within, beginning, whole_event, together, event_set, pair_of, pairs_from}
-use Rattle.script.specs.Phrases.{Scope, Fitting, against, fits_field, has_all}
-use Rattle.script.specs.EventForms.{within_by, values_behind, begin_by, whole_by, unbracketed, given_value, is_in_both, combine, gives_by, set_by, pairs_by, fits_by, make_from}
+use Rattle.script.specs.Events.{KnownEvents, Beginning, unless_value, channel_fields, field_value, field_values, are_within, beginning, whole_event, together, event_set, pair_of}
+use Rattle.script.specs.Phrases.{Scope, against, fits_field}
+use Rattle.script.specs.EventForms.{within_by, begin_by, whole_by, unbracketed, given_value, is_in_both, combine, gives_by, set_by, pairs_by, fits_by, make_from}
 use Rattle.script.specs.Making.{Count, Made, make_prefixed}
 use Rattle.tokens.specs.declared.error.ScriptErrorKind.{ScriptErrorKind}
 use Rattle.values.specs.View.{Fails}

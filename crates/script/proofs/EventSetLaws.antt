@@ -1,5 +1,5 @@
 -- Sets of events in memory are those that phrases stand for.
-use Rattle.std.proofs.Common.{◌≡◌, ℕ, zero, suc, ◌+◌, ◌<◌, ◌≤◌, List, [], ◌∷◌, length, map, drop, get_or, Bool, true, false, not, ◌&&◌, ◌||◌, cond, nat_lt, Option, Some, None, refl, sym, ap, ap₂, ◌∙◌, arith}
+use Rattle.std.proofs.Common.{◌≡◌, ℕ, ◌+◌, ◌<◌, ◌≤◌, List, length, map, drop, get_or, Bool, true, false, not, ◌&&◌, ◌||◌, nat_lt, Option, Some, None, refl, subst, sym, ap, ap₂, ◌∙◌}
 use Rattle.std.proofs.lemmas.List.{length-map}
 use Rattle.alphabet.specs.Channels.{Channel, Parts, events, event_count, event_text}
 use Rattle.alphabet.specs.declared.events.Event.{Event}
@@ -11,7 +11,7 @@ use Rattle.syntax.specs.Grammar.{Syntax}
 use Rattle.syntax.specs.Parsing.{syntaxes}
 use Rattle.syntax.specs.View.{shape, shapes}
 use Rattle.tokens.specs.declared.error.ScriptErrorKind.{ScriptErrorKind}
-use Rattle.values.specs.Values.{◌>>=◌}
+use Rattle.values.specs.Values.{◌>>=◌, Name}
 use Rattle.values.specs.Worths.{Known}
 use Rattle.values.specs.View.{Fails}
 use Rattle.script.specs.declared.forms.Extent.{Extent}
@@ -19,14 +19,18 @@ use Rattle.script.specs.declared.forms.Extent.TheVariants as extents
 use Rattle.script.specs.declared.forms.Combination.{Combination}
 use Rattle.script.specs.declared.forms.Combination.TheVariants as combinations
 use Rattle.script.specs.declared.row.Row.{Row}
-use Rattle.script.specs.Events.{Events, Beginning, no_events, begins_so, at_number, beginning, beginning_so, whole_event, either, both, together, set_below, set_of, masked}
-use Rattle.script.specs.EventForms.{is_in_both, combine, gives_by}
+use Rattle.script.specs.Events.{Events, KnownEvents, Beginning, no_events, begins_so, at_number, beginning, beginning_so, whole_event, either, both, together, event_set, set_below, set_of, masked}
+use Rattle.values.specs.Tables.{names_value}
+use Rattle.script.specs.EventForms.{is_in_both, combine, gives_by, set_by}
+use Rattle.script.specs.Forms.{SetPhrase, set_inside, set_called, nothing, everything, several, combined, tall, sets_tall, set_phrase_of}
+use Rattle.script.proofs.EventLaws.{event_set_is}
+use Rattle.script.proofs.Places.{hidden, seen}
 use Rattle.script.specs.Making.{outside}
 use Rattle.script.specs.View.{row}
 use Rattle.script.proofs.EventNumbers.{drop_item, drop_none, none_below}
 use Rattle.script.proofs.FormLaws.{below_same, inside_is}
 use Rattle.script.proofs.Seen.{fails_on}
-use Rattle.script.proofs.SetsBelow.{is_in, member_is, is_below, has_is, lt_is}
+use Rattle.script.proofs.SetsBelow.{is_in, member_is, is_below, has_is}
 
 abbrev some_set : Set → Option Set
 some_set S = Some S
@@ -247,3 +251,58 @@ pub member_fails : (k : ScriptErrorKind) (cs : List Channel) (known : Known) (e 
 unfolding gives_by masked
 member_fails k cs known e t h f =
     fails_on k (whole_event cs known t) (masked cs (gives_by cs known e t)) (λ n. ap (λ e. masked cs (gives_by cs known e t)) h ∙ ap (λ o. masked cs (o >>= λ b. Some (beginning_so cs b))) n) f
+
+-- ---- by their forms
+
+pub no_set : (cs : List Channel) (known : Known) (sets : KnownEvents) (t : Syntax) → None ≡ set_phrase_of t → masked cs (event_set cs known sets t) ≡ None
+unfolding masked
+no_set cs known sets t h = ap (masked cs) (event_set_is cs known sets t ∙ ap (λ o. o >>= set_by cs known sets) (sym h))
+
+module _ (q : SetPhrase) where
+  pub inside_tall : (t : Syntax) → q ≡ set_inside t → sets_tall q ≡ tall t
+  unfolding sets_tall
+  inside_tall t h = ap sets_tall h
+
+  pub combined_tall : (c : Combination) (t u : Syntax) → q ≡ combined c t u → sets_tall q ≡ tall t + tall u
+  unfolding sets_tall
+  combined_tall c t u h = ap sets_tall h
+
+  module _ (cs : List Channel) (known : Known) (sets : KnownEvents) where
+    pub inside_set : (t : Syntax) → q ≡ set_inside t → masked cs (set_by cs known sets q) ≡ masked cs (event_set cs known sets t)
+    unfolding set_by
+    inside_set t h = ap (λ q. masked cs (set_by cs known sets q)) h
+
+    pub hidden_set : (n : Name) → q ≡ set_called n → names_value (known n) ≡ true → masked cs (set_by cs known sets q) ≡ None
+    unfolding masked set_by
+    hidden_set n h v = ap (λ q. masked cs (set_by cs known sets q)) h ∙ ap (masked cs) (hidden (known n) (sets n) v)
+
+    pub seen_set : (n : Name) → q ≡ set_called n → names_value (known n) ≡ false → masked cs (set_by cs known sets q) ≡ masked cs (sets n)
+    unfolding set_by
+    seen_set n h v = ap (λ q. masked cs (set_by cs known sets q)) h ∙ ap (masked cs) (seen (known n) (sets n) v)
+
+    pub nothing_set : (S : Set) → q ≡ nothing → ((x : Event) → member S x ≡ false) → masked cs (set_by cs known sets q) ≡ Some S
+    unfolding set_by
+    nothing_set S h m = ap (λ q. masked cs (set_by cs known sets q)) h ∙ none_of_all cs S m
+
+    pub everything_set : (S : Set) → q ≡ everything → ((x : Event) → member S x ≡ is_numbered_below (event_count cs) x) → masked cs (set_by cs known sets q) ≡ Some S
+    unfolding set_by
+    everything_set S h m = ap (λ q. masked cs (set_by cs known sets q)) h ∙ all_of_them cs S m
+
+    pub several_set : (e : Extent) (ts : List Syntax) → q ≡ several e ts → masked cs (set_by cs known sets q) ≡ masked cs (together (gives_by cs known e) (syntaxes ts))
+    unfolding set_by
+    several_set e ts h = ap (λ q. masked cs (set_by cs known sets q)) h
+
+    module _ (c : Combination) (t u : Syntax) (h : q ≡ combined c t u) where
+      combined_set : masked cs (set_by cs known sets q) ≡ masked cs (event_set cs known sets t >>= λ A. event_set cs known sets u >>= λ B. Some (combine c A B))
+      unfolding set_by
+      combined_set = ap (λ q. masked cs (set_by cs known sets q)) h
+
+      pub first_set_fails : (k : ScriptErrorKind) → Fails k (masked cs (event_set cs known sets t)) → Fails k (masked cs (set_by cs known sets q))
+      first_set_fails k f =
+          subst (λ o. Fails k o) (sym combined_set) (first_fails k cs (event_set cs known sets t) (λ A. event_set cs known sets u >>= λ B. Some (combine c A B)) f)
+
+      pub second_set_fails : (k : ScriptErrorKind) → Fails k (masked cs (event_set cs known sets u)) → Fails k (masked cs (set_by cs known sets q))
+      second_set_fails k f = subst (λ o. Fails k o) (sym combined_set) (second_fails k cs c (event_set cs known sets t) (event_set cs known sets u) f)
+
+      pub both_sets : (S T R : Set) → masked cs (event_set cs known sets t) ≡ Some S → masked cs (event_set cs known sets u) ≡ Some T → ((x : Event) → member R x ≡ is_in_both c (member S x) (member T x)) → masked cs (set_by cs known sets q) ≡ Some R
+      both_sets S T R a b m = combined_set ∙ combined_made cs c (event_set cs known sets t) (event_set cs known sets u) S T R a b m

@@ -1,5 +1,5 @@
 -- What is made of a phrase is what is made of it by its form; the same for sets of events, events and fields.
-use Rattle.std.proofs.Common.{◌≡◌, ℕ, zero, suc, ◌+◌, ◌^◌, ◌<◌, List, [], ◌∷◌, Bool, not, ◌&&◌, cond, nat_lt, Option, Some, None, refl, sym, ap, ap₂, ◌∙◌, arith}
+use Rattle.std.proofs.Common.{◌≡◌, ℕ, zero, suc, ◌+◌, ◌^◌, ◌<◌, List, not, ◌&&◌, cond, nat_lt, Option, Some, None, refl, sym, ap, ap₂, ◌∙◌, arith}
 use Rattle.alphabet.specs.Channels.{Channel, event_count}
 use Rattle.alphabet.specs.EventSets.{Set, has}
 use Rattle.term.specs.Proc.{Proc, par, hide, skip}
@@ -8,8 +8,7 @@ use Rattle.syntax.specs.declared.form.Form.TheVariants as forms
 use Rattle.syntax.specs.declared.operator.Operator.{Operator}
 use Rattle.syntax.specs.declared.operator.Operator.TheVariants as operators
 use Rattle.syntax.specs.Grammar.{Syntax, Called, Numeral, Node, Syntaxes, NoSyntax, MoreSyntax}
-use Rattle.syntax.specs.Parsing.{syntaxes}
-use Rattle.values.specs.Values.{◌>>=◌, Name}
+use Rattle.values.specs.Values.{◌>>=◌}
 use Rattle.script.specs.Forms.{Phrase, part_list, node_of, name_of, if_none, first_of, one_of, two_of, three_of, four_of, joined_phrase, operation_phrase, form_phrase, phrase_of}
 use Rattle.script.specs.Phrases.{Scope, events_by}
 use Rattle.script.specs.Events.{Events, both, set_below, set_of, masked, pairs_of}

@@ -1,13 +1,13 @@
 -- Places behind inputs, values of fields, and fields of a prefix.
-use Rattle.std.proofs.Common.{◌≡◌, ◌-◌, ◌<◌, ◌≤◌, List, [], ◌∷◌, ◌++◌, length, take, drop, get_or, Bool, true, false, cond, Option, Some, None, refl, sym, ap, ◌∙◌, arith, append-nil, append_assoc}
+use Rattle.std.proofs.Common.{◌≡◌, ◌-◌, ◌<◌, ◌≤◌, List, [], ◌∷◌, ◌++◌, length, take, drop, get_or, true, false, cond, Option, Some, None, refl, sym, ap, ◌∙◌, arith, append-nil, append_assoc}
 use Rattle.std.proofs.lemmas.List.{length-drop}
-use Rattle.alphabet.specs.Channels.{FieldValue, Values, Channel}
+use Rattle.alphabet.specs.Channels.{FieldValue, Values}
 use Rattle.syntax.specs.Grammar.{Syntax}
 use Rattle.tokens.specs.declared.error.ScriptErrorKind.{ScriptErrorKind}
 use Rattle.tokens.specs.declared.error.ScriptErrorKind.TheVariants as kinds
 use Rattle.values.specs.Values.{◌>>=◌, Name, is_among}
 use Rattle.values.specs.Worths.{Worth, Known}
-use Rattle.values.specs.Tables.{behind, names_value}
+use Rattle.values.specs.Tables.{names_value}
 use Rattle.values.specs.View.{Fails}
 use Rattle.values.proofs.Inputs.{behind-more}
 use Rattle.script.specs.Events.{unless_value, field_value}

@@ -1,5 +1,5 @@
 -- The pairs of a renaming, event by event and pair by pair.
-use Rattle.std.proofs.Common.{◌≡◌, ℕ, zero, suc, ◌+◌, ◌<◌, ◌≤◌, List, [], ◌∷◌, ◌++◌, length, map, drop, get_or, Bool, true, false, cond, Option, Some, None, refl, sym, ap, ap₂, ◌∙◌, arith, append_assoc, append-nil}
+use Rattle.std.proofs.Common.{◌≡◌, ℕ, suc, ◌+◌, ◌<◌, ◌≤◌, List, [], ◌∷◌, ◌++◌, length, map, drop, get_or, true, false, cond, Option, Some, None, refl, sym, ap, ◌∙◌, arith, append_assoc, append-nil}
 use Rattle.alphabet.specs.Channels.{Channel, Parts, events}
 use Rattle.term.specs.Traces.{Pairs}
 use Rattle.syntax.specs.declared.tree.Tree.{Tree}
@@ -10,8 +10,10 @@ use Rattle.tokens.specs.declared.error.ScriptErrorKind.{ScriptErrorKind}
 use Rattle.values.specs.Values.{◌>>=◌}
 use Rattle.values.specs.Worths.{Known}
 use Rattle.values.specs.View.{Fails}
-use Rattle.script.specs.Events.{Beginning, begins_so, number_in, pairs_from, pair_of, pairs_of}
-use Rattle.script.specs.EventForms.{behind_pairs}
+use Rattle.script.specs.Events.{Beginning, beginning, begins_so, number_in, pairs_from, pair_of, pairs_of}
+use Rattle.script.specs.EventForms.{behind_pairs, pairs_by}
+use Rattle.script.specs.Forms.{sides_of}
+use Rattle.script.proofs.EventLaws.{pair_is}
 use Rattle.script.proofs.EventNumbers.{drop_item, drop_none}
 use Rattle.script.proofs.Seen.{fails_on}
 
@@ -84,6 +86,14 @@ module _ {A : Type 0} (cs : List Channel) (known : Known) (ts : List (Tree A)) w
   pub others_more : (i : ℕ) (t : Tree A) (front new : Pairs) (whole : Option Pairs) → behind_pairs front (others i) ≡ whole → i < length ts → t ≡ get_or ts i t → behind_pairs front (pair_of cs known (shape t)) ≡ Some new → behind_pairs new (others (i + 1)) ≡ whole
   others_more i t front new whole inv h is got = sym (front_all front (pair_of cs known (shape t)) (others (i + 1)) new got) ∙ ap (behind_pairs front) (sym (step i t h is)) ∙ inv
 
+  pub others_start : (front : Pairs) → front ≡ [] → behind_pairs front (others 0) ≡ pairs_of cs known (syntaxes (shapes ts))
+  unfolding behind_pairs
+  others_start front h = ap (λ front. behind_pairs front (others 0)) h ∙ by (others 0)
+    where
+      by : (o : Option Pairs) → behind_pairs [] o ≡ o
+      by None = refl
+      by (Some R) = refl
+
   none_is : (front : Pairs) (o : Option Pairs) → behind_pairs front o ≡ None → o ≡ None
   unfolding behind_pairs
   none_is front None h = refl
@@ -98,3 +108,37 @@ module _ {A : Type 0} (cs : List Channel) (known : Known) (ts : List (Tree A)) w
   pub others_end : (i : ℕ) (front : Pairs) (whole : Option Pairs) → behind_pairs front (others i) ≡ whole → length ts ≤ i → whole ≡ Some front
   unfolding behind_pairs pairs_of
   others_end i front whole inv h = sym inv ∙ ap (λ ts. behind_pairs front (pairs_of cs known (syntaxes (shapes ts)))) (drop_none ts i h) ∙ ap some_pairs (append-nil front)
+
+-- ---- one pair
+
+abbrev both_sides : Syntax → Syntax → Option (Syntax × Syntax)
+both_sides u v = Some (u, v)
+
+module _ (cs : List Channel) (known : Known) (t : Syntax) (front : Pairs) where
+  pub no_pair : None ≡ sides_of t → behind_pairs front (pair_of cs known t) ≡ None
+  unfolding behind_pairs
+  no_pair h = ap (behind_pairs front) (pair_is cs known t ∙ ap (λ o. o >>= pairs_by cs known) (sym h))
+
+  module _ (u v : Syntax) (h : both_sides u v ≡ sides_of t) where
+    pair_so : pair_of cs known t ≡ (beginning cs known u >>= λ left. beginning cs known v >>= λ right. pairs_from cs left right 0 (events cs))
+    unfolding pairs_by
+    pair_so = pair_is cs known t ∙ ap (λ o. o >>= pairs_by cs known) (sym h)
+
+    pub left_fails : (k : ScriptErrorKind) → Fails k (beginning cs known u) → Fails k (behind_pairs front (pair_of cs known t))
+    unfolding behind_pairs
+    left_fails k f =
+        fails_on k (beginning cs known u) (behind_pairs front (pair_of cs known t))
+        (λ e. ap (behind_pairs front) (pair_so ∙ ap (λ o. o >>= λ left. beginning cs known v >>= λ right. pairs_from cs left right 0 (events cs)) e)) f
+
+    module _ (left : Beginning) (l : beginning cs known u ≡ Some left) where
+      pair_on : pair_of cs known t ≡ (beginning cs known v >>= λ right. pairs_from cs left right 0 (events cs))
+      pair_on = pair_so ∙ ap (λ o. o >>= λ left. beginning cs known v >>= λ right. pairs_from cs left right 0 (events cs)) l
+
+      pub right_fails : (k : ScriptErrorKind) → Fails k (beginning cs known v) → Fails k (behind_pairs front (pair_of cs known t))
+      unfolding behind_pairs
+      right_fails k f =
+          fails_on k (beginning cs known v) (behind_pairs front (pair_of cs known t))
+          (λ e. ap (behind_pairs front) (pair_on ∙ ap (λ o. o >>= λ right. pairs_from cs left right 0 (events cs)) e)) f
+
+      pub pair_made : (right : Beginning) → beginning cs known v ≡ Some right → behind_pairs front (pair_of cs known t) ≡ behind_pairs front (pairs_from cs left right 0 (events cs))
+      pair_made right r = ap (behind_pairs front) (pair_on ∙ ap (λ o. o >>= λ right. pairs_from cs left right 0 (events cs)) r)

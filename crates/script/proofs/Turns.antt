@@ -1,9 +1,9 @@
 -- One event more among the branches of a prefix.
-use Rattle.std.proofs.Common.{◌≡◌, ℕ, zero, suc, ◌+◌, ◌<◌, ◌≤◌, List, [], ◌∷◌, ◌++◌, length, map, drop, get_or, Option, Some, None, refl, sym, ap, ◌∙◌, arith, append_assoc, append-nil}
+use Rattle.std.proofs.Common.{◌≡◌, ℕ, suc, ◌+◌, ◌<◌, ◌≤◌, List, [], ◌∷◌, ◌++◌, length, map, drop, get_or, Option, Some, None, refl, sym, ap, ◌∙◌, arith, append_assoc, append-nil}
 use Rattle.std.specs.Option.{option_map}
 use Rattle.std.proofs.lemmas.List.{map-append}
-use Rattle.alphabet.specs.Channels.{Values, Parts, events}
-use Rattle.syntax.specs.Grammar.{Syntax, Syntaxes}
+use Rattle.alphabet.specs.Channels.{Values, Parts}
+use Rattle.syntax.specs.Grammar.{Syntaxes}
 use Rattle.tokens.specs.declared.error.ScriptErrorKind.{ScriptErrorKind}
 use Rattle.term.specs.Proc.{Proc}
 use Rattle.values.specs.Values.{◌>>=◌, Name}

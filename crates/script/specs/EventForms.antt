@@ -1,10 +1,9 @@
 -- What phrases for events, sets of events and fields stand for, by their forms.
-use Rattle.std.specs.Prelude.{ℕ, List, [], ◌∷◌, ◌++◌, length, Bool, true, false, not, ◌&&◌, ◌||◌, Option, Some, None, if◌then◌else◌, nat_eq, nat_lt}
+use Rattle.std.specs.Prelude.{List, [], ◌∷◌, ◌++◌, length, Bool, not, ◌&&◌, ◌||◌, Option, Some, None, if◌then◌else◌, nat_eq, nat_lt}
 use Rattle.alphabet.specs.Channels.{FieldValue, Values, Channel, events, event_count}
-use Rattle.alphabet.specs.EventSets.{Set}
 use Rattle.term.specs.Traces.{Pairs}
 use Rattle.syntax.specs.declared.form.Form.TheVariants as forms
-use Rattle.syntax.specs.Grammar.{Syntax, Called, Node, Syntaxes, NoSyntax, MoreSyntax}
+use Rattle.syntax.specs.Grammar.{Syntax, Node, NoSyntax, MoreSyntax}
 use Rattle.syntax.specs.Parsing.{syntaxes}
 use Rattle.values.specs.Values.{◌>>=◌, Name, is_among}
 use Rattle.values.specs.Worths.{Known, worth, the_value, the_set}
@@ -13,8 +12,8 @@ use Rattle.script.specs.declared.forms.Extent.{Extent}
 use Rattle.script.specs.declared.forms.Extent.TheVariants as extents
 use Rattle.script.specs.declared.forms.Combination.{Combination}
 use Rattle.script.specs.declared.forms.Combination.TheVariants as combinations
-use Rattle.script.specs.Forms.{SetPhrase, set_inside, set_called, nothing, everything, several, combined, FieldPhrase, given, input, input_from, event_of, sides_of}
-use Rattle.script.specs.Events.{Events, KnownEvents, no_events, unless_value, channel_fields, field_value, Beginning, beginning, beginning_so, whole_event, together, event_set, set_of, pairs_from}
+use Rattle.script.specs.Forms.{SetPhrase, set_inside, set_called, nothing, everything, several, combined, FieldPhrase, given, input, input_from}
+use Rattle.script.specs.Events.{Events, KnownEvents, no_events, unless_value, channel_fields, field_value, Beginning, beginning, beginning_so, whole_event, together, event_set, pairs_from}
 use Rattle.script.specs.Phrases.{Scope, Fitting, against, against_input, against_part, has_all}
 use Rattle.script.specs.Making.{Count, Made, make_branches, make_choice}
 

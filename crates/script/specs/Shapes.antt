@@ -1,5 +1,4 @@
 -- Phrases by their forms, without where their parts lie in memory.
-use Rattle.std.specs.Prelude.{map}
 use Rattle.syntax.specs.View.{shape, shapes}
 use Rattle.script.specs.declared.forms.Phrase.{Phrase as Held}
 use Rattle.script.specs.declared.forms.Phrase.TheVariants as phrases

@@ -1,5 +1,5 @@
 //! Sets of the events that begin alike.
-ghost use Rattle.std.specs.Prelude.{◌≡◌, ◌≤◌, length, map};
+ghost use Rattle.std.specs.Prelude.{◌≡◌, ◌<◌, ◌≤◌, IfSome, length, map};
 ghost use Rattle.script.specs.Events.{at_number, begins_so as begins_so_with, set_below, number_in};
 ghost use Rattle.script.specs.View.{beginning, row};
 
@@ -25,7 +25,8 @@ pub(crate) fn beginning_so<A: Allocator>(events: &[Row<A>], first: &Row<A>) -> E
 /// The number of the event with this channel and these values.
 #[tactic(auto, using(crate::proofs::EventNumbers::number_start, crate::proofs::EventNumbers::number_next, crate::proofs::EventNumbers::number_found, crate::proofs::EventNumbers::number_end))]
 pub(crate) fn number_of<A: Allocator>(events: &[Row<A>], wanted: &Row<A>) -> Option<usize>
-    ensures { result ≡ number_in (map row events.now) (beginning wanted.now) }
+    ensures number { result ≡ number_in (map row events.now) (beginning wanted.now) }
+    ensures below { IfSome result (λ n. n < length events.now) }
 {
     for (number, event) in events.iter().enumerate() {
         if is_row(wanted, event) {

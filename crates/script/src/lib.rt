@@ -12,6 +12,7 @@ mod law;
 mod pairs;
 mod place;
 mod prefix;
+mod renaming;
 mod row;
 mod sets;
 mod work;

@@ -6,22 +6,23 @@ ghost use Rattle.syntax.specs.Parsing.{syntaxes};
 ghost use Rattle.syntax.specs.View.{shape, shapes};
 ghost use Rattle.values.specs.Tables.{input};
 ghost use Rattle.values.specs.View.{Gives};
-ghost use Rattle.script.specs.EventForms.{gives_by, is_in_both, within};
-ghost use Rattle.script.specs.Events.{masked, together};
+ghost use Rattle.script.specs.EventForms.{gives_by, is_in_both, set_by, within};
+ghost use Rattle.script.specs.Events.{event_set as event_set_in, masked, together};
+ghost use Rattle.script.specs.Shapes.{plain_set};
 
 use crate::beginning::{beginning, whole_event};
 use crate::events::beginning_so;
 use crate::facts::Facts;
-use crate::forms::{Combination, Extent};
-use crate::place::Place;
+use crate::forms::{Combination, Extent, SetPhrase, set_phrase};
+use crate::place::{Place, fault};
 use alphabet::EventSet;
 use std::alloc::Allocator;
 use syntax::Tree;
-use tokens::ScriptError;
+use tokens::{ScriptError, ScriptErrorKind};
 
 /// What is made of two sets.
 #[tactic(auto, unfolding(crate::specs::EventForms::is_in_both))]
-pub(crate) fn combined(combination: Combination, first: EventSet, second: EventSet) -> EventSet
+fn combined(combination: Combination, first: EventSet, second: EventSet) -> EventSet
     ensures { (x : Event) → member result x ≡ is_in_both combination (member first x) (member second x) }
 {
     match combination {
@@ -49,7 +50,7 @@ fn events_of<A: Allocator + Copy, F: Facts<A>>(
 }
 
 /// The events of the phrases in a set.
-pub(crate) fn several<A: Allocator + Copy, F: Facts<A>>(
+fn several<A: Allocator + Copy, F: Facts<A>>(
     alloc: A,
     place: &Place<'_, A, F>,
     extent: Extent,
@@ -63,4 +64,51 @@ pub(crate) fn several<A: Allocator + Copy, F: Facts<A>>(
         set = set.union(more);
     }
     Ok(set)
+}
+
+/// The set of events that a phrase stands for. A fault has the line of the phrase that is at fault.
+#[cycle(sets)]
+pub(crate) fn event_set<A: Allocator + Copy, F: Facts<A>>(
+    alloc: A,
+    place: &Place<'_, A, F>,
+    tree: &Tree<A>,
+) -> Result<EventSet, ScriptError>
+    ensures { Gives (λ s. s) result (masked (F.scope place.now.facts.now).channels (event_set_in (F.scope place.now.facts.now).channels (within (F.scope place.now.facts.now) (map input place.now.inputs.items)).known (F.scope place.now.facts.now).sets (shape tree.now))) }
+{
+    match set_phrase(tree) {
+        Some(phrase) => set_of_phrase(alloc, place, phrase, tree.line()),
+        None => Err(fault(tree.line(), ScriptErrorKind::Expected)),
+    }
+}
+
+/// The same of a phrase by its form.
+#[cycle(sets)]
+fn set_of_phrase<A: Allocator + Copy, F: Facts<A>>(
+    alloc: A,
+    place: &Place<'_, A, F>,
+    phrase: SetPhrase<'_, A>,
+    line: u32,
+) -> Result<EventSet, ScriptError>
+    ensures { Gives (λ s. s) result (masked (F.scope place.now.facts.now).channels (set_by (F.scope place.now.facts.now).channels (within (F.scope place.now.facts.now) (map input place.now.inputs.items)).known (F.scope place.now.facts.now).sets (plain_set phrase.entry))) }
+{
+    match phrase {
+        SetPhrase::Inside(inner) => event_set(alloc, place, inner),
+        SetPhrase::Called(name) => {
+            if place.is_value(name) {
+                return Err(fault(line, ScriptErrorKind::Expected));
+            }
+            match place.facts.set(name) {
+                Some(set) => Ok(set),
+                None => Err(place.facts.fault(name, line)),
+            }
+        }
+        SetPhrase::Nothing => Ok(EventSet::empty()),
+        SetPhrase::Everything => Ok(place.facts.sigma()),
+        SetPhrase::Several(extent, trees) => several(alloc, place, extent, trees),
+        SetPhrase::Combined(combination, first, second) => {
+            let first = event_set(alloc, place, first)?;
+            let second = event_set(alloc, place, second)?;
+            Ok(combined(combination, first, second))
+        }
+    }
 }

@@ -1,4 +1,4 @@
-use Rattle.std.proofs.Common.{map, sym, length}
+use Rattle.std.proofs.Common.{map, sym}
 use Rattle.std.proofs.lemmas.Result.{err_from_is_err_and}
 use Rattle.syntax.specs.View.{shape, shapes}
 use Rattle.values.specs.Tables.{input}

@@ -1,7 +1,5 @@
-use Rattle.std.proofs.Common.{◌≡◌, ap, ◌∙◌}
-use Rattle.alphabet.specs.Channels.{event_count}
-use Rattle.alphabet.specs.EventSets.{has}
-use Rattle.term.specs.Proc.{proc, par, skip}
+use Rattle.std.proofs.Common.{ap, ◌∙◌}
+use Rattle.term.specs.Proc.{proc, par}
 use Rattle.script.proofs.EventSetLaws.{outside_made, both_made}
 use Rattle.script.proofs.joining.alphabetised.Goals as goal
 
