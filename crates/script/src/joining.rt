@@ -4,9 +4,9 @@ ghost use Rattle.alphabet.specs.Channels.{event_count};
 ghost use Rattle.alphabet.specs.Events.{is_numbered_below};
 ghost use Rattle.alphabet.specs.EventSets.{has, member};
 ghost use Rattle.alphabet.specs.declared.events.Event.{Event as EventOf};
-ghost use Rattle.term.specs.Proc.{proc};
+ghost use Rattle.term.specs.Proc.{hide, par, proc};
 ghost use Rattle.values.specs.View.{Gives};
-ghost use Rattle.script.specs.Making.{join_of, make_alphabetised, make_renamed};
+ghost use Rattle.script.specs.Making.{join_of, make_above, make_alphabetised, make_one, make_renamed};
 ghost use Rattle.script.specs.Phrases.{Scope};
 ghost use Rattle.script.specs.View.{count};
 
@@ -37,6 +37,53 @@ pub(crate) fn joined<A: Allocator + Copy>(
         Join::Internal => Ok(Term::Int(first, second)),
         Join::Interleaving => Ok(Term::Par(EventSet::empty(), first, second)),
     }
+}
+
+/// Two terms joined so, where there is room for the node above them.
+pub(crate) fn joined_within<A: Allocator + Copy>(
+    alloc: A,
+    join: Join,
+    first: Term<A>,
+    second: Term<A>,
+    work: Work<A>,
+    line: u32,
+) -> Result<(Term<A>, Work<A>), ScriptError>
+    ensures { Gives (λ x. (proc x.0, count x.1)) result (make_above 1 (join_of join) (proc first, count work) (proc second, count work)) }
+{
+    let work = spent(work, 1, line)?;
+    let term = joined(alloc, join, first, second)?;
+    Ok((term, work))
+}
+
+/// Two terms that share the events of the set, where there is room for the node above them.
+pub(crate) fn shared<A: Allocator + Copy>(
+    alloc: A,
+    set: EventSet,
+    first: Term<A>,
+    second: Term<A>,
+    work: Work<A>,
+    line: u32,
+) -> Result<(Term<A>, Work<A>), ScriptError>
+    ensures { Gives (λ x. (proc x.0, count x.1)) result (make_above 1 (par set) (proc first, count work) (proc second, count work)) }
+{
+    let work = spent(work, 1, line)?;
+    let first = Box::new(alloc, first)?;
+    let second = Box::new(alloc, second)?;
+    Ok((Term::Par(set, first, second), work))
+}
+
+/// The term with the events of the set hidden, where there is room for the node above it.
+pub(crate) fn hidden<A: Allocator + Copy>(
+    alloc: A,
+    set: EventSet,
+    term: Term<A>,
+    work: Work<A>,
+    line: u32,
+) -> Result<(Term<A>, Work<A>), ScriptError>
+    ensures { Gives (λ x. (proc x.0, count x.1)) result (make_one (hide set) (proc term, count work)) }
+{
+    let work = spent(work, 1, line)?;
+    Ok((Term::Hide(set, Box::new(alloc, term)?), work))
 }
 
 /// The term renamed by these pairs of so many events, if there are any pairs.

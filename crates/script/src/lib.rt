@@ -9,6 +9,7 @@ mod forms;
 mod gathering;
 mod joining;
 mod law;
+mod maker;
 mod pairs;
 mod place;
 mod prefix;
