@@ -1,0 +1,39 @@
+-- Definitions in a table, seen by a view.
+use Rattle.std.proofs.Common.{◌≡◌, ℕ, zero, suc, List, [], ◌∷◌, map, get_or, slice_get, Vec, Bool, Option, Some, None, sym, ap, ◌∙◌}
+use Rattle.indexmap.specs.IndexSet.{insert_key}
+use Rattle.tokens.specs.declared.error.ScriptErrorKind.{ScriptErrorKind}
+use Rattle.tokens.specs.declared.error.ScriptErrorKind.TheVariants as kinds
+use Rattle.values.specs.View.{Fails}
+use Rattle.phrases.specs.Bodies.{Key}
+use Rattle.phrases.specs.Phrases.{Scope}
+use Rattle.phrases.specs.Making.{Count, make_body}
+use Rattle.phrases.specs.View.{key}
+use Rattle.phrases.proofs.Reached.{some_is}
+
+first_at : {A B : Type 0} (view : A → B) (xs : List A) (i : ℕ) (x : A) (d : B) → slice_get xs i ≡ Some x → get_or (map view xs) i d ≡ view x
+first_at view [] i x d e = absurd (cc)
+first_at view (y ∷ xs) zero x d e = ap view (some_is e)
+first_at view (y ∷ xs) (suc i) x d e = first_at view xs i x d e
+
+pub seen_body : {A : Type 0} (s : Scope) (xs : List (Vec ℕ A)) (n m : ℕ) (x : Vec ℕ A) (name : List ℕ) (root : Key) (w : Count) → n ≡ m → slice_get xs n ≡ Some x → name ≡ x.items → make_body s (get_or (map key xs) m root) w ≡ make_body s (name, []) w
+seen_body s xs n m x name root w e is same =
+    ap (λ k. make_body s k w) (first_at key xs m x root (ap (slice_get xs) (sym e) ∙ is) ∙ ap (λ (bytes : List ℕ). (bytes, [])) (sym same))
+
+-- a fault of a part is one of the whole
+pub fails_on : {A B : Type 0} (k : ScriptErrorKind) (r : Option A) (t : Option B) → (r ≡ None → t ≡ None) → Fails k r → Fails k t
+fails_on kinds.Memory r t f h = tt
+fails_on kinds.BadByte r t f h = f h
+fails_on kinds.BadToken r t f h = f h
+fails_on kinds.Expected r t f h = f h
+fails_on kinds.UnknownName r t f h = f h
+fails_on kinds.Redeclared r t f h = f h
+fails_on kinds.WrongFields r t f h = f h
+fails_on kinds.OutOfRange r t f h = f h
+fails_on kinds.TooManyEvents r t f h = f h
+fails_on kinds.TooDeep r t f h = f h
+fails_on kinds.TooLarge r t f h = f h
+fails_on kinds.Unsupported r t f h = f h
+fails_on kinds.NoSuchProcess r t f h = f h
+
+pub seen_root : {A : Type 0} (eq : Vec ℕ A → Vec ℕ A → Bool) (keys empty : List (Vec ℕ A)) (v : Vec ℕ A) (root : List ℕ) → keys ≡ insert_key eq empty v → empty ≡ [] → v.items ≡ root → map key keys ≡ (root, []) ∷ []
+seen_root eq keys empty v root h e r = ap (map key) (h ∙ ap (λ ks. insert_key eq ks v) e) ∙ ap (λ (bytes : List ℕ). (bytes, []) ∷ []) r

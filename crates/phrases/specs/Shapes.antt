@@ -1,0 +1,34 @@
+-- Phrases by their forms, without where their parts lie in memory.
+use Rattle.syntax.specs.View.{shape, shapes}
+use Rattle.phrases.specs.declared.forms.Phrase.{Phrase as Held}
+use Rattle.phrases.specs.declared.forms.Phrase.TheVariants as phrases
+use Rattle.phrases.specs.declared.forms.SetPhrase.{SetPhrase as HeldSet}
+use Rattle.phrases.specs.declared.forms.SetPhrase.TheVariants as set_phrases
+use Rattle.phrases.specs.declared.forms.FieldPhrase.{FieldPhrase as HeldField}
+use Rattle.phrases.specs.declared.forms.FieldPhrase.TheVariants as field_phrases
+use Rattle.phrases.specs.Forms.{Phrase, stops, skips, called, inside, prefixed, joined, sharing, alphabetised, hiding, renaming, SetPhrase, set_inside, set_called, nothing, everything, several, combined, FieldPhrase, given, input, input_from}
+
+abbrev pub plain : {A : Type 0} → Held A → Phrase
+plain phrases.Stop = stops
+plain phrases.Skip = skips
+plain (phrases.Called n) = called n.now
+plain (phrases.Inside t) = inside (shape t.now)
+plain (phrases.Prefix e t) = prefixed (shape e.now) (shape t.now)
+plain (phrases.Joined j t u) = joined j (shape t.now) (shape u.now)
+plain (phrases.Sharing t a u) = sharing (shape t.now) (shape a.now) (shape u.now)
+plain (phrases.Alphabetised t a b u) = alphabetised (shape t.now) (shape a.now) (shape b.now) (shape u.now)
+plain (phrases.Hiding t a) = hiding (shape t.now) (shape a.now)
+plain (phrases.Renaming t ts) = renaming (shape t.now) (shapes ts.now)
+
+abbrev pub plain_set : {A : Type 0} → HeldSet A → SetPhrase
+plain_set (set_phrases.Inside t) = set_inside (shape t.now)
+plain_set (set_phrases.Called n) = set_called n.now
+plain_set set_phrases.Nothing = nothing
+plain_set set_phrases.Everything = everything
+plain_set (set_phrases.Several e ts) = several e (shapes ts.now)
+plain_set (set_phrases.Combined c t u) = combined c (shape t.now) (shape u.now)
+
+abbrev pub plain_field : {A : Type 0} → HeldField A → FieldPhrase
+plain_field (field_phrases.Given t) = given (shape t.now)
+plain_field (field_phrases.Input x) = input x.now
+plain_field (field_phrases.InputFrom x t) = input_from x.now (shape t.now)

@@ -1,0 +1,134 @@
+//! Terms made of others.
+ghost use Rattle.std.specs.Prelude.{◌≡◌, ◌≤◌, Some, IfOk};
+ghost use Rattle.alphabet.specs.Channels.{event_count};
+ghost use Rattle.alphabet.specs.Events.{is_numbered_below};
+ghost use Rattle.alphabet.specs.EventSets.{has, member};
+ghost use Rattle.alphabet.specs.declared.events.Event.{Event as EventOf};
+ghost use Rattle.term.specs.Proc.{hide, par, proc};
+ghost use Rattle.values.specs.View.{Gives};
+ghost use Rattle.phrases.specs.Making.{join_of, make_above, make_alphabetised, make_one, make_renamed};
+ghost use Rattle.phrases.specs.Phrases.{Scope};
+ghost use Rattle.phrases.specs.View.{count};
+
+use crate::forms::Join;
+use crate::pairs::ordered;
+use crate::work::{Work, spent};
+use alphabet::EventSet;
+use std::alloc::{AllocError, Allocator};
+use term::Term;
+use tokens::ScriptError;
+
+/// Two terms joined so.
+#[tactic(auto, unfolding(crate::specs::Making::join_of))]
+pub(crate) fn joined<A: Allocator + Copy>(
+    alloc: A,
+    join: Join,
+    first: Term<A>,
+    second: Term<A>,
+) -> Result<Term<A>, AllocError>
+    ensures { IfOk result (λ t. proc t ≡ join_of join (proc first) (proc second)) }
+{
+    let first = Box::new(alloc, first)?;
+    let second = Box::new(alloc, second)?;
+    match join {
+        Join::Sequence => Ok(Term::Seq(first, second)),
+        Join::Interrupt => Ok(Term::Intr(first, second)),
+        Join::External => Ok(Term::Ext(first, second)),
+        Join::Internal => Ok(Term::Int(first, second)),
+        Join::Interleaving => Ok(Term::Par(EventSet::empty(), first, second)),
+    }
+}
+
+/// Two terms joined so, where there is room for the node above them.
+pub(crate) fn joined_within<A: Allocator + Copy>(
+    alloc: A,
+    join: Join,
+    first: Term<A>,
+    second: Term<A>,
+    work: Work<A>,
+    line: u32,
+) -> Result<(Term<A>, Work<A>), ScriptError>
+    ensures { Gives (λ x. (proc x.0, count x.1)) result (make_above 1 (join_of join) (proc first, count work) (proc second, count work)) }
+{
+    let work = spent(work, 1, line)?;
+    let term = joined(alloc, join, first, second)?;
+    Ok((term, work))
+}
+
+/// Two terms that share the events of the set, where there is room for the node above them.
+pub(crate) fn shared<A: Allocator + Copy>(
+    alloc: A,
+    set: EventSet,
+    first: Term<A>,
+    second: Term<A>,
+    work: Work<A>,
+    line: u32,
+) -> Result<(Term<A>, Work<A>), ScriptError>
+    ensures { Gives (λ x. (proc x.0, count x.1)) result (make_above 1 (par set) (proc first, count work) (proc second, count work)) }
+{
+    let work = spent(work, 1, line)?;
+    let first = Box::new(alloc, first)?;
+    let second = Box::new(alloc, second)?;
+    Ok((Term::Par(set, first, second), work))
+}
+
+/// The term with the events of the set hidden, where there is room for the node above it.
+pub(crate) fn hidden<A: Allocator + Copy>(
+    alloc: A,
+    set: EventSet,
+    term: Term<A>,
+    work: Work<A>,
+    line: u32,
+) -> Result<(Term<A>, Work<A>), ScriptError>
+    ensures { Gives (λ x. (proc x.0, count x.1)) result (make_one (hide set) (proc term, count work)) }
+{
+    let work = spent(work, 1, line)?;
+    Ok((Term::Hide(set, Box::new(alloc, term)?), work))
+}
+
+/// The term renamed by these pairs of so many events, if there are any pairs.
+#[tactic(auto, unfolding(crate::specs::Making::make_renamed))]
+pub(crate) fn renamed<A: Allocator + Copy>(
+    alloc: A,
+    events: usize,
+    pairs: &[(u8, u8)],
+    term: Term<A>,
+    work: Work<A>,
+    line: u32,
+) -> Result<(Term<A>, Work<A>), ScriptError>
+    requires { events ≤ 256 }
+    ensures { Gives (λ x. (proc x.0, count x.1)) result (make_renamed events pairs.now (proc term, count work)) }
+{
+    match pairs {
+        [] => Ok((term, work)),
+        [_, ..] => {
+            let pairs = ordered(&alloc, events, pairs)?;
+            let work = spent(work, 1, line)?;
+            Ok((Term::Ren(pairs, Box::new(alloc, term)?), work))
+        }
+    }
+}
+
+/// `P [ A || B ] Q` of the terms of P and Q, where Sigma is this.
+#[tactic(auto)]
+pub(crate) fn alphabetised<A: Allocator + Copy>(
+    alloc: A,
+    sigma: EventSet,
+    sets: (EventSet, EventSet),
+    terms: (Term<A>, Term<A>),
+) -> Result<Term<A>, AllocError>
+    ensures { (s : Scope) → ((x : EventOf) → member sigma x ≡ is_numbered_below (event_count s.channels) x) → IfOk result (λ t. proc t ≡ make_alphabetised s (has sets.0) (has sets.1) (proc terms.0) (proc terms.1)) }
+{
+    let left_out = sigma.minus(sets.0);
+    let right_out = sigma.minus(sets.1);
+    let within_left = sigma.minus(left_out);
+    let shared = within_left.minus(right_out);
+    let (first, second) = terms;
+    let first = Box::new(alloc, first)?;
+    let skip = Box::new(alloc, Term::Skip)?;
+    let first = Box::new(alloc, Term::Par(left_out, first, skip))?;
+    let second = Box::new(alloc, second)?;
+    let skip = Box::new(alloc, Term::Skip)?;
+    let second = Box::new(alloc, Term::Par(right_out, second, skip))?;
+    Ok(Term::Par(shared, first, second))
+}
