@@ -1,22 +1,26 @@
 //! The program, as a function of its words and streams.
-ghost use Rattle.std.specs.Prelude.{◌≡◌};
+ghost use Rattle.std.specs.Prelude.{◌≡◌, ◌≤◌, ◌<◌, ◌↔◌, ◌⊎◌, length, IsTrue, OnOk};
+ghost use Rattle.journal.specs.Format.{IsRoot};
+ghost use Rattle.history.specs.Entries.{summary_of};
+ghost use Rattle.one_seat.specs.Seats.{session_of};
+ghost use Rattle.one_seat.specs.Through.{TellsMisuse, TellsLimit};
 
 use crate::commands::{Wish, read_words};
-use after::AfterFault;
 use clap::Error;
 use clap::error::ErrorKind;
-use lines::{End, LinesError, Tally, check_lines};
-use monitor::Monitor;
+use disk::Disk;
+use one_seat::{OneSeat, Watch, seat_in_memory};
 use outline::read;
-use std::alloc::Global;
+use session::SessionError;
+use std::alloc::{Allocator, Global};
 use std::convert::AsStr;
 use std::io::{Read, Write};
 use std::rt::Files;
 use std::sync::Wait;
 use std::{fs, io};
 use term::Spec;
-use tokens::ScriptErrorKind;
-use wire::Plain;
+use tokens::{ScriptError, ScriptErrorKind};
+use wire::{Plain, Sink, WireError};
 
 /// All is done.
 const DONE: u8 = 0;
@@ -44,11 +48,20 @@ fn tell_fault<E: Write>(errors: &mut E, name: &str, fault: &str, status: u8) -> 
     status
 }
 
+// Tells why the script is refused.
+fn tell_script<E: Write>(errors: &mut E, name: &str, fault: &ScriptError) -> u8 {
+    let _ = writeln!(errors, "{name}:{fault}");
+    match fault.kind {
+        ScriptErrorKind::Memory => LIMIT,
+        _ => BAD_SCRIPT,
+    }
+}
+
 // Tells which limit the specification's opening meets, or that memory is wanting.
-fn tell_limit<E: Write>(errors: &mut E, name: &str, fault: AfterFault) -> u8
+fn tell_opening<E: Write>(errors: &mut E, name: &str, error: SessionError) -> u8
     ensures { result ≡ 6 }
 {
-    let _ = writeln!(errors, "{name}: {fault}");
+    let _ = writeln!(errors, "{name}: {error}");
     LIMIT
 }
 
@@ -66,48 +79,66 @@ fn tell_error<O: Write, E: Write>(error: &Error, output: &mut O, errors: &mut E)
     }
 }
 
-// The status of a conversation that neither reader nor writer ended.
-fn status_of(end: End, tally: Tally) -> u8 {
-    if tally.rejected {
+// The status of a conversation that neither reader nor writer ended, by its history and by what it told: 1 where a report
+// was rejected, else 6 where a line told a limit or want of memory, else 2 where a line told misuse.
+fn status_of<D: Disk, A: Allocator, W: Sink>(seat: &OneSeat<D, A>, watch: &Watch<W>) -> u8
+    ensures rejected { (result ≡ 1) ↔ (0 < (summary_of (session_of seat.now).history).rejected) }
+    ensures limit { (result ≡ 6) ↔ (((summary_of (session_of seat.now).history).rejected ≡ 0) × TellsLimit watch.now.bytes) }
+    ensures misuse { (result ≡ 2) ↔ (((summary_of (session_of seat.now).history).rejected ≡ 0) × (TellsLimit watch.now.bytes → ⊥) × TellsMisuse watch.now.bytes) }
+    ensures any { (result ≡ 1) ⊎ (result ≡ 6) ⊎ (result ≡ 2) ⊎ (result ≡ 0) }
+{
+    if seat.session().summary().rejected > 0 {
         REJECTED
-    } else if tally.limited {
+    } else if watch.told_limit() {
         LIMIT
-    } else if tally.misused || end == End::Line {
+    } else if watch.told_misuse() {
         BAD_USE
     } else {
         DONE
     }
 }
 
-// Judges the lines of the input by the specification.
-fn converse<R: AllocGlobal + Wait, I: Read + Drop, O: Write + Drop, E: Write>(
+// Judges the lines of the input, of which one seat reports.
+fn converse<R: Wait, D: Disk + Drop, I: Read + Drop, O: Write + Drop, E: Write>(
     rt: &R,
+    alloc: Global,
     name: &str,
-    spec: Spec<Global>,
+    seat: OneSeat<D, Global>,
     input: I,
     output: O,
     errors: &mut E,
 ) -> u8 {
-    let mut monitor = match Monitor::new(rt.alloc(), spec) {
-        Ok(monitor) => monitor,
-        Err(fault) => return tell_limit(errors, name, fault),
-    };
+    let mut seat = seat;
     let mut reader = Plain::new(input);
-    let mut writer = Plain::new(output);
-    let mut tally = Tally::new();
-    let ended = check_lines(
-        rt,
-        rt.alloc(),
-        &mut reader,
-        &mut writer,
-        &mut monitor,
-        &mut tally,
-    );
-    match ended {
-        Ok(end) => status_of(end, tally),
-        Err(LinesError::Read) => tell_fault(errors, "-", "cannot read", FILE_FAILED),
-        Err(LinesError::Write) => tell_fault(errors, "-", "cannot write", FILE_FAILED),
-        Err(LinesError::Memory) => tell_fault(errors, name, "40 memory", LIMIT),
+    let mut watch = Watch::new(Plain::new(output));
+    match seat.serve(rt, alloc, &mut reader, &mut watch) {
+        Ok(_) => status_of(&seat, &watch),
+        Err(WireError::Read) => tell_fault(errors, "-", "cannot read", FILE_FAILED),
+        Err(WireError::Write) => tell_fault(errors, "-", "cannot write", FILE_FAILED),
+        Err(WireError::Memory) => tell_fault(errors, name, "40 memory", LIMIT),
+    }
+}
+
+// Whether a journal may have this script and this root. It may where the script was read for this root.
+fn may_head(script: &[u8], root: &[u8]) -> bool
+    ensures { IsTrue result ↔ (IsRoot root.now × (length script.now ≤ 65536)) }
+{
+    !root.is_empty() && !root.contains(&b'\n') && script.len() <= 65_536
+}
+
+// The specification that the script is for this process.
+fn spec_of(alloc: Global, script: &[u8], process: &[u8]) -> Result<Spec<Global>, ScriptError>
+    ensures root { OnOk result (IsRoot process.now) }
+    ensures script { OnOk result (length script.now ≤ 65536) }
+{
+    let spec = read(alloc, script, process)?;
+    if may_head(script, process) {
+        Ok(spec)
+    } else {
+        Err(ScriptError {
+            line: 1,
+            kind: ScriptErrorKind::NoSuchProcess,
+        })
     }
 }
 
@@ -126,15 +157,14 @@ fn check<R: Files + AllocGlobal + Wait, I: Read + Drop, O: Write + Drop, E: Writ
         }
         Err(_) => return tell_fault(errors, name, "cannot read", FILE_FAILED),
     };
-    match read(rt.alloc(), text.as_slice(), process.as_bytes()) {
-        Ok(spec) => converse(rt, name, spec, input, output, errors),
-        Err(fault) => {
-            let _ = writeln!(errors, "{name}:{fault}");
-            match fault.kind {
-                ScriptErrorKind::Memory => LIMIT,
-                _ => BAD_SCRIPT,
-            }
-        }
+    let (script, process) = (text.as_slice(), process.as_bytes());
+    let spec = match spec_of(rt.alloc(), script, process) {
+        Ok(spec) => spec,
+        Err(fault) => return tell_script(errors, name, &fault),
+    };
+    match seat_in_memory(rt.alloc(), script, process, spec) {
+        Ok(seat) => converse(rt, rt.alloc(), name, seat, input, output, errors),
+        Err(error) => tell_opening(errors, name, error),
     }
 }
 
