@@ -8,6 +8,7 @@ pub mod Progress
 pub mod Choices
 pub mod FirstPlaces
 pub mod SetsBelow
+pub mod Steps
 pub mod EventNumbers
 pub mod Images
 pub mod Seen

@@ -13,7 +13,8 @@ use Rattle.phrases.specs.declared.forms.Extent.TheVariants as extents
 use Rattle.phrases.specs.declared.forms.Combination.{Combination}
 use Rattle.phrases.specs.declared.forms.Combination.TheVariants as combinations
 use Rattle.phrases.specs.Forms.{SetPhrase, set_inside, set_called, nothing, everything, several, combined, FieldPhrase, given, input, input_from}
-use Rattle.phrases.specs.Events.{Events, KnownEvents, no_events, unless_value, channel_fields, field_value, Beginning, beginning, beginning_so, whole_event, together, event_set, pairs_from}
+use Rattle.alphabet.specs.EventSets.{Set}
+use Rattle.phrases.specs.Events.{Events, KnownEvents, no_events, masked, unless_value, channel_fields, field_value, Beginning, beginning, beginning_so, whole_event, together, event_set, pairs_from}
 use Rattle.phrases.specs.Phrases.{Scope, Fitting, against, against_input, against_part, has_all}
 use Rattle.phrases.specs.Making.{Count, Made, make_branches, make_choice}
 
@@ -76,6 +77,10 @@ set_by cs known sets nothing = Some no_events
 set_by cs known sets everything = Some (λ a. nat_lt a (event_count cs))
 set_by cs known sets (several e ts) = together (gives_by cs known e) (syntaxes ts)
 set_by cs known sets (combined c t u) = event_set cs known sets t >>= λ A. event_set cs known sets u >>= λ B. Some (combine c A B)
+
+-- the masks of two sets
+unfoldable pub two_masked : List Channel → Option Events → Option Events → Option (Set × Set)
+two_masked cs o u = masked cs o >>= λ A. masked cs u >>= λ B. Some (A, B)
 
 -- ---- renamings
 

@@ -11,12 +11,14 @@ mod gathering;
 mod joining;
 mod law;
 mod maker;
+mod making;
 mod pairs;
 mod place;
 mod prefix;
 mod renaming;
 mod row;
 mod sets;
+mod simple;
 mod work;
 
 pub use facts::{Facts, Set};
