@@ -16,7 +16,7 @@ use Rattle.phrases.specs.Forms.{SetPhrase, set_inside, set_called, nothing, ever
 use Rattle.alphabet.specs.EventSets.{Set}
 use Rattle.phrases.specs.Events.{Events, KnownEvents, no_events, masked, unless_value, channel_fields, field_value, Beginning, beginning, beginning_so, whole_event, together, event_set, pairs_from}
 use Rattle.phrases.specs.Phrases.{Scope, Fitting, against, against_input, against_part, has_all}
-use Rattle.phrases.specs.Making.{Count, Made, make_branches, make_choice}
+use Rattle.phrases.specs.Making.{Count, Made, make_branches, make_choice, make_renamed}
 
 -- ---- where phrases stand
 
@@ -90,6 +90,10 @@ behind_pairs front o = o >>= λ R. Some (front ++ R)
 
 unfoldable pub pairs_by : List Channel → Known → Syntax × Syntax → Option Pairs
 pairs_by cs known p = beginning cs known p.0 >>= λ left. beginning cs known p.1 >>= λ right. pairs_from cs left right 0 (events cs)
+
+-- the process renamed by the pairs, if there are some
+abbrev pub make_renamed_by : List Channel → Option Pairs → Made → Option Made
+make_renamed_by cs o p = o >>= λ R. make_renamed (event_count cs) R p
 
 -- ---- prefixes
 

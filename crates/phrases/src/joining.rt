@@ -8,9 +8,8 @@ ghost use Rattle.syntax.specs.Parsing.{syntaxes};
 ghost use Rattle.syntax.specs.View.{shapes};
 ghost use Rattle.term.specs.Proc.{hide, par, proc};
 ghost use Rattle.values.specs.Tables.{input};
-ghost use Rattle.values.specs.Values.{◌>>=◌};
 ghost use Rattle.values.specs.View.{Gives};
-ghost use Rattle.phrases.specs.EventForms.{within};
+ghost use Rattle.phrases.specs.EventForms.{make_renamed_by, within};
 ghost use Rattle.phrases.specs.Events.{pairs_of as pairs_of_all};
 ghost use Rattle.phrases.specs.Making.{join_of, make_above, make_alphabetised, make_one, make_renamed};
 ghost use Rattle.phrases.specs.Phrases.{Scope};
@@ -127,7 +126,7 @@ pub(crate) fn renamed_by<A: Allocator + Copy, F: Facts<A>>(
     term: Term<A>,
     work: Work<A>,
 ) -> Result<(Term<A>, Work<A>), ScriptError>
-    ensures { Gives (λ x. (proc x.0, count x.1)) result (pairs_of_all (F.scope place.now.facts.now).channels (within (F.scope place.now.facts.now) (map input place.now.inputs.items)).known (syntaxes (shapes pairs.now)) >>= λ R. make_renamed (event_count (F.scope place.now.facts.now).channels) R (proc term, count work)) }
+    ensures { Gives (λ x. (proc x.0, count x.1)) result (make_renamed_by (F.scope place.now.facts.now).channels (pairs_of_all (F.scope place.now.facts.now).channels (within (F.scope place.now.facts.now) (map input place.now.inputs.items)).known (syntaxes (shapes pairs.now))) (proc term, count work)) }
 {
     let pairs = pairs_of(alloc, place, pairs)?;
     let events = place.facts.events().len();
