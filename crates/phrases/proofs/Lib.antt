@@ -9,6 +9,7 @@ pub mod Choices
 pub mod FirstPlaces
 pub mod SetsBelow
 pub mod Steps
+pub mod Prefixes
 pub mod EventNumbers
 pub mod Images
 pub mod Seen

@@ -1,12 +1,12 @@
 //! Terms made of others.
-ghost use Rattle.std.specs.Prelude.{◌≡◌, ◌≤◌, Some, IfOk, map};
+ghost use Rattle.std.specs.Prelude.{◌≡◌, ◌<◌, ◌≤◌, Some, IfOk, map};
 ghost use Rattle.alphabet.specs.Channels.{event_count};
 ghost use Rattle.alphabet.specs.Events.{is_numbered_below};
 ghost use Rattle.alphabet.specs.EventSets.{has, member};
 ghost use Rattle.alphabet.specs.declared.events.Event.{Event as EventOf};
 ghost use Rattle.syntax.specs.Parsing.{syntaxes};
 ghost use Rattle.syntax.specs.View.{shapes};
-ghost use Rattle.term.specs.Proc.{hide, par, proc};
+ghost use Rattle.term.specs.Proc.{hide, par, prefix, proc};
 ghost use Rattle.values.specs.Tables.{input};
 ghost use Rattle.values.specs.View.{Gives};
 ghost use Rattle.phrases.specs.EventForms.{make_renamed_by, within};
@@ -21,7 +21,7 @@ use crate::pairs::ordered;
 use crate::place::Place;
 use crate::renaming::pairs_of;
 use crate::work::{Work, spent};
-use alphabet::EventSet;
+use alphabet::{Event, EventSet};
 use std::alloc::{AllocError, Allocator};
 use syntax::Tree;
 use term::Term;
@@ -79,6 +79,22 @@ pub(crate) fn shared<A: Allocator + Copy>(
     let first = Box::new(alloc, first)?;
     let second = Box::new(alloc, second)?;
     Ok((Term::Par(set, first, second), work))
+}
+
+/// The term behind the event with this number, where there is room for the node above it.
+pub(crate) fn behind_event<A: Allocator + Copy>(
+    alloc: A,
+    number: usize,
+    term: Term<A>,
+    work: Work<A>,
+    line: u32,
+) -> Result<(Term<A>, Work<A>), ScriptError>
+    requires { number < 256 }
+    ensures { Gives (λ x. (proc x.0, count x.1)) result (make_one (prefix number) (proc term, count work)) }
+{
+    let work = spent(work, 1, line)?;
+    let term = Box::new(alloc, term)?;
+    Ok((Term::Prefix(Event::Of(number as u8), term), work))
 }
 
 /// The term with the events of the set hidden, where there is room for the node above it.

@@ -14,30 +14,21 @@ ghost use Rattle.phrases.specs.Shapes.{plain};
 ghost use Rattle.phrases.specs.View.{count, listed, row};
 
 use crate::choice::chosen;
-use crate::facts::{Facts, Set};
+use crate::facts::Facts;
 use crate::forms::{Join, Phrase, event_parts, misplaced, process_phrase};
-use crate::joining::{alphabetised_within, hidden, joined_within, renamed_by, shared};
-use crate::place::{Place, copies, fault};
-use crate::prefix::fitting;
+use crate::joining::{
+    alphabetised_within, behind_event, hidden, joined_within, renamed_by, shared,
+};
+use crate::place::{Place, fault};
+use crate::prefix::{Prefix, inputs_behind};
 use crate::row::Row;
 use crate::sets::{event_set, two_sets};
 use crate::simple::{called, skip, stop};
-use crate::work::{Work, spent};
-use alphabet::Event;
+use crate::work::Work;
 use std::alloc::Allocator;
 use syntax::Tree;
 use term::Term;
 use tokens::{ScriptError, ScriptErrorKind};
-
-/// A prefix: the channel of its event, the fields with the sets of their values, and the process behind it.
-#[derive(Drop)]
-struct Prefix<'a, A: Allocator> {
-    channel: &'a [u8],
-    fields: &'a [Tree<A>],
-    sets: &'a [Set<A>],
-    then: &'a Tree<A>,
-    line: u32,
-}
 
 /// What an event adds to the branches of a prefix.
 #[cycle(making)]
@@ -53,19 +44,7 @@ fn branch<'a, A: Allocator + Copy, F: Facts<A>>(
     requires { number < 256 }
     ensures { Gives (λ x. (option_map proc x.0, count x.1)) result (make_branch (make (shape prefix.now.then.now)) prefix.now.channel.now (syntaxes (shapes prefix.now.fields.now)) (map (λ v. listed v.items) prefix.now.sets.now) (within (F.scope place.now.facts.now) (map input place.now.inputs.items)) number (row event.now) (count work)) }
 {
-    if prefix.channel != event.channel.as_slice() {
-        return Ok((None, work));
-    }
-    let inputs = copies(alloc, &place.inputs)?;
-    match fitting(
-        alloc,
-        place.facts,
-        inputs,
-        prefix.fields,
-        prefix.sets,
-        &event.values,
-        prefix.line,
-    )? {
+    match inputs_behind(alloc, place, prefix, event)? {
         None => Ok((None, work)),
         Some(inputs) => {
             let inner = Place {
@@ -74,9 +53,8 @@ fn branch<'a, A: Allocator + Copy, F: Facts<A>>(
                 line: place.line,
             };
             let (term, work) = process(alloc, &inner, prefix.then, work)?;
-            let work = spent(work, 1, place.line)?;
-            let term = Box::new(alloc, term)?;
-            Ok((Some(Term::Prefix(Event::Of(number as u8), term)), work))
+            let (term, work) = behind_event(alloc, number, term, work, place.line)?;
+            Ok((Some(term), work))
         }
     }
 }
