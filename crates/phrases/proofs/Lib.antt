@@ -10,6 +10,7 @@ pub mod FirstPlaces
 pub mod SetsBelow
 pub mod Steps
 pub mod Prefixes
+pub mod Definitions
 pub mod EventNumbers
 pub mod Images
 pub mod Seen

@@ -85,6 +85,9 @@ module _ (s : Scope) (next : Scope → Count → Option Made) (w : Count) (e : S
 
 -- ---- one event
 
+abbrev pub some_fit : Option Scope → Fitting
+some_fit o = Some o
+
 module _ (next : Scope → Count → Option Made) (c : Name) (ts : Syntaxes) (sets : List Values) (s : Scope) (a : ℕ) (p : Parts) (w : Count) where
   branch_is : make_branch next c ts sets s a p w ≡ (event_fits c ts sets s p >>= make_behind next a w)
   unfolding make_branch event_fits

@@ -22,6 +22,7 @@ mod simple;
 mod work;
 
 pub use facts::{Facts, Set};
+pub use gathering::gathered;
 pub use law::{one_specification, phrases_are_made};
 pub use row::Row;
 pub use sets::set_of_events;

@@ -44,7 +44,8 @@ fn branch<'a, A: Allocator + Copy, F: Facts<A>>(
     requires { number < 256 }
     ensures { Gives (λ x. (option_map proc x.0, count x.1)) result (make_branch (make (shape prefix.now.then.now)) prefix.now.channel.now (syntaxes (shapes prefix.now.fields.now)) (map (λ v. listed v.items) prefix.now.sets.now) (within (F.scope place.now.facts.now) (map input place.now.inputs.items)) number (row event.now) (count work)) }
 {
-    match inputs_behind(alloc, place, prefix, event)? {
+    let found = inputs_behind(alloc, place, prefix, event)?;
+    match found {
         None => Ok((None, work)),
         Some(inputs) => {
             let inner = Place {

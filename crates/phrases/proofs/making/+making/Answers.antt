@@ -15,7 +15,7 @@ use Rattle.phrases.specs.Shapes.{plain}
 use Rattle.phrases.specs.View.{count, listed, row}
 use Rattle.phrases.proofs.FormLaws.{made_so, not_made}
 use Rattle.phrases.proofs.Places.{fails_none}
-use Rattle.phrases.proofs.Prefixes.{same_length, none_if, no_event, no_channel, other_count, branches_fail, branches_made, fitting_fails, no_fit, behind_fails, event_fails, event_made}
+use Rattle.phrases.proofs.Prefixes.{same_length, none_if, no_event, no_channel, other_count, branches_fail, branches_made, some_fit, fitting_fails, no_fit, behind_fails, event_fails, event_made}
 use Rattle.phrases.proofs.Steps.{joined_first, joined_second, joined_so, sharing_first, sharing_set, sharing_second, sharing_so, alphabetised_first, alphabetised_sets, alphabetised_second, alphabetised_so, hiding_first, hiding_set, hiding_so, renaming_first, renaming_on}
 use Rattle.phrases.proofs.Turns.{all_from, first_turn, next_turn, last_turn, turn_fails, pushed, kept}
 use Rattle.phrases.proofs.making.+making.Goals as goal
@@ -304,16 +304,16 @@ prefixed-returns-in_ok-terms-in-Some-fields g t c =
     let s = within (g.F.Facts.scope c.args.place.now.facts.now) (map input c.args.place.now.inputs.items) in
     subst (λ o. Gives (λ x. (proc x.0, count x.1)) c.chosen.result o) (sym (branches_made s (make (shape c.args.then.now)) (count c.args.work) (shape c.args.event.now) c.in-Some.channel.now (shapes c.in-Some.fields.now) c.in-Some.ensures (map (λ v. listed v.items) c.in-Some-fields.sets.now) c.in-Some-fields.ensures (same_length c.in-Some.fields.now shape c.in-Some-fields.sets.now (λ v. listed v.items) c.if-fields-sets.false) (map proc c.in_ok-terms-in-Some-fields.terms.items, count c.in_ok-terms-in-Some-fields.work) c.in_ok-terms-in-Some-fields.ensures)) c.chosen.ensures
 
-pub branch-returns-in_err-inputs_behind : goal.branch-returns-in_err-inputs_behind
-branch-returns-in_err-inputs_behind g t c =
+pub branch-returns-in_err-found : goal.branch-returns-in_err-found
+branch-returns-in_err-found g t c =
     let s = within (g.F.Facts.scope c.args.place.now.facts.now) (map input c.args.place.now.inputs.items) in
     let p = err_from_is_err_and c.from_residual.result c.from_residual.ensures.1 in
-    rw (p.1, p.2) (fitting_fails (make (shape c.args.prefix.now.then.now)) c.args.prefix.now.channel.now (syntaxes (shapes c.args.prefix.now.fields.now)) (map (λ v. listed v.items) c.args.prefix.now.sets.now) s c.args.number (row c.args.event.now) (count c.args.work) c.in_err-inputs_behind.field-0.0.kind c.in_err-inputs_behind.ensures)
+    rw (p.1, p.2) (fitting_fails (make (shape c.args.prefix.now.then.now)) c.args.prefix.now.channel.now (syntaxes (shapes c.args.prefix.now.fields.now)) (map (λ v. listed v.items) c.args.prefix.now.sets.now) s c.args.number (row c.args.event.now) (count c.args.work) c.in_err-found.field-0.0.kind c.in_err-found.ensures)
 
 pub branch-returns-in-None : goal.branch-returns-in-None
 branch-returns-in-None g t c =
     let s = within (g.F.Facts.scope c.args.place.now.facts.now) (map input c.args.place.now.inputs.items) in
-    no_fit (make (shape c.args.prefix.now.then.now)) c.args.prefix.now.channel.now (syntaxes (shapes c.args.prefix.now.fields.now)) (map (λ v. listed v.items) c.args.prefix.now.sets.now) s c.args.number (row c.args.event.now) (count c.args.work) c.in-None.ensures
+    no_fit (make (shape c.args.prefix.now.then.now)) c.args.prefix.now.channel.now (syntaxes (shapes c.args.prefix.now.fields.now)) (map (λ v. listed v.items) c.args.prefix.now.sets.now) s c.args.number (row c.args.event.now) (count c.args.work) (c.in_ok-found.ensures ∙ ap (λ o. some_fit (option_map (λ v. within (g.F.Facts.scope c.args.place.now.facts.now) (map input v.items)) o)) c.in-None.is)
 
 pub branch-process-requires : goal.branch-process-requires
 branch-process-requires g t c κs within =
@@ -324,13 +324,13 @@ pub branch-returns-in_err-term-in-Some : goal.branch-returns-in_err-term-in-Some
 branch-returns-in_err-term-in-Some g t c =
     let s = within (g.F.Facts.scope c.args.place.now.facts.now) (map input c.args.place.now.inputs.items) in
     let p = err_from_is_err_and c.from_residual-in_err-term-in-Some.result c.from_residual-in_err-term-in-Some.ensures.1 in
-    rw (p.1, p.2) (behind_fails (make (shape c.args.prefix.now.then.now)) c.args.prefix.now.channel.now (syntaxes (shapes c.args.prefix.now.fields.now)) (map (λ v. listed v.items) c.args.prefix.now.sets.now) s c.args.number (row c.args.event.now) (count c.args.work) (within (g.F.Facts.scope c.args.place.now.facts.now) (map input c.in-Some.inputs.items)) c.in-Some.ensures c.in_err-term-in-Some.field-0.0.kind c.in_err-term-in-Some.ensures)
+    rw (p.1, p.2) (behind_fails (make (shape c.args.prefix.now.then.now)) c.args.prefix.now.channel.now (syntaxes (shapes c.args.prefix.now.fields.now)) (map (λ v. listed v.items) c.args.prefix.now.sets.now) s c.args.number (row c.args.event.now) (count c.args.work) (within (g.F.Facts.scope c.args.place.now.facts.now) (map input c.in-Some.inputs.items)) (c.in_ok-found.ensures ∙ ap (λ o. some_fit (option_map (λ v. within (g.F.Facts.scope c.args.place.now.facts.now) (map input v.items)) o)) c.in-Some.is) c.in_err-term-in-Some.field-0.0.kind c.in_err-term-in-Some.ensures)
 
 pub branch-returns-in_err-term-in-Some-2 : goal.branch-returns-in_err-term-in-Some-2
 branch-returns-in_err-term-in-Some-2 g t c =
     let s = within (g.F.Facts.scope c.args.place.now.facts.now) (map input c.args.place.now.inputs.items) in
     let p = err_from_is_err_and c.from_residual-in_err-term-in-Some-2.result c.from_residual-in_err-term-in-Some-2.ensures.1 in
-    rw (p.1, p.2) (event_fails (make (shape c.args.prefix.now.then.now)) c.args.prefix.now.channel.now (syntaxes (shapes c.args.prefix.now.fields.now)) (map (λ v. listed v.items) c.args.prefix.now.sets.now) s c.args.number (row c.args.event.now) (count c.args.work) (within (g.F.Facts.scope c.args.place.now.facts.now) (map input c.in-Some.inputs.items)) c.in-Some.ensures (proc c.in_ok-term-in-Some.term, count c.in_ok-term-in-Some.work) c.in_ok-term-in-Some.ensures c.in_err-term-in-Some-2.field-0.0.kind c.in_err-term-in-Some-2.ensures)
+    rw (p.1, p.2) (event_fails (make (shape c.args.prefix.now.then.now)) c.args.prefix.now.channel.now (syntaxes (shapes c.args.prefix.now.fields.now)) (map (λ v. listed v.items) c.args.prefix.now.sets.now) s c.args.number (row c.args.event.now) (count c.args.work) (within (g.F.Facts.scope c.args.place.now.facts.now) (map input c.in-Some.inputs.items)) (c.in_ok-found.ensures ∙ ap (λ o. some_fit (option_map (λ v. within (g.F.Facts.scope c.args.place.now.facts.now) (map input v.items)) o)) c.in-Some.is) (proc c.in_ok-term-in-Some.term, count c.in_ok-term-in-Some.work) c.in_ok-term-in-Some.ensures c.in_err-term-in-Some-2.field-0.0.kind c.in_err-term-in-Some-2.ensures)
 
 pub branch-behind_event-requires : goal.branch-behind_event-requires
 branch-behind_event-requires g t c =
@@ -339,7 +339,7 @@ branch-behind_event-requires g t c =
 pub branch-returns-in_ok-term-in-Some-2 : goal.branch-returns-in_ok-term-in-Some-2
 branch-returns-in_ok-term-in-Some-2 g t c =
     let s = within (g.F.Facts.scope c.args.place.now.facts.now) (map input c.args.place.now.inputs.items) in
-    event_made (make (shape c.args.prefix.now.then.now)) c.args.prefix.now.channel.now (syntaxes (shapes c.args.prefix.now.fields.now)) (map (λ v. listed v.items) c.args.prefix.now.sets.now) s c.args.number (row c.args.event.now) (count c.args.work) (within (g.F.Facts.scope c.args.place.now.facts.now) (map input c.in-Some.inputs.items)) c.in-Some.ensures (proc c.in_ok-term-in-Some.term, count c.in_ok-term-in-Some.work) c.in_ok-term-in-Some.ensures (proc c.in_ok-term-in-Some-2.term, count c.in_ok-term-in-Some-2.work) c.in_ok-term-in-Some-2.ensures
+    event_made (make (shape c.args.prefix.now.then.now)) c.args.prefix.now.channel.now (syntaxes (shapes c.args.prefix.now.fields.now)) (map (λ v. listed v.items) c.args.prefix.now.sets.now) s c.args.number (row c.args.event.now) (count c.args.work) (within (g.F.Facts.scope c.args.place.now.facts.now) (map input c.in-Some.inputs.items)) (c.in_ok-found.ensures ∙ ap (λ o. some_fit (option_map (λ v. within (g.F.Facts.scope c.args.place.now.facts.now) (map input v.items)) o)) c.in-Some.is) (proc c.in_ok-term-in-Some.term, count c.in_ok-term-in-Some.work) c.in_ok-term-in-Some.ensures (proc c.in_ok-term-in-Some-2.term, count c.in_ok-term-in-Some-2.work) c.in_ok-term-in-Some-2.ensures
 
 pub branches-loop-number-init : goal.branches-loop-number-init
 branches-loop-number-init g t c =
