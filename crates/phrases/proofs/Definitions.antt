@@ -1,5 +1,5 @@
 -- What is made of a definition's body, step by step.
-use Rattle.std.proofs.Common.{◌≡◌, [], Bool, true, false, cond, Option, Some, None, refl, sym, ap, subst, ◌∙◌}
+use Rattle.std.proofs.Common.{◌≡◌, [], true, false, cond, Option, Some, None, refl, sym, ap, subst, ◌∙◌}
 use Rattle.syntax.specs.Grammar.{Syntax}
 use Rattle.tokens.specs.declared.error.ScriptErrorKind.{ScriptErrorKind}
 use Rattle.values.specs.Values.{◌>>=◌, Name}

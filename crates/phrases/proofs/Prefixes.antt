@@ -1,5 +1,5 @@
 -- What is made of a prefix, step by step.
-use Rattle.std.proofs.Common.{◌≡◌, ℕ, suc, ◌<◌, List, [], ◌∷◌, length, map, Bool, true, false, cond, nat_eq, Option, Some, None, refl, sym, ap, subst, ◌∙◌, arith}
+use Rattle.std.proofs.Common.{◌≡◌, ℕ, suc, List, [], ◌∷◌, length, map, Bool, true, false, cond, Option, Some, None, refl, sym, ap, subst, ◌∙◌, arith}
 use Rattle.std.proofs.lemmas.List.{length-map}
 use Rattle.alphabet.specs.Channels.{Values, Parts, events}
 use Rattle.term.specs.Proc.{Proc, prefix}
@@ -15,7 +15,6 @@ use Rattle.phrases.specs.Forms.{event_of}
 use Rattle.phrases.specs.Phrases.{Scope, Fitting, fitting, has_all}
 use Rattle.phrases.specs.Making.{Count, Made, FoundBranch, AllMade, spend, make_one, make_behind, make_branch, make_branches, make_choice, make_prefixed}
 use Rattle.phrases.proofs.EventLaws.{prefix_is}
-use Rattle.phrases.proofs.Seen.{fails_on}
 use Rattle.phrases.proofs.Steps.{step, fails_at}
 
 -- ---- parts

@@ -13,7 +13,7 @@ use term::Term;
 use tokens::ScriptError;
 
 /// The most nodes that all bodies have together.
-pub(crate) const NODE_LIMIT: usize = 65_536;
+const NODE_LIMIT: usize = 65_536;
 
 /// The bodies of what is reached from the root, by their numbers: definitions are numbered as they are met, where the
 /// root is read first and then each body in the order of these numbers.

@@ -32,7 +32,6 @@ use tokens::{ScriptError, ScriptErrorKind};
 
 /// What an event adds to the branches of a prefix.
 #[cycle(making)]
-#[tactic(none)]
 fn branch<'a, A: Allocator + Copy, F: Facts<A>>(
     alloc: A,
     place: &Place<'a, A, F>,
@@ -62,7 +61,6 @@ fn branch<'a, A: Allocator + Copy, F: Facts<A>>(
 
 /// The branches of a prefix, one for each event that fits.
 #[cycle(making)]
-#[tactic(none)]
 fn branches<'a, A: Allocator + Copy, F: Facts<A>>(
     alloc: A,
     place: &Place<'a, A, F>,
@@ -86,7 +84,6 @@ fn branches<'a, A: Allocator + Copy, F: Facts<A>>(
 
 /// The process that an event phrase and what stands behind its arrow are a phrase for: the choice over the events that fit.
 #[cycle(making)]
-#[tactic(none)]
 fn prefixed<'a, A: Allocator + Copy, F: Facts<A>>(
     alloc: A,
     place: &Place<'a, A, F>,
@@ -120,7 +117,6 @@ fn prefixed<'a, A: Allocator + Copy, F: Facts<A>>(
 
 /// Two processes that are joined so.
 #[cycle(making)]
-#[tactic(none)]
 fn joined_phrases<'a, A: Allocator + Copy, F: Facts<A>>(
     alloc: A,
     place: &Place<'a, A, F>,
@@ -138,7 +134,6 @@ fn joined_phrases<'a, A: Allocator + Copy, F: Facts<A>>(
 
 /// `P [| A |] Q`
 #[cycle(making)]
-#[tactic(none)]
 fn sharing_phrases<'a, A: Allocator + Copy, F: Facts<A>>(
     alloc: A,
     place: &Place<'a, A, F>,
@@ -157,7 +152,6 @@ fn sharing_phrases<'a, A: Allocator + Copy, F: Facts<A>>(
 
 /// `P [ A || B ] Q`, where the sets are A and B.
 #[cycle(making)]
-#[tactic(none)]
 fn alphabetised_phrases<'a, A: Allocator + Copy, F: Facts<A>>(
     alloc: A,
     place: &Place<'a, A, F>,
@@ -176,7 +170,6 @@ fn alphabetised_phrases<'a, A: Allocator + Copy, F: Facts<A>>(
 
 /// `P \ A`
 #[cycle(making)]
-#[tactic(none)]
 fn hiding_phrase<'a, A: Allocator + Copy, F: Facts<A>>(
     alloc: A,
     place: &Place<'a, A, F>,
@@ -193,7 +186,6 @@ fn hiding_phrase<'a, A: Allocator + Copy, F: Facts<A>>(
 
 /// `P[[a <- b]]`, with its pairs.
 #[cycle(making)]
-#[tactic(none)]
 fn renaming_phrase<'a, A: Allocator + Copy, F: Facts<A>>(
     alloc: A,
     place: &Place<'a, A, F>,
@@ -209,7 +201,6 @@ fn renaming_phrase<'a, A: Allocator + Copy, F: Facts<A>>(
 
 /// The term made of a phrase by its form, on this line.
 #[cycle(making)]
-#[tactic(none)]
 fn made<'a, A: Allocator + Copy, F: Facts<A>>(
     alloc: A,
     place: &Place<'a, A, F>,
@@ -246,7 +237,6 @@ fn made<'a, A: Allocator + Copy, F: Facts<A>>(
 /// The term made of a phrase for a process. A fault has the line of the phrase that is at fault; too many nodes have the
 /// line of the definition's name.
 #[cycle(making)]
-#[tactic(none)]
 pub(crate) fn process<'a, A: Allocator + Copy, F: Facts<A>>(
     alloc: A,
     place: &Place<'a, A, F>,

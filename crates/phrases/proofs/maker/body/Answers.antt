@@ -1,8 +1,7 @@
-use Rattle.std.proofs.Common.{◌≡◌, Some, [], map, true, ap, sym, subst, ◌∙◌}
+use Rattle.std.proofs.Common.{◌≡◌, Some, [], map, ap, sym, subst, ◌∙◌}
 use Rattle.std.proofs.lemmas.Result.{err_from_is_err_and}
 use Rattle.syntax.specs.View.{shape}
 use Rattle.term.specs.Proc.{proc}
-use Rattle.values.specs.Names.{is_process}
 use Rattle.values.specs.Tables.{input}
 use Rattle.values.specs.View.{Fails, Gives}
 use Rattle.phrases.specs.Making.{Made, make, make_body}
