@@ -44,7 +44,7 @@ fn is_process_operator(operator: Operator) -> bool
 
 /// Whether phrases of this form are processes.
 #[tactic(auto, unfolding(values::specs::Names::is_process_form))]
-fn is_process_form(form: Form) -> bool
+pub(crate) fn is_process_form(form: Form) -> bool
     ensures { result ≡ is_process_form_of form }
 {
     match form {
