@@ -13,7 +13,7 @@ use crate::entries::{Entries, Meaning};
 use crate::kinds::{Kind, Wanted, is_number_form, misplaced, takes, takes_form};
 use crate::order::{order_behind, order_to};
 use crate::part::{Part, fault, part_of, worth_alone};
-use crate::processes::is_process_form;
+use crate::processes::{Answer, answer_of, is_process_form};
 use crate::sigma::alphabet_of;
 use alphabet::Alphabet;
 use std::alloc::{AllocError, Allocator};
@@ -135,10 +135,7 @@ fn kind_of_event<A: Allocator + Copy>(
 }
 
 /// What a set of events on this line is.
-fn kind_of_events<A: Allocator>(
-    sight: &Sight<'_, '_, A>,
-    line: u32,
-) -> Result<Kind, ScriptError> {
+fn kind_of_events<A: Allocator>(sight: &Sight<'_, '_, A>, line: u32) -> Result<Kind, ScriptError> {
     if sight.has_events {
         Ok(Kind::Events)
     } else {
@@ -147,7 +144,12 @@ fn kind_of_events<A: Allocator>(
 }
 
 /// What is made of two sets, the second of which is on this line; `own` is the fault of a set that is too large.
-fn kind_of_both(first: Kind, second: Kind, line: u32, own: ScriptError) -> Result<Kind, ScriptError> {
+fn kind_of_both(
+    first: Kind,
+    second: Kind,
+    line: u32,
+    own: ScriptError,
+) -> Result<Kind, ScriptError> {
     let kind = match first {
         Kind::Nothing => second,
         _ => first,
@@ -222,7 +224,7 @@ fn kind_of_form<A: Allocator + Copy>(
         _ if !takes_form(spot.wanted, form) => Err(fault(spot.outer, misplaced(form))),
         Form::Set => kind_of_members(sight, parts, spot.own),
         Form::Union | Form::Intersection | Form::Difference => kind_of_sets(sight, parts, spot.own),
-        Form::NoProductions => Ok(Kind::Nothing),
+        Form::NoProductions => Ok(Kind::Events),
         Form::Events | Form::Productions => kind_of_events(sight, spot.line),
         _ if form == Form::Range || is_number_form(form) => numbers(sight, parts, spot.own),
         _ if is_process_form(form) => Ok(Kind::Process),
@@ -282,14 +284,34 @@ fn kind_of_sets<A: Allocator + Copy>(
     }
 }
 
+/// What was found of the definition whose name is all of this body.
+fn kind_behind<A: Allocator + Copy>(sight: &Sight<'_, '_, A>, body: &Tree<A>) -> Option<Kind> {
+    let Answer::SameAs(name) = answer_of(body) else {
+        return None;
+    };
+    let place = sight.entries.place(name)?;
+    match sight.found.get(place) {
+        Some(Found::Is(kind)) => Some(*kind),
+        _ => None,
+    }
+}
+
+/// What is found of the definition with this body.
+fn found_of<A: Allocator + Copy>(sight: &Sight<'_, '_, A>, body: &Tree<A>) -> Found {
+    if let Some(kind) = kind_behind(sight, body) {
+        return Found::Is(kind);
+    }
+    match kind_of(sight, body, Wanted::Anything, body.line()) {
+        Ok(kind) => Found::Is(kind),
+        Err(error) => Found::Fault(error),
+    }
+}
+
 /// What is found of the definition at this place.
 fn found_at<A: Allocator + Copy>(sight: &Sight<'_, '_, A>, place: usize) -> Found {
     match sight.entries.at(place) {
         Some(entry) => match &entry.meaning {
-            Meaning::Definition(body) => match kind_of(sight, body, Wanted::Anything, body.line()) {
-                Ok(kind) => Found::Is(kind),
-                Err(error) => Found::Fault(error),
-            },
+            Meaning::Definition(body) => found_of(sight, body),
             _ => Found::Nothing,
         },
         None => Found::Nothing,
@@ -413,13 +435,7 @@ pub(crate) fn told_alphabet<'a, A: Allocator + Copy>(
 {
     match alphabet_of(alloc, known, declarations) {
         Ok(alphabet) => Ok(alphabet),
-        Err(error) => Err(diagnosed_channels(
-            alloc,
-            entries,
-            known,
-            declarations,
-            error,
-        )),
+        Err(error) => Err(diagnosed_channels(alloc, entries, known, declarations, error)),
     }
 }
 
