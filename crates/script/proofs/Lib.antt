@@ -1,0 +1,3 @@
+pub mod Sigma
+pub mod Closed
+pub mod Reading
