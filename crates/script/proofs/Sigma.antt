@@ -213,7 +213,7 @@ fitting_same (MoreSyntax t ts) (set ∷ sets) (v ∷ vs) s = then_same s (fits_f
 
 -- ---- prefixes
 
-counted : (cs : List Channel) → length (events cs) ≡ event_count cs
+pub counted : (cs : List Channel) → length (events cs) ≡ event_count cs
 unfolding Rattle.alphabet.specs.Channels.names
 counted cs = sym (length-map (events cs) event_text)
 

@@ -1,6 +1,9 @@
 //! The specification that a script denotes for a root, and the printed form of a specification.
 #![tactic(auto)]
 
+mod fields;
 mod law;
+mod rows;
+mod table;
 
 pub use law::one_reading;
