@@ -12,7 +12,7 @@ use Rattle.phrases.specs.Denotes.{body_by, body_of, place, has_key, with_key, wi
 use Rattle.phrases.specs.Making.{Gathered}
 use Rattle.phrases.proofs.Keys.{has_with}
 use Rattle.phrases.proofs.Reached.{keys_grow}
-use Rattle.script.proofs.Sigma.{BodyIn, Within, Each, all_of, denoted_in}
+use Rattle.script.proofs.Inside.{BodyIn, Within, Each, all_of, denoted_in}
 
 -- ---- definitions that are met
 

@@ -16,7 +16,7 @@ use Rattle.values.specs.Names.{same_name}
 use Rattle.phrases.specs.Events.{fields_named}
 use Rattle.script.specs.declared.table.Table.{Table}
 use Rattle.script.specs.Tables.{said}
-use Rattle.script.proofs.Sigma.{counted}
+use Rattle.script.proofs.Inside.{counted}
 
 pub some_same : {X : Type 0} {x y : X} → Some x ≡ Some y → x ≡ y
 some_same h = cc

@@ -1,4 +1,4 @@
-pub mod Sigma
+pub mod Inside
 pub mod Closed
 pub mod Reading
 pub mod Tables

@@ -4,6 +4,7 @@
 mod fields;
 mod law;
 mod rows;
+mod sigma;
 mod table;
 
 pub use law::one_reading;
