@@ -4,3 +4,4 @@ pub mod Entering
 pub mod Standing
 pub mod Naming
 pub mod Sigma
+pub mod Processes

@@ -3,15 +3,18 @@
 
 mod declared;
 mod entries;
+mod law;
 mod named;
 mod naming;
 mod order;
 mod part;
+mod processes;
 mod sigma;
 mod standing;
 
 pub use declared::{Declared, declare};
 pub use entries::{Entries, Entry, Meaning};
+pub use law::trees_have_names;
 pub use named::has_names;
 pub use naming::distinct_entries;
 pub use standing::table_of_names;
