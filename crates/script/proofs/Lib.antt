@@ -3,3 +3,4 @@ pub mod Closed
 pub mod Reading
 pub mod Tables
 pub mod Copies
+pub mod NamedSets

@@ -2,3 +2,4 @@ pub mod Reading
 pub mod Tables
 pub mod Fields
 pub mod Coding
+pub mod Standing
