@@ -3,4 +3,5 @@ pub mod Closed
 pub mod Reading
 pub mod Tables
 pub mod Copies
+pub mod Masks
 pub mod NamedSets

@@ -1,16 +1,16 @@
 -- What names of sets of events stand for, after some number of steps and in the end.
-use Rattle.std.proofs.Common.{◌≡◌, ℕ, zero, suc, ◌+◌, ◌<◌, ◌≤◌, List, [], ◌∷◌, length, Bool, true, false, cond, not, ◌&&◌, ◌||◌, nat_lt, Option, Some, None, refl, sym, ap, ap₂, subst, ◌∙◌, arith}
+use Rattle.std.proofs.Common.{◌≡◌, ℕ, zero, suc, ◌+◌, ◌≤◌, List, [], ◌∷◌, length, Bool, true, false, not, ◌&&◌, ◌||◌, nat_lt, Option, Some, None, refl, sym, ap, ap₂, subst, ◌∙◌, arith}
 use Rattle.std.specs.Option.{option_map}
 use Rattle.alphabet.specs.Channels.{Channel, Parts, events, event_count}
 use Rattle.alphabet.specs.EventSets.{Set, has}
 use Rattle.syntax.specs.declared.form.Form.TheVariants as forms
-use Rattle.syntax.specs.Grammar.{Syntax, Called, Numeral, Node, Syntaxes, NoSyntax, MoreSyntax}
+use Rattle.syntax.specs.Grammar.{Syntax, Called, Node, Syntaxes, NoSyntax, MoreSyntax}
 use Rattle.values.specs.Values.{◌>>=◌, Name}
 use Rattle.values.specs.Worths.{Worth, one, many, Known}
 use Rattle.values.specs.Names.{Entry, Meaning, channel, datatype, constant_name, definition, meaning}
-use Rattle.phrases.specs.Events.{Events, KnownEvents, Beginning, no_events, unless_value, begins_so, at_number, beginning, beginning_so, whole_event, either, both, less, together, event_set, events_of, events_in, EventsStand, set_below, set_of}
+use Rattle.phrases.specs.Events.{Events, KnownEvents, Beginning, unless_value, begins_so, at_number, beginning, beginning_so, whole_event, either, both, less, together, event_set, events_of, events_in, EventsStand, set_of}
 use Rattle.phrases.proofs.FormLaws.{below_same, inside_is}
-use Rattle.phrases.proofs.SetsBelow.{has_is, lt_is, ge_is}
+use Rattle.phrases.proofs.SetsBelow.{has_is, ge_is}
 use Rattle.script.specs.Standing.{KnownSets, events_by, next_events, AreReached, IsSettled}
 use Rattle.script.proofs.Copies.{some_same}
 use Rattle.script.proofs.Inside.{counted}

@@ -3,7 +3,6 @@ use Rattle.std.specs.Prelude.{◌≡◌, ℕ, List, Option}
 use Rattle.std.specs.Coded.{Coded, Coded-set, code_by, coded_option, coded×, coded_ℕ, coded_list, Π_prop}
 use Rattle.std.proofs.Common.{refl}
 use Rattle.alphabet.specs.Channels.{FieldValue, Values, Parts}
-use Rattle.alphabet.specs.EventSets.{Set}
 use Rattle.term.specs.Codes.{value_code}
 use Rattle.values.specs.Values.{Name}
 

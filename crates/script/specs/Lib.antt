@@ -3,3 +3,4 @@ pub mod Tables
 pub mod Fields
 pub mod Coding
 pub mod Standing
+pub mod View

@@ -3,7 +3,9 @@
 
 mod fields;
 mod law;
+mod names;
 mod rows;
+mod script;
 mod sigma;
 mod table;
 

@@ -26,13 +26,6 @@ impl<V: Drop, A: Allocator + Copy> Table<V, A> {
         }
     }
 
-    /// What the name stands for. Costs one look-up by its hash.
-    pub(crate) fn get(&self, name: &[u8]) -> Option<&V>
-        ensures { option_map (λ v. v.now) result ≡ said self.now name.now }
-    {
-        self.entries.get(name)
-    }
-
     /// The table where the name stands for this value.
     pub(crate) fn with(self, name: &[u8], value: V) -> Result<Table<V, A>, AllocError>
         ensures { IfOk result (λ t. (other : List ℕ) → said t other ≡ (if same_name other name.now then Some value else said self other)) }
@@ -41,5 +34,14 @@ impl<V: Drop, A: Allocator + Copy> Table<V, A> {
         let name = Vec::from_slice(*entries.allocator(), name)?;
         let _old = entries.insert(name, value)?;
         Ok(Table { entries })
+    }
+}
+
+impl<V: Drop, A: Allocator> Table<V, A> {
+    /// What the name stands for. Costs one look-up by its hash.
+    pub(crate) fn get(&self, name: &[u8]) -> Option<&V>
+        ensures { option_map (λ v. v.now) result ≡ said self.now name.now }
+    {
+        self.entries.get(name)
     }
 }
