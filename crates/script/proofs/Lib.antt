@@ -4,4 +4,5 @@ pub mod Reading
 pub mod Tables
 pub mod Copies
 pub mod Masks
+pub mod Learning
 pub mod NamedSets
