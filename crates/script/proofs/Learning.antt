@@ -11,8 +11,9 @@ use Rattle.tokens.specs.declared.error.ScriptErrorKind.TheVariants as kinds
 use Rattle.values.specs.View.{Fails}
 use Rattle.values.specs.Values.{◌>>=◌, Name}
 use Rattle.values.specs.Worths.{Known}
-use Rattle.values.specs.Names.{Entry, Meaning, same_name, meaning}
-use Rattle.phrases.specs.Events.{Events, events_of, events_in, EventsStand, set_of, masked}
+use Rattle.values.specs.Names.{Entry, Meaning, channel, datatype, constant_name, definition, same_name, meaning}
+use Rattle.syntax.specs.Grammar.{Syntax}
+use Rattle.phrases.specs.Events.{Events, event_set, events_of, events_in, EventsStand, set_of, masked}
 use Rattle.phrases.proofs.EventSetLaws.{masked_none}
 use Rattle.script.specs.Standing.{KnownSets, events_by, next_events, AreReached, IsSettled, lacking, Learns, LearnsFirst, LearnsAll}
 use Rattle.script.proofs.Copies.{some_same}
@@ -87,7 +88,6 @@ place_of (e ∷ es) n m h = by (same_name n e.0) refl h (λ q. place_of es n m q
     by false s q rec =
         let (j, d, p, r, lt) = rec q in
         (suc j, d, p, r, omega (arith, lt))
-
 
 module _ (cs : List Channel) (known : Known) (es : List Entry) where
   -- what a definition says has a meaning behind it
@@ -207,3 +207,20 @@ module _ (cs : List Channel) (known : Known) (es : List Entry) where
   settled_fault kinds.TooLarge f n h e = settled_none f n e
   settled_fault kinds.Unsupported f n h e = settled_none f n e
   settled_fault kinds.NoSuchProcess f n h e = settled_none f n e
+
+  -- ---- what the definition of a name says
+
+  pub next_is : (f : KnownSets) (n : Name) (t : Syntax) → meaning es n ≡ Some (definition t) → masked cs (next_events cs known es (events_by f) n) ≡ masked cs (event_set cs known (events_by f) t)
+  unfolding next_events events_of
+  next_is f n t h = ap (λ o. masked cs (o >>= events_of cs known (events_by f))) h
+
+  pub next_not : (f : KnownSets) (n : Name) → ((t : Syntax) → meaning es n ≡ Some (definition t) → ⊥) → masked cs (next_events cs known es (events_by f) n) ≡ None
+  unfolding next_events events_of masked
+  next_not f n h = by (meaning es n) refl
+    where
+      by : (o : Option Meaning) → meaning es n ≡ o → masked cs (o >>= events_of cs known (events_by f)) ≡ None
+      by None e = refl
+      by (Some (channel ts)) e = refl
+      by (Some (datatype ns)) e = refl
+      by (Some constant_name) e = refl
+      by (Some (definition t)) e = absurd (h t e)

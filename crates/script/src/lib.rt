@@ -7,6 +7,7 @@ mod names;
 mod rows;
 mod script;
 mod sigma;
+mod standing;
 mod table;
 
 pub use law::one_reading;

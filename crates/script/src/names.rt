@@ -59,12 +59,12 @@ impl<'a, A: Allocator> Names<'a, A> {
     ghost use Rattle.phrases.specs.Phrases.{is_constant as is_constant_meaning};
 
     /// The body of the definition with this name.
-    pub(crate) fn body(&self, name: &[u8]) -> Option<&Tree<A>>
+    pub(crate) fn body(&self, name: &[u8]) -> Option<&'a Tree<A>>
         ensures { MatchOption result ((t : Syntax) → meaning (entries_of self.now.entries) name.now ≡ Some (defined_by t) → ⊥) (λ t. meaning (entries_of self.now.entries) name.now ≡ Some (defined_by (shape t.now))) }
     {
         match self.entries.get(name) {
             Some(entry) => match &entry.meaning {
-                Meaning::Definition(body) => Some(body),
+                Meaning::Definition(body) => Some(*body),
                 _ => None,
             },
             None => None,

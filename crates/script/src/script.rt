@@ -15,13 +15,13 @@ use values::Known;
 
 /// What is known of a script's names, with the named sets of events that were found.
 #[derive(Drop)]
-pub(crate) struct Script<'s, 'a, A: Allocator> {
-    pub(crate) names: &'s Names<'a, A>,
-    pub(crate) sets: &'s Table<EventSet, A>,
+pub(crate) struct Script<'a, A: Allocator> {
+    pub(crate) names: &'a Names<'a, A>,
+    pub(crate) sets: &'a Table<EventSet, A>,
     ghost lie: { (name : List ℕ) (set : ℕ) → said sets.now name ≡ Some set → set ≡ set_of names.now.sigma.alphabet (has set) },
 }
 
-impl<'s, 'a, A: Allocator> Facts<A> for Script<'s, 'a, A> {
+impl<'a, A: Allocator> Facts<A> for Script<'a, A> {
     ghost use Rattle.script.specs.View.{scope as scope_of};
 
     ghost scope = { scope_of };

@@ -1,5 +1,5 @@
 //! Tables of names.
-ghost use Rattle.std.specs.Prelude.{◌≡◌, ℕ, List, Some, None, IfOk, if◌then◌else◌};
+ghost use Rattle.std.specs.Prelude.{◌≡◌, ℕ, List, Some, None, is_some, IfOk, if◌then◌else◌};
 ghost use Rattle.std.specs.Option.{option_map};
 ghost use Rattle.values.specs.Names.{same_name};
 ghost use Rattle.script.specs.Tables.{said};
@@ -43,5 +43,12 @@ impl<V: Drop, A: Allocator> Table<V, A> {
         ensures { option_map (λ v. v.now) result ≡ said self.now name.now }
     {
         self.entries.get(name)
+    }
+
+    /// Whether the table says what the name stands for.
+    pub(crate) fn has(&self, name: &[u8]) -> bool
+        ensures { result ≡ is_some (said self.now name.now) }
+    {
+        self.get(name).is_some()
     }
 }
