@@ -13,3 +13,4 @@ pub mod Whole
 pub mod TreeNames
 pub mod ProcessNames
 pub mod TextNames
+pub mod ToldNames

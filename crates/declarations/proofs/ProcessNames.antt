@@ -1,5 +1,5 @@
 -- Which names are those of processes.
-use Rattle.std.proofs.Common.{◌≡◌, ◌≢◌, ℕ, zero, suc, ◌+◌, ◌<◌, ◌≤◌, List, [], ◌∷◌, length, get_or, Bool, true, false, Vec, refl, sym, ap, ◌∙◌, arith}
+use Rattle.std.proofs.Common.{◌≡◌, ◌≢◌, ℕ, zero, suc, ◌+◌, ◌<◌, ◌≤◌, List, [], ◌∷◌, length, get_or, Bool, true, false, None, Vec, refl, sym, ap, ◌∙◌, arith}
 use Rattle.syntax.specs.declared.form.Form.{Form}
 use Rattle.syntax.specs.declared.form.Form.TheVariants as forms
 use Rattle.syntax.specs.declared.tree.Tree.{Tree, Node as TreeNode}
@@ -7,7 +7,7 @@ use Rattle.syntax.specs.Grammar.{Syntax, Called, Numeral, Node, Syntaxes, NoSynt
 use Rattle.syntax.specs.Parsing.{syntaxes}
 use Rattle.syntax.specs.View.{shape, shapes}
 use Rattle.values.specs.Values.{Name}
-use Rattle.values.specs.Names.{Entry, is_process_by, is_process_form, is_process_in, is_process}
+use Rattle.values.specs.Names.{Entry, meaning, is_process_by, is_process_form, is_process_in, is_process_meaning, is_process}
 use Rattle.declarations.specs.Processes.{Follows}
 use Rattle.declarations.proofs.Shapes.{node_part}
 
@@ -77,6 +77,10 @@ pub by_form : {A : Type 0} (name : Name → Bool) (tree : Tree A) (line : ℕ) (
 by_form name tree line form v b h n m e = ap (is_process_by name) (node_part tree line form v v.items h refl) ∙ form_says name form (syntaxes (shapes v.items)) n m ∙ sym e
 
 -- ---- names that lead to names
+
+pub undeclared : (es : List Entry) (n : Name) → meaning es n ≡ None → false ≡ is_process es n
+unfolding is_process_in is_process_meaning
+undeclared es n h = sym (ap (is_process_meaning (is_process_in es (length es))) h)
 
 pub follows_none : (es : List Entry) (first : Name) → Follows es first 0 first
 follows_none es first = (suc (length es), omega arith, refl)

@@ -1,3 +1,4 @@
+pub mod Stored
 pub mod View
 pub mod Steps
 pub mod Entering
@@ -5,3 +6,4 @@ pub mod Standing
 pub mod Naming
 pub mod Sigma
 pub mod Processes
+pub mod Told

@@ -5,12 +5,14 @@ mod declared;
 mod entries;
 mod law;
 mod named;
+mod names;
 mod naming;
 mod order;
 mod part;
 mod processes;
 mod sigma;
 mod standing;
+mod told;
 
 pub use declared::{Declared, declare};
 pub use entries::{Entries, Entry, Meaning};

@@ -89,7 +89,7 @@ fn answer_of<A: Allocator>(phrase: &Tree<A>) -> Answer<'_>
 impl<'a, A: Allocator> Entries<'a, A> {
     /// Whether the name is one of a process, as far as its own definition says.
     #[tactic(auto, unfolding(values::specs::Names::is_process_in, values::specs::Names::is_process_meaning))]
-    fn answer(&self, name: &[u8]) -> Answer<'_>
+    pub(crate) fn answer(&self, name: &[u8]) -> Answer<'_>
         ensures { (k : ℕ) → is_process_in (entries_of self.now) (suc k) name.now ≡ says (is_process_in (entries_of self.now) k) result }
     {
         match self.get(name) {
@@ -101,9 +101,8 @@ impl<'a, A: Allocator> Entries<'a, A> {
         }
     }
 
-    /// Whether the name is one of a process: of a definition whose body has the form of one, or is the name of one. Names
-    /// that lead to each other in a circle are those of processes.
-    pub fn is_process(&self, name: &[u8]) -> bool
+    /// Whether the name is one of a process. Follows the names that it leads to.
+    fn is_process_at_last(&self, name: &[u8]) -> bool
         ensures { result ≡ is_process_of (entries_of self.now) name.now }
     {
         let mut followed = name;
@@ -116,6 +115,22 @@ impl<'a, A: Allocator> Entries<'a, A> {
         match self.answer(followed) {
             Answer::Known(answer) => answer,
             Answer::SameAs(_) => true,
+        }
+    }
+
+    /// Whether the name is one of a process: of a definition whose body has the form of one, or is the name of one. Names
+    /// that lead to each other in a circle are those of processes.
+    /// Costs a look-up by its hash.
+    #[tactic(auto, using(crate::proofs::ProcessNames::undeclared))]
+    pub fn is_process(&self, name: &[u8]) -> bool
+        ensures { result ≡ is_process_of (entries_of self.now) name.now }
+    {
+        match self.place(name) {
+            Some(place) => match self.answers.get(place) {
+                Some(answer) => answer.unwrap_or(true),
+                None => self.is_process_at_last(name),
+            },
+            None => false,
         }
     }
 }

@@ -1,7 +1,7 @@
 use Rattle.std.proofs.Common.{◌≡◌, ◌<◌, ◌≤◌, length, arith}
 use Rattle.declarations.specs.View.{entries}
 use Rattle.declarations.proofs.ProcessNames.{follows_none, follows_more, follows_known, follows_all}
-use Rattle.declarations.proofs.entries.Entries.is_process.Goals as goal
+use Rattle.declarations.proofs.entries.Entries.is_process_at_last.Goals as goal
 
 pub loop-init : goal.loop-init
 loop-init g c = follows_none (entries c.args.self.now) c.args.name.now
