@@ -1,6 +1,6 @@
 pub mod Inside
 pub mod Closed
-pub mod Reading
+pub mod Denoting
 pub mod Tables
 pub mod Copies
 pub mod Masks

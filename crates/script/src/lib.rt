@@ -4,6 +4,7 @@
 mod fields;
 mod law;
 mod names;
+mod reading;
 mod rows;
 mod script;
 mod sigma;
@@ -11,3 +12,5 @@ mod standing;
 mod table;
 
 pub use law::one_reading;
+pub use printing::print;
+pub use reading::read;

@@ -1,4 +1,4 @@
-use Rattle.script.proofs.Reading.{read_once}
+use Rattle.script.proofs.Denoting.{read_once}
 use Rattle.script.proofs.law.one_reading.Goals as goal
 
 pub returns : goal.returns
