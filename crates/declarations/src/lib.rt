@@ -22,6 +22,7 @@ pub use entries::{Entries, Entry, Meaning};
 pub use law::trees_have_names;
 pub use named::has_names;
 pub use naming::distinct_entries;
+pub use order::places_by_use;
 pub use standing::table_of_names;
 
 #[cfg(test)]

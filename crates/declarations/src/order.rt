@@ -90,8 +90,10 @@ fn ordered<'a, A: Allocator + Copy>(
     Ok(order)
 }
 
-/// The places of all names in this order.
-pub(crate) fn order<'a, A: Allocator + Copy>(
+/// The places of the names, each behind those of the names that its definition uses, as far as there is such an order. No
+/// contract says so: a caller that needs the order looks for itself whether it suits. Costs a turn for each name and for each
+/// use of one.
+pub fn places_by_use<'a, A: Allocator + Copy>(
     alloc: A,
     entries: &Entries<'a, A>,
 ) -> Result<Vec<usize, A>, AllocError> {
