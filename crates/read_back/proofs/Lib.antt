@@ -1,0 +1,5 @@
+pub mod Given
+pub mod Prefixes
+pub mod Sets
+pub mod Pairs
+pub mod Bodies
