@@ -1,6 +1,6 @@
 -- What the texts of values give, and which values are the same.
-use Rattle.std.proofs.Common.{◌≡◌, ℕ, suc, ◌<◌, ◌≤◌, ℤ, pos, negsuc, ◌-ℤ◌, List, [], ◌∷◌, map, Bool, true, false, cond, ◌&&◌, ◌||◌, nat_le, Option, Some, None, refl, sym, ap, ap₂, ◌∙◌, subst, arith}
-use Rattle.std.proofs.lemmas.Bool.{le-leb, false≢true}
+use Rattle.std.proofs.Common.{◌≡◌, ℕ, suc, ◌-◌, ◌<◌, ◌≤◌, ℤ, pos, negsuc, ◌-ℤ◌, List, [], ◌∷◌, map, Bool, true, false, cond, ◌&&◌, ◌||◌, nat_le, Option, Some, None, refl, sym, ap, ap₂, ◌∙◌, subst, arith}
+use Rattle.std.proofs.lemmas.Bool.{le-leb, lt-ltb, false≢true}
 use Rattle.std.proofs.lemmas.Map.Lookups.{exact_signed, exact_bytes}
 use Rattle.std.specs.List.{list_any, flat_map}
 use Rattle.std.specs.Cmp.{nat_eq_equiv}
@@ -111,11 +111,17 @@ limited_neg n h = ap (λ b. cond (b && true) (Some (negsuc n)) None) (le-leb n 9
 abbrev a_number : ℤ → Option Worth
 a_number z = Some (one (number z))
 
+turned : (n : ℕ) → (pos 0 -ℤ pos (suc n)) ≡ negsuc n
+turned n =
+    let e : suc n - 1 ≡ n = omega arith in
+    ap (λ b. cond b (negsuc (suc n - 1)) (pos (0 - suc n))) (lt-ltb 0 (suc n) (omega arith)) ∙ ap negsuc e
+
 pub value_given : (s : Scope) (v : FieldValue) → IsGiven s v → worth s.known (value_tree v) ≡ Some (one v)
 unfolding worth worths formed negated the_only the_number
 value_given s (number (pos n)) h = ap (λ o. o >>= a_number) (limited_pos n h)
 value_given s (number (negsuc n)) h =
     ap (λ o. ((o >>= a_number) >>= λ w. Some (w ∷ [])) >>= λ ws. formed forms.NegativeNumber ws) (limited_pos (suc n) h)
+    ∙ ap (λ z. limited z >>= a_number) (turned n)
     ∙ ap (λ o. o >>= a_number) (limited_neg n h)
 value_given s (constant n) h = ap (λ o. (o >>= λ w. Some (w ∷ [])) >>= λ ws. formed forms.Event ws) h
 

@@ -221,7 +221,7 @@ module _ (s : Scope) (primes m : ℕ) (h : IsPrintedScope s primes m) (a : ℕ) 
       ∙ ap (λ n. next s >>= λ q. Some (prefix n q ∷ [])) z
     where
       missed : (q : Parts) → same_name parts.channel q.channel ≡ true → is_row parts.channel parts.values q ≡ false → pointwise is_same parts.values q.values ≡ false
-      missed q t no = sym (ap (λ b. b && pointwise is_same parts.values q.values) t) ∙ no
+      missed q t other = sym (ap (λ b. b && pointwise is_same parts.values q.values) t) ∙ other
 
   only_choice : (next : Scope → Option Body) → (o : Option Body) → ((o >>= λ q. Some (prefix a q ∷ [])) >>= λ ps. Some (choice_of ps)) ≡ (o >>= λ q. Some (prefix a q))
   unfolding choice_of choice_in

@@ -131,11 +131,11 @@ module _ (s : Scope) (primes m : ℕ) (h : IsPrintedScope s primes m) where
 
   all_kept : (p : ℕ → Bool) (start k : ℕ) → ((a : ℕ) → p a ≡ true → a < n) → AllBelow (filter p (range_with_len start k))
   all_kept p start zero f = tt
-  all_kept p start (suc k) f = by_test (p start) refl
+  all_kept p start (suc k) f = by_test (p start) refl (all_kept p (start + 1) k f)
     where
-      by_test : (b : Bool) → p start ≡ b → AllBelow (cond b (start ∷ filter p (range_with_len (start + 1) k)) (filter p (range_with_len (start + 1) k)))
-      by_test true e = (f start e, all_kept p (start + 1) k f)
-      by_test false e = all_kept p (start + 1) k f
+      by_test : (b : Bool) → p start ≡ b → AllBelow (filter p (range_with_len (start + 1) k)) → AllBelow (cond b (start ∷ filter p (range_with_len (start + 1) k)) (filter p (range_with_len (start + 1) k)))
+      by_test true e rest = (f start e, rest)
+      by_test false e rest = rest
 
 same_number : (k : ℕ) → nat_eq k k ≡ true
 same_number k = nat_eq_equiv.refl k
