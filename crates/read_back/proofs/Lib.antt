@@ -3,3 +3,5 @@ pub mod Prefixes
 pub mod Sets
 pub mod Pairs
 pub mod Bodies
+pub mod Numbers
+pub mod Reaching
