@@ -5,3 +5,4 @@ pub mod Pairs
 pub mod Bodies
 pub mod Numbers
 pub mod Reaching
+pub mod Scanned
