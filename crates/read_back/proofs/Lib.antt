@@ -6,3 +6,4 @@ pub mod Bodies
 pub mod Numbers
 pub mod Reaching
 pub mod Scanned
+pub mod Texts
