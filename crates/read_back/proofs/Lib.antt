@@ -7,3 +7,4 @@ pub mod Numbers
 pub mod Reaching
 pub mod Scanned
 pub mod Texts
+pub mod Processes

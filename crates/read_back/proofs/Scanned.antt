@@ -210,6 +210,12 @@ first_digit n h = by (decimal n) refl (writes n h)
     by [] e k = absurd (omega (arith, k.2))
     by (c ∷ ds) e k = (c, ds, e, k.1.0)
 
+pub digits_of : (n : ℕ) → n ≤ 1000000 → All is_ascii_digit (decimal n)
+digits_of n h = (writes n h).1
+
+pub digit_name_byte : (c : ℕ) → is_ascii_digit c ≡ true → is_name_byte c ≡ true
+digit_name_byte c h = ap (λ b. ((b || is_in_range 65 90 c) || is_in_range 97 122 c) || c == 95) h
+
 -- ---- signs
 
 module _ (rest : List ℕ) where

@@ -25,6 +25,11 @@ use Rattle.read_back.specs.Readable.{IsPrintedScope}
 use Rattle.read_back.proofs.Given.{AreChosen, fields_given, within_sets}
 use Rattle.read_back.proofs.Prefixes.{at_index, is_row, row_itself, other_row, parts, there_is, at, its_channel, is_chosen, is_given, has_fields, also_chosen}
 
+-- numbers below n
+abbrev pub AllBelow : ℕ → List ℕ → Type 0
+AllBelow n [] = Unit {0}
+AllBelow n (a ∷ ks) = (a < n) × AllBelow n ks
+
 -- ---- events that begin with all values of an event
 
 as_long : (vs : Values) (sets : List Values) → AreChosen vs sets → length vs ≡ length sets
@@ -102,14 +107,10 @@ module _ (s : Scope) (primes m : ℕ) (h : IsPrintedScope s primes m) where
 
   -- ---- the events of a list of numbers
 
-  abbrev AllBelow : List ℕ → Type 0
-  AllBelow [] = Unit {0}
-  AllBelow (a ∷ ks) = (a < n) × AllBelow ks
-
   abbrev gives : Syntax → Option Events
   gives t = whole_event s.channels s.known t >>= λ b. Some (beginning_so s.channels b)
 
-  given_all : (ks : List ℕ) → AllBelow ks → (A : Events) × (together gives (phrases (map (tree_of_event s.channels) (map ev ks))) ≡ Some A) × ((b : ℕ) → b < n → A b ≡ list_any (nat_eq b) ks)
+  given_all : (ks : List ℕ) → AllBelow n ks → (A : Events) × (together gives (phrases (map (tree_of_event s.channels) (map ev ks))) ≡ Some A) × ((b : ℕ) → b < n → A b ≡ list_any (nat_eq b) ks)
   unfolding together
   given_all [] l = (no_events, refl, λ b k. refl)
   given_all (a ∷ ks) l =
@@ -122,20 +123,20 @@ module _ (s : Scope) (primes m : ℕ) (h : IsPrintedScope s primes m) where
         λ b k. ap₂ (λ x y. x || y) (its_events a l.0 b k) (r.2 b k),
       )
 
-  braced_given : (ks : List ℕ) → AllBelow ks → (A : Events) × (events_by s (braced (map (tree_of_event s.channels) (map ev ks))) ≡ Some A) × ((b : ℕ) → b < n → A b ≡ list_any (nat_eq b) ks)
+  braced_given : (ks : List ℕ) → AllBelow n ks → (A : Events) × (events_by s (braced (map (tree_of_event s.channels) (map ev ks))) ≡ Some A) × ((b : ℕ) → b < n → A b ≡ list_any (nat_eq b) ks)
   unfolding event_set
   braced_given [] l = (no_events, refl, λ b k. refl)
   braced_given (a ∷ ks) l = given_all (a ∷ ks) l
 
-  -- ---- the members of a set
+-- ---- the members of a set
 
-  all_kept : (p : ℕ → Bool) (start k : ℕ) → ((a : ℕ) → p a ≡ true → a < n) → AllBelow (filter p (range_with_len start k))
-  all_kept p start zero f = tt
-  all_kept p start (suc k) f = by_test (p start) refl (all_kept p (start + 1) k f)
-    where
-      by_test : (b : Bool) → p start ≡ b → AllBelow (filter p (range_with_len (start + 1) k)) → AllBelow (cond b (start ∷ filter p (range_with_len (start + 1) k)) (filter p (range_with_len (start + 1) k)))
-      by_test true e rest = (f start e, rest)
-      by_test false e rest = rest
+pub all_kept : (n : ℕ) (p : ℕ → Bool) (start k : ℕ) → ((a : ℕ) → p a ≡ true → a < n) → AllBelow n (filter p (range_with_len start k))
+all_kept n p start zero f = tt
+all_kept n p start (suc k) f = by_test (p start) refl (all_kept n p (start + 1) k f)
+  where
+    by_test : (b : Bool) → p start ≡ b → AllBelow n (filter p (range_with_len (start + 1) k)) → AllBelow n (cond b (start ∷ filter p (range_with_len (start + 1) k)) (filter p (range_with_len (start + 1) k)))
+    by_test true e rest = (f start e, rest)
+    by_test false e rest = rest
 
 same_number : (k : ℕ) → nat_eq k k ≡ true
 same_number k = nat_eq_equiv.refl k
@@ -175,10 +176,10 @@ no_tick : (k : ℕ) (A : Set) → SetInSigma k A → (b : Bool) → member A tic
 no_tick k A h true e = absurd (h tick e)
 no_tick k A h false e = e
 
-module _ (s : Scope) (primes m : ℕ) (h : IsPrintedScope s primes m) (A : Set) (sigma : SetInSigma (event_count s.channels) A) where
-  its_members : members A ≡ map ev (filter (has A) (range_with_len 0 256))
-  its_members = without_tick 256 A (no_tick (event_count s.channels) A sigma (member A tick) refl)
+pub its_members : (n : ℕ) (A : Set) → SetInSigma n A → members A ≡ map ev (filter (has A) (range_with_len 0 256))
+its_members n A sigma = without_tick 256 A (no_tick n A sigma (member A tick) refl)
 
+module _ (s : Scope) (primes m : ℕ) (h : IsPrintedScope s primes m) (A : Set) (sigma : SetInSigma (event_count s.channels) A) where
   -- the set is that of the events that are told
   told_so : (B : Events) → ((b : ℕ) → b < event_count s.channels → B b ≡ list_any (nat_eq b) (filter (has A) (range_with_len 0 256))) → (x : Event) → member A x ≡ is_in (event_count s.channels) B x
   told_so B f tick = no_tick (event_count s.channels) A sigma (member A tick) refl
@@ -199,8 +200,8 @@ module _ (s : Scope) (primes m : ℕ) (h : IsPrintedScope s primes m) (A : Set) 
   -- the text of the set stands for events whose set it is
   pub set_denoted : (B : Events) × (events_by s (set_tree s.channels A) ≡ Some B) × (set_of s.channels B ≡ A)
   set_denoted =
-      let r = braced_given s primes m h (filter (has A) (range_with_len 0 256)) (all_kept s primes m h (has A) 0 256 (λ a e. sigma (ev a) e)) in (
+      let r = braced_given s primes m h (filter (has A) (range_with_len 0 256)) (all_kept (event_count s.channels) (has A) 0 256 (λ a e. sigma (ev a) e)) in (
         r.0,
-        ap (λ es. events_by s (braced (map (tree_of_event s.channels) es))) its_members ∙ r.1,
+        ap (λ es. events_by s (braced (map (tree_of_event s.channels) es))) (its_members (event_count s.channels) A sigma) ∙ r.1,
         sym (is_below (event_count s.channels) r.0 A (told_so r.0 r.2)),
       )
