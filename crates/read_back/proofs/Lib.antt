@@ -8,3 +8,4 @@ pub mod Reaching
 pub mod Scanned
 pub mod Texts
 pub mod Processes
+pub mod Lines

@@ -37,12 +37,12 @@ use Rattle.read_back.proofs.Texts.{Reads, Any, same_read, both_read, any_read, I
 
 -- ---- signs between blanks
 
-spaced : (sign : Lexeme) (text : List ℕ) → ((rest : List ℕ) → next_at (text ++ (32 ∷ rest)) ≡ Some (Some sign, 32 ∷ rest)) → Reads Any (32 ∷ (text ++ (32 ∷ []))) (sign ∷ [])
+pub spaced : (sign : Lexeme) (text : List ℕ) → ((rest : List ℕ) → next_at (text ++ (32 ∷ rest)) ≡ Some (Some sign, 32 ∷ rest)) → Reads Any (32 ∷ (text ++ (32 ∷ []))) (sign ∷ [])
 spaced sign text at rest ws u r =
     blank_read 32 ((text ++ (32 ∷ [])) ++ rest) (sign ∷ ws) refl
     (same_read (append_assoc text (32 ∷ []) rest) refl (token_read (text ++ (32 ∷ rest)) (32 ∷ rest) sign ws (at rest) (blank_read 32 rest ws refl r)))
 
-comma_read : Reads Any (codes ", ") (Sign symbols.Comma ∷ [])
+pub comma_read : Reads Any (codes ", ") (Sign symbols.Comma ∷ [])
 comma_read rest ws u r = token_read (44 ∷ 32 ∷ rest) (32 ∷ rest) (Sign symbols.Comma) ws (comma_at (32 ∷ rest)) (blank_read 32 rest ws refl r)
 
 -- ---- words

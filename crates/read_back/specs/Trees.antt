@@ -82,3 +82,44 @@ module _ (cs : List Channel) (primes : ℕ) where
   process_tree (ren R P) = operation operators.Renaming (process_tree P ∷ map (pair_tree cs) R)
   process_tree (intr P Q) = operation operators.Interrupt (process_tree P ∷ process_tree Q ∷ [])
   process_tree (name k) = named (reference primes k)
+
+-- ---- declarations
+
+-- the values of a field
+abbrev pub values_tree : Values → Syntax
+values_tree vs = braced (map value_tree vs)
+
+-- the names in a line of a channel, of which there is one
+abbrev pub names_tree : Name → Syntax
+names_tree n = node forms.Names (Called n ∷ [])
+
+abbrev pub channel_tree_of : Name → List Values → Syntax
+channel_tree_of n [] = node forms.Channels (names_tree n ∷ [])
+channel_tree_of n (field ∷ fields) = node forms.ChannelsWithFields (names_tree n ∷ node forms.FieldSets (map values_tree (field ∷ fields)) ∷ [])
+
+abbrev pub channel_tree : Channel → Syntax
+channel_tree c = channel_tree_of c.name c.fields
+
+abbrev pub called_trees : List Name → List Syntax
+called_trees ns = map (λ n. Called n) ns
+
+-- the datatype of these constants, where there are any, whose name has so many primes
+abbrev pub datatype_trees : ℕ → List Name → List Syntax
+datatype_trees primes [] = []
+datatype_trees primes (n ∷ ns) = node forms.Datatype (Called (primed datatype_name primes) ∷ node forms.Constants (called_trees (n ∷ ns)) ∷ []) ∷ []
+
+-- the definition of the body with this number
+abbrev pub body_tree : List Channel → ℕ → ℕ → Proc → Syntax
+body_tree cs primes k P = node forms.Definition (Called (reference primes k) ∷ process_tree cs primes P ∷ [])
+
+abbrev pub body_trees : List Channel → ℕ → List Proc → List Syntax
+body_trees cs primes Ps = map (λ k. body_tree cs primes k (bodies_of Ps k)) (range_with_len 0 (length Ps))
+
+-- ---- the whole
+
+abbrev pub printed_primes : Specified → ℕ
+printed_primes spec = body_primes spec.alphabet (length spec.bodies)
+
+abbrev pub script_tree : Specified → Syntax
+script_tree spec =
+    node forms.Script ((datatype_trees (datatype_primes spec.alphabet) (constants spec.alphabet) ++ map channel_tree spec.alphabet) ++ body_trees spec.alphabet (printed_primes spec) spec.bodies)
