@@ -9,3 +9,4 @@ pub mod Scanned
 pub mod Texts
 pub mod Processes
 pub mod Lines
+pub mod Fitting

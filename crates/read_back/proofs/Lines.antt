@@ -18,7 +18,7 @@ use Rattle.syntax.specs.Grammar.{Syntax, Called, flat, spell, spell_part, spell_
 use Rattle.syntax.specs.Rules.{rule}
 use Rattle.printing.specs.Names.{Name, constants, primed, datatype_name, datatype_primes}
 use Rattle.printing.specs.Printed.{joined, gap, field_text, fields_text, channel_line, datatype_line, reference, process_text, body_line, body_lines, printed}
-use Rattle.read_back.specs.Trees.{node, phrases, value_tree, braced, values_tree, names_tree, channel_tree_of, channel_tree, called_trees, datatype_trees, process_tree, body_tree, body_trees, printed_primes, script_tree}
+use Rattle.read_back.specs.Trees.{node, phrases, member_tree, braced, values_tree, names_tree, channel_tree_of, channel_tree, called_trees, datatype_trees, process_tree, body_tree, body_trees, printed_primes, script_tree}
 use Rattle.read_back.specs.Readable.{IsWritten}
 use Rattle.read_back.proofs.Scanned.{nothing_read, token_read, blank_read, other_byte, letter_high, digit_low, first_digit, Ends, IsProper, name_read, proper_read, comma_at, close_brace_at, colon_at, definition_at, bar_at, dot_brace_at, brace_at}
 use Rattle.read_back.proofs.Texts.{Reads, Any, same_read, both_read, any_read, IsShown, AllShown, value_read, EachRead, behind_tokens, joined_read}
@@ -47,16 +47,22 @@ gap_read (number (pos n) ∷ vs) rest ws r = r
 gap_read (number (negsuc n) ∷ vs) rest ws r = blank_read 32 rest ws refl r
 
 abbrev value_tokens : FieldValue → List Lexeme
-value_tokens v = flat (value_tree v)
+value_tokens v = flat (member_tree v)
+
+member_read : (v : FieldValue) → IsShown v → Reads Ends (value_text v) (value_tokens v)
+unfolding flat spell spell_part spell_signs rule
+member_read (number (pos n)) h = value_read (number (pos n)) h
+member_read (number (negsuc n)) h = value_read (number (negsuc n)) h
+member_read (constant n) h = value_read (constant n) h
 
 each_value : (vs : Values) → AllShown vs → EachRead (codes ", ") (Sign symbols.Comma) comma_read (λ rest. (refl, refl)) value_text value_tokens vs
 each_value [] h = tt
-each_value (v ∷ vs) h = (value_read v h.0, each_value vs h.1)
+each_value (v ∷ vs) h = (member_read v h.0, each_value vs h.1)
 
 abbrev behind_values : Values → List Lexeme
 behind_values vs = behind_tokens (codes ", ") (Sign symbols.Comma) comma_read (λ rest. (refl, refl)) value_text value_tokens vs
 
-others_flat : (vs : Values) → spell (phrases (map value_tree vs)) (drop 2 (rule forms.Set)) ≡ behind_values vs ++ (Sign symbols.CloseBrace ∷ [])
+others_flat : (vs : Values) → spell (phrases (map member_tree vs)) (drop 2 (rule forms.Set)) ≡ behind_values vs ++ (Sign symbols.CloseBrace ∷ [])
 unfolding spell spell_part spell_signs rule
 others_flat [] = refl
 others_flat (v ∷ vs) = ap (λ ws. Sign symbols.Comma ∷ (value_tokens v ++ ws)) (others_flat vs) ∙ ap (λ ws. Sign symbols.Comma ∷ ws) (sym (append_assoc (value_tokens v) (behind_values vs) (Sign symbols.CloseBrace ∷ [])))

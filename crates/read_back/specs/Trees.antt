@@ -85,9 +85,15 @@ module _ (cs : List Channel) (primes : ℕ) where
 
 -- ---- declarations
 
+-- a value in a set, where a negative number is a phrase
+abbrev pub member_tree : FieldValue → Syntax
+member_tree (number (pos n)) = Numeral n
+member_tree (number (negsuc n)) = node forms.Negation (Numeral (suc n) ∷ [])
+member_tree (constant n) = named n
+
 -- the values of a field
 abbrev pub values_tree : Values → Syntax
-values_tree vs = braced (map value_tree vs)
+values_tree vs = braced (map member_tree vs)
 
 -- the names in a line of a channel, of which there is one
 abbrev pub names_tree : Name → Syntax
