@@ -235,7 +235,7 @@ module _ (cs : List Channel) where
     abbrev process : Proc → Syntax
     process P = process_tree cs primes P
 
-    process_level : (P : Proc) → level_in (process P) ≡ 0
+    pub process_level : (P : Proc) → level_in (process P) ≡ 0
     unfolding level_in form_level process_tree
     process_level procs.stop = refl
     process_level procs.skip = refl

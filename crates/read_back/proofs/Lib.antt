@@ -10,3 +10,4 @@ pub mod Texts
 pub mod Processes
 pub mod Lines
 pub mod Fitting
+pub mod FittingLines
