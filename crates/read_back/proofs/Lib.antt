@@ -11,3 +11,4 @@ pub mod Processes
 pub mod Lines
 pub mod Fitting
 pub mod FittingLines
+pub mod Ordered
