@@ -12,3 +12,4 @@ pub mod Lines
 pub mod Fitting
 pub mod FittingLines
 pub mod Ordered
+pub mod Primes
