@@ -13,3 +13,4 @@ pub mod Fitting
 pub mod FittingLines
 pub mod Ordered
 pub mod Primes
+pub mod Declared

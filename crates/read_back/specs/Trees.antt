@@ -13,6 +13,7 @@ use Rattle.syntax.specs.declared.operator.Operator.TheVariants as operators
 use Rattle.syntax.specs.declared.form.Form.{Form}
 use Rattle.syntax.specs.declared.form.Form.TheVariants as forms
 use Rattle.syntax.specs.Grammar.{Syntax, Called, Numeral, Node, Syntaxes, NoSyntax, MoreSyntax}
+use Rattle.values.specs.Names.{Entry, channel, definition, datatype_entries}
 use Rattle.printing.specs.Names.{Name, constants, primed, datatype_name, datatype_primes, body_primes}
 use Rattle.printing.specs.Printed.{reference}
 
@@ -129,3 +130,22 @@ printed_primes spec = body_primes spec.alphabet (length spec.bodies)
 abbrev pub script_tree : Specified → Syntax
 script_tree spec =
     node forms.Script ((datatype_trees (datatype_primes spec.alphabet) (constants spec.alphabet) ++ map channel_tree spec.alphabet) ++ body_trees spec.alphabet (printed_primes spec) spec.bodies)
+
+-- ---- what the printed script declares
+
+abbrev pub typed_entries : ℕ → List Name → List Entry
+typed_entries primes [] = []
+typed_entries primes (n ∷ ns) = datatype_entries (primed datatype_name primes) (n ∷ ns)
+
+abbrev pub channel_entry : Channel → Entry
+channel_entry c = (c.name, channel (phrases (map values_tree c.fields)))
+
+abbrev pub body_entry : List Channel → ℕ → List Proc → ℕ → Entry
+body_entry cs primes Ps k = (reference primes k, definition (process_tree cs primes (bodies_of Ps k)))
+
+abbrev pub body_entries : List Channel → ℕ → List Proc → List Entry
+body_entries cs primes Ps = map (body_entry cs primes Ps) (range_with_len 0 (length Ps))
+
+abbrev pub printed_entries : Specified → List Entry
+printed_entries spec =
+    (typed_entries (datatype_primes spec.alphabet) (constants spec.alphabet) ++ map channel_entry spec.alphabet) ++ body_entries spec.alphabet (printed_primes spec) spec.bodies
