@@ -14,3 +14,4 @@ pub mod FittingLines
 pub mod Ordered
 pub mod Primes
 pub mod Declared
+pub mod Standing
