@@ -100,18 +100,18 @@ AllGiven s (v ∷ vs) = IsGiven s v × AllGiven s vs
 
 -- ---- what the text of a value gives
 
-limited_pos : (n : ℕ) → n ≤ 1000000 → limited (pos n) ≡ Some (pos n)
+pub limited_pos : (n : ℕ) → n ≤ 1000000 → limited (pos n) ≡ Some (pos n)
 unfolding limited
 limited_pos n h = ap (λ b. cond b (Some (pos n)) None) (le-leb n 1000000 h)
 
-limited_neg : (n : ℕ) → n < 1000000 → limited (negsuc n) ≡ Some (negsuc n)
+pub limited_neg : (n : ℕ) → n < 1000000 → limited (negsuc n) ≡ Some (negsuc n)
 unfolding limited
 limited_neg n h = ap (λ b. cond (b && true) (Some (negsuc n)) None) (le-leb n 999999 (omega (arith, h)))
 
-abbrev a_number : ℤ → Option Worth
+abbrev pub a_number : ℤ → Option Worth
 a_number z = Some (one (number z))
 
-turned : (n : ℕ) → (pos 0 -ℤ pos (suc n)) ≡ negsuc n
+pub turned : (n : ℕ) → (pos 0 -ℤ pos (suc n)) ≡ negsuc n
 turned n =
     let e : suc n - 1 ≡ n = omega arith in
     ap (λ b. cond b (negsuc (suc n - 1)) (pos (0 - suc n))) (lt-ltb 0 (suc n) (omega arith)) ∙ ap negsuc e

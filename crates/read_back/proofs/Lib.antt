@@ -15,3 +15,4 @@ pub mod Ordered
 pub mod Primes
 pub mod Declared
 pub mod Standing
+pub mod Fields
