@@ -16,3 +16,4 @@ pub mod Primes
 pub mod Declared
 pub mod Standing
 pub mod Fields
+pub mod Whole

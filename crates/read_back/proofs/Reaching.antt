@@ -100,6 +100,9 @@ take_map f zero xs = refl
 take_map f (suc i) [] = refl
 take_map f (suc i) (x ∷ xs) = ap (λ ys. f x ∷ ys) (take_map f i xs)
 
+pub reached_many : (s : Scope) (root : Key) (keys : List Key) (bodies : List Body) → Reached s root keys bodies → length keys ≡ length bodies
+reached_many s root keys bodies r = sym (length-map keys (body_of s)) ∙ ap length r.each ∙ length-map bodies (λ b. Some b)
+
 -- ---- what is reached in the printed script
 
 module _ (s : Scope) (root : Key) (keys : List Key) (bodies : List Body) (reached : Reached s root keys bodies) (primes : ℕ) (few : length keys ≤ 65536) where
@@ -141,8 +144,8 @@ module _ (s : Scope) (root : Key) (keys : List Key) (bodies : List Body) (reache
   each_placed : Placed keys
   each_placed = subst Placed reached.first (placed root bodies)
 
-  pub as_many : length keys ≡ length bodies
-  as_many = sym (length-map keys (body_of s)) ∙ ap length reached.each ∙ length-map bodies (λ b. Some b)
+  as_many : length keys ≡ length bodies
+  as_many = reached_many s root keys bodies reached
 
   met_so : (bs : List Body) → AllHave keys (flat_map names bs) → met (printed_key primes 0) (map (referred primes) (map (numbered (place keys)) bs)) ≡ map other (met root bs)
   unfolding met
