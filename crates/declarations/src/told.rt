@@ -4,7 +4,7 @@ ghost use Rattle.declarations.specs.Told.{AreAnswers, AreTold, IsAnswer, LeadsOn
 ghost use Rattle.declarations.specs.View.{entries as entries_of};
 
 use crate::entries::Entries;
-use crate::order::order;
+use crate::order::places_by_use;
 use crate::processes::Answer;
 use std::alloc::{AllocError, Allocator};
 
@@ -110,7 +110,7 @@ pub(crate) fn answers<'a, A: Allocator + Copy>(
 ) -> Result<Vec<Option<bool>, A>, AllocError>
     ensures { IfOk result (λ v. AreAnswers (entries_of entries.now) v.items) }
 {
-    let places = order(alloc, entries)?;
+    let places = places_by_use(alloc, entries)?;
     let none = vec![in alloc; None; entries.len()]?;
     let told = told_in_order(entries, none, &places);
     if all_lead_on(entries, &told) {
