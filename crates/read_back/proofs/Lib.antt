@@ -17,3 +17,4 @@ pub mod Declared
 pub mod Standing
 pub mod Fields
 pub mod Whole
+pub mod KnownValues
