@@ -18,3 +18,4 @@ pub mod Standing
 pub mod Fields
 pub mod Whole
 pub mod KnownValues
+pub mod ProperNames
