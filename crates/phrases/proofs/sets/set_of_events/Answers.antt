@@ -1,14 +1,13 @@
-use Rattle.std.proofs.Common.{map, subst}
-use Rattle.values.specs.Tables.{behind, input}
-use Rattle.values.specs.View.{Gives}
-use Rattle.phrases.specs.EventForms.{within}
-use Rattle.phrases.specs.Events.{event_set as event_set_in, masked}
+use Rattle.std.proofs.Common.{map, ap, subst}
 use Rattle.syntax.specs.View.{shape}
+use Rattle.values.specs.Tables.{input}
+use Rattle.values.specs.View.{Gives}
+use Rattle.phrases.specs.Events.{masked}
+use Rattle.phrases.specs.Phrases.{Scope, events_by}
+use Rattle.phrases.proofs.Places.{no_inputs}
 use Rattle.phrases.proofs.sets.set_of_events.Goals as goal
 
--- src/sets.rt:118:1
 pub returns : goal.returns
-unfolding behind
 returns g c =
     let s = g.F.Facts.scope c.args.facts.now in
-    subst (λ is. Gives (λ s. s) c.event_set.result (masked s.channels (event_set_in s.channels (within s (map input is)).known s.sets (shape c.args.tree.now)))) c.new.ensures.items c.event_set.ensures
+    subst (λ (s : Scope). Gives (λ x. x) c.event_set.result (masked s.channels (events_by s (shape c.args.tree.now)))) (no_inputs s (map input c.new.result.items) (ap (map input) c.new.ensures.items)) c.event_set.ensures

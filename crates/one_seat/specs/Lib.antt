@@ -1,0 +1,4 @@
+pub mod Lines
+pub mod Through
+pub mod Faults
+pub mod Seats
