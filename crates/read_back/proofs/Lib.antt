@@ -17,3 +17,5 @@ pub mod Declared
 pub mod Standing
 pub mod Fields
 pub mod Whole
+pub mod KnownValues
+pub mod ProperNames
