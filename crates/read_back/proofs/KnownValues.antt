@@ -87,7 +87,7 @@ unfolding union
 union_rises vs [] h = h
 union_rises vs (w ∷ ws) h = union_rises (insert_key value_cmp vs w) ws (rises_insert value_cmp value_total vs w h)
 
-set_rises : (vs : Values) → Rising (set_of vs)
+pub set_rises : (vs : Values) → Rising (set_of vs)
 unfolding set_of
 set_rises [] = tt
 set_rises (v ∷ vs) = rises_insert value_cmp value_total (set_of vs) v (set_rises vs)

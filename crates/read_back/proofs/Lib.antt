@@ -19,3 +19,4 @@ pub mod Fields
 pub mod Whole
 pub mod KnownValues
 pub mod ProperNames
+pub mod Origins
