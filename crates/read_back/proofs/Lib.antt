@@ -20,3 +20,4 @@ pub mod Whole
 pub mod KnownValues
 pub mod ProperNames
 pub mod Origins
+pub mod PairsInOrder
