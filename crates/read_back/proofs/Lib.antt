@@ -21,3 +21,4 @@ pub mod KnownValues
 pub mod ProperNames
 pub mod Origins
 pub mod PairsInOrder
+pub mod Written

@@ -1,0 +1,167 @@
+-- What phrases denote has a text: its events, sets and pairs lie in Sigma, and its renamings are in order.
+use Rattle.std.proofs.Common.{◌≡◌, ℕ, zero, suc, ◌+◌, ◌-◌, ◌/◌, ◌<◌, ◌≤◌, List, [], ◌∷◌, ◌++◌, map, length, take, drop, nat_lt, Bool, true, false, cond, ◌&&◌, not, IsTrue, Option, Some, None, refl, sym, ap, ap₂, subst, ◌∙◌, arith}
+use Rattle.std.proofs.lemmas.Bool.{ltb-true, false≢true}
+use Rattle.std.specs.Cmp.Lexicographic.{pointwise}
+use Rattle.alphabet.specs.declared.events.Event.{Event}
+use Rattle.alphabet.specs.declared.events.Event.TheVariants.{Tick as tick, Of as ev}
+use Rattle.alphabet.specs.Channels.{FieldValue, Values, Channel, Parts, events, event_count}
+use Rattle.alphabet.specs.EventSets.{Set, member}
+use Rattle.alphabet.specs.Elements.{In, here, there}
+use Rattle.alphabet.proofs.Lists.{and-left, and-right}
+use Rattle.alphabet.proofs.ChannelPlaces.{event_count-is}
+use Rattle.term.specs.Proc as procs
+use Rattle.term.specs.Proc.{Proc}
+use Rattle.term.specs.Traces.{Pairs}
+use Rattle.term.specs.Specs.{SetInSigma, PairsInSigma}
+use Rattle.syntax.specs.declared.form.Form.{Form}
+use Rattle.syntax.specs.declared.form.Form.TheVariants as forms
+use Rattle.syntax.specs.declared.operator.Operator.TheVariants as operators
+use Rattle.syntax.specs.Grammar.{Syntax, Called, Numeral, Node, Syntaxes, NoSyntax, MoreSyntax}
+use Rattle.values.specs.Values.{◌>>=◌, Name, is_among, is_same}
+use Rattle.values.specs.Worths.{Worth, one, many, Known, worth, the_set}
+use Rattle.values.specs.Names.{Meaning, meaning, same_name, is_process}
+use Rattle.phrases.specs.Events.{Events, Beginning, unless_value, channel_fields, field_value, beginning, begins_so, number_in, pairs_from, pair_of, pairs_of, in_order, event_set, set_below, set_of, both}
+use Rattle.phrases.specs.Bodies.{Key, Body, stop, skip, prefix, ext, int, seq, par, hide, ren, intr, name, names, numbered, half, choice_in, choice_of}
+use Rattle.phrases.specs.Phrases.{Scope, Fitting, is_constant, with_input, unless_constant, against, against_input, against_part, fits_field, then_fits, fitting, has_all, with_branch, branches, prefixed, renamed, alphabetised, events_by, denoted, denoted_form}
+use Rattle.phrases.proofs.SetsBelow.{is_in, member_is}
+use Rattle.declarations.proofs.Constants.{bind_some, some_same}
+use Rattle.read_back.specs.Readable.{IsRenaming, IsWritten}
+use Rattle.read_back.proofs.PairsInOrder.{a_renaming}
+
+-- ---- bodies in Sigma
+
+abbrev pub Lies : ℕ → Body → Type 0
+Lies n stop = Unit {0}
+Lies n skip = Unit {0}
+Lies n (prefix a p) = (a < n) × Lies n p
+Lies n (ext p q) = Lies n p × Lies n q
+Lies n (int p q) = Lies n p × Lies n q
+Lies n (seq p q) = Lies n p × Lies n q
+Lies n (par A p q) = SetInSigma n A × Lies n p × Lies n q
+Lies n (hide A p) = SetInSigma n A × Lies n p
+Lies n (ren R p) = IsRenaming n R × Lies n p
+Lies n (intr p q) = Lies n p × Lies n q
+Lies n (name k) = Unit {0}
+
+abbrev AllLie : ℕ → List Body → Type 0
+AllLie n [] = Unit {0}
+AllLie n (p ∷ ps) = Lies n p × AllLie n ps
+
+-- ---- sets
+
+below_sigma : (n : ℕ) (A : Events) → SetInSigma n (set_below n A)
+below_sigma n A tick h = absurd (false≢true (sym (member_is n A tick) ∙ h))
+below_sigma n A (ev a) h = ltb-true a n (and-left (nat_lt a n) (A a) (sym (member_is n A (ev a)) ∙ h))
+
+none_sigma : (n : ℕ) → SetInSigma n 0
+unfolding set_below
+none_sigma n tick h = absurd (false≢true (sym (member_is 0 (λ a. false) tick) ∙ h))
+none_sigma n (ev a) h = let l : a < 0 = ltb-true a 0 (and-left (nat_lt a 0) false (sym (member_is 0 (λ a. false) (ev a)) ∙ h)) in omega (arith, l)
+
+-- ---- choices
+
+take_lies : (n k : ℕ) (ps : List Body) → AllLie n ps → AllLie n (take k ps)
+take_lies n zero ps h = tt
+take_lies n (suc k) [] h = tt
+take_lies n (suc k) (p ∷ ps) h = (h.0, take_lies n k ps h.1)
+
+drop_lies : (n k : ℕ) (ps : List Body) → AllLie n ps → AllLie n (drop k ps)
+drop_lies n zero ps h = h
+drop_lies n (suc k) [] h = tt
+drop_lies n (suc k) (p ∷ ps) h = drop_lies n k ps h.1
+
+choice_lies : (n k : ℕ) (ps : List Body) → AllLie n ps → Lies n (choice_in k ps)
+unfolding choice_in
+choice_lies n k [] h = tt
+choice_lies n k (p ∷ []) h = h.0
+choice_lies n zero (p ∷ q ∷ ps) h = tt
+choice_lies n (suc k) (p ∷ q ∷ ps) h = (choice_lies n k (take (half (p ∷ q ∷ ps)) (p ∷ q ∷ ps)) (take_lies n (half (p ∷ q ∷ ps)) (p ∷ q ∷ ps) h), choice_lies n k (drop (half (p ∷ q ∷ ps)) (p ∷ q ∷ ps)) (drop_lies n (half (p ∷ q ∷ ps)) (p ∷ q ∷ ps) h))
+
+-- ---- fields
+
+abbrev some_scope : Scope → Fitting
+some_scope s = Some (Some s)
+
+against_same : (set : Values) (v : FieldValue) (s : Scope) (o : Option FieldValue) (inner : Scope) → against set v s o ≡ some_scope inner → inner.channels ≡ s.channels
+unfolding against
+against_same set v s None inner e = absurd cc
+against_same set v s (Some w) inner e = by (is_among w set) (is_same w v) e
+  where
+    by : (a b : Bool) → cond a (cond b (Some (Some s)) (Some None)) None ≡ some_scope inner → inner.channels ≡ s.channels
+    by true true e = ap (λ (x : Scope). x.channels) (sym (some_same (some_same e)))
+    by true false e = absurd cc
+    by false b e = absurd cc
+
+input_same : (v : FieldValue) (s : Scope) (x : Name) (inner : Scope) → against_input v s x ≡ some_scope inner → inner.channels ≡ s.channels
+unfolding against_input
+input_same v s x inner e = by (is_constant (meaning s.entries x)) e
+  where
+    by : (b : Bool) → cond b None (Some (Some (with_input s x v))) ≡ some_scope inner → inner.channels ≡ s.channels
+    by true e = absurd cc
+    by false e = ap (λ (x : Scope). x.channels) (sym (some_same (some_same e)))
+
+part_same : (v : FieldValue) (s : Scope) (x : Name) (o : Option Values) (inner : Scope) → against_part v s x o ≡ some_scope inner → inner.channels ≡ s.channels
+unfolding against_part
+part_same v s x None inner e = absurd cc
+part_same v s x (Some part) inner e = by (is_constant (meaning s.entries x)) (is_among v part) e
+  where
+    by : (b c : Bool) → cond b None (cond c (Some (Some (with_input s x v))) (Some None)) ≡ some_scope inner → inner.channels ≡ s.channels
+    by true c e = absurd cc
+    by false true e = ap (λ (x : Scope). x.channels) (sym (some_same (some_same e)))
+    by false false e = absurd cc
+
+field_same : (t : Syntax) (set : Values) (v : FieldValue) (s inner : Scope) → fits_field t set v s ≡ some_scope inner → inner.channels ≡ s.channels
+unfolding fits_field
+field_same (Node forms.Input (MoreSyntax (Called x) NoSyntax)) set v s inner e = input_same v s x inner e
+field_same (Node forms.RestrictedInput (MoreSyntax (Called x) (MoreSyntax t NoSyntax))) set v s inner e = part_same v s x (worth s.known t >>= the_set) inner e
+field_same t set v s inner e = against_same set v s (field_value s.known t) inner e
+
+fitting_same : (ts : Syntaxes) (sets : List Values) (vs : Values) (s inner : Scope) → fitting ts sets vs s ≡ some_scope inner → inner.channels ≡ s.channels
+unfolding fitting
+fitting_same NoSyntax [] [] s inner e = ap (λ (x : Scope). x.channels) (sym (some_same (some_same e)))
+fitting_same (MoreSyntax t ts) (set ∷ sets) (v ∷ vs) s inner e = by (fits_field t set v s) refl e (λ m f. fitting_same ts sets vs m inner f)
+  where
+    by : (o : Fitting) → fits_field t set v s ≡ o → then_fits o (λ m. fitting ts sets vs m) ≡ some_scope inner → ((m : Scope) → fitting ts sets vs m ≡ some_scope inner → inner.channels ≡ m.channels) → inner.channels ≡ s.channels
+    by None p q rec = absurd cc
+    by (Some None) p q rec = absurd cc
+    by (Some (Some m)) p q rec = rec m q ∙ field_same t set v s m p
+fitting_same ts sets vs s inner e = absurd cc
+
+-- ---- branches
+
+-- what is denoted behind the fields lies in Sigma
+abbrev NextLies : List Channel → (Scope → Option Body) → Type 0
+NextLies cs next = (s : Scope) (b : Body) → s.channels ≡ cs → next s ≡ Some b → Lies (event_count cs) b
+
+module _ (cs : List Channel) (next : Scope → Option Body) (h : NextLies cs next) (c : Name) (ts : Syntaxes) (sets : List Values) (s : Scope) (same : s.channels ≡ cs) where
+  branch_lies : (a : ℕ) (x : Option Scope) (qs ps : List Body) → a < event_count cs → ((m : Scope) → x ≡ Some m → m.channels ≡ cs) → AllLie (event_count cs) qs → with_branch next a x qs ≡ Some ps → AllLie (event_count cs) ps
+  branch_lies a None qs ps l k g e = subst (AllLie (event_count cs)) (some_same e) g
+  branch_lies a (Some m) qs ps l k g e =
+      let (p, u, v) = bind_some (next m) (λ p. Some (prefix a p ∷ qs)) ps e in
+      subst (AllLie (event_count cs)) (some_same v) ((l, h m p (k m refl) u), g)
+
+  branches_lie : (rs : List Parts) (a : ℕ) (ps : List Body) → a + length rs ≤ event_count cs → branches next c ts sets s a rs ≡ Some ps → AllLie (event_count cs) ps
+  unfolding branches
+  branches_lie [] a ps l e = subst (AllLie (event_count cs)) (some_same e) tt
+  branches_lie (r ∷ rs) a ps l e = by (same_name c r.channel) e (λ qs f. branches_lie rs (suc a) qs (omega (arith, l)) f)
+    where
+      by : (b : Bool) → cond b (fitting ts sets r.values s >>= λ x. branches next c ts sets s (suc a) rs >>= with_branch next a x) (branches next c ts sets s (suc a) rs) ≡ Some ps → ((qs : List Body) → branches next c ts sets s (suc a) rs ≡ Some qs → AllLie (event_count cs) qs) → AllLie (event_count cs) ps
+      by true e rec =
+          let (x, u, v) = bind_some (fitting ts sets r.values s) (λ x. branches next c ts sets s (suc a) rs >>= with_branch next a x) ps e in
+          let (qs, y, z) = bind_some (branches next c ts sets s (suc a) rs) (with_branch next a x) ps v in
+          branch_lies a x qs ps (omega (arith, l)) (λ m g. fitting_same ts sets r.values s m (u ∙ ap (λ o. Some o) g) ∙ same) (rec qs y) z
+      by false e rec = rec ps e
+
+prefixed_lies : (cs : List Channel) (next : Scope → Option Body) → NextLies cs next → (s : Scope) (t : Syntax) (b : Body) → s.channels ≡ cs → prefixed s t next ≡ Some b → Lies (event_count cs) b
+unfolding prefixed choice_of
+prefixed_lies cs next h s (Node forms.Event (MoreSyntax (Called c) ts)) b same e =
+    let (sets, u, v) = bind_some (channel_fields s.channels s.known c) (λ sets. cond (has_all ts sets) (branches next c ts sets s 0 (events s.channels) >>= λ ps. Some (choice_of ps)) None) b e in
+    by sets (has_all ts sets) v
+  where
+    by : (sets : List Values) (t : Bool) → cond t (branches next c ts sets s 0 (events s.channels) >>= λ ps. Some (choice_of ps)) None ≡ Some b → Lies (event_count cs) b
+    by sets true v =
+        let (ps, x, y) = bind_some (branches next c ts sets s 0 (events s.channels)) (λ ps. Some (choice_of ps)) b v in
+        let z : length (events s.channels) ≡ length (events cs) = ap (λ ds. length (events ds)) same in
+        subst (Lies (event_count cs)) (some_same y) (choice_lies (event_count cs) (length ps) ps (branches_lie cs next h c ts sets s same (events s.channels) 0 ps (omega (arith, z, event_count-is cs)) x))
+    by sets false v = absurd cc
+prefixed_lies cs next h s t b same e = absurd cc
