@@ -165,3 +165,122 @@ prefixed_lies cs next h s (Node forms.Event (MoreSyntax (Called c) ts)) b same e
         subst (Lies (event_count cs)) (some_same y) (choice_lies (event_count cs) (length ps) ps (branches_lie cs next h c ts sets s same (events s.channels) 0 ps (omega (arith, z, event_count-is cs)) x))
     by sets false v = absurd cc
 prefixed_lies cs next h s t b same e = absurd cc
+
+-- ---- renamings
+
+abbrev AllPairs : ℕ → Pairs → Type 0
+AllPairs n [] = Unit {0}
+AllPairs n (p ∷ R) = (p.0 < n) × (p.1 < n) × AllPairs n R
+
+both_pairs : (n : ℕ) (R S : Pairs) → AllPairs n R → AllPairs n S → AllPairs n (R ++ S)
+both_pairs n [] S h k = k
+both_pairs n (p ∷ R) S h k = (h.0, h.1, both_pairs n R S h.2 k)
+
+number_below : (ps : List Parts) (b : Beginning) (k : ℕ) → number_in ps b ≡ Some k → k < length ps
+unfolding number_in
+number_below [] b k e = absurd cc
+number_below (p ∷ ps) b k e = by (same_name b.0 p.channel && pointwise is_same b.1 p.values) e (λ j f. number_below ps b j f)
+  where
+    by : (t : Bool) → cond t (Some 0) (number_in ps b >>= λ a. Some (suc a)) ≡ Some k → ((j : ℕ) → number_in ps b ≡ Some j → j < length ps) → k < suc (length ps)
+    by true e rec = let z : 0 ≡ k = some_same e in omega (arith, z)
+    by false e rec = let (j, u, v) = bind_some (number_in ps b) (λ a. Some (suc a)) k e in let z : suc j ≡ k = some_same v in omega (arith, z, rec j u)
+
+pairs_below : (cs : List Channel) (left right : Beginning) (ps : List Parts) (a : ℕ) (R : Pairs) → a + length ps ≤ event_count cs → pairs_from cs left right a ps ≡ Some R → AllPairs (event_count cs) R
+unfolding pairs_from
+pairs_below cs left right [] a R l e = subst (AllPairs (event_count cs)) (some_same e) tt
+pairs_below cs left right (p ∷ ps) a R l e = by (begins_so left p) e (λ S f. pairs_below cs left right ps (suc a) S (omega (arith, l)) f)
+  where
+    by : (t : Bool) → cond t (number_in (events cs) (right.0, right.1 ++ drop (length left.1) p.values) >>= λ b. pairs_from cs left right (suc a) ps >>= λ S. Some ((a, b) ∷ S)) (pairs_from cs left right (suc a) ps) ≡ Some R → ((S : Pairs) → pairs_from cs left right (suc a) ps ≡ Some S → AllPairs (event_count cs) S) → AllPairs (event_count cs) R
+    by true e rec =
+        let (b, u, v) = bind_some (number_in (events cs) (right.0, right.1 ++ drop (length left.1) p.values)) (λ b. pairs_from cs left right (suc a) ps >>= λ S. Some ((a, b) ∷ S)) R e in
+        let (S, x, y) = bind_some (pairs_from cs left right (suc a) ps) (λ S. Some ((a, b) ∷ S)) R v in
+        let low = number_below (events cs) (right.0, right.1 ++ drop (length left.1) p.values) b u in
+        subst (AllPairs (event_count cs)) (some_same y) (omega (arith, l), omega (arith, low, event_count-is cs), rec S x)
+    by false e rec = rec R e
+
+pair_below : (cs : List Channel) (known : Known) (t : Syntax) (R : Pairs) → pair_of cs known t ≡ Some R → AllPairs (event_count cs) R
+unfolding pair_of
+pair_below cs known (Node forms.Pair (MoreSyntax t (MoreSyntax u NoSyntax))) R e =
+    let (left, a, b) = bind_some (beginning cs known t) (λ left. beginning cs known u >>= λ right. pairs_from cs left right 0 (events cs)) R e in
+    let (right, c, d) = bind_some (beginning cs known u) (λ right. pairs_from cs left right 0 (events cs)) R b in
+    pairs_below cs left right (events cs) 0 R (omega (arith, event_count-is cs)) d
+pair_below cs known t R e = absurd cc
+
+all_below : (cs : List Channel) (known : Known) (ts : Syntaxes) (R : Pairs) → pairs_of cs known ts ≡ Some R → AllPairs (event_count cs) R
+unfolding pairs_of
+all_below cs known NoSyntax R e = subst (AllPairs (event_count cs)) (some_same e) tt
+all_below cs known (MoreSyntax t ts) R e =
+    let (S, a, b) = bind_some (pair_of cs known t) (λ S. pairs_of cs known ts >>= λ T. Some (S ++ T)) R e in
+    let (T, c, d) = bind_some (pairs_of cs known ts) (λ T. Some (S ++ T)) R b in
+    subst (AllPairs (event_count cs)) (some_same d) (both_pairs (event_count cs) S T (pair_below cs known t S a) (all_below cs known ts T c))
+
+renamed_lies : (n : ℕ) (R : Pairs) (p : Body) → AllPairs n R → Lies n p → Lies n (renamed n R p)
+unfolding renamed
+renamed_lies n [] p h k = k
+renamed_lies n (r ∷ R) p h k = (a_renaming n r R h.0 h.1, k)
+
+-- ---- phrases
+
+module _ (cs : List Channel) where
+  abbrev n : ℕ
+  n = event_count cs
+
+  sigma : (ds : List Channel) (A : Events) → ds ≡ cs → SetInSigma n (set_of ds A)
+  sigma ds A same = subst (λ es. SetInSigma (event_count es) (set_of ds A)) same (below_sigma (event_count ds) A)
+
+  two_lie : (f : Body → Body → Body) → ((p q : Body) → Lies n p → Lies n q → Lies n (f p q)) → (o r : Option Body) (b : Body) → ((p : Body) → o ≡ Some p → Lies n p) → ((q : Body) → r ≡ Some q → Lies n q) → (o >>= λ p. r >>= λ q. Some (f p q)) ≡ Some b → Lies n b
+  two_lie f g o r b h k e =
+      let (p, u, v) = bind_some o (λ p. r >>= λ q. Some (f p q)) b e in
+      let (q, x, y) = bind_some r (λ q. Some (f p q)) b v in
+      subst (Lies n) (some_same y) (g p q (h p u) (k q x))
+
+  named_lies : (o : Option Worth) (r : Option Body) (b : Body) → ((p : Body) → r ≡ Some p → Lies n p) → unless_value o r ≡ Some b → Lies n b
+  named_lies None r b h e = h b e
+  named_lies (Some (one v)) r b h e = absurd cc
+  named_lies (Some (many vs)) r b h e = h b e
+
+  name_lies : (c : Name) (t : Bool) (p : Body) → cond t (Some (name (c, []))) None ≡ Some p → Lies n p
+  name_lies c true p e = subst (Lies n) (some_same e) tt
+  name_lies c false p e = absurd cc
+
+  mutual
+    unfolding denoted denoted_form
+
+    pub lies : (t : Syntax) (s : Scope) (b : Body) → s.channels ≡ cs → denoted t s ≡ Some b → Lies n b
+    lies (Called c) s b same e = absurd cc
+    lies (Numeral k) s b same e = absurd cc
+    lies (Node f ts) s b same e = form_lies f ts s b same e
+
+    form_lies : (f : Form) (ts : Syntaxes) (s : Scope) (b : Body) → s.channels ≡ cs → denoted_form f ts s ≡ Some b → Lies n b
+    form_lies forms.Stop NoSyntax s b same e = subst (Lies n) (some_same e) tt
+    form_lies forms.Skip NoSyntax s b same e = subst (Lies n) (some_same e) tt
+    form_lies forms.Event (MoreSyntax (Called c) NoSyntax) s b same e = named_lies (s.known c) (cond (is_process s.entries c) (Some (name (c, []))) None) b (λ p f. name_lies c (is_process s.entries c) p f) e
+    form_lies forms.Brackets (MoreSyntax t NoSyntax) s b same e = lies t s b same e
+    form_lies (forms.Operation operators.Prefix) (MoreSyntax u (MoreSyntax t NoSyntax)) s b same e = prefixed_lies cs (denoted t) (λ m p g f. lies t m p g f) s u b same e
+    form_lies (forms.Operation operators.Sequence) (MoreSyntax t (MoreSyntax u NoSyntax)) s b same e = two_lie seq (λ p q h k. (h, k)) (denoted t s) (denoted u s) b (λ p f. lies t s p same f) (λ q f. lies u s q same f) e
+    form_lies (forms.Operation operators.Interrupt) (MoreSyntax t (MoreSyntax u NoSyntax)) s b same e = two_lie intr (λ p q h k. (h, k)) (denoted t s) (denoted u s) b (λ p f. lies t s p same f) (λ q f. lies u s q same f) e
+    form_lies (forms.Operation operators.ExternalChoice) (MoreSyntax t (MoreSyntax u NoSyntax)) s b same e = two_lie ext (λ p q h k. (h, k)) (denoted t s) (denoted u s) b (λ p f. lies t s p same f) (λ q f. lies u s q same f) e
+    form_lies (forms.Operation operators.InternalChoice) (MoreSyntax t (MoreSyntax u NoSyntax)) s b same e = two_lie int (λ p q h k. (h, k)) (denoted t s) (denoted u s) b (λ p f. lies t s p same f) (λ q f. lies u s q same f) e
+    form_lies (forms.Operation operators.Interleaving) (MoreSyntax t (MoreSyntax u NoSyntax)) s b same e = two_lie (par 0) (λ p q h k. (none_sigma n, h, k)) (denoted t s) (denoted u s) b (λ p f. lies t s p same f) (λ q f. lies u s q same f) e
+    form_lies (forms.Operation operators.Sharing) (MoreSyntax t (MoreSyntax a (MoreSyntax u NoSyntax))) s b same e =
+        let (p, v, w) = bind_some (denoted t s) (λ p. events_by s a >>= λ A. denoted u s >>= λ q. Some (par (set_of s.channels A) p q)) b e in
+        let (A, x, y) = bind_some (events_by s a) (λ A. denoted u s >>= λ q. Some (par (set_of s.channels A) p q)) b w in
+        let (q, z, o) = bind_some (denoted u s) (λ q. Some (par (set_of s.channels A) p q)) b y in
+        subst (Lies n) (some_same o) (sigma s.channels A same, lies t s p same v, lies u s q same z)
+    form_lies (forms.Operation operators.Alphabetised) (MoreSyntax t (MoreSyntax a (MoreSyntax c (MoreSyntax u NoSyntax)))) s b same e =
+        let (p, v, w) = bind_some (denoted t s) (λ p. events_by s a >>= λ A. events_by s c >>= λ B. denoted u s >>= λ q. Some (alphabetised (event_count s.channels) (set_of s.channels) p A B q)) b e in
+        let (A, x, y) = bind_some (events_by s a) (λ A. events_by s c >>= λ B. denoted u s >>= λ q. Some (alphabetised (event_count s.channels) (set_of s.channels) p A B q)) b w in
+        let (B, i, j) = bind_some (events_by s c) (λ B. denoted u s >>= λ q. Some (alphabetised (event_count s.channels) (set_of s.channels) p A B q)) b y in
+        let (q, z, o) = bind_some (denoted u s) (λ q. Some (alphabetised (event_count s.channels) (set_of s.channels) p A B q)) b j in
+        subst (Lies n) (some_same o)
+        (sigma s.channels (both A B) same, (sigma s.channels (λ k. nat_lt k (event_count s.channels) && not (A k)) same, lies t s p same v, tt), (sigma s.channels (λ k. nat_lt k (event_count s.channels) && not (B k)) same, lies u s q same z, tt))
+    form_lies (forms.Operation operators.Hiding) (MoreSyntax t (MoreSyntax a NoSyntax)) s b same e =
+        let (p, v, w) = bind_some (denoted t s) (λ p. events_by s a >>= λ A. Some (hide (set_of s.channels A) p)) b e in
+        let (A, x, y) = bind_some (events_by s a) (λ A. Some (hide (set_of s.channels A) p)) b w in
+        subst (Lies n) (some_same y) (sigma s.channels A same, lies t s p same v)
+    form_lies (forms.Operation operators.Renaming) (MoreSyntax t ts) s b same e =
+        let (p, v, w) = bind_some (denoted t s) (λ p. pairs_of s.channels s.known ts >>= λ R. Some (renamed (event_count s.channels) R p)) b e in
+        let (R, x, y) = bind_some (pairs_of s.channels s.known ts) (λ R. Some (renamed (event_count s.channels) R p)) b w in
+        let h : AllPairs n R = subst (λ ds. AllPairs (event_count ds) R) same (all_below s.channels s.known ts R x) in
+        subst (Lies n) (ap (λ ds. renamed (event_count ds) R p) (sym same) ∙ some_same y) (renamed_lies n R p h (lies t s p same v))
+    form_lies f ts s b same e = absurd cc
