@@ -1,6 +1,8 @@
 -- What phrases denote has a text: its events, sets and pairs lie in Sigma, and its renamings are in order.
 use Rattle.std.proofs.Common.{◌≡◌, ℕ, zero, suc, ◌+◌, ◌-◌, ◌/◌, ◌<◌, ◌≤◌, List, [], ◌∷◌, ◌++◌, map, length, take, drop, nat_lt, Bool, true, false, cond, ◌&&◌, not, IsTrue, Option, Some, None, refl, sym, ap, ap₂, subst, ◌∙◌, arith}
 use Rattle.std.proofs.lemmas.Bool.{ltb-true, false≢true}
+use Rattle.std.proofs.lemmas.List.{length-map}
+use Rattle.std.specs.List.{flat_map}
 use Rattle.std.specs.Cmp.Lexicographic.{pointwise}
 use Rattle.alphabet.specs.declared.events.Event.{Event}
 use Rattle.alphabet.specs.declared.events.Event.TheVariants.{Tick as tick, Of as ev}
@@ -10,7 +12,7 @@ use Rattle.alphabet.specs.Elements.{In, here, there}
 use Rattle.alphabet.proofs.Lists.{and-left, and-right}
 use Rattle.alphabet.proofs.ChannelPlaces.{event_count-is}
 use Rattle.term.specs.Proc as procs
-use Rattle.term.specs.Proc.{Proc}
+use Rattle.term.specs.Proc.{Proc, bodies_of}
 use Rattle.term.specs.Traces.{Pairs}
 use Rattle.term.specs.Specs.{SetInSigma, PairsInSigma}
 use Rattle.syntax.specs.declared.form.Form.{Form}
@@ -19,13 +21,16 @@ use Rattle.syntax.specs.declared.operator.Operator.TheVariants as operators
 use Rattle.syntax.specs.Grammar.{Syntax, Called, Numeral, Node, Syntaxes, NoSyntax, MoreSyntax}
 use Rattle.values.specs.Values.{◌>>=◌, Name, is_among, is_same}
 use Rattle.values.specs.Worths.{Worth, one, many, Known, worth, the_set}
-use Rattle.values.specs.Names.{Meaning, meaning, same_name, is_process}
+use Rattle.values.specs.Names.{Meaning, channel, datatype, constant_name, definition, meaning, same_name, is_process}
 use Rattle.phrases.specs.Events.{Events, Beginning, unless_value, channel_fields, field_value, beginning, begins_so, number_in, pairs_from, pair_of, pairs_of, in_order, event_set, set_below, set_of, both}
 use Rattle.phrases.specs.Bodies.{Key, Body, stop, skip, prefix, ext, int, seq, par, hide, ren, intr, name, names, numbered, half, choice_in, choice_of}
 use Rattle.phrases.specs.Phrases.{Scope, Fitting, is_constant, with_input, unless_constant, against, against_input, against_part, fits_field, then_fits, fitting, has_all, with_branch, branches, prefixed, renamed, alphabetised, events_by, denoted, denoted_form}
+use Rattle.phrases.specs.Denotes.{body_by, body_of, place, Reached}
 use Rattle.phrases.proofs.SetsBelow.{is_in, member_is}
 use Rattle.declarations.proofs.Constants.{bind_some, some_same}
 use Rattle.read_back.specs.Readable.{IsRenaming, IsWritten}
+use Rattle.read_back.proofs.Numbers.{at_place, AllHave, all_named, all_left, all_right}
+use Rattle.read_back.proofs.Reaching.{reached_many}
 use Rattle.read_back.proofs.PairsInOrder.{a_renaming}
 
 -- ---- bodies in Sigma
@@ -284,3 +289,60 @@ module _ (cs : List Channel) where
         let h : AllPairs n R = subst (λ ds. AllPairs (event_count ds) R) same (all_below s.channels s.known ts R x) in
         subst (Lies n) (ap (λ ds. renamed (event_count ds) R p) (sym same) ∙ some_same y) (renamed_lies n R p h (lies t s p same v))
     form_lies f ts s b same e = absurd cc
+
+-- ---- bodies with numbers
+
+by_lies : (cs : List Channel) (s : Scope) (m : Option Meaning) (b : Body) → s.channels ≡ cs → body_by s m ≡ Some b → Lies (event_count cs) b
+unfolding body_by
+by_lies cs s None b same e = absurd cc
+by_lies cs s (Some (channel ts)) b same e = absurd cc
+by_lies cs s (Some (datatype ns)) b same e = absurd cc
+by_lies cs s (Some constant_name) b same e = absurd cc
+by_lies cs s (Some (definition t)) b same e = lies cs t s b same e
+
+body_lies : (s : Scope) (k : Key) (b : Body) → body_of s k ≡ Some b → Lies (event_count s.channels) b
+unfolding body_of
+body_lies s (c, []) b e = by (is_process s.entries c) e
+  where
+    by : (t : Bool) → cond t (body_by s (meaning s.entries c)) None ≡ Some b → Lies (event_count s.channels) b
+    by true e = by_lies s.channels s (meaning s.entries c) b refl e
+    by false e = absurd cc
+body_lies s (c, v ∷ vs) b e = absurd cc
+
+bodies_lie : (s : Scope) (ks : List Key) (bs : List Body) → map (body_of s) ks ≡ map Some bs → AllLie (event_count s.channels) bs
+bodies_lie s [] [] e = tt
+bodies_lie s [] (b ∷ bs) e = absurd cc
+bodies_lie s (k ∷ ks) [] e = absurd cc
+bodies_lie s (k ∷ ks) (b ∷ bs) e =
+    let h : body_of s k ≡ Some b = cc in
+    let t : map (body_of s) ks ≡ map Some bs = cc in
+    (body_lies s k b h, bodies_lie s ks bs t)
+
+to_written : (n : ℕ) (keys : List Key) (b : Body) → Lies n b → AllHave keys (names b) → IsWritten n (length keys) (numbered (place keys) b)
+unfolding names numbered
+to_written n keys stop h k = tt
+to_written n keys skip h k = tt
+to_written n keys (prefix a p) h k = (h.0, to_written n keys p h.1 k)
+to_written n keys (ext p q) h k = (to_written n keys p h.0 (all_left keys (names p) (names q) k), to_written n keys q h.1 (all_right keys (names p) (names q) k))
+to_written n keys (int p q) h k = (to_written n keys p h.0 (all_left keys (names p) (names q) k), to_written n keys q h.1 (all_right keys (names p) (names q) k))
+to_written n keys (seq p q) h k = (to_written n keys p h.0 (all_left keys (names p) (names q) k), to_written n keys q h.1 (all_right keys (names p) (names q) k))
+to_written n keys (par A p q) h k = (h.0, to_written n keys p h.1 (all_left keys (names p) (names q) k), to_written n keys q h.2 (all_right keys (names p) (names q) k))
+to_written n keys (hide A p) h k = (h.0, to_written n keys p h.1 k)
+to_written n keys (ren R p) h k = (h.0, to_written n keys p h.1 k)
+to_written n keys (intr p q) h k = (to_written n keys p h.0 (all_left keys (names p) (names q) k), to_written n keys q h.1 (all_right keys (names p) (names q) k))
+to_written n keys (name j) h k = (at_place keys j j k.0).0
+
+all_written : (n : ℕ) (keys : List Key) (bs : List Body) → AllLie n bs → AllHave keys (flat_map names bs) → (k : ℕ) → k < length (map (numbered (place keys)) bs) → IsWritten n (length keys) (bodies_of (map (numbered (place keys)) bs) k)
+all_written n keys [] h a k l = absurd (omega (arith, l))
+all_written n keys (b ∷ bs) h a zero l = to_written n keys b h.0 (all_left keys (names b) (flat_map names bs) a)
+all_written n keys (b ∷ bs) h a (suc k) l = all_written n keys bs h.1 (all_right keys (names b) (flat_map names bs) a) k (omega (arith, l))
+
+-- what is reached has a text
+pub reached_written : (s : Scope) (root : Key) (keys : List Key) (bodies : List Body) (Ps : List Proc) → Reached s root keys bodies → Ps ≡ map (numbered (place keys)) bodies → (k : ℕ) → k < length Ps → IsWritten (event_count s.channels) (length Ps) (bodies_of Ps k)
+reached_written s root keys bodies Ps r e k l =
+    let there = subst (λ ks. AllHave ks (flat_map names bodies)) r.first (all_named root bodies) in
+    let a = reached_many s root keys bodies r in
+    let long : length keys ≡ length Ps = a ∙ sym (length-map bodies (numbered (place keys))) ∙ sym (ap length e) in
+    let h : (k : ℕ) → k < length Ps → IsWritten (event_count s.channels) (length keys) (bodies_of Ps k) =
+        subst (λ Qs. (k : ℕ) → k < length Qs → IsWritten (event_count s.channels) (length keys) (bodies_of Qs k)) (sym e) (all_written (event_count s.channels) keys bodies (bodies_lie s keys bodies r.each) there) in
+    subst (λ m. IsWritten (event_count s.channels) m (bodies_of Ps k)) long (h k l)
