@@ -22,3 +22,4 @@ pub mod ProperNames
 pub mod Origins
 pub mod PairsInOrder
 pub mod Written
+pub mod Law

@@ -1,11 +1,11 @@
 -- What a script with a tree declares: an alphabet whose channels, constants and numbers have texts of one form.
-use Rattle.std.proofs.Common.{◌≡◌, ℕ, zero, suc, ◌+◌, ◌<◌, ◌≤◌, ◌^◌, ℤ, pos, negsuc, ◌≤ℤ◌, List, [], ◌∷◌, ◌++◌, map, length, nat_eq, nat_lt, Bool, true, false, not, ◌&&◌, ◌||◌, cond, ◌⊎◌, Option, Some, None, inl, inr, refl, sym, ap, ap₂, subst, ◌∙◌, arith}
+use Rattle.std.proofs.Common.{◌≡◌, ℕ, zero, suc, ◌≤◌, ◌^◌, pos, negsuc, List, [], ◌∷◌, map, nat_eq, Bool, true, false, not, ◌||◌, cond, Some, inl, inr, refl, sym, ap, subst, ◌∙◌, arith}
 use Rattle.std.specs.Prelude.{int_lt}
 use Rattle.std.proofs.lemmas.Bool.{false≢true, lt-ltb}
 use Rattle.std.proofs.lemmas.Int.{ints}
 use Rattle.std.specs.List.{list_all, list_any}
-use Rattle.std.specs.Ordering.{is_lt, nat_cmp}
-use Rattle.std.specs.Cmp.Lexicographic.{pointwise, bytes_decides, slice_cmp}
+use Rattle.std.specs.Ordering.{is_lt}
+use Rattle.std.specs.Cmp.Lexicographic.{pointwise, bytes_decides}
 use Rattle.std.specs.declared.cmp.Ordering.TheVariants.{Less, Equal, Greater}
 use Rattle.alphabet.specs.Channels.{FieldValue, number, constant, Values, Channel, IsAlphabet, event_count, is_value, is_below, is_rising, is_field, is_declared, is_apart_from, is_in_range, are_apart}
 use Rattle.alphabet.specs.Channels as alphabets
@@ -18,7 +18,7 @@ use Rattle.values.specs.Values.{◌>>=◌, Name, value_cmp}
 use Rattle.values.specs.Worths.{Worth, one, many, Known, worth, the_set}
 use Rattle.values.specs.Order.{value_total}
 use Rattle.values.specs.Names.{Entry, Meaning, channel, datatype, constant_name, definition, same_name, meaning, declared, declared_by_all, are_distinct, worth_of, known_in, Stands}
-use Rattle.values.specs.Channels.{fields_of, with_channel, channels_of, Declares}
+use Rattle.values.specs.Channels.{fields_of, with_channel, channels_of}
 use Rattle.declarations.proofs.Constants.{bind_some, some_same, left, right, both}
 use Rattle.declarations.proofs.Meanings as meanings
 use Rattle.declarations.proofs.Meanings.{AreNamed, AllIn, in_named, means, meant, closed}
@@ -26,7 +26,7 @@ use Rattle.read_back.proofs.Ordered.{Above, Rises}
 use Rattle.read_back.proofs.Scanned.{IsProper}
 use Rattle.read_back.proofs.Texts.{IsShown}
 use Rattle.read_back.proofs.Processes.{IsShownAlphabet}
-use Rattle.read_back.proofs.KnownValues.{InLimits, Fine, AllFine, FineWorth, set_fine, set_rises, worth_fine}
+use Rattle.read_back.proofs.KnownValues.{Fine, AllFine, FineWorth, set_fine, set_rises, worth_fine}
 use Rattle.read_back.proofs.ProperNames.{EntriesProper}
 
 proper_in : (es : List Entry) (e : Entry) → EntriesProper es → meanings.In e es → IsProper e.0
@@ -116,7 +116,6 @@ module _ (ts : Syntaxes) (es : List Entry) (known : Known) (all : declared_by_al
   channels_good (f ∷ fs) cs e =
       let (ds, a, b) = bind_some (channels_of known fs) (with_channel known f.0 f.1) cs e in
       with_one f fs ds cs (channels_good fs ds a) f.1 refl b
-
 
   of_in : (fs : List Entry) (cs : List Channel) (c : Channel) → EachOf fs cs → In c cs → IsOf fs c
   of_in fs [] c h i = elim i [ ]
@@ -224,9 +223,9 @@ module _ (ts : Syntaxes) (es : List Entry) (known : Known) (all : declared_by_al
   apart_value cs e (number z) h = refl
   apart_value cs e (constant n) h =
       ap not (not_declared n cs (λ c i p.
-        let o = of_in es cs c (channels_good es cs e) i in
-        let m : meaning es c.name ≡ Some (channel o.0.0) = means es (c.name, channel o.0.0) once o.0.1 in
-        no o.0.0 (sym h.1 ∙ ap (meaning es) p ∙ m)))
+      let o = of_in es cs c (channels_good es cs e) i in
+      let m : meaning es c.name ≡ Some (channel o.0.0) = means es (c.name, channel o.0.0) once o.0.1 in
+      no o.0.0 (sym h.1 ∙ ap (meaning es) p ∙ m)))
     where
       no : (sets : Syntaxes) → Some constant_name ≡ Some (channel sets) → ⊥
       no sets e = let f : constant_name ≡ channel sets = some_same e in cc

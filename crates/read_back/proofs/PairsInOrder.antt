@@ -1,12 +1,11 @@
 -- Pairs in order: what stands there, and that they stay.
-use Rattle.std.proofs.Common.{◌≡◌, ℕ, zero, suc, ◌+◌, ◌<◌, ◌≤◌, List, [], ◌∷◌, ◌++◌, map, filter, length, get_or, nat_eq, Bool, true, false, cond, ◌&&◌, ◌||◌, inl, inr, refl, sym, ap, ap₂, subst, ◌∙◌, arith}
+use Rattle.std.proofs.Common.{◌≡◌, ℕ, zero, suc, ◌+◌, ◌<◌, ◌≤◌, List, [], ◌∷◌, ◌++◌, map, filter, length, get_or, nat_eq, Bool, true, false, cond, ◌&&◌, ◌||◌, refl, sym, ap, ap₂, subst, ◌∙◌, arith}
 use Rattle.std.proofs.lemmas.Bool.{false≢true, eqb-true}
-use Rattle.std.specs.List.{All, flat_map, list_any, range_with_len}
+use Rattle.std.specs.List.{flat_map, range_with_len}
 use Rattle.std.specs.Cmp.{nat_eq_equiv}
 use Rattle.alphabet.specs.Elements.{In, here, there}
 use Rattle.alphabet.proofs.Lists.{In-map, In-flat_map, In-under_map, In-get_or, and-left, and-right}
 use Rattle.term.specs.Traces.{Pairs}
-use Rattle.term.specs.Specs.{PairsInSigma}
 use Rattle.phrases.specs.Events.{is_pair_of, in_order}
 use Rattle.read_back.specs.Readable.{IsRenaming}
 use Rattle.read_back.proofs.Ordered.{in_flat}

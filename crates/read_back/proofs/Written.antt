@@ -1,20 +1,16 @@
 -- What phrases denote has a text: its events, sets and pairs lie in Sigma, and its renamings are in order.
-use Rattle.std.proofs.Common.{◌≡◌, ℕ, zero, suc, ◌+◌, ◌-◌, ◌/◌, ◌<◌, ◌≤◌, List, [], ◌∷◌, ◌++◌, map, length, take, drop, nat_lt, Bool, true, false, cond, ◌&&◌, not, IsTrue, Option, Some, None, refl, sym, ap, ap₂, subst, ◌∙◌, arith}
+use Rattle.std.proofs.Common.{◌≡◌, ℕ, zero, suc, ◌+◌, ◌<◌, ◌≤◌, List, [], ◌∷◌, ◌++◌, map, length, take, drop, nat_lt, Bool, true, false, cond, ◌&&◌, not, Option, Some, None, refl, sym, ap, subst, ◌∙◌, arith}
 use Rattle.std.proofs.lemmas.Bool.{ltb-true, false≢true}
 use Rattle.std.proofs.lemmas.List.{length-map}
 use Rattle.std.specs.List.{flat_map}
 use Rattle.std.specs.Cmp.Lexicographic.{pointwise}
-use Rattle.alphabet.specs.declared.events.Event.{Event}
 use Rattle.alphabet.specs.declared.events.Event.TheVariants.{Tick as tick, Of as ev}
 use Rattle.alphabet.specs.Channels.{FieldValue, Values, Channel, Parts, events, event_count}
-use Rattle.alphabet.specs.EventSets.{Set, member}
-use Rattle.alphabet.specs.Elements.{In, here, there}
-use Rattle.alphabet.proofs.Lists.{and-left, and-right}
+use Rattle.alphabet.proofs.Lists.{and-left}
 use Rattle.alphabet.proofs.ChannelPlaces.{event_count-is}
-use Rattle.term.specs.Proc as procs
 use Rattle.term.specs.Proc.{Proc, bodies_of}
 use Rattle.term.specs.Traces.{Pairs}
-use Rattle.term.specs.Specs.{SetInSigma, PairsInSigma}
+use Rattle.term.specs.Specs.{SetInSigma}
 use Rattle.syntax.specs.declared.form.Form.{Form}
 use Rattle.syntax.specs.declared.form.Form.TheVariants as forms
 use Rattle.syntax.specs.declared.operator.Operator.TheVariants as operators
@@ -22,11 +18,11 @@ use Rattle.syntax.specs.Grammar.{Syntax, Called, Numeral, Node, Syntaxes, NoSynt
 use Rattle.values.specs.Values.{◌>>=◌, Name, is_among, is_same}
 use Rattle.values.specs.Worths.{Worth, one, many, Known, worth, the_set}
 use Rattle.values.specs.Names.{Meaning, channel, datatype, constant_name, definition, meaning, same_name, is_process}
-use Rattle.phrases.specs.Events.{Events, Beginning, unless_value, channel_fields, field_value, beginning, begins_so, number_in, pairs_from, pair_of, pairs_of, in_order, event_set, set_below, set_of, both}
+use Rattle.phrases.specs.Events.{Events, Beginning, unless_value, channel_fields, field_value, beginning, begins_so, number_in, pairs_from, pair_of, pairs_of, set_below, set_of, both}
 use Rattle.phrases.specs.Bodies.{Key, Body, stop, skip, prefix, ext, int, seq, par, hide, ren, intr, name, names, numbered, half, choice_in, choice_of}
-use Rattle.phrases.specs.Phrases.{Scope, Fitting, is_constant, with_input, unless_constant, against, against_input, against_part, fits_field, then_fits, fitting, has_all, with_branch, branches, prefixed, renamed, alphabetised, events_by, denoted, denoted_form}
+use Rattle.phrases.specs.Phrases.{Scope, Fitting, is_constant, with_input, against, against_input, against_part, fits_field, then_fits, fitting, has_all, with_branch, branches, prefixed, renamed, alphabetised, events_by, denoted, denoted_form}
 use Rattle.phrases.specs.Denotes.{body_by, body_of, place, Reached}
-use Rattle.phrases.proofs.SetsBelow.{is_in, member_is}
+use Rattle.phrases.proofs.SetsBelow.{member_is}
 use Rattle.declarations.proofs.Constants.{bind_some, some_same}
 use Rattle.read_back.specs.Readable.{IsRenaming, IsWritten}
 use Rattle.read_back.proofs.Numbers.{at_place, AllHave, all_named, all_left, all_right}
@@ -344,5 +340,5 @@ reached_written s root keys bodies Ps r e k l =
     let a = reached_many s root keys bodies r in
     let long : length keys ≡ length Ps = a ∙ sym (length-map bodies (numbered (place keys))) ∙ sym (ap length e) in
     let h : (k : ℕ) → k < length Ps → IsWritten (event_count s.channels) (length keys) (bodies_of Ps k) =
-        subst (λ Qs. (k : ℕ) → k < length Qs → IsWritten (event_count s.channels) (length keys) (bodies_of Qs k)) (sym e) (all_written (event_count s.channels) keys bodies (bodies_lie s keys bodies r.each) there) in
+    subst (λ Qs. (k : ℕ) → k < length Qs → IsWritten (event_count s.channels) (length keys) (bodies_of Qs k)) (sym e) (all_written (event_count s.channels) keys bodies (bodies_lie s keys bodies r.each) there) in
     subst (λ m. IsWritten (event_count s.channels) m (bodies_of Ps k)) long (h k l)
