@@ -69,11 +69,7 @@ fn denoted<A: Allocator + Copy>(
 ///
 /// Costs the text's length, a turn for each name and each use of one, a copy of each event's values, and a turn for each node
 /// of the bodies and each event that a prefix is held against.
-pub fn read<A: Allocator + Copy>(
-    alloc: A,
-    text: &[u8],
-    root: &[u8],
-) -> Result<Spec<A>, ScriptError>
+pub fn read<A: Allocator + Copy>(alloc: A, text: &[u8], root: &[u8]) -> Result<Spec<A>, ScriptError>
     // What is read is what the text denotes.
     ensures found { IfOk result (λ spec. IsRead text.now root.now spec) }
     // What the text denotes is read, and nothing else, unless memory runs out.
