@@ -75,8 +75,8 @@ const FIRST_RUN: [(&str, &str, &str, u8); 6] = [
     ),
     (
         "channel a, b\nP = a -> b -> STOP\n",
-        "E a\nQ\nE a\n",
-        "OK 1\nBYE\n",
+        "N\nE a\nS\nQ\nE a\n",
+        "N a\nOK 1\nS 1 1 0 0 open\nBYE\n",
         0,
     ),
 ];

@@ -2,7 +2,9 @@
 #![tactic(auto)]
 
 mod declared;
+mod diagnosis;
 mod entries;
+mod kinds;
 mod law;
 mod named;
 mod names;
@@ -15,6 +17,7 @@ mod standing;
 mod told;
 
 pub use declared::{Declared, declare};
+pub use diagnosis::fault_of_name;
 pub use entries::{Entries, Entry, Meaning};
 pub use law::trees_have_names;
 pub use named::has_names;

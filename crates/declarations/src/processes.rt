@@ -15,6 +15,7 @@ use std::alloc::Allocator;
 use syntax::{Form, Operator, Tree};
 
 /// What is seen at once of whether a phrase is a process.
+#[derive(Clone, Copy)]
 pub(crate) enum Answer<'a> {
     /// It is one, or it isn't.
     Known(bool),
@@ -44,7 +45,7 @@ fn is_process_operator(operator: Operator) -> bool
 
 /// Whether phrases of this form are processes.
 #[tactic(auto, unfolding(values::specs::Names::is_process_form))]
-fn is_process_form(form: Form) -> bool
+pub(crate) fn is_process_form(form: Form) -> bool
     ensures { result ≡ is_process_form_of form }
 {
     match form {
@@ -70,7 +71,7 @@ fn answer_of_event<A: Allocator>(parts: &[Tree<A>]) -> Answer<'_>
 
 /// Whether the phrase is a process. Looks through brackets.
 #[tactic(auto, unfolding(values::specs::Names::is_process_by), using(crate::proofs::ProcessNames::inside, crate::proofs::ProcessNames::not_inside, crate::proofs::ProcessNames::by_event, crate::proofs::ProcessNames::by_form))]
-fn answer_of<A: Allocator>(phrase: &Tree<A>) -> Answer<'_>
+pub(crate) fn answer_of<A: Allocator>(phrase: &Tree<A>) -> Answer<'_>
     ensures { (name : Name → Bool) → is_process_by name (shape phrase.now) ≡ says name result }
 {
     match phrase {

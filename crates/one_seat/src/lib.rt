@@ -2,10 +2,12 @@
 #![tactic(auto)]
 
 mod copying;
+mod memory;
 mod notes;
 mod passed;
 mod seat;
 mod watch;
 
+pub use memory::seat_in_memory;
 pub use seat::OneSeat;
 pub use watch::Watch;

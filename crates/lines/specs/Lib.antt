@@ -1,4 +1,0 @@
-pub mod Tallies
-pub mod Requests
-pub mod Replies
-pub mod Talks
