@@ -8,6 +8,8 @@ use std::convert::AsStr;
 pub(crate) enum Wish<'a> {
     /// To judge the reports on standard input by the process of the script in the file `spec`.
     Check { spec: &'a str, process: &'a str },
+    /// To print what the script in the file `spec` denotes for the process.
+    Print { spec: &'a str, process: &'a str },
 }
 
 fn word<'a>(alloc: Global, id: &'a str, help: &'a str) -> Arg<'a> {
@@ -17,29 +19,57 @@ fn word<'a>(alloc: Global, id: &'a str, help: &'a str) -> Arg<'a> {
         .help(help)
 }
 
-fn check_command<'a>(alloc: Global) -> Result<Command<'a>, AllocError> {
-    Command::new(alloc, "check")
-        .about("Judges the reports on standard input, and answers on standard output")
+// A command on the process of a script.
+fn on_process<'a>(
+    alloc: Global,
+    name: &'a str,
+    about: &'a str,
+    help: &'a str,
+) -> Result<Command<'a>, AllocError> {
+    Command::new(alloc, name)
+        .about(about)
         .arg(word(alloc, "SPEC", "The file of the script"))?
-        .arg(word(alloc, "PROCESS", "The process of the script to judge by"))
+        .arg(word(alloc, "PROCESS", help))
+}
+
+fn check_command<'a>(alloc: Global) -> Result<Command<'a>, AllocError> {
+    on_process(
+        alloc,
+        "check",
+        "Judges the reports on standard input, and answers on standard output",
+        "The process of the script to judge by",
+    )
+}
+
+fn print_command<'a>(alloc: Global) -> Result<Command<'a>, AllocError> {
+    on_process(
+        alloc,
+        "print",
+        "Prints what a process of the script means, with numbers for its definitions",
+        "The process of the script to print",
+    )
 }
 
 fn command<'a>(alloc: Global) -> Result<Command<'a>, AllocError> {
     Command::new(alloc, "cspwatch")
         .about("Judges reports of running components against a CSP specification")
         .subcommand_required(true)
-        .subcommand(check_command(alloc)?)
+        .subcommand(check_command(alloc)?)?
+        .subcommand(print_command(alloc)?)
 }
 
 fn wish_of<'a>(matches: &ArgMatches<'a>) -> Option<Wish<'a>> {
-    let (_, inner) = matches.subcommand()?;
-    Some(Wish::Check {
-        spec: inner.get_str("SPEC")?,
-        process: inner.get_str("PROCESS")?,
-    })
+    let (name, inner) = matches.subcommand()?;
+    let spec = inner.get_str("SPEC")?;
+    let process = inner.get_str("PROCESS")?;
+    match name {
+        "check" => Some(Wish::Check { spec, process }),
+        "print" => Some(Wish::Print { spec, process }),
+        _ => None,
+    }
 }
 
-/// Reads the words, the first of which is the program's name. What `clap` takes has both words of `check`, but no
+/// Reads the words, the first of which is the program's name. What `clap` takes has the words of its command, but no
 /// clause here says so: `Ok(None)` stands for their want.
 pub(crate) fn read_words<'a, S: AsStr>(
     alloc: Global,

@@ -1,8 +1,12 @@
 //! Judges reports of running components against a CSP specification.
 #![tactic(auto)]
 
+mod checking;
 mod commands;
+mod forms;
 mod running;
+mod scripts;
+mod telling;
 #[cfg(test)]
 mod tests;
 mod words;

@@ -1,5 +1,5 @@
 -- The constants of what phrases stand for are those that names stand for.
-use Rattle.std.proofs.Common.{◌≡◌, ℕ, zero, suc, List, [], ◌∷◌, map, filter, Bool, true, false, cond, ◌&&◌, Option, Some, None, ℤ, pos, ◌+ℤ◌, ◌-ℤ◌, not, refl, sym, ap, subst, ◌∙◌}
+use Rattle.std.proofs.Common.{◌≡◌, ℕ, zero, suc, List, [], ◌∷◌, filter, Bool, true, false, cond, ◌&&◌, Option, Some, None, ℤ, pos, ◌+ℤ◌, ◌-ℤ◌, not, refl, sym, ap, ◌∙◌}
 use Rattle.std.specs.Prelude.{int_lt, int_le, nat_le, length}
 use Rattle.std.specs.Int.{int_gap}
 use Rattle.std.specs.List.{list_all}
@@ -7,7 +7,7 @@ use Rattle.std.specs.Ordering.{match_ordering}
 use Rattle.std.specs.BTreeSet.{insert_key}
 use Rattle.std.specs.declared.cmp.Ordering.{Ordering}
 use Rattle.std.specs.declared.cmp.Ordering.TheVariants.{Less, Equal, Greater}
-use Rattle.alphabet.specs.Channels.{FieldValue, number, constant, Values}
+use Rattle.alphabet.specs.Channels.{FieldValue, number, Values}
 use Rattle.syntax.specs.declared.form.Form.{Form}
 use Rattle.syntax.specs.declared.form.Form.TheVariants as forms
 use Rattle.syntax.specs.declared.operator.Operator.{Operator}
@@ -15,7 +15,6 @@ use Rattle.syntax.specs.Grammar.{Syntax, Called, Numeral, Node, Syntaxes, NoSynt
 use Rattle.values.specs.Values.{◌>>=◌, Name, value_cmp, is_among, limited, set_of, union, intersection, difference, fitting_set, numbers_from, range}
 use Rattle.values.specs.Worths.{Worth, one, many, Known, the_value, the_number, the_set, the_only, the_two, two_numbers, two_sets, all_values, set_of_all, nothing_of, calculated, computed, negated, set_with, range_with, union_with, intersection_with, difference_with, formed, worth, worths}
 use Rattle.declarations.specs.Naming.{passes, all_pass, pass}
-use Rattle.values.specs.Names.{Entry, Meaning, channel, datatype, constant_name, definition, meaning, worth_of, known_in}
 
 pub bind_some : {X Y : Type 0} (o : Option X) (f : X → Option Y) (y : Y) → (o >>= f) ≡ Some y → (x : X) × (o ≡ Some x) × (f x ≡ Some y)
 bind_some None f y h = absurd cc

@@ -1,11 +1,10 @@
 -- The channels that are entered one by one are those that are declared, if they have no more than 256 events.
-use Rattle.std.proofs.Common.{◌≡◌, ℕ, ◌+◌, ◌<◌, ◌≤◌, List, [], ◌∷◌, ◌++◌, map, length, Bool, true, false, not, ◌&&◌, ◌||◌, cond, Option, Some, None, refl, sym, ap, ap₂, subst, ◌∙◌, arith, append_assoc, append-nil}
+use Rattle.std.proofs.Common.{◌≡◌, ℕ, ◌+◌, ◌<◌, ◌≤◌, List, [], ◌∷◌, ◌++◌, map, length, Bool, true, false, not, ◌||◌, cond, Option, Some, None, refl, sym, ap, ◌∙◌, arith, append_assoc, append-nil}
 use Rattle.std.proofs.lemmas.List.{length-append, length-map}
 use Rattle.std.proofs.lemmas.Bool.{ltb-true, ltb-false}
-use Rattle.std.specs.Prelude.{nat_eq, nat_lt}
-use Rattle.std.specs.List.{list_all, list_any, flat_map}
-use Rattle.std.specs.Cmp.Lexicographic.{pointwise, bytes_decides}
-use Rattle.alphabet.specs.Channels.{Values, Channel, Parts, channel_events, events, event_text, names, event_count, is_declared}
+use Rattle.std.specs.Prelude.{nat_lt}
+use Rattle.std.specs.List.{list_all, list_any}
+use Rattle.alphabet.specs.Channels.{Values, Channel, channel_events, events, event_text, names, event_count, is_declared}
 use Rattle.alphabet.specs.Channels.{are_distinct as are_apart_names}
 use Rattle.syntax.specs.declared.form.Form.{Form}
 use Rattle.syntax.specs.declared.form.Form.TheVariants as forms

@@ -1,17 +1,15 @@
 -- The fields of channels, from sets of values in memory.
-use Rattle.std.proofs.Common.{◌≡◌, ℕ, List, [], ◌∷◌, ◌++◌, map, length, Bool, true, false, cond, ◌&&◌, Option, Some, None, Vec, refl, sym, ap, ap₂, ◌∙◌, append_assoc, append-nil, arith}
+use Rattle.std.proofs.Common.{◌≡◌, List, [], ◌∷◌, ◌++◌, map, length, Bool, true, false, cond, Option, Some, None, Vec, refl, sym, ap, ◌∙◌, append_assoc, append-nil, arith}
 use Rattle.std.proofs.lemmas.List.{map-append}
 use Rattle.std.specs.Prelude.{int_lt}
 use Rattle.std.specs.List.{list_all, AllByRecursion}
 use Rattle.std.specs.List.Sorted.{IsStrictlySortedBy}
-use Rattle.std.specs.Ordering.{on, nat_cmp, is_lt}
-use Rattle.std.specs.Cmp.Lexicographic.{slice_cmp}
-use Rattle.std.specs.declared.cmp.Ordering.{Ordering}
+use Rattle.std.specs.Ordering.{on, is_lt}
 use Rattle.std.specs.declared.cmp.Ordering.TheVariants.{Less, Equal, Greater}
 use Rattle.alphabet.specs.declared.field_value.Value.{Value as FieldStored}
 use Rattle.alphabet.specs.Channels.{FieldValue, number, constant, Values, is_below, is_rising}
 use Rattle.alphabet.specs.Stored.{value_of, field_of}
-use Rattle.syntax.specs.Grammar.{Syntax, Syntaxes, NoSyntax, MoreSyntax}
+use Rattle.syntax.specs.Grammar.{Syntaxes, NoSyntax, MoreSyntax}
 use Rattle.values.specs.declared.value.Value.{Value}
 use Rattle.values.specs.Values.{◌>>=◌, value_cmp}
 use Rattle.values.specs.Worths.{Worth, Known, worth, the_set}

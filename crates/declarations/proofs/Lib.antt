@@ -11,3 +11,6 @@ pub mod Entire
 pub mod Meanings
 pub mod Whole
 pub mod TreeNames
+pub mod ProcessNames
+pub mod TextNames
+pub mod ToldNames

@@ -1,19 +1,19 @@
 -- What distinct names are declared as: constants, channels and what they stand for.
 use Rattle.std.proofs.Common.{◌≡◌, ℕ, zero, suc, List, [], ◌∷◌, ◌++◌, map, Bool, true, false, not, ◌&&◌, ◌||◌, ◌⊎◌, cond, Option, Some, None, inl, inr, refl, sym, ap, subst, ◌∙◌}
-use Rattle.std.specs.List.{list_all, list_any}
+use Rattle.std.specs.List.{list_any}
 use Rattle.std.specs.Cmp.Lexicographic.{bytes_decides}
-use Rattle.alphabet.specs.Channels.{FieldValue, constant, Values}
+use Rattle.alphabet.specs.Channels.{constant}
 use Rattle.alphabet.specs.Names.{is_name}
 use Rattle.syntax.specs.declared.form.Form.{Form}
 use Rattle.syntax.specs.declared.form.Form.TheVariants as forms
 use Rattle.syntax.specs.Grammar.{Syntax, Called, Numeral, Node, Syntaxes, NoSyntax, MoreSyntax}
 use Rattle.values.specs.Values.{◌>>=◌, Name}
-use Rattle.values.specs.Worths.{Worth, many, Known}
+use Rattle.values.specs.Worths.{Worth, Known}
 use Rattle.values.specs.Names.{Meaning, channel, datatype, constant_name, definition, Entry, same_name, names_of, listed_names, field_sets, entries_of, declared_by, declared_by_all, meaning, are_distinct, worth_of, known_in, Stands}
-use Rattle.declarations.specs.Naming.{has_names, have_names, passes, all_pass, pass}
+use Rattle.declarations.specs.Naming.{has_names, have_names, all_pass, pass}
 use Rattle.declarations.specs.Steps.{only_of, two_of}
 use Rattle.declarations.specs.Entering.{list_parts}
-use Rattle.declarations.specs.Sigma.{are_channels, lists_channels, declares_channels, declare_channels, IsClear, KeepsBy, KeepDeclared}
+use Rattle.declarations.specs.Sigma.{are_channels, lists_channels, declares_channels, declare_channels, KeepDeclared}
 use Rattle.declarations.proofs.Constants.{bind_some, some_same, left, right, both, worth_pass, set_pass}
 use Rattle.declarations.proofs.Entered.{parts_names}
 

@@ -1,8 +1,8 @@
 -- Constants and channels are apart, as channels are entered.
-use Rattle.std.proofs.Common.{◌≡◌, ℕ, zero, suc, ◌+◌, ◌<◌, ◌≤◌, List, [], ◌∷◌, ◌++◌, map, length, get_or, Bool, true, false, not, ◌&&◌, ◌||◌, cond, Option, Some, None, refl, sym, ap, subst, ◌∙◌, arith}
+use Rattle.std.proofs.Common.{◌≡◌, ℕ, zero, suc, ◌<◌, ◌≤◌, List, [], ◌∷◌, ◌++◌, length, get_or, Bool, true, false, not, ◌&&◌, ◌||◌, cond, Option, Some, None, refl, sym, ap, subst, ◌∙◌, arith}
 use Rattle.std.proofs.lemmas.Bool.{ltb-true, ltb-false}
 use Rattle.std.specs.Prelude.{nat_eq, nat_lt}
-use Rattle.std.specs.List.{list_all, list_any}
+use Rattle.std.specs.List.{list_all}
 use Rattle.std.specs.Cmp.Lexicographic.{pointwise, bytes_decides}
 use Rattle.alphabet.specs.Channels.{FieldValue, number, constant, Values, Channel, event_count, is_value, is_rising, is_field, is_declared, is_apart_from, are_apart}
 use Rattle.alphabet.specs.Names.{is_name}
@@ -22,7 +22,7 @@ use Rattle.values.specs.Channels.{fields_of}
 use Rattle.declarations.specs.Steps.{steps, only_of, two_of}
 use Rattle.declarations.specs.Naming.{passes, all_pass, pass}
 use Rattle.declarations.specs.Entering.{list_parts}
-use Rattle.declarations.specs.Sigma.{enter, enter_name, enter_names, enter_channels, enter_fielded, enter_form, enter_declaration, are_channels, lists_channels, declares_channels, declare_channels, IsClear, ArePartedBy, AreParted, KeepsBy, KeepNames, KeepList, KeepParts, KeepDeclared}
+use Rattle.declarations.specs.Sigma.{enter, enter_name, enter_names, enter_channels, enter_fielded, enter_form, enter_declaration, are_channels, lists_channels, declares_channels, declare_channels, IsClear, AreParted, KeepsBy, KeepNames, KeepList, KeepParts, KeepDeclared}
 use Rattle.declarations.proofs.Constants.{bind_some, some_same, left, right, both, worth_pass, sets_pass}
 
 -- ---- lists in which all pass

@@ -1,5 +1,5 @@
 -- The declarations of a script, and the names that they declare.
-use Rattle.std.proofs.Common.{◌≡◌, [], cond, Option, Some, None, refl, sym, ap, ◌∙◌}
+use Rattle.std.proofs.Common.{◌≡◌, [], cond, Option, Some, None, refl, sym, ap, subst, ◌∙◌}
 use Rattle.tokens.specs.declared.error.ScriptErrorKind.{ScriptErrorKind}
 use Rattle.tokens.specs.declared.error.ScriptErrorKind.TheVariants as kinds
 use Rattle.syntax.specs.declared.form.Form.TheVariants as forms
@@ -51,6 +51,22 @@ none_fails kinds.TooDeep o h = h
 none_fails kinds.TooLarge o h = h
 none_fails kinds.Unsupported o h = h
 none_fails kinds.NoSuchProcess o h = h
+
+-- a fault that is told for another one, which isn't want of memory
+pub fails_too : {X : Type 0} (k l : ScriptErrorKind) (o : Option X) → Fails k o → (k ≡ kinds.Memory → l ≡ kinds.Memory) → Fails l o
+fails_too kinds.Memory l o h m = subst (λ x. Fails x o) (sym (m refl)) tt
+fails_too kinds.BadByte l o h m = none_fails l o h
+fails_too kinds.BadToken l o h m = none_fails l o h
+fails_too kinds.Expected l o h m = none_fails l o h
+fails_too kinds.UnknownName l o h m = none_fails l o h
+fails_too kinds.Redeclared l o h m = none_fails l o h
+fails_too kinds.WrongFields l o h m = none_fails l o h
+fails_too kinds.OutOfRange l o h m = none_fails l o h
+fails_too kinds.TooManyEvents l o h m = none_fails l o h
+fails_too kinds.TooDeep l o h m = none_fails l o h
+fails_too kinds.TooLarge l o h m = none_fails l o h
+fails_too kinds.Unsupported l o h m = none_fails l o h
+fails_too kinds.NoSuchProcess l o h m = none_fails l o h
 
 pub none_declared : (k : ScriptErrorKind) (t : Syntax) (ts : Syntaxes) → script_parts t ≡ Some ts → declared_by_all ts ≡ None → Fails k (distinct_entries t)
 unfolding distinct_entries

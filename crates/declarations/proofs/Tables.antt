@@ -1,27 +1,24 @@
 -- The table of declared names.
-use Rattle.std.proofs.Common.{◌≡◌, ℕ, List, [], ◌∷◌, ◌++◌, map, Bool, true, false, cond, ◌||◌, Option, Some, None, Vec, is_some, refl, sym, ap, ◌∙◌}
+use Rattle.std.proofs.Common.{◌≡◌, ℕ, zero, suc, ◌<◌, length, get_or, arith, List, [], ◌∷◌, ◌++◌, map, Bool, true, false, cond, ◌||◌, Option, Some, None, Vec, is_some, refl, sym, ap, ◌∙◌}
 use Rattle.std.proofs.lemmas.List.{map-append}
+use Rattle.std.proofs.lemmas.List.Quantifiers.{position-Some}
+use Rattle.std.specs.List.{position}
 use Rattle.std.specs.Option.{option_map}
-use Rattle.std.specs.Prelude.{nat_eq}
+use Rattle.std.specs.Prelude.{nat_eq, MatchOption}
 use Rattle.std.specs.Map.{lookup}
-use Rattle.std.specs.Cmp.Lexicographic.{pointwise}
+use Rattle.std.specs.Cmp.Lexicographic.{pointwise, bytes_decides}
 use Rattle.indexmap.specs.IndexMap.{insert_entry}
 use Rattle.values.specs.Values.{Name}
 use Rattle.alphabet.specs.Channels.{Values, constant}
 use Rattle.values.specs.Values.{set_of}
 use Rattle.values.specs.Worths.{Worth, many, Known}
-use Rattle.values.specs.Names.{Entry as PlainEntry, meaning, worth_of}
+use Rattle.values.specs.Names.{meaning, worth_of}
 use Rattle.declarations.specs.declared.entries.Entry.{Entry}
 use Rattle.declarations.specs.declared.entries.Meaning.{Meaning}
 use Rattle.declarations.specs.declared.entries.Meaning.TheVariants.{Datatype}
-use Rattle.declarations.specs.View.{meaning_of}
+use Rattle.declarations.specs.Stored.{meaning_of, Stored, listed}
 use Rattle.declarations.specs.Entering.{has_name}
-
-abbrev pub Stored : Type 0 → Type 0
-Stored A = List (Vec ℕ A × Entry A)
-
-abbrev pub listed : {A : Type 0} → Stored A → List PlainEntry
-listed = map (λ e. (e.0.items, meaning_of e.1.meaning))
+use Rattle.declarations.specs.Told.{name_in}
 
 abbrev finds : {A : Type 0} → Name → Vec ℕ A → Bool
 finds n k = pointwise nat_eq n k.items
@@ -43,6 +40,24 @@ is_there {A = A} (e ∷ es) n = by (pointwise nat_eq n e.0.items) (is_there es n
     by : (b : Bool) → is_some (lookup (λ (k : Vec ℕ A). pointwise nat_eq n k.items) es) ≡ has_name (listed es) n → is_some (cond b (Some e.1) (lookup (λ (k : Vec ℕ A). pointwise nat_eq n k.items) es)) ≡ (b || has_name (listed es) n)
     by true h = refl
     by false h = h
+
+-- the place of a name
+at_key : {A : Type 0} (es : Stored A) (i : ℕ) (d : Vec ℕ A) → i < length (map (λ (e : Vec ℕ A × Entry A). e.0) es) → name_in (listed es) i ≡ Some ((get_or (map (λ (e : Vec ℕ A × Entry A). e.0) es) i d).items)
+at_key [] i d h = absurd (omega (arith, h))
+at_key (e ∷ es) zero d h = refl
+at_key (e ∷ es) (suc i) d h = at_key es i d (omega (arith, h))
+
+pub placed : {A : Type 0} (es : Stored A) (n : Name) (r : Option ℕ) → r ≡ position (λ (k : Vec ℕ A). pointwise nat_eq n k.items) (map (λ (e : Vec ℕ A × Entry A). e.0) es) → is_some r ≡ is_some (lookup (λ (k : Vec ℕ A). pointwise nat_eq n k.items) es) → MatchOption r (meaning (listed es) n ≡ None) (λ i. name_in (listed es) i ≡ Some n)
+placed {A = A} es n None h k = sym (looked_up es n) ∙ none (lookup (λ (k : Vec ℕ A). pointwise nat_eq n k.items) es) k
+  where
+    none : (o : Option (Entry A)) → false ≡ is_some o → option_map (λ (e : Entry A). meaning_of e.meaning) o ≡ None
+    none None e = refl
+    none (Some x) e = absurd cc
+placed [] n (Some i) h k = absurd cc
+placed {A = A} (e ∷ es) n (Some i) h k =
+    let p = position-Some (λ (k : Vec ℕ A). pointwise nat_eq n k.items) (map (λ (e : Vec ℕ A × Entry A). e.0) (e ∷ es)) i e.0 (sym h) in
+    at_key (e ∷ es) i e.0 p.0
+    ∙ ap (λ m. let o : Option Name = Some m in o) (sym ((bytes_decides n (get_or (map (λ (e : Vec ℕ A × Entry A). e.0) (e ∷ es)) i e.0).items).0 p.1))
 
 -- a new name stands behind the others
 insert_new : {A : Type 0} (es : Stored A) (k : Vec ℕ A) (v : Entry A) → has_name (listed es) k.items ≡ false → insert_entry (λ a b. pointwise nat_eq a.items b.items) es k v ≡ es ++ (k, v) ∷ []

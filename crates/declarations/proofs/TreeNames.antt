@@ -1,5 +1,5 @@
 -- Names in lists of trees, one behind the other.
-use Rattle.std.proofs.Common.{◌≡◌, ℕ, ◌+◌, ◌<◌, ◌≤◌, List, [], ◌∷◌, length, drop, get_or, Bool, true, false, ◌&&◌, Vec, refl, sym, ap, ◌∙◌}
+use Rattle.std.proofs.Common.{◌≡◌, ℕ, ◌+◌, ◌<◌, ◌≤◌, List, length, drop, get_or, Bool, true, false, ◌&&◌, Vec, sym, ap, ◌∙◌}
 use Rattle.syntax.specs.declared.form.Form.{Form}
 use Rattle.syntax.specs.declared.tree.Tree.{Tree, Node as TreeNode}
 use Rattle.syntax.specs.Parsing.{syntaxes}

@@ -1,5 +1,5 @@
 -- What is found is what a script declares.
-use Rattle.std.proofs.Common.{◌≡◌, ℕ, ◌≤◌, List, [], ◌∷◌, Bool, true, false, ◌&&◌, cond, Option, Some, None, refl, sym, ap, subst, ◌∙◌, arith}
+use Rattle.std.proofs.Common.{◌≡◌, ◌≤◌, List, [], Bool, true, false, cond, Option, Some, None, refl, sym, ap, subst, ◌∙◌, arith}
 use Rattle.std.proofs.lemmas.Bool.{ltb-true, ltb-false}
 use Rattle.std.specs.Prelude.{nat_lt}
 use Rattle.alphabet.specs.Channels.{Channel, event_count}
@@ -9,13 +9,13 @@ use Rattle.syntax.specs.declared.form.Form.TheVariants as forms
 use Rattle.syntax.specs.Grammar.{Syntax, Called, Numeral, Node, Syntaxes}
 use Rattle.values.specs.Values.{◌>>=◌, Name}
 use Rattle.values.specs.Worths.{Worth, Known}
-use Rattle.values.specs.Names.{Entry, declared, declared_by_all, are_distinct, Stands}
+use Rattle.values.specs.Names.{Entry, declared, are_distinct, Stands}
 use Rattle.values.specs.Channels.{channels_of, Declares}
 use Rattle.values.specs.View.{Fails}
 use Rattle.values.proofs.Lists.{fails_on}
 use Rattle.declarations.specs.Steps.{steps}
 use Rattle.declarations.specs.Naming.{has_names, have_names}
-use Rattle.declarations.specs.Entering.{script_parts, put_declaration, distinct_entries}
+use Rattle.declarations.specs.Entering.{script_parts, distinct_entries}
 use Rattle.declarations.specs.Sigma.{enter_declaration, KeepDeclared}
 use Rattle.declarations.proofs.Constants.{bind_some, some_same}
 use Rattle.declarations.proofs.Scripts.{parts_declared, parts_none}

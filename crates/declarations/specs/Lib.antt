@@ -1,6 +1,9 @@
+pub mod Stored
 pub mod View
 pub mod Steps
 pub mod Entering
 pub mod Standing
 pub mod Naming
 pub mod Sigma
+pub mod Processes
+pub mod Told

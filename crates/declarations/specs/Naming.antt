@@ -1,5 +1,5 @@
 -- Names of the language in trees, and which constants values have.
-use Rattle.std.specs.Prelude.{List, Bool, true, ◌&&◌}
+use Rattle.std.specs.Prelude.{Bool, true, ◌&&◌}
 use Rattle.std.specs.List.{list_all}
 use Rattle.alphabet.specs.Channels.{FieldValue, number, constant, Values}
 use Rattle.alphabet.specs.Names.{is_name}

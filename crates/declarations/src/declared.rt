@@ -10,9 +10,9 @@ ghost use Rattle.values.specs.Worths.{Known as Knowledge};
 ghost use Rattle.declarations.specs.Naming.{has_names};
 ghost use Rattle.declarations.specs.View.{entries as entries_of};
 
+use crate::diagnosis::told_alphabet;
 use crate::entries::Entries;
 use crate::naming::{declarations_of, distinct_entries};
-use crate::sigma::alphabet_of;
 use crate::standing::table_of_names;
 use alphabet::Alphabet;
 use std::alloc::Allocator;
@@ -34,8 +34,8 @@ pub struct Declared<'a, A: Allocator> {
 /// What the script with this tree declares. Each name in the tree is a name of the language.
 ///
 /// Tells `Unsupported` at the first definition with parameters; else `Redeclared` where a name stands for the second
-/// time; else, for the first channel that is at fault, the fault of a phrase in the sets of its fields, or
-/// `TooManyEvents` at its name where there would be more than 256 events. `Memory` is told on line 1.
+/// time; else, for the first channel that is at fault, the first fault in the sets of its fields and in the definitions that
+/// they need, or `TooManyEvents` at its name where there would be more than 256 events. `Memory` is told on line 1.
 ///
 /// Costs a turn for each name and each use of one, and what it takes to find what each named number and set stands for,
 /// once: also of those that nothing uses.
@@ -52,7 +52,7 @@ pub fn declare<'a, A: Allocator + Copy>(
 {
     let entries = distinct_entries(alloc, tree)?;
     let known = table_of_names(alloc, &entries)?;
-    let alphabet = alphabet_of(alloc, &known, declarations_of(tree)?)?;
+    let alphabet = told_alphabet(alloc, &entries, &known, declarations_of(tree)?)?;
     Ok(Declared {
         entries,
         known,

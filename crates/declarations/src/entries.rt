@@ -1,16 +1,11 @@
 //! The declared names.
-ghost use Rattle.std.specs.Prelude.{◌≡◌, ◌↔◌, IsTrue, [], length, slice_get};
-ghost use Rattle.std.specs.Option.{option_map};
-ghost use Rattle.values.specs.View.{Gives};
-ghost use Rattle.values.specs.Names.{meaning as meaning_in};
-ghost use Rattle.declarations.specs.View.{entries as entries_of, meaning_of};
-ghost use Rattle.declarations.specs.Entering.{put};
+ghost use Rattle.declarations.specs.Stored.{listed};
+ghost use Rattle.declarations.specs.Told.{AreAnswers};
 
 use indexmap::IndexMap;
 use std::alloc::Allocator;
 use std::hash::{BuildHasherDefault, FoldHasher};
 use syntax::Tree;
-use tokens::{ScriptError, ScriptErrorKind};
 
 type Hashing = BuildHasherDefault<FoldHasher>;
 
@@ -39,83 +34,7 @@ pub struct Entry<'a, A: Allocator> {
 #[derive(Drop)]
 pub struct Entries<'a, A: Allocator> {
     pub(crate) table: IndexMap<Vec<u8, A>, Entry<'a, A>, Hashing, A>,
-}
-
-impl<'a, A: Allocator + Copy> Entries<'a, A> {
-    /// No names.
-    pub(crate) fn new(alloc: A) -> Entries<'a, A>
-        ensures { entries_of result ≡ [] }
-    {
-        Entries {
-            table: IndexMap::new(alloc),
-        }
-    }
-
-    /// The names and this one behind them; `Redeclared` where it is among them.
-    #[tactic(auto, unfolding(crate::specs::Entering::put), using(crate::proofs::Tables::is_there, crate::proofs::Tables::appended))]
-    pub(crate) fn with(
-        self,
-        name: &[u8],
-        line: u32,
-        meaning: Meaning<'a, A>,
-    ) -> Result<Entries<'a, A>, ScriptError>
-        ensures { Gives entries_of result (put (entries_of self.entry) (name.now, meaning_of meaning.entry)) }
-    {
-        let mut table = self.table;
-        if table.contains_key(name) {
-            return Err(ScriptError {
-                line,
-                kind: ScriptErrorKind::Redeclared,
-            });
-        }
-        let name = Vec::from_slice(*table.allocator(), name)?;
-        let _old = table.insert(name, Entry { line, meaning })?;
-        Ok(Entries { table })
-    }
-}
-
-impl<'a, A: Allocator> Entries<'a, A> {
-    /// How many names there are.
-    pub fn len(&self) -> usize
-        ensures { result ≡ length (entries_of self.now) }
-    {
-        self.table.len()
-    }
-
-    /// Whether there are none.
-    pub fn is_empty(&self) -> bool
-        ensures { IsTrue result ↔ (length (entries_of self.now) ≡ 0) }
-    {
-        self.table.is_empty()
-    }
-
-    /// What the name is declared as. Costs one look-up by its hash.
-    pub fn get(&self, name: &[u8]) -> Option<&Entry<'a, A>>
-        ensures { option_map (λ e. meaning_of e.now.meaning) result ≡ meaning_in (entries_of self.now) name.now }
-    {
-        self.table.get(name)
-    }
-
-    /// What the name at this place is declared as.
-    pub(crate) fn at(&self, place: usize) -> Option<&Entry<'a, A>> {
-        match self.table.get_index(place) {
-            Some((_, entry)) => Some(entry),
-            None => None,
-        }
-    }
-
-    /// The place of the name in text order, counted from 0.
-    pub(crate) fn place(&self, name: &[u8]) -> Option<usize> {
-        self.table.get_index_of(name)
-    }
-
-    /// The name at this place in text order, counted from 0.
-    pub fn name_at(&self, place: usize) -> Option<&[u8]>
-        ensures { option_map (λ n. n.now) result ≡ option_map (λ e. e.0) (slice_get (entries_of self.now) place) }
-    {
-        match self.table.get_index(place) {
-            Some((name, _)) => Some(name.as_slice()),
-            None => None,
-        }
-    }
+    /// Whether the name at each place is one of a process, where it was found; `None` in a circle of names, which is one.
+    pub(crate) answers: Vec<Option<bool>, A>,
+    ghost answered: { AreAnswers (listed table.entries) answers.items },
 }

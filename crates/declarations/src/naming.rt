@@ -298,5 +298,6 @@ pub fn distinct_entries<'a, A: Allocator + Copy>(
 {
     let declarations = declarations_of(tree)?;
     without_parameters(declarations)?;
-    with_declarations(alloc, declarations)
+    let entries = with_declarations(alloc, declarations)?;
+    entries.complete(alloc)
 }

@@ -5,33 +5,31 @@ use crate::entries::{Entries, Meaning};
 use std::alloc::{AllocError, Allocator};
 use syntax::Tree;
 
-/// How far a name has come.
+/// What is still to be done, by the places of names.
 #[derive(Clone, Copy)]
-enum State {
-    /// It wasn't met yet.
-    New,
-    /// The names that it uses are being ordered.
-    Open,
-    /// It has its place in the order.
-    Done,
+enum Turn {
+    /// The name is met, for the first time or again.
+    Meet(usize),
+    /// The names that it uses have been ordered.
+    Leave(usize),
 }
 
-/// The places of the names that the phrase uses, put on the stack.
+/// The names that the phrase uses, to be met, the first one on top of the stack.
 fn with_uses<'a, A: Allocator>(
     entries: &Entries<'a, A>,
     phrase: &Tree<A>,
-    stack: Vec<usize, A>,
-) -> Result<Vec<usize, A>, AllocError> {
+    stack: Vec<Turn, A>,
+) -> Result<Vec<Turn, A>, AllocError> {
     let mut stack = stack;
     match phrase {
         Tree::Name { text, .. } => {
             if let Some(place) = entries.place(text) {
-                stack.push(place)?;
+                stack.push(Turn::Meet(place))?;
             }
         }
         Tree::Number { .. } => {}
         Tree::Node { parts, .. } => {
-            for part in parts {
+            for part in parts.iter().rev() {
                 stack = with_uses(entries, part, stack)?;
             }
         }
@@ -39,12 +37,12 @@ fn with_uses<'a, A: Allocator>(
     Ok(stack)
 }
 
-/// The places of the names that the name at this place uses, put on the stack.
+/// The names that the name at this place uses, to be met, the first one on top of the stack.
 fn with_uses_of<'a, A: Allocator>(
     entries: &Entries<'a, A>,
     place: usize,
-    stack: Vec<usize, A>,
-) -> Result<Vec<usize, A>, AllocError> {
+    stack: Vec<Turn, A>,
+) -> Result<Vec<Turn, A>, AllocError> {
     match entries.at(place) {
         Some(entry) => match &entry.meaning {
             Meaning::Definition(body) => with_uses(entries, body, stack),
@@ -54,51 +52,74 @@ fn with_uses_of<'a, A: Allocator>(
     }
 }
 
-/// All places, the first one on top.
-fn all_places<A: Allocator + Copy>(alloc: A, count: usize) -> Result<Vec<usize, A>, AllocError> {
+/// All names, to be met, the first one on top of the stack.
+fn all_places<A: Allocator + Copy>(alloc: A, count: usize) -> Result<Vec<Turn, A>, AllocError> {
     let mut stack = Vec::new(alloc);
     for place in (0..count).rev() {
-        stack.push(place)?;
+        stack.push(Turn::Meet(place))?;
     }
     Ok(stack)
 }
 
-/// A state for each of so many names.
-fn new_states<A: Allocator + Copy>(alloc: A, count: usize) -> Result<Vec<State, A>, AllocError> {
-    let mut states = Vec::new(alloc);
-    for _ in 0..count {
-        states.push(State::New)?;
-    }
-    Ok(states)
-}
-
-/// The places of the names in this order. Costs a turn for each name and for each use of one.
-pub(crate) fn order<'a, A: Allocator + Copy>(
+/// The places of the names on the stack, and of those that lead on from there, in this order. Costs a turn for each name
+/// and for each use of one.
+fn ordered<'a, A: Allocator + Copy>(
     alloc: A,
     entries: &Entries<'a, A>,
+    stack: Vec<Turn, A>,
 ) -> Result<Vec<usize, A>, AllocError> {
     let mut order = Vec::new(alloc);
-    let mut states = new_states(alloc, entries.len())?;
-    let mut stack = all_places(alloc, entries.len())?;
+    let mut met = vec![in alloc; false; entries.len()]?;
+    let mut stack = stack;
     // A script has far fewer names and uses of names than this.
     for _ in 0..u32::MAX {
-        let Some(place) = stack.pop() else {
-            break;
-        };
-        if let Some(state) = states.get_mut(place) {
-            match *state {
-                State::New => {
-                    *state = State::Open;
-                    stack.push(place)?;
-                    stack = with_uses_of(entries, place, stack)?;
+        match stack.pop() {
+            Some(Turn::Meet(place)) => {
+                if let Some(met) = met.get_mut(place) {
+                    if !*met {
+                        *met = true;
+                        stack.push(Turn::Leave(place))?;
+                        stack = with_uses_of(entries, place, stack)?;
+                    }
                 }
-                State::Open => {
-                    *state = State::Done;
-                    order.push(place)?;
-                }
-                State::Done => {}
             }
+            Some(Turn::Leave(place)) => order.push(place)?,
+            None => break,
         }
     }
     Ok(order)
+}
+
+/// The places of the names, each behind those of the names that its definition uses, as far as there is such an order. No
+/// contract says so: a caller that needs the order looks for itself whether it suits. Costs a turn for each name and for each
+/// use of one.
+pub fn places_by_use<'a, A: Allocator + Copy>(
+    alloc: A,
+    entries: &Entries<'a, A>,
+) -> Result<Vec<usize, A>, AllocError> {
+    let stack = all_places(alloc, entries.len())?;
+    ordered(alloc, entries, stack)
+}
+
+/// The places of the names that the phrase uses and that those need, in this order.
+pub(crate) fn order_behind<'a, A: Allocator + Copy>(
+    alloc: A,
+    entries: &Entries<'a, A>,
+    phrase: &Tree<A>,
+) -> Result<Vec<usize, A>, AllocError> {
+    let stack = with_uses(entries, phrase, Vec::new(alloc))?;
+    ordered(alloc, entries, stack)
+}
+
+/// The place of the name and the places of those that it needs, in this order.
+pub(crate) fn order_to<'a, A: Allocator + Copy>(
+    alloc: A,
+    entries: &Entries<'a, A>,
+    name: &[u8],
+) -> Result<Vec<usize, A>, AllocError> {
+    let mut stack = Vec::new(alloc);
+    if let Some(place) = entries.place(name) {
+        stack.push(Turn::Meet(place))?;
+    }
+    ordered(alloc, entries, stack)
 }

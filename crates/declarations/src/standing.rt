@@ -8,7 +8,7 @@ ghost use Rattle.declarations.specs.View.{entries as entries_of, meaning_of};
 ghost use Rattle.declarations.specs.Standing.{Learns, LearnsAll};
 
 use crate::entries::{Entries, Entry, Meaning};
-use crate::order::order;
+use crate::order::places_by_use;
 use crate::part::{fault, worth_alone};
 use std::alloc::Allocator;
 use tokens::{ScriptError, ScriptErrorKind};
@@ -146,7 +146,7 @@ pub fn table_of_names<'a, A: Allocator + Copy>(
 ) -> Result<Known<A>, ScriptError>
     ensures { MatchResult result (λ k. Stands (entries_of entries.now) (table k)) (λ e. e.kind ≡ Memory) }
 {
-    let places = order(alloc, entries)?;
+    let places = places_by_use(alloc, entries)?;
     let known = learned_in_order(alloc, entries, Known::new(alloc), &places)?;
     settled(alloc, entries, known)
 }

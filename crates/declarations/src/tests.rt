@@ -1,5 +1,5 @@
 //! Scripts, and what their names stand for.
-use crate::{declare, distinct_entries, has_names, table_of_names};
+use crate::{declare, distinct_entries, fault_of_name, has_names, table_of_names};
 use std::alloc::{AllocError, Global};
 use syntax::parse;
 use values::{Known, Value, Worth};
@@ -171,6 +171,19 @@ channel c : {1 % 0} => 1: 7 range
 channel c : {0..65536} => 1: 10 large
 channel c : 1 + {} => 1: 3 expected
 channel c : {0..65535}.{0..65535}.{}$channel d => d end
+channel c : {0..N}$N = 1 + X => 2: 4 unknown
+channel c : {0..N}$N = M + 1$M = N + 1 => 3: 4 unknown
+channel c : {0..N}$N = M$M = (N) + 0 => 3: 4 unknown
+channel c : S$S = union({1},$2) => 3: 3 expected
+channel c : {P}$P = P => 1: 3 expected
+channel c : {CHAOS, X} => 1: 11 unsupported
+channel c : {0..N}$N = 1000000 + 1 => 2: 7 range
+channel c : S$S = T$T = d$channel d => 1: 3 expected
+channel c : 1 + X => 1: 3 expected
+channel c : {0..N}.{X}$N = 2 - {} => 2: 3 expected
+channel c : S$S = {0..65536} => 2: 10 large
+channel c : union({d}, S)$channel d$S = {X} => 1: 3 expected
+channel c : {X.1} => 1: 4 unknown
 ";
 
 #[test]
@@ -181,5 +194,121 @@ fn event_rows(rt: HostRuntime) -> Result<(), AllocError> {
         let got = events(rt.alloc(), text.as_bytes())?;
         assert_eq!(rt; got.as_str(), want, "at {row}");
     }
+    Ok(())
+}
+
+/// The names of processes that the script declares; else the fault.
+fn processes(alloc: Global, text: &[u8]) -> Result<String, AllocError> {
+    let tree = match parse(alloc, text) {
+        Ok(tree) => tree,
+        Err(error) => return format!(in alloc; "{error}"),
+    };
+    let entries = match distinct_entries(alloc, &tree) {
+        Ok(entries) => entries,
+        Err(error) => return format!(in alloc; "{error}"),
+    };
+    let mut names = String::new(alloc);
+    for place in 0..entries.len() {
+        if let Some(name) = entries.name_at(place) {
+            if entries.is_process(name) {
+                names.push_str(str::from_utf8(name).unwrap_or("no text"))?;
+                names.push_str(" ")?;
+            }
+        }
+    }
+    names.push_str("end")?;
+    Ok(names)
+}
+
+/// Scripts, with `$` for a line feed, and their processes.
+const PROCESS_ROWS: &str = "\
+P = Q$Q = (R)$R = STOP => P Q R end
+P = Q$Q = P$R = Q => P Q R end
+P = Q$Q = N$N = 1 => end
+P = X => end
+channel c$P = c$Q = c -> P => Q end
+datatype t = x$P = x$Q = t$R = ((SKIP)) => R end
+P = {}$Q = P$R = Q ||| P => R end
+P = (P)$Q = P; P => P Q end
+N = N + 1$P = N => end
+";
+
+#[test]
+fn process_rows(rt: HostRuntime) -> Result<(), AllocError> {
+    for row in PROCESS_ROWS.lines() {
+        let (text, want) = row.split_once(" => ").unwrap_or((row, "no row"));
+        let text = text.replace(rt.alloc(), '$', "\n")?;
+        let got = processes(rt.alloc(), text.as_bytes())?;
+        assert_eq!(rt; got.as_str(), want, "at {row}");
+    }
+    Ok(())
+}
+
+/// How many names of so many are processes, each of which is the name behind it, and the last is `STOP`.
+fn processes_in_chain(alloc: Global, count: u32) -> Result<usize, AllocError> {
+    let mut text = String::new(alloc);
+    for number in 0..count {
+        let next = number.wrapping_add(1);
+        let line = format!(in alloc; "P{number} = P{next}\n")?;
+        text.push_str(&line)?;
+    }
+    let line = format!(in alloc; "P{count} = STOP\n")?;
+    text.push_str(&line)?;
+    let Ok(tree) = parse(alloc, text.as_bytes()) else {
+        return Ok(0);
+    };
+    let Ok(entries) = distinct_entries(alloc, &tree) else {
+        return Ok(0);
+    };
+    let mut found: usize = 0;
+    for place in 0..entries.len() {
+        if let Some(name) = entries.name_at(place) {
+            if entries.is_process(name) {
+                found = found.wrapping_add(1);
+            }
+        }
+    }
+    Ok(found)
+}
+
+/// A chain of bare names, each of which is asked.
+#[test]
+fn long_chains_of_processes(rt: HostRuntime) -> Result<(), AllocError> {
+    let found = processes_in_chain(rt.alloc(), 4_400)?;
+    assert_eq!(rt; found, 4_401);
+    Ok(())
+}
+
+/// The fault of a name that is used on line 9.
+fn fault_at_9(alloc: Global, text: &[u8], name: &[u8]) -> Result<String, AllocError> {
+    let tree = match parse(alloc, text) {
+        Ok(tree) => tree,
+        Err(error) => return format!(in alloc; "{error}"),
+    };
+    if !has_names(&tree) {
+        return String::from_str(alloc, "no names");
+    }
+    match declare(alloc, &tree) {
+        Ok(declared) => {
+            let error = fault_of_name(alloc, &declared.entries, &declared.known, name, 9);
+            format!(in alloc; "{error}")
+        }
+        Err(error) => format!(in alloc; "{error}"),
+    }
+}
+
+#[test]
+fn faults_of_names(rt: HostRuntime) -> Result<(), AllocError> {
+    let text = b"N = M + 1\nM = N\nS = A\nP = STOP\nA = {|c.2|}\nchannel c:{1}";
+    let got = fault_at_9(rt.alloc(), text, b"M")?;
+    assert_eq!(rt; got.as_str(), "1: 4 unknown");
+    let got = fault_at_9(rt.alloc(), text, b"S")?;
+    assert_eq!(rt; got.as_str(), "5: 7 range");
+    let got = fault_at_9(rt.alloc(), text, b"P")?;
+    assert_eq!(rt; got.as_str(), "9: 3 expected");
+    let got = fault_at_9(rt.alloc(), text, b"DIV")?;
+    assert_eq!(rt; got.as_str(), "9: 11 unsupported");
+    let got = fault_at_9(rt.alloc(), text, b"X")?;
+    assert_eq!(rt; got.as_str(), "9: 4 unknown");
     Ok(())
 }

@@ -8,6 +8,9 @@ pub mod Progress
 pub mod Choices
 pub mod FirstPlaces
 pub mod SetsBelow
+pub mod Steps
+pub mod Prefixes
+pub mod Definitions
 pub mod EventNumbers
 pub mod Images
 pub mod Seen

@@ -7,7 +7,7 @@ use Rattle.tokens.specs.declared.error.ScriptErrorKind.{ScriptErrorKind}
 use Rattle.tokens.specs.declared.error.ScriptErrorKind.TheVariants as kinds
 use Rattle.values.specs.Values.{◌>>=◌, Name, is_among}
 use Rattle.values.specs.Worths.{Worth, Known}
-use Rattle.values.specs.Tables.{names_value}
+use Rattle.values.specs.Tables.{behind, names_value}
 use Rattle.values.specs.View.{Fails}
 use Rattle.values.proofs.Inputs.{behind-more}
 use Rattle.phrases.specs.Events.{unless_value, field_value}
@@ -30,6 +30,11 @@ at_input s k = record s { known = k }
 -- a place behind one more input
 pub behind_input : (s : Scope) (is js : List (Name × FieldValue)) (x : Name) (v : FieldValue) → js ≡ is ++ (x, v) ∷ [] → within s js ≡ with_input (within s is) x v
 behind_input s is js x v h = ap (within s) h ∙ ap (at_input s) (behind-more s.known is x v)
+
+-- a place without inputs
+pub no_inputs : (s : Scope) (is : List (Name × FieldValue)) → is ≡ [] → within s is ≡ s
+unfolding behind
+no_inputs s is h = ap (within s) h
 
 -- ---- values of fields
 

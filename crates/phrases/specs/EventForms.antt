@@ -1,9 +1,9 @@
 -- What phrases for events, sets of events and fields stand for, by their forms.
 use Rattle.std.specs.Prelude.{List, [], ◌∷◌, ◌++◌, length, Bool, not, ◌&&◌, ◌||◌, Option, Some, None, if◌then◌else◌, nat_eq, nat_lt}
-use Rattle.alphabet.specs.Channels.{FieldValue, Values, Channel, events, event_count}
+use Rattle.alphabet.specs.Channels.{FieldValue, Values, Parts, Channel, events, event_count}
 use Rattle.term.specs.Traces.{Pairs}
 use Rattle.syntax.specs.declared.form.Form.TheVariants as forms
-use Rattle.syntax.specs.Grammar.{Syntax, Node, NoSyntax, MoreSyntax}
+use Rattle.syntax.specs.Grammar.{Syntax, Syntaxes, Node, NoSyntax, MoreSyntax}
 use Rattle.syntax.specs.Parsing.{syntaxes}
 use Rattle.values.specs.Values.{◌>>=◌, Name, is_among}
 use Rattle.values.specs.Worths.{Known, worth, the_value, the_set}
@@ -13,9 +13,11 @@ use Rattle.phrases.specs.declared.forms.Extent.TheVariants as extents
 use Rattle.phrases.specs.declared.forms.Combination.{Combination}
 use Rattle.phrases.specs.declared.forms.Combination.TheVariants as combinations
 use Rattle.phrases.specs.Forms.{SetPhrase, set_inside, set_called, nothing, everything, several, combined, FieldPhrase, given, input, input_from}
-use Rattle.phrases.specs.Events.{Events, KnownEvents, no_events, unless_value, channel_fields, field_value, Beginning, beginning, beginning_so, whole_event, together, event_set, pairs_from}
-use Rattle.phrases.specs.Phrases.{Scope, Fitting, against, against_input, against_part, has_all}
-use Rattle.phrases.specs.Making.{Count, Made, make_branches, make_choice}
+use Rattle.alphabet.specs.EventSets.{Set}
+use Rattle.phrases.specs.Events.{Events, KnownEvents, no_events, masked, unless_value, channel_fields, field_value, Beginning, beginning, beginning_so, whole_event, together, event_set, pairs_from}
+use Rattle.values.specs.Names.{same_name}
+use Rattle.phrases.specs.Phrases.{Scope, Fitting, fitting, against, against_input, against_part, has_all}
+use Rattle.phrases.specs.Making.{Count, Made, make_branches, make_choice, make_renamed}
 
 -- ---- where phrases stand
 
@@ -77,6 +79,10 @@ set_by cs known sets everything = Some (λ a. nat_lt a (event_count cs))
 set_by cs known sets (several e ts) = together (gives_by cs known e) (syntaxes ts)
 set_by cs known sets (combined c t u) = event_set cs known sets t >>= λ A. event_set cs known sets u >>= λ B. Some (combine c A B)
 
+-- the masks of two sets
+unfoldable pub two_masked : List Channel → Option Events → Option Events → Option (Set × Set)
+two_masked cs o u = masked cs o >>= λ A. masked cs u >>= λ B. Some (A, B)
+
 -- ---- renamings
 
 -- with these pairs in front
@@ -86,12 +92,20 @@ behind_pairs front o = o >>= λ R. Some (front ++ R)
 unfoldable pub pairs_by : List Channel → Known → Syntax × Syntax → Option Pairs
 pairs_by cs known p = beginning cs known p.0 >>= λ left. beginning cs known p.1 >>= λ right. pairs_from cs left right 0 (events cs)
 
+-- the process renamed by the pairs, if there are some
+abbrev pub make_renamed_by : List Channel → Option Pairs → Made → Option Made
+make_renamed_by cs o p = o >>= λ R. make_renamed (event_count cs) R p
+
 -- ---- prefixes
 
 unfoldable pub fits_by : FieldPhrase → Values → FieldValue → Scope → Fitting
 fits_by (given t) set v s = against set v s (worth s.known t >>= the_value)
 fits_by (input x) set v s = against_input v s x
 fits_by (input_from x t) set v s = against_part v s x (worth s.known t >>= the_set)
+
+-- an event against a phrase with this channel, these fields and their sets
+unfoldable pub event_fits : Name → Syntaxes → List Values → Scope → Parts → Fitting
+event_fits c ts sets s p = if same_name c p.channel then fitting ts sets p.values s else Some None
 
 unfoldable pub make_from : Scope → (Scope → Count → Option Made) → Count → Name × List Syntax → Option Made
 make_from s next w p =

@@ -1,20 +1,29 @@
 //! Terms made of others.
-ghost use Rattle.std.specs.Prelude.{◌≡◌, ◌≤◌, Some, IfOk};
+ghost use Rattle.std.specs.Prelude.{◌≡◌, ◌<◌, ◌≤◌, Some, IfOk, map};
 ghost use Rattle.alphabet.specs.Channels.{event_count};
 ghost use Rattle.alphabet.specs.Events.{is_numbered_below};
 ghost use Rattle.alphabet.specs.EventSets.{has, member};
 ghost use Rattle.alphabet.specs.declared.events.Event.{Event as EventOf};
-ghost use Rattle.term.specs.Proc.{hide, par, proc};
+ghost use Rattle.syntax.specs.Parsing.{syntaxes};
+ghost use Rattle.syntax.specs.View.{shapes};
+ghost use Rattle.term.specs.Proc.{hide, par, prefix, proc};
+ghost use Rattle.values.specs.Tables.{input};
 ghost use Rattle.values.specs.View.{Gives};
+ghost use Rattle.phrases.specs.EventForms.{make_renamed_by, within};
+ghost use Rattle.phrases.specs.Events.{pairs_of as pairs_of_all};
 ghost use Rattle.phrases.specs.Making.{join_of, make_above, make_alphabetised, make_one, make_renamed};
 ghost use Rattle.phrases.specs.Phrases.{Scope};
 ghost use Rattle.phrases.specs.View.{count};
 
+use crate::facts::Facts;
 use crate::forms::Join;
 use crate::pairs::ordered;
+use crate::place::Place;
+use crate::renaming::pairs_of;
 use crate::work::{Work, spent};
-use alphabet::EventSet;
+use alphabet::{Event, EventSet};
 use std::alloc::{AllocError, Allocator};
+use syntax::Tree;
 use term::Term;
 use tokens::ScriptError;
 
@@ -72,6 +81,22 @@ pub(crate) fn shared<A: Allocator + Copy>(
     Ok((Term::Par(set, first, second), work))
 }
 
+/// The term behind the event with this number, where there is room for the node above it.
+pub(crate) fn behind_event<A: Allocator + Copy>(
+    alloc: A,
+    number: usize,
+    term: Term<A>,
+    work: Work<A>,
+    line: u32,
+) -> Result<(Term<A>, Work<A>), ScriptError>
+    requires { number < 256 }
+    ensures { Gives (λ x. (proc x.0, count x.1)) result (make_one (prefix number) (proc term, count work)) }
+{
+    let work = spent(work, 1, line)?;
+    let term = Box::new(alloc, term)?;
+    Ok((Term::Prefix(Event::Of(number as u8), term), work))
+}
+
 /// The term with the events of the set hidden, where there is room for the node above it.
 pub(crate) fn hidden<A: Allocator + Copy>(
     alloc: A,
@@ -109,6 +134,21 @@ pub(crate) fn renamed<A: Allocator + Copy>(
     }
 }
 
+/// The term renamed by the pairs that these phrases give.
+pub(crate) fn renamed_by<A: Allocator + Copy, F: Facts<A>>(
+    alloc: A,
+    place: &Place<'_, A, F>,
+    pairs: &[Tree<A>],
+    term: Term<A>,
+    work: Work<A>,
+) -> Result<(Term<A>, Work<A>), ScriptError>
+    ensures { Gives (λ x. (proc x.0, count x.1)) result (make_renamed_by (F.scope place.now.facts.now).channels (pairs_of_all (F.scope place.now.facts.now).channels (within (F.scope place.now.facts.now) (map input place.now.inputs.items)).known (syntaxes (shapes pairs.now))) (proc term, count work)) }
+{
+    let pairs = pairs_of(alloc, place, pairs)?;
+    let events = place.facts.events().len();
+    renamed(alloc, events, &pairs, term, work, place.line)
+}
+
 /// `P [ A || B ] Q` of the terms of P and Q, where Sigma is this.
 #[tactic(auto)]
 pub(crate) fn alphabetised<A: Allocator + Copy>(
@@ -131,4 +171,19 @@ pub(crate) fn alphabetised<A: Allocator + Copy>(
     let skip = Box::new(alloc, Term::Skip)?;
     let second = Box::new(alloc, Term::Par(right_out, second, skip))?;
     Ok(Term::Par(shared, first, second))
+}
+
+/// The same of these sets, where there is room for its nodes.
+pub(crate) fn alphabetised_within<A: Allocator + Copy, F: Facts<A>>(
+    alloc: A,
+    place: &Place<'_, A, F>,
+    sets: (EventSet, EventSet),
+    terms: (Term<A>, Term<A>),
+    work: Work<A>,
+) -> Result<(Term<A>, Work<A>), ScriptError>
+    ensures { Gives (λ x. (proc x.0, count x.1)) result (make_above 5 (make_alphabetised (F.scope place.now.facts.now) (has sets.0) (has sets.1)) (proc terms.0, count work) (proc terms.1, count work)) }
+{
+    let work = spent(work, 5, place.line)?;
+    let term = alphabetised(alloc, place.facts.sigma(), sets, terms)?;
+    Ok((term, work))
 }

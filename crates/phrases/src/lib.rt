@@ -11,15 +11,18 @@ mod gathering;
 mod joining;
 mod law;
 mod maker;
+mod making;
 mod pairs;
 mod place;
 mod prefix;
 mod renaming;
 mod row;
 mod sets;
+mod simple;
 mod work;
 
 pub use facts::{Facts, Set};
+pub use gathering::gathered;
 pub use law::{one_specification, phrases_are_made};
 pub use row::Row;
 pub use sets::set_of_events;

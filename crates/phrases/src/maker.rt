@@ -1,10 +1,13 @@
 //! The bodies of a script's definitions.
+ghost use Rattle.std.specs.Prelude.{◌≡◌, Some, []};
 ghost use Rattle.term.specs.Proc.{proc};
 ghost use Rattle.values.specs.View.{Gives};
-ghost use Rattle.phrases.specs.Making.{shallow};
+ghost use Rattle.phrases.specs.Making.{make_body, shallow};
 ghost use Rattle.phrases.specs.View.{count};
 
-use crate::place::fault;
+use crate::facts::Facts;
+use crate::making::process;
+use crate::place::{Place, fault};
 use crate::work::Work;
 use std::alloc::Allocator;
 use term::Term;
@@ -25,4 +28,32 @@ fn unless_deep<A: Allocator>(
         return Err(fault(line, ScriptErrorKind::TooDeep));
     }
     Ok(made)
+}
+
+/// The term made of the body of the definition with this name: `NoSuchProcess` where there is no such process, `TooDeep`
+/// with the line of the definition's name where it is deeper than 200.
+pub(crate) fn body<A: Allocator + Copy, F: Facts<A>>(
+    alloc: A,
+    facts: &F,
+    name: &[u8],
+    work: Work<A>,
+) -> Result<(Term<A>, Work<A>), ScriptError>
+    ensures { Gives (λ x. (proc x.0, count x.1)) result (make_body (F.scope facts.now) (name.now, []) (count work)) }
+{
+    if !facts.is_process(name) {
+        return Err(fault(1, ScriptErrorKind::NoSuchProcess));
+    }
+    match facts.definition(name) {
+        None => Err(fault(1, ScriptErrorKind::NoSuchProcess)),
+        Some(tree) => {
+            let line = facts.line(name);
+            let place = Place {
+                facts,
+                inputs: Vec::new(alloc),
+                line,
+            };
+            let made = process(alloc, &place, tree, work)?;
+            unless_deep(made, line)
+        }
+    }
 }

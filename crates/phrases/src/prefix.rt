@@ -6,20 +6,31 @@ ghost use Rattle.syntax.specs.View.{shape, shapes};
 ghost use Rattle.values.specs.Tables.{input};
 ghost use Rattle.values.specs.Values.{is_among};
 ghost use Rattle.values.specs.View.{Gives, value as value_of, values};
-ghost use Rattle.phrases.specs.EventForms.{within, fits_by};
+ghost use Rattle.phrases.specs.EventForms.{event_fits, fits_by, within};
 ghost use Rattle.phrases.specs.Phrases.{fits_field, fitting as fitting_of};
 ghost use Rattle.phrases.specs.Shapes.{plain_field};
-ghost use Rattle.phrases.specs.View.{listed};
+ghost use Rattle.phrases.specs.View.{listed, row};
 
 use crate::beginning::is_one_of;
 use crate::facts::{Facts, Set};
 use crate::forms::{FieldPhrase, field};
-use crate::place::{fault, worth};
-use crate::row::is_equal;
+use crate::place::{Place, copies, fault, worth};
+use crate::row::{Row, is_equal};
 use std::alloc::{AllocError, Allocator};
 use syntax::Tree;
 use tokens::{ScriptError, ScriptErrorKind};
 use values::{Input, Value, Values, the_set, the_value};
+
+/// A prefix: the channel of its event, the fields with the sets of their values, and the process behind it.
+#[derive(Drop)]
+pub(crate) struct Prefix<'a, A: Allocator> {
+    pub(crate) channel: &'a [u8],
+    pub(crate) fields: &'a [Tree<A>],
+    pub(crate) sets: &'a [Set<A>],
+    pub(crate) then: &'a Tree<A>,
+    /// The line of the event phrase.
+    pub(crate) line: u32,
+}
 
 /// The inputs, and one more behind them.
 fn with_input<A: Allocator + Copy>(
@@ -142,4 +153,29 @@ pub(crate) fn fitting<A: Allocator + Copy, F: Facts<A>>(
             },
         },
     }
+}
+
+/// The inputs behind a prefix, if the event fits it.
+#[tactic(auto, unfolding(crate::specs::EventForms::event_fits))]
+pub(crate) fn inputs_behind<A: Allocator + Copy, F: Facts<A>>(
+    alloc: A,
+    place: &Place<'_, A, F>,
+    prefix: &Prefix<'_, A>,
+    event: &Row<A>,
+) -> Result<Option<Vec<Input<A>, A>>, ScriptError>
+    ensures { Gives (option_map (λ v. within (F.scope place.now.facts.now) (map input v.items))) result (event_fits prefix.now.channel.now (syntaxes (shapes prefix.now.fields.now)) (map (λ v. listed v.items) prefix.now.sets.now) (within (F.scope place.now.facts.now) (map input place.now.inputs.items)) (row event.now)) }
+{
+    if prefix.channel != event.channel.as_slice() {
+        return Ok(None);
+    }
+    let inputs = copies(alloc, &place.inputs)?;
+    fitting(
+        alloc,
+        place.facts,
+        inputs,
+        prefix.fields,
+        prefix.sets,
+        &event.values,
+        prefix.line,
+    )
 }

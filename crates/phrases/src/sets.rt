@@ -6,8 +6,9 @@ ghost use Rattle.syntax.specs.Parsing.{syntaxes};
 ghost use Rattle.syntax.specs.View.{shape, shapes};
 ghost use Rattle.values.specs.Tables.{input};
 ghost use Rattle.values.specs.View.{Gives};
-ghost use Rattle.phrases.specs.EventForms.{gives_by, is_in_both, set_by, within};
+ghost use Rattle.phrases.specs.EventForms.{gives_by, is_in_both, set_by, two_masked, within};
 ghost use Rattle.phrases.specs.Events.{event_set as event_set_in, masked, together};
+ghost use Rattle.phrases.specs.Phrases.{events_by};
 ghost use Rattle.phrases.specs.Shapes.{plain_set};
 
 use crate::beginning::{beginning, whole_event};
@@ -111,6 +112,20 @@ fn set_of_phrase<A: Allocator + Copy, F: Facts<A>>(
             Ok(combined(combination, first, second))
         }
     }
+}
+
+/// The sets of events that two phrases stand for.
+pub(crate) fn two_sets<A: Allocator + Copy, F: Facts<A>>(
+    alloc: A,
+    place: &Place<'_, A, F>,
+    first: &Tree<A>,
+    second: &Tree<A>,
+) -> Result<(EventSet, EventSet), ScriptError>
+    ensures { Gives (λ p. p) result (two_masked (F.scope place.now.facts.now).channels (events_by (within (F.scope place.now.facts.now) (map input place.now.inputs.items)) (shape first.now)) (events_by (within (F.scope place.now.facts.now) (map input place.now.inputs.items)) (shape second.now))) }
+{
+    let first = event_set(alloc, place, first)?;
+    let second = event_set(alloc, place, second)?;
+    Ok((first, second))
 }
 
 /// The set of events that a phrase stands for where no input stands before it. A fault has the line of the phrase that is at

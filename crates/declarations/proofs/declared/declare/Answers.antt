@@ -18,8 +18,8 @@ returns-in_err-declarations_of-clause-only g c = λ es known cs d.
     let p = err_from_is_err_and c.from_residual-in_err-declarations_of.result c.from_residual-in_err-declarations_of.ensures.1 in
     rw (p.1, p.2) (parts_fail c.in_err-declarations_of.field-0.0.kind (shape c.args.tree.now) es known cs _ d c.in_err-declarations_of.ensures)
 
-pub alphabet_of-requires : goal.alphabet_of-requires
-alphabet_of-requires g c =
+pub told_alphabet-requires : goal.told_alphabet-requires
+told_alphabet-requires g c =
     keeps_declared (shape c.args.tree.now) (syntaxes (shapes c.in_ok-declarations_of.field-0.now)) (entries c.in_ok-entries.entries) (table c.in_ok-known.known) c.requires c.in_ok-declarations_of.ensures c.in_ok-entries.ensures c.in_ok-known.ensures
 
 pub returns-in_err-alphabet-clause-only : goal.returns-in_err-alphabet-clause-only

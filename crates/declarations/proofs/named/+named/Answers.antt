@@ -1,5 +1,5 @@
 use Rattle.std.proofs.Common.{sym, ◌∙◌, arith}
-use Rattle.declarations.proofs.TreeNames.{node_names, names_more, names_fail, names_end}
+use Rattle.declarations.proofs.TreeNames.{names_more, names_end}
 use Rattle.declarations.proofs.named.+named.Goals as goal
 
 pub have_names-loop-tree-preserved : goal.have_names-loop-tree-preserved

@@ -14,5 +14,11 @@ returns-in_err-without_parameters g c =
     let p = err_from_is_err_and c.from_residual-in_err-without_parameters.result c.from_residual-in_err-without_parameters.ensures.1 in
     rw (p.1, p.2) (none_declared c.in_err-without_parameters.field-0.0.kind (shape c.args.tree.now) (syntaxes (shapes c.in_ok-declarations.declarations.now)) c.in_ok-declarations.ensures c.in_err-without_parameters.ensures)
 
+pub returns-in_err-entries : goal.returns-in_err-entries
+returns-in_err-entries g c =
+    let p = err_from_is_err_and c.from_residual-in_err-entries.result c.from_residual-in_err-entries.ensures.1 in
+    rw (p.1, p.2) (rw (← put_parts (shape c.args.tree.now) (syntaxes (shapes c.in_ok-declarations.declarations.now)) c.in_ok-declarations.ensures) c.in_err-entries.ensures)
+
 pub returns : goal.returns
-returns g c = rw (← put_parts (shape c.args.tree.now) (syntaxes (shapes c.in_ok-declarations.declarations.now)) c.in_ok-declarations.ensures) c.with_declarations.ensures
+returns g c =
+    rw (← put_parts (shape c.args.tree.now) (syntaxes (shapes c.in_ok-declarations.declarations.now)) c.in_ok-declarations.ensures) (rw c.in_ok-entries.ensures c.complete.ensures)

@@ -1,4 +1,4 @@
-use Rattle.std.proofs.Common.{map, ◌∙◌, ap, sym}
+use Rattle.std.proofs.Common.{map}
 use Rattle.alphabet.specs.Stored.{field_of}
 use Rattle.syntax.specs.View.{shape}
 use Rattle.declarations.proofs.Parted.{parted_named, parted_apart}

@@ -1,0 +1,97 @@
+-- Texts and what they are read as.
+use Rattle.std.proofs.Common.{◌≡◌, ℕ, List, [], ◌∷◌, map, false, cond, Option, Some, None, refl, sym, ap, subst, ◌∙◌}
+use Rattle.std.specs.List.{flat_map}
+use Rattle.alphabet.specs.Channels.{Channel}
+use Rattle.term.specs.Proc.{Proc}
+use Rattle.term.specs.Specs.{Specified, IsClosed}
+use Rattle.syntax.specs.Grammar.{Syntax}
+use Rattle.syntax.specs.Script.{HasTree}
+use Rattle.tokens.specs.declared.error.ScriptErrorKind.{ScriptErrorKind}
+use Rattle.tokens.specs.declared.error.ScriptErrorKind.TheVariants as kinds
+use Rattle.values.specs.View.{Fails}
+use Rattle.values.specs.Values.{Name}
+use Rattle.values.specs.Worths.{Known}
+use Rattle.values.specs.Names.{Entry, meaning, is_process}
+use Rattle.values.specs.Channels.{Declares}
+use Rattle.phrases.specs.Bodies.{Body, names}
+use Rattle.phrases.specs.Events.{KnownEvents, EventsStand}
+use Rattle.phrases.specs.Phrases.{Scope}
+use Rattle.phrases.specs.Denotes.{Denotes, body_by, body_of, met}
+use Rattle.phrases.specs.Making.{Gathered}
+use Rattle.phrases.proofs.Reached.{keys_grow}
+use Rattle.phrases.proofs.Unique.{one_declared, one_sets}
+use Rattle.phrases.proofs.Whole.{denotes_from}
+use Rattle.script.specs.Reading.{AreBodies, IsRead}
+use Rattle.script.proofs.Closed.{is_closed}
+
+-- one specification, where a text has one tree and a tree denotes one specification
+pub read_once : (trees : (text : List ℕ) (t u : Syntax) → HasTree text t → HasTree text u → t ≡ u) (specs : (script : Syntax) (root : Name) (first second : Specified) → Denotes script root first → Denotes script root second → first ≡ second)
+    → (text : List ℕ) (root : Name) (first second : Specified) → IsRead text root first → IsRead text root second → first ≡ second
+read_once trees specs text root first second a b =
+    specs b.tree root first second (subst (λ t. Denotes t root first) (trees text a.tree b.tree a.reads b.reads) a.denotes) b.denotes
+
+-- ---- bodies
+
+module _ (cs : List Channel) (known : Known) (es : List Entry) (root : Name) where
+  abbrev pub with_sets : KnownEvents → Scope
+  with_sets sets = record { entries = es; channels = cs; known = known; sets = sets }
+
+  pub bodies_are : (sets : KnownEvents) (ps : List Proc) → EventsStand cs known es sets → Gathered (with_sets sets) (root, []) ps → AreBodies cs known es root ps
+  bodies_are sets ps e g = record { sets = sets; events = e; gathered = g }
+
+  pub bodies_with : (sets : KnownEvents) (ps : List Proc) → EventsStand cs known es sets → AreBodies cs known es root ps → Gathered (with_sets sets) (root, []) ps
+  bodies_with sets ps e a = subst (λ f. Gathered (with_sets f) (root, []) ps) (one_sets cs known es a.sets sets a.events e) a.gathered
+
+  pub bodies_closed : (ps : List Proc) → AreBodies cs known es root ps → IsClosed (record { alphabet = cs; bodies = ps })
+  bodies_closed ps a = is_closed (with_sets a.sets) (root, []) ps a.gathered
+
+  -- the root is a process
+  no_body : (sets : KnownEvents) → is_process es root ≡ false → body_of (with_sets sets) (root, []) ≡ None
+  unfolding body_of
+  no_body sets h = ap (λ b. cond b (body_by (with_sets sets) (meaning es root)) None) h
+
+  pub no_root : (ps : List Proc) → is_process es root ≡ false → AreBodies cs known es root ps → ⊥
+  unfolding met
+  no_root ps h a =
+      let s = with_sets a.sets in
+      let g = a.gathered in
+      let (rest, grown) = keys_grow (flat_map names g.bodies) ((root, []) ∷ []) in
+      let all : map (body_of s) ((root, []) ∷ rest) ≡ map Some g.bodies = ap (map (body_of s)) (sym (sym g.reached.first ∙ grown)) ∙ g.reached.each in
+      first (body_of s (root, [])) (map (body_of s) rest) g.bodies (no_body a.sets h) all
+    where
+      first : (o : Option Body) (os : List (Option Body)) (bs : List Body) → o ≡ None → (o ∷ os) ≡ map Some bs → ⊥
+      first o os [] n e = cc
+      first o os (b ∷ bs) n e = let f : o ≡ Some b = cc in let k : None ≡ Some b = sym n ∙ f in cc
+
+-- ---- trees
+
+module _ (t : Syntax) (root : Name) (es : List Entry) (known : Known) (cs : List Channel) (d : Declares t es known cs) where
+  pub bodies_denote : (spec : Specified) (ps : List Proc) → AreBodies cs known es root ps → spec.alphabet ≡ cs → spec.bodies ≡ ps → Denotes t root spec
+  bodies_denote spec ps a c p = subst (Denotes t root) (λ i. record { alphabet = sym c i; bodies = sym p i }) (denotes_from t root es known cs a.sets d a.events ps a.gathered)
+
+  pub denoted_bodies : (spec : Specified) → Denotes t root spec → (spec.alphabet ≡ cs) × AreBodies cs known es root spec.bodies
+  denoted_bodies spec a =
+      let (x, k, c) = one_declared t a.entries es a.known known spec.alphabet cs a.declares d in
+      let all : (spec.alphabet, a.known, a.entries) ≡ (cs, known, es) = λ i. (c i, k i, x i) in
+      (c, subst (λ (y : List Channel × Known × List Entry). AreBodies y.0 y.1 y.2 root spec.bodies) all (record { sets = a.sets; events = a.events; gathered = record { keys = a.keys; bodies = a.bodies; reached = a.reached; numbers = a.numbers; deep = a.deep; large = a.large } }))
+
+  pub declares_so : (fs : List Entry) (k : Known) (ds : List Channel) → fs ≡ es → k ≡ known → ds ≡ cs → Declares t fs k ds
+  declares_so fs k ds e h c = subst (λ (y : List Entry × Known × List Channel). Declares t y.0 y.1 y.2) (let all : (es, known, cs) ≡ (fs, k, ds) = λ i. (sym e i, sym h i, sym c i) in all) d
+
+-- ---- faults
+
+-- where something is wanted, only want of memory is at fault
+pub only_memory : {Y : Type 0} (k : ScriptErrorKind) (y : Y) → Fails k (Some y) → k ≡ kinds.Memory
+only_memory kinds.Memory y h = refl
+only_memory kinds.BadByte y h = absurd cc
+only_memory kinds.BadToken y h = absurd cc
+only_memory kinds.Expected y h = absurd cc
+only_memory kinds.UnknownName y h = absurd cc
+only_memory kinds.Redeclared y h = absurd cc
+only_memory kinds.WrongFields y h = absurd cc
+only_memory kinds.OutOfRange y h = absurd cc
+only_memory kinds.TooManyEvents y h = absurd cc
+only_memory kinds.TooDeep y h = absurd cc
+only_memory kinds.TooLarge y h = absurd cc
+only_memory kinds.Unsupported y h = absurd cc
+only_memory kinds.NoSuchProcess y h = absurd cc

@@ -1,0 +1,9 @@
+pub mod Inside
+pub mod Closed
+pub mod Denoting
+pub mod Tables
+pub mod Copies
+pub mod Masks
+pub mod Learning
+pub mod NamedSets
+pub mod RootNames

@@ -1,0 +1,23 @@
+use Rattle.std.proofs.Common.{sym, ◌∙◌}
+use Rattle.values.specs.Tables.{table}
+use Rattle.declarations.specs.View.{entries}
+use Rattle.script.specs.Standing.{events_by}
+use Rattle.script.specs.Tables.{said}
+use Rattle.script.proofs.Denoting.{no_root, bodies_with}
+use Rattle.script.proofs.NamedSets.{sets_lie}
+use Rattle.script.proofs.reading.bodies_of.Goals as goal
+
+pub returns-then-not-is_process-clause-only : goal.returns-then-not-is_process-clause-only
+returns-then-not-is_process-clause-only g c = λ ps a.
+    let n = c.args.names.now in
+    absurd (no_root n.sigma.alphabet (table n.known) (entries n.entries) c.args.root.now ps (sym c.is_process.ensures ∙ c.if-not-is_process.true) a)
+
+pub invariant_of-gathered : goal.invariant_of-gathered
+invariant_of-gathered g c =
+    let n = c.args.names.now in
+    record { lie = sets_lie n.sigma.alphabet (table n.known) (entries n.entries) (said c.in_ok-found.found.sets) c.in_ok-found.ensures.reached }
+
+pub returns-clause-only : goal.returns-clause-only
+returns-clause-only g c = λ ps a.
+    let n = c.args.names.now in
+    c.gathered.ensures.only ps (bodies_with n.sigma.alphabet (table n.known) (entries n.entries) c.args.root.now (events_by (said c.in_ok-found.found.sets)) ps c.in_ok-found.ensures.stand a)

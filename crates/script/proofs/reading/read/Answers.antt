@@ -1,0 +1,13 @@
+use Rattle.std.proofs.Common.{sym, subst}
+use Rattle.std.proofs.lemmas.Result.{err_from_is_err_and}
+use Rattle.phrases.specs.Denotes.{Denotes}
+use Rattle.script.proofs.reading.read.Goals as goal
+
+pub returns-in_err-tree-clause-only : goal.returns-in_err-tree-clause-only
+returns-in_err-tree-clause-only g c = λ spec r.
+    let p = err_from_is_err_and c.from_residual.result c.from_residual.ensures.1 in
+    rw (p.1, p.2) (c.in_err-tree.ensures.only r.tree r.reads)
+
+pub returns-clause-only : goal.returns-clause-only
+returns-clause-only g c = λ spec r.
+    c.denoted.ensures.only spec (subst (λ t. Denotes t c.args.root.now spec) (sym (c.in_ok-tree.ensures.only r.tree r.reads)) r.denotes)

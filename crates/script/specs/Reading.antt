@@ -1,0 +1,25 @@
+-- The specification as which a text is read.
+use Rattle.std.specs.Prelude.{ℕ, List, []}
+use Rattle.alphabet.specs.Channels.{Channel}
+use Rattle.term.specs.Proc.{Proc}
+use Rattle.term.specs.Specs.{Specified}
+use Rattle.syntax.specs.Grammar.{Syntax}
+use Rattle.syntax.specs.Script.{HasTree}
+use Rattle.values.specs.Values.{Name}
+use Rattle.values.specs.Worths.{Known}
+use Rattle.values.specs.Names.{Entry}
+use Rattle.phrases.specs.Events.{KnownEvents, EventsStand}
+use Rattle.phrases.specs.Denotes.{Denotes}
+use Rattle.phrases.specs.Making.{Gathered}
+
+-- These are the bodies of what is reached from the root, where a script declares this.
+pub record AreBodies (channels : List Channel) (known : Known) (entries : List Entry) (root : Name) (bodies : List Proc) : Type 0 where
+  pub sets : KnownEvents
+  pub events : EventsStand channels known entries sets
+  pub gathered : Gathered (record { entries = entries; channels = channels; known = known; sets = sets }) (root, []) bodies
+
+-- The text has a tree that denotes the specification for the root.
+pub record IsRead (text : List ℕ) (root : Name) (spec : Specified) : Type 0 where
+  pub tree : Syntax
+  pub reads : HasTree text tree
+  pub denotes : Denotes tree root spec

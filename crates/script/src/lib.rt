@@ -1,0 +1,17 @@
+//! The specification that a script denotes for a root, and the printed form of a specification.
+#![tactic(auto)]
+
+mod fields;
+mod found;
+mod law;
+mod names;
+mod reading;
+mod rows;
+mod script;
+mod sigma;
+mod standing;
+mod table;
+
+pub use law::{one_reading, roots_are_names};
+pub use printing::print;
+pub use reading::read;

@@ -1,0 +1,85 @@
+//! What a text is read as.
+ghost use Rattle.std.specs.Prelude.{◌≡◌, IfOk, IsTrue, List, MatchResult, Some, map};
+ghost use Rattle.phrases.specs.Denotes.{Denotes};
+ghost use Rattle.syntax.specs.View.{shape};
+ghost use Rattle.term.specs.Proc.{Proc, proc};
+ghost use Rattle.term.specs.Specs.{Specified};
+ghost use Rattle.tokens.specs.declared.error.ScriptErrorKind.TheVariants.{Memory};
+ghost use Rattle.values.specs.Tables.{table};
+ghost use Rattle.values.specs.View.{Gives};
+ghost use Rattle.declarations.specs.Naming.{has_names};
+ghost use Rattle.declarations.specs.View.{entries as entries_of};
+ghost use Rattle.script.specs.Reading.{AreBodies, IsRead};
+
+use crate::names::{Names, names_of};
+use crate::script::Script;
+use crate::sigma::Sigma;
+use crate::standing::named_sets;
+use declarations::{declare, trees_have_names};
+use phrases::gathered;
+use std::alloc::Allocator;
+use syntax::{Tree, parse};
+use term::{Spec, Term};
+use tokens::ScriptError;
+
+/// The bodies of what is reached from the root.
+fn bodies_of<'a, A: Allocator + Copy>(
+    alloc: A,
+    names: &Names<'a, A>,
+    root: &[u8],
+) -> Result<Vec<Term<A>, A>, ScriptError>
+    ensures found { IfOk result (λ v. AreBodies names.now.sigma.alphabet (table names.now.known) (entries_of names.now.entries) root.now (map proc v.items)) }
+    ensures only { (ps : List Proc) → AreBodies names.now.sigma.alphabet (table names.now.known) (entries_of names.now.entries) root.now ps → Gives (λ v. map proc v.items) result (Some ps) }
+{
+    if !names.entries.is_process(root) {
+        return Err(names.root_fault(root));
+    }
+    let found = named_sets(alloc, names)?;
+    gathered(
+        alloc,
+        &Script {
+            names,
+            found: &found,
+        },
+        root,
+    )
+}
+
+/// The specification that the script with this tree denotes for the root.
+fn denoted<A: Allocator + Copy>(
+    alloc: A,
+    tree: &Tree<A>,
+    root: &[u8],
+) -> Result<Spec<A>, ScriptError>
+    requires { IsTrue (has_names (shape tree.now)) }
+    ensures found { IfOk result (λ spec. Denotes (shape tree.now) root.now spec) }
+    ensures only { (spec : Specified) → Denotes (shape tree.now) root.now spec → MatchResult result (λ s. s ≡ spec) (λ e. e.kind ≡ Memory) }
+{
+    let declared = declare(alloc, tree)?;
+    let names = names_of(alloc, declared)?;
+    let bodies = bodies_of(alloc, &names, root)?;
+    let Names { sigma, .. } = names;
+    let Sigma { alphabet, .. } = sigma;
+    Ok(Spec::new(alphabet, bodies))
+}
+
+/// The specification that the text of a script denotes for the root, which is the name of one of its processes; or the first
+/// fault.
+///
+/// The size is looked at first, then the tokens, then the grammar, as `syntax::parse` tells their faults; then the
+/// declarations, as `declarations::declare` tells theirs; then the root (`NoSuchProcess` on line 1); then the bodies of what is
+/// reached from it, as `phrases::gathered` tells theirs. What isn't reached has to fit the grammar, and no more. `Memory` is
+/// told on line 1. `docs/LANGUAGE.md` says which texts are scripts, and `docs/SEMANTICS.md` what they mean.
+///
+/// Costs the text's length, a turn for each name and each use of one, a copy of each event's values, and a turn for each node
+/// of the bodies and each event that a prefix is held against.
+pub fn read<A: Allocator + Copy>(alloc: A, text: &[u8], root: &[u8]) -> Result<Spec<A>, ScriptError>
+    // What is read is what the text denotes.
+    ensures found { IfOk result (λ spec. IsRead text.now root.now spec) }
+    // What the text denotes is read, and nothing else, unless memory runs out.
+    ensures only { (spec : Specified) → IsRead text.now root.now spec → MatchResult result (λ s. s ≡ spec) (λ e. e.kind ≡ Memory) }
+{
+    let tree = parse(alloc, text)?;
+    trees_have_names();
+    denoted(alloc, &tree, root)
+}

@@ -1,0 +1,54 @@
+//! Tables of names.
+ghost use Rattle.std.specs.Prelude.{◌≡◌, ℕ, List, Some, None, is_some, IfOk, if◌then◌else◌};
+ghost use Rattle.std.specs.Option.{option_map};
+ghost use Rattle.values.specs.Names.{same_name};
+ghost use Rattle.script.specs.Tables.{said};
+
+use indexmap::IndexMap;
+use std::alloc::{AllocError, Allocator};
+use std::hash::{BuildHasherDefault, FoldHasher};
+
+type Hashing = BuildHasherDefault<FoldHasher>;
+
+/// What names stand for.
+#[derive(Drop)]
+pub(crate) struct Table<V: Drop, A: Allocator> {
+    entries: IndexMap<Vec<u8, A>, V, Hashing, A>,
+}
+
+impl<V: Drop, A: Allocator + Copy> Table<V, A> {
+    /// A table without names. Takes no memory.
+    pub(crate) fn new(alloc: A) -> Table<V, A>
+        ensures { (name : List ℕ) → said result name ≡ None }
+    {
+        Table {
+            entries: IndexMap::new(alloc),
+        }
+    }
+
+    /// The table where the name stands for this value.
+    pub(crate) fn with(self, name: &[u8], value: V) -> Result<Table<V, A>, AllocError>
+        ensures { IfOk result (λ t. (other : List ℕ) → said t other ≡ (if same_name other name.now then Some value else said self other)) }
+    {
+        let mut entries = self.entries;
+        let name = Vec::from_slice(*entries.allocator(), name)?;
+        let _old = entries.insert(name, value)?;
+        Ok(Table { entries })
+    }
+}
+
+impl<V: Drop, A: Allocator> Table<V, A> {
+    /// What the name stands for. Costs one look-up by its hash.
+    pub(crate) fn get(&self, name: &[u8]) -> Option<&V>
+        ensures { option_map (λ v. v.now) result ≡ said self.now name.now }
+    {
+        self.entries.get(name)
+    }
+
+    /// Whether the table says what the name stands for.
+    pub(crate) fn has(&self, name: &[u8]) -> bool
+        ensures { result ≡ is_some (said self.now name.now) }
+    {
+        self.get(name).is_some()
+    }
+}
