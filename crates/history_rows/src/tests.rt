@@ -1,7 +1,7 @@
-// What is expected is worked by hand: the counts from the lists of entries, the verdicts from `a -> b -> STOP`.
+// What is expected is worked by hand: the counts from the lists of entries, the verdicts from `P = a -> b -> P`.
 use alphabet::{Event, EventSet, Report};
 use history::{Entry, HISTORY_LIMIT, History, LegalHistory, SeatNumber};
-use outline::read;
+use script::read;
 use std::alloc::Global;
 use std::process::Abort;
 use std::test::Fail;
@@ -118,7 +118,7 @@ fn assert_step(rt: &impl Abort, legal: &mut LegalHistory<Global>, step: &[u8]) -
 }
 
 fn legal_history(alloc: Global) -> Result<LegalHistory<Global>, Fail> {
-    let script = "channel a, b\nP = a -> b -> STOP\n";
+    let script = "channel a, b\nP = a -> b -> P\n";
     match LegalHistory::new(alloc, read(alloc, script.as_bytes(), b"P")?) {
         Ok(legal) => Ok(legal),
         Err(_) => Err(Fail::new("no limit is met")),
@@ -128,7 +128,7 @@ fn legal_history(alloc: Global) -> Result<LegalHistory<Global>, Fail> {
 #[test]
 fn reports_one_after_the_other(rt: HostRuntime) -> Result<(), Fail> {
     let mut legal = legal_history(rt.alloc())?;
-    for step in "Na 2Eb- 1Ea+ 2Ra+ 2Rb- Nb 2Eb+ N 2Rab+"
+    for step in "Na 2Eb- 1Ea+ 2Ra+ 2Rb- Nb 2Eb+ Na 2Rb+"
         .as_bytes()
         .split(|byte: &u8| *byte == b' ')
     {

@@ -1,8 +1,8 @@
-// The replies are worked by hand from the meaning of `a -> b -> STOP` and from the line protocol.
+// The replies are worked by hand from the meaning of `P = a -> b -> P` and from the line protocol.
 use disk::Disk;
 use memory_disks::{Afterwards, FaultDisk};
 use one_seat::{OneSeat, Watch, seat_in_memory};
-use outline::read;
+use script::read;
 use session::Session;
 use std::alloc::Global;
 use std::sync::Wait;
@@ -10,7 +10,7 @@ use std::test::Fail;
 use term::Spec;
 use wire::{End, Plain, WireError};
 
-const SCRIPT: &str = "channel a, b\nP = a -> b -> STOP\n";
+const SCRIPT: &str = "channel a, b\nP = a -> b -> P\n";
 
 fn spec_of(alloc: Global) -> Result<Spec<Global>, Fail> {
     Ok(read(alloc, SCRIPT.as_bytes(), b"P")?)
@@ -59,10 +59,16 @@ fn a_conversation_and_the_next(rt: HostRuntime) -> Result<(), Fail> {
     };
     let first = talk(&rt, alloc, &mut seat, "N\nE a\nR b\nS\nE b");
     assert!(rt; first.end == Ok(End::Input) && !first.misuse && !first.limit);
-    assert_eq!(rt; first.output.as_slice(), "N a\nOK 1\nNO 2\nS 2 1 0 1 open\n".as_bytes());
+    assert_eq!(rt;
+        first.output.as_slice(),
+        "N a\nOK 1\nNO 2\nS 2 1 0 1 open\n".as_bytes()
+    );
     let second = talk(&rt, alloc, &mut seat, "E d\nE b\nN\nQ\n");
     assert!(rt; second.end == Ok(End::Quit) && second.misuse && !second.limit);
-    assert_eq!(rt; second.output.as_slice(), "ERR 11 event\nOK 3\nN\nBYE\n".as_bytes());
+    assert_eq!(rt;
+        second.output.as_slice(),
+        "ERR 11 event\nOK 3\nN a\nBYE\n".as_bytes()
+    );
     assert_eq!(rt; seat.session().history().len(), 3);
     assert_eq!(rt; seat.into_session().summary().events, 2);
     Ok(())
