@@ -1,4 +1,6 @@
 // The replies are worked by hand from the meaning of `P = a -> b -> P` and from the line protocol.
+ghost use Rattle.std.specs.Prelude.{◌≤◌, IfOk, length};
+
 use disk::Disk;
 use memory_disks::{Afterwards, FaultDisk};
 use one_seat::{OneSeat, Watch, seat_in_memory};
@@ -16,7 +18,9 @@ fn spec_of(alloc: Global) -> Result<Spec<Global>, Fail> {
     Ok(read(alloc, SCRIPT.as_bytes(), b"P")?)
 }
 
-fn script() -> Result<&'static [u8], Fail> {
+fn script() -> Result<&'static [u8], Fail>
+    ensures { IfOk result (λ text. length text.now ≤ 65536) }
+{
     let script = SCRIPT.as_bytes();
     if script.len() > 65_536 {
         return Err(Fail::new("the script is short"));
