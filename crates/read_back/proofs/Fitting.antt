@@ -1,10 +1,10 @@
 -- The trees of values, events, sets and processes fit the grammar, within its limits.
-use Rattle.std.proofs.Common.{◌≡◌, ℕ, zero, suc, ◌+◌, ◌<◌, ◌≤◌, pos, negsuc, List, [], ◌∷◌, ◌++◌, map, length, drop, max, Bool, true, false, not, ◌&&◌, ◌||◌, refl, sym, ap, ap₂, ◌∙◌, arith}
+use Rattle.std.proofs.Common.{◌≡◌, ℕ, ◌+◌, ◌≤◌, pos, negsuc, List, [], ◌∷◌, map, drop, Bool, true, false, not, ◌&&◌, ◌||◌, refl, ap, ap₂, ◌∙◌, arith}
 use Rattle.std.specs.Prelude.{nat_le, slice_index_or}
 use Rattle.std.proofs.lemmas.Bool.{le-leb}
 use Rattle.alphabet.specs.declared.events.Event.{Event}
 use Rattle.alphabet.specs.declared.events.Event.TheVariants.{Tick as tick, Of as ev}
-use Rattle.alphabet.specs.EventSets.{Set, members}
+use Rattle.alphabet.specs.EventSets.{members}
 use Rattle.alphabet.specs.Channels.{FieldValue, number, constant, Values, Channel, Parts, events}
 use Rattle.term.specs.Proc as procs
 use Rattle.term.specs.Proc.{Proc}
@@ -12,12 +12,11 @@ use Rattle.term.specs.Sizes.{depth}
 use Rattle.term.specs.Traces.{Pairs}
 use Rattle.syntax.specs.declared.form.Form.TheVariants as forms
 use Rattle.syntax.specs.declared.operator.Operator.TheVariants as operators
-use Rattle.syntax.specs.Grammar.{Syntax, Called, Numeral, Node, Syntaxes, NoSyntax, MoreSyntax, height_of, highest, nesting, nests, nests_part, is_open, last_open, is_last, level_in, is_event, is_value, is_field, is_pair, is_called, is_declaration, is_names, is_constants, is_field_sets, is_numeral, wants, left_fits, is, shut, may_stand, Fits, FitAll, FitsPart, takes}
+use Rattle.syntax.specs.Grammar.{Syntax, Called, MoreSyntax, height_of, highest, nesting, nests, nests_part, is_open, last_open, is_last, level_in, is_event, is_value, is_field, is_pair, is_called, is_numeral, wants, left_fits, is, shut, may_stand, Fits, FitAll}
 use Rattle.syntax.specs.Rules.{rule, form_level, is_heavy, ending}
 use Rattle.syntax.specs.Operators.{opening, level, left_limit, right_limit, behind}
-use Rattle.printing.specs.Printed.{reference}
 use Rattle.read_back.specs.Readable.{IsWritten}
-use Rattle.read_back.specs.Trees.{node, named, phrases, value_tree, dotted_trees, event_tree, no_parts, tree_of_event, braced, set_tree, pair_tree, process_tree}
+use Rattle.read_back.specs.Trees.{phrases, value_tree, dotted_trees, event_tree, no_parts, tree_of_event, braced, set_tree, pair_tree, process_tree}
 
 -- ---- values
 

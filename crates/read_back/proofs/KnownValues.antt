@@ -1,10 +1,9 @@
 -- What phrases stand for: numbers within the limits, constants that names stand for, and sets in order.
-use Rattle.std.proofs.Common.{◌≡◌, ℕ, zero, suc, ◌+◌, ◌<◌, ◌≤◌, List, [], ◌∷◌, map, filter, Bool, true, false, cond, ◌&&◌, not, Option, Some, None, ℤ, pos, negsuc, ◌+ℤ◌, ◌-ℤ◌, ◌≤ℤ◌, ◌<ℤ◌, inl, inr, refl, sym, ap, subst, ◌∙◌, arith}
+use Rattle.std.proofs.Common.{◌≡◌, ℕ, zero, suc, ◌<◌, ◌≤◌, List, [], ◌∷◌, filter, Bool, true, false, cond, ◌&&◌, not, Some, None, ℤ, pos, negsuc, ◌+ℤ◌, ◌-ℤ◌, ◌≤ℤ◌, ◌<ℤ◌, refl, sym, subst, ◌∙◌, arith}
 use Rattle.std.proofs.lemmas.Int.{ints, rem_below}
-use Rattle.std.proofs.lemmas.Cmp.{int_ranked}
 use Rattle.std.specs.Prelude.{int_lt, int_le, nat_le, length, unsigned_abs, int_rem, ◌*ℤ◌}
 use Rattle.std.specs.Int.{int_gap}
-use Rattle.std.specs.Ordering.{match_ordering, int_cmp}
+use Rattle.std.specs.Ordering.{match_ordering}
 use Rattle.std.specs.Cmp.{int_cmp_is}
 use Rattle.std.specs.BTreeSet.{insert_key}
 use Rattle.std.specs.declared.cmp.Ordering.{Ordering}
@@ -87,7 +86,7 @@ unfolding union
 union_rises vs [] h = h
 union_rises vs (w ∷ ws) h = union_rises (insert_key value_cmp vs w) ws (rises_insert value_cmp value_total vs w h)
 
-set_rises : (vs : Values) → Rising (set_of vs)
+pub set_rises : (vs : Values) → Rising (set_of vs)
 unfolding set_of
 set_rises [] = tt
 set_rises (v ∷ vs) = rises_insert value_cmp value_total (set_of vs) v (set_rises vs)

@@ -19,3 +19,7 @@ pub mod Fields
 pub mod Whole
 pub mod KnownValues
 pub mod ProperNames
+pub mod Origins
+pub mod PairsInOrder
+pub mod Written
+pub mod Law

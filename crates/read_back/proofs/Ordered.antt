@@ -1,5 +1,5 @@
 -- Lists in order: items put in their place, and what stands there.
-use Rattle.std.proofs.Common.{◌≡◌, List, [], ◌∷◌, ◌++◌, Bool, ◌⊎◌, inl, inr, refl, sym, ap, subst, ◌∙◌}
+use Rattle.std.proofs.Common.{◌≡◌, List, [], ◌∷◌, ◌⊎◌, inl, inr, refl, sym, ap, subst, ◌∙◌}
 use Rattle.std.specs.List.{flat_map}
 use Rattle.std.specs.Ordering.{ordering_reverse, match_ordering}
 use Rattle.std.specs.Cmp.{IsTotalOrder}

@@ -2,7 +2,6 @@
 use Rattle.std.proofs.Common.{◌≡◌, ◌≢◌, ℕ, zero, suc, ◌+◌, ◌<◌, List, [], ◌∷◌, map, length, get_or, slice_get, Bool, true, false, cond, ◌&&◌, not, nat_eq, Option, Some, None, refl, sym, ap, ap₂, ◌∙◌, subst, arith}
 use Rattle.std.proofs.lemmas.Bool.{false≢true, not-true}
 use Rattle.std.proofs.lemmas.Option.{none-some, same_Some}
-use Rattle.std.specs.List.{flat_map}
 use Rattle.std.specs.Cmp.Lexicographic.{pointwise, bytes_decides}
 use Rattle.alphabet.specs.Channels.{FieldValue, Values, Channel, Parts, choices, channel_events, events, names, event_text, event_count, is_declared, are_distinct, IsAlphabet}
 use Rattle.alphabet.specs.Elements.{In, here, there, Distinct}
@@ -10,15 +9,15 @@ use Rattle.alphabet.proofs.Lists.{In-map, In-flat_map, In-under_map, In-get_or, 
 use Rattle.alphabet.proofs.ChannelPlaces.{event_count-is}
 use Rattle.alphabet.proofs.DistinctNames.{names_distinct}
 use Rattle.alphabet.specs.declared.events.Event.TheVariants.{Of as ev}
-use Rattle.syntax.specs.Grammar.{Syntaxes, NoSyntax, MoreSyntax}
-use Rattle.values.specs.Values.{◌>>=◌, Name, is_same, is_among}
+use Rattle.syntax.specs.Grammar.{Syntaxes}
+use Rattle.values.specs.Values.{◌>>=◌, Name, is_same}
 use Rattle.values.specs.Names.{same_name}
-use Rattle.phrases.specs.Events.{fields_named, channel_fields, unless_value, field_value}
+use Rattle.phrases.specs.Events.{fields_named, channel_fields, unless_value}
 use Rattle.phrases.specs.Bodies.{Body, prefix, choice_of, choice_in}
 use Rattle.phrases.specs.Phrases.{Scope, against, fits_field, fitting, has_all, branches, prefixed, with_branch, then_fits}
-use Rattle.read_back.specs.Trees.{dotted_trees, value_tree, event_tree, tree_of_event, no_parts}
+use Rattle.read_back.specs.Trees.{dotted_trees, tree_of_event, no_parts}
 use Rattle.read_back.specs.Readable.{IsGiven, IsPrintedScope}
-use Rattle.read_back.proofs.Given.{same_is, all_same, all_themselves, name_itself, among-In, AreChosen, chosen, AllGiven, field_given}
+use Rattle.read_back.proofs.Given.{all_same, all_themselves, name_itself, among-In, AreChosen, chosen, AllGiven, field_given}
 
 -- ---- the events of an alphabet
 

@@ -1,18 +1,18 @@
 -- The names that are found for a datatype and for bodies are no others'.
-use Rattle.std.proofs.Common.{◌≡◌, ◌≢◌, ℕ, zero, suc, ◌+◌, ◌<◌, ◌≤◌, List, [], ◌∷◌, ◌++◌, map, length, max, fold, replicate, nat_eq, Bool, true, false, not, cond, ◌&&◌, ◌||◌, ◌⊎◌, inl, inr, refl, sym, ap, ap₂, ◌∙◌, subst, arith}
+use Rattle.std.proofs.Common.{◌≡◌, ℕ, zero, suc, ◌+◌, ◌<◌, ◌≤◌, List, [], ◌∷◌, ◌++◌, map, length, max, fold, replicate, nat_eq, Bool, true, false, not, cond, ◌&&◌, ◌||◌, ◌⊎◌, inl, inr, refl, sym, ap, ap₂, ◌∙◌, subst, arith}
 use Rattle.std.proofs.lemmas.Bool.{false≢true}
 use Rattle.std.proofs.lemmas.Cmp.{nat_list_cmp_total}
 use Rattle.std.proofs.lemmas.List.{length-append, length-replicate}
 use Rattle.std.proofs.lemmas.Map.Lookups.{exact_bytes}
-use Rattle.std.specs.List.{flat_map, list_any, list_all, range_with_len}
+use Rattle.std.specs.List.{flat_map, range_with_len}
 use Rattle.std.specs.Prelude.{decimal}
 use Rattle.std.specs.BTreeSet.{insert_key}
 use Rattle.std.specs.Cmp.Lexicographic.{pointwise, bytes_decides}
 use Rattle.alphabet.specs.Channels.{FieldValue, number, constant, Values, Channel}
 use Rattle.alphabet.specs.Elements.{In, here, there, Distinct}
-use Rattle.alphabet.proofs.Lists.{In-append, In-append_left, In-append_right, In-flat_map, In-under_map, all-In, none-from_In}
+use Rattle.alphabet.proofs.Lists.{In-append_left, In-append_right, In-flat_map, In-under_map, all-In, none-from_In}
 use Rattle.tokens.proofs.Complete.{same_head}
-use Rattle.printing.specs.Names.{Name, byte_order, with_names, in_order, constant_in, constants_in, constants, taken, is_among, primed, differ, first_from, longest, least_primes, datatype_name, datatype_primes, body_name, body_primes}
+use Rattle.printing.specs.Names.{Name, byte_order, with_names, constant_in, constants_in, constants, taken, is_among, primed, differ, first_from, longest, least_primes, datatype_name, datatype_primes, body_name, body_primes}
 use Rattle.printing.specs.Printed.{reference}
 use Rattle.read_back.proofs.Ordered.{in_flat, Rises, rises_insert, in_kept, in_from, in_put, rises_distinct}
 

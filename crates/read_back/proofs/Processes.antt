@@ -1,12 +1,12 @@
 -- The texts of processes have the tokens of their trees.
-use Rattle.std.proofs.Common.{◌≡◌, ℕ, zero, suc, ◌+◌, ◌<◌, ◌≤◌, List, [], ◌∷◌, ◌++◌, map, filter, length, drop, get_or, replicate, Bool, true, false, Some, None, refl, sym, ap, ap₂, ◌∙◌, subst, arith, append_assoc, append-nil}
-use Rattle.std.specs.Prelude.{◌==◌, codes, decimal, slice_index_or}
+use Rattle.std.proofs.Common.{◌≡◌, ℕ, zero, suc, ◌<◌, ◌≤◌, List, [], ◌∷◌, ◌++◌, map, filter, length, drop, get_or, replicate, true, Some, None, refl, sym, ap, ◌∙◌, subst, arith, append_assoc, append-nil}
+use Rattle.std.specs.Prelude.{codes, decimal}
 use Rattle.std.specs.List.{flat_map, range_with_len}
 use Rattle.std.specs.Char.{is_ascii_digit, is_ascii_alphabetic}
 use Rattle.alphabet.specs.declared.events.Event.{Event}
 use Rattle.alphabet.specs.declared.events.Event.TheVariants.{Of as ev}
-use Rattle.alphabet.specs.EventSets.{Set, has, members}
-use Rattle.alphabet.specs.Channels.{FieldValue, Values, Channel, Parts, dotted, event_text, events, names, event_count, name_of, choices}
+use Rattle.alphabet.specs.EventSets.{Set, has}
+use Rattle.alphabet.specs.Channels.{FieldValue, Values, Channel, Parts, dotted, event_text, events, names, event_count, name_of}
 use Rattle.alphabet.specs.Elements.{In, here, there}
 use Rattle.alphabet.proofs.Lists.{In-get_or}
 use Rattle.alphabet.proofs.ChannelPlaces.{event_count-is}
@@ -16,7 +16,7 @@ use Rattle.term.specs.Specs.{SetInSigma, PairsInSigma}
 use Rattle.term.specs.Traces.{Pairs}
 use Rattle.tokens.specs.declared.symbol.Symbol.TheVariants as symbols
 use Rattle.tokens.specs.declared.keyword.Keyword.TheVariants as keywords
-use Rattle.tokens.specs.Lexeme.{Lexeme, Name, Number, Kept, Sign}
+use Rattle.tokens.specs.Lexeme.{Lexeme, Kept, Sign}
 use Rattle.tokens.specs.Spelling.{keyword_text, refused_word_text}
 use Rattle.tokens.specs.Text.{All, IsName, is_name_byte, is_prime, Holds}
 use Rattle.tokens.specs.Scanning.{reserved_of, named as named_word, next_at}
@@ -26,9 +26,9 @@ use Rattle.syntax.specs.Grammar.{Syntax, flat, spell, spell_part, spell_signs}
 use Rattle.syntax.specs.Rules.{rule}
 use Rattle.syntax.specs.Operators.{opening, behind}
 use Rattle.phrases.proofs.Reached.{get_or_view}
-use Rattle.printing.specs.Printed.{joined, operation, set_text, shared_text, pair_text, reference, process_text}
-use Rattle.read_back.specs.Trees.{node, named, phrases, event_tree, no_parts, tree_of_event, braced, set_tree, pair_tree, process_tree}
-use Rattle.read_back.specs.Readable.{IsRenaming, IsWritten}
+use Rattle.printing.specs.Printed.{joined, set_text, shared_text, pair_text, reference, process_text}
+use Rattle.read_back.specs.Trees.{node, phrases, event_tree, no_parts, tree_of_event, braced, set_tree, pair_tree, process_tree}
+use Rattle.read_back.specs.Readable.{IsWritten}
 use Rattle.read_back.proofs.Prefixes.{event_parts}
 use Rattle.read_back.proofs.Given.{AreChosen, chosen}
 use Rattle.read_back.proofs.Sets.{AllBelow, all_kept, its_members}

@@ -1,16 +1,15 @@
 -- The names that a text declares are names of the language and no reserved words.
-use Rattle.std.proofs.Common.{◌≡◌, ◌≢◌, ℕ, List, [], ◌∷◌, ◌++◌, map, drop, Bool, true, false, cond, ◌&&◌, ◌⊎◌, Option, Some, None, inl, inr, refl, sym, ap, subst, ◌∙◌}
+use Rattle.std.proofs.Common.{◌≡◌, ℕ, List, [], ◌∷◌, ◌++◌, map, drop, Some, sym, subst}
 use Rattle.tokens.specs.Lexeme.{Lexeme, Name as NameToken, Number, Kept, Sign}
-use Rattle.tokens.specs.Text.{IsName, Spells, Part, Blank, Line, Assertion, Block, Token, IsPart, AreParts, tokens_of, HasTokens}
-use Rattle.tokens.specs.Scanning.{reserved_of}
+use Rattle.tokens.specs.Text.{Spells, Part, Blank, Line, Assertion, Block, Token, AreParts, tokens_of, HasTokens}
 use Rattle.tokens.proofs.Words.{none_reserved}
 use Rattle.syntax.specs.declared.form.Form.{Form}
 use Rattle.syntax.specs.declared.form.Form.TheVariants as forms
-use Rattle.syntax.specs.Grammar.{Syntax, Called, Numeral, Node, Syntaxes, NoSyntax, MoreSyntax, flat, spell, spell_part, spell_signs}
+use Rattle.syntax.specs.Grammar.{Syntax, Called, Numeral, Node, Syntaxes, NoSyntax, MoreSyntax, flat, spell, spell_part}
 use Rattle.syntax.specs.Rules.{rule}
-use Rattle.syntax.specs.Script.{IsScript, HasTree}
+use Rattle.syntax.specs.Script.{HasTree}
 use Rattle.values.specs.Values.{◌>>=◌, Name}
-use Rattle.values.specs.Names.{Entry, Meaning, channel, datatype, constant_name, definition, names_of, listed_names, field_sets, entries_of, declared_by, declared_by_all, declared}
+use Rattle.values.specs.Names.{Entry, Meaning, channel, datatype, constant_name, names_of, listed_names, field_sets, entries_of, declared_by, declared_by_all, declared}
 use Rattle.declarations.proofs.Constants.{bind_some, some_same}
 use Rattle.read_back.proofs.Scanned.{IsProper}
 

@@ -1,12 +1,12 @@
 -- The bodies of a printed script are reached from its first body, each by its number.
-use Rattle.std.proofs.Common.{◌≡◌, ℕ, zero, suc, ◌+◌, ◌<◌, ◌≤◌, ◌^◌, List, [], ◌∷◌, ◌++◌, map, length, take, get_or, replicate, nat_eq, Bool, true, false, cond, ◌&&◌, Option, Some, None, inl, inr, refl, sym, ap, ap₂, ◌∙◌, subst, arith}
+use Rattle.std.proofs.Common.{◌≡◌, ℕ, zero, suc, ◌<◌, ◌≤◌, ◌^◌, List, [], ◌∷◌, ◌++◌, map, length, take, get_or, replicate, nat_eq, Bool, true, false, cond, ◌&&◌, Option, Some, inl, inr, refl, sym, ap, ap₂, ◌∙◌, subst, arith}
 use Rattle.std.specs.Prelude.{codes, decimal}
 use Rattle.std.proofs.lemmas.Bool.{false≢true}
 use Rattle.std.proofs.lemmas.Bool.Decides.{eqb_tells}
 use Rattle.std.proofs.lemmas.List.{length-map, map-append, append_cancel_left, append_cancel_right}
 use Rattle.std.proofs.lemmas.Fmt.{decimal_injective}
 use Rattle.std.specs.Cmp.{nat_eq_equiv}
-use Rattle.std.specs.Cmp.Lexicographic.{pointwise, bytes_decides}
+use Rattle.std.specs.Cmp.Lexicographic.{bytes_decides}
 use Rattle.std.specs.List.{flat_map}
 use Rattle.term.specs.Proc as procs
 use Rattle.term.specs.Proc.{Proc, bodies_of}
@@ -16,7 +16,7 @@ use Rattle.phrases.specs.Phrases.{Scope}
 use Rattle.phrases.specs.Denotes.{body_of, place, has_key, with_keys, met, Reached}
 use Rattle.phrases.proofs.Keys.{key_same}
 use Rattle.phrases.proofs.Reached.{get_or_view}
-use Rattle.printing.specs.Names.{primed, body_name}
+use Rattle.printing.specs.Names.{body_name}
 use Rattle.printing.specs.Printed.{reference}
 use Rattle.read_back.specs.Readable.{referred}
 use Rattle.read_back.proofs.Numbers.{key_is, at_place, has_own, AllHave, Placed, placed, all_named, root_met, all_taken, all_left, all_right, all_other}

@@ -1,25 +1,23 @@
 -- Texts that are read token by token.
-use Rattle.std.proofs.Common.{◌≡◌, ◌≢◌, ℕ, zero, suc, ◌+◌, ◌*◌, ◌-◌, ◌/◌, ◌%◌, ◌<◌, ◌≤◌, ◌^◌, List, [], ◌∷◌, ◌++◌, map, length, take, drop, Bool, true, false, cond, ◌&&◌, ◌||◌, nat_eq, Option, Some, None, inl, inr, refl, sym, ap, ap₂, ◌∙◌, subst, arith, append_assoc, append-nil}
-use Rattle.std.specs.Prelude.{◌==◌, nat_le, codes, decimal}
+use Rattle.std.proofs.Common.{◌≡◌, ◌≢◌, ℕ, ◌+◌, ◌*◌, ◌-◌, ◌/◌, ◌%◌, ◌<◌, ◌≤◌, List, [], ◌∷◌, ◌++◌, length, take, drop, Bool, true, false, ◌&&◌, ◌||◌, Option, Some, None, inl, inr, refl, sym, ap, ap₂, ◌∙◌, subst, arith, append_assoc}
+use Rattle.std.specs.Prelude.{◌==◌, nat_le, decimal}
 use Rattle.std.specs.Char.{is_ascii_digit, is_ascii_alphabetic}
 use Rattle.std.specs.List.{prefix_len}
 use Rattle.std.specs.Int.{is_in_range}
 use Rattle.std.proofs.lemmas.Bool.{le-leb, leb-true, eqb-true, false≢true}
-use Rattle.std.proofs.lemmas.Bool.Decides.{eqb_tells, leb_tells}
+use Rattle.std.proofs.lemmas.Bool.Decides.{eqb_tells}
 use Rattle.std.proofs.lemmas.List.{length-append}
 use Rattle.std.proofs.lemmas.Fmt.{decimal_by_steps}
 use Rattle.std.proofs.Math.Nat.{mod-lt}
 use Rattle.std.proofs.Math.Seq.{take-append_seam, drop-append_seam}
-use Rattle.tokens.specs.declared.symbol.Symbol.{Symbol}
 use Rattle.tokens.specs.declared.symbol.Symbol.TheVariants as symbols
-use Rattle.tokens.specs.declared.keyword.Keyword.TheVariants as keywords
-use Rattle.tokens.specs.Lexeme.{Lexeme, Name, Number, Kept, Sign}
-use Rattle.tokens.specs.Spelling.{symbol_text, refused_symbol_text, keyword_text, refused_word_text}
-use Rattle.tokens.specs.Text.{All, IsName, is_name_byte, is_prime, is_blank, value_of, opens_comment, Part, Blank, behind, Holds}
+use Rattle.tokens.specs.Lexeme.{Lexeme, Name, Number, Sign}
+use Rattle.tokens.specs.Spelling.{symbol_text, refused_symbol_text}
+use Rattle.tokens.specs.Text.{All, IsName, is_name_byte, is_prime, is_blank, value_of, opens_comment, Blank, behind, Holds}
 use Rattle.tokens.specs.Scanning.{◌>>=◌, run, name_len, Step, reserved_of, named, name_at, number_at, signed, sign_at, word_at, next_at, value_from}
 use Rattle.tokens.proofs.Lists.{prefix_stops}
 use Rattle.tokens.proofs.Names.{run_exact, letter_is_name_byte, digit_is_no_letter}
-use Rattle.tokens.proofs.Complete.{next_word, word_letter, word_digit, word_sign}
+use Rattle.tokens.proofs.Complete.{next_word, word_letter, word_digit}
 use Rattle.tokens.proofs.Sound.{step_sound}
 
 -- ---- part by part
