@@ -68,7 +68,7 @@ channel a, b, c$P = (a -> STOP) /\\ (b -> STOP)$#channel a$channel b$channel c$P
 const FAULTS: &str = "channel a, b, c${- x${- y -}$P = STOP$#2: 2 token
 channel a, b, c$P = STOP$n = 1000001$#3: 7 range
 channel a, b, c$P = a ->$#3: 3 expected
-channel a$P = if 1 < 2 < 3 then STOP else STOP$#2: 11 unsupported
+channel a$P = if 1 < 2 < 3 then STOP else STOP$#2: 3 expected
 channel a, b, c$P = 3$#1: 12 process
 channel a, b, c$P = a -> 3$#2: 3 expected
 channel a, b, c$P = a -> b$#2: 3 expected
