@@ -10,8 +10,8 @@ use Rattle.phrases.specs.Events.{unless_value, pairs_of, set_of}
 use Rattle.phrases.specs.Bodies.{Body, prefix, ext, int, seq, par, hide, ren, intr, name}
 use Rattle.phrases.specs.Phrases.{Scope, events_by, renamed, denoted, denoted_form}
 use Rattle.printing.specs.Printed.{reference}
-use Rattle.read_back.specs.Trees.{phrases, pair_tree, set_tree, process_tree}
-use Rattle.read_back.specs.Readable.{IsPrintedScope, IsRenaming, IsWritten, referred}
+use Rattle.read_back.proofs.Trees.{phrases, pair_tree, set_tree, process_tree}
+use Rattle.read_back.proofs.Readable.{IsPrintedScope, IsRenaming, IsWritten, referred}
 use Rattle.read_back.proofs.Prefixes.{prefix_denoted}
 use Rattle.read_back.proofs.Sets.{set_denoted}
 use Rattle.read_back.proofs.Pairs.{pairs_given}

@@ -17,7 +17,8 @@ use Rattle.declarations.proofs.Constants.{bind_some}
 use Rattle.declarations.proofs.Meanings as meanings
 use Rattle.printing.specs.Names.{Name, constants, primed, datatype_name, datatype_primes}
 use Rattle.printing.specs.Printed.{reference}
-use Rattle.read_back.specs.Trees.{phrases, values_tree, channel_tree_of, channel_tree, called_trees, datatype_trees, process_tree, body_tree, body_trees, printed_primes, script_tree, typed_entries, channel_entry, body_entry, body_entries, printed_entries}
+use Rattle.read_back.proofs.Trees.{phrases, values_tree, channel_tree_of, channel_tree, called_trees, datatype_trees, process_tree, body_tree, body_trees, printed_primes, script_tree, typed_entries, channel_entry, body_entry, body_entries, printed_entries}
+use Rattle.read_back.proofs.Ordered.{in_range, range_in}
 use Rattle.read_back.proofs.Reaching.{reference_is}
 use Rattle.read_back.proofs.Primes.{constants_distinct, of_fields, body_is_no_constant, body_is_no_channel, datatype_is_no_constant, datatype_is_no_channel, datatype_is_no_body}
 
@@ -100,14 +101,6 @@ channel_names (c ∷ cs) d = (
       false≢true (sym (none-In (λ x. pointwise nat_eq c.name x.name) cs no k) ∙ (bytes_decides c.name a.name).1 same)),
   channel_names cs (and-right (not (is_declared cs c.name)) (alphabets.are_distinct cs) d),
 )
-
-in_range : (k start n : ℕ) → In k (range_with_len start n) → (start ≤ k) × (k < start + n)
-in_range k start zero i = elim i [ ]
-in_range k start (suc n) i = by i (λ j. in_range k (start + 1) n j)
-  where
-    by : {j : ℕ} → In j (start ∷ range_with_len (start + 1) n) → (In j (range_with_len (start + 1) n) → (start + 1 ≤ j) × (j < (start + 1) + n)) → (start ≤ j) × (j < start + suc n)
-    by here f = (omega arith, omega arith)
-    by (there j) f = let r = f j in (omega (arith, r.0), omega (arith, r.1))
 
 body_names : (cs : List Channel) (primes : ℕ) (Ps : List Proc) (start n : ℕ) → start + n ≤ 65536 → Distinct (map named (map (body_entry cs primes Ps) (range_with_len start n)))
 body_names cs primes Ps start zero l = tt
@@ -211,16 +204,6 @@ module _ (spec : Specified) (sound : IsAlphabet spec.alphabet) (few : length spe
 
   means_so : (e : Entry) → In e (printed_entries spec) → meaning (printed_entries spec) e.0 ≡ Some e.1
   means_so e i = meanings.means (printed_entries spec) e once (entry_in (printed_entries spec) e i)
-
-  range_in : (k start n : ℕ) → start ≤ k → k < start + n → In k (range_with_len start n)
-  range_in k start zero h l = absurd (omega (arith, h, l))
-  range_in k start (suc n) h l = split k start h (λ e. subst (λ j. In k (j ∷ range_with_len (start + 1) n)) e here) (λ m. there (range_in k (start + 1) n (omega (arith, m)) (omega (arith, l))))
-    where
-      split : {P : Type 0} (k start : ℕ) → start ≤ k → (k ≡ start → P) → (start < k → P) → P
-      split zero zero h f g = f refl
-      split (suc k) zero h f g = g (omega arith)
-      split zero (suc start) h f g = absurd (omega (arith, h))
-      split (suc k) (suc start) h f g = split k start (omega (arith, h)) (λ e. f (ap suc e)) (λ l. g (omega (arith, l)))
 
   pub body_means : (k : ℕ) → k < length spec.bodies → meaning (printed_entries spec) (reference primes k) ≡ Some (definition (process_tree cs primes (bodies_of spec.bodies k)))
   body_means k l =

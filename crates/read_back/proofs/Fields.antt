@@ -23,8 +23,8 @@ use Rattle.values.specs.Channels.{fields_of, with_channel, channels_of}
 use Rattle.phrases.specs.Phrases.{Scope}
 use Rattle.printing.specs.Names.{Name, constants, primed, datatype_name, datatype_primes}
 use Rattle.printing.specs.Printed.{joined, gap, field_text, fields_text, channel_line, datatype_line, body_lines, printed}
-use Rattle.read_back.specs.Trees.{phrases, member_tree, values_tree, typed_entries, channel_entry, body_entry, body_entries, printed_primes, printed_entries}
-use Rattle.read_back.specs.Readable.{IsGiven}
+use Rattle.read_back.proofs.Trees.{phrases, member_tree, values_tree, typed_entries, channel_entry, body_entry, body_entries, printed_primes, printed_entries}
+use Rattle.read_back.proofs.Readable.{IsGiven}
 use Rattle.read_back.proofs.Given.{AllGiven, limited_pos, limited_neg, turned, a_number}
 use Rattle.read_back.proofs.Ordered.{Above, insert_front}
 

@@ -11,8 +11,8 @@ use Rattle.syntax.specs.Grammar.{Syntax, height_of, highest, nesting, nests, nes
 use Rattle.syntax.specs.Rules.{rule, form_level, is_heavy, ending}
 use Rattle.syntax.specs.Script.{IsScript}
 use Rattle.printing.specs.Names.{Name, constants, datatype_primes}
-use Rattle.read_back.specs.Trees.{node, phrases, member_tree, values_tree, channel_tree_of, channel_tree, called_trees, datatype_trees, body_tree, body_trees, printed_primes, script_tree}
-use Rattle.read_back.specs.Readable.{IsWritten}
+use Rattle.read_back.proofs.Trees.{node, phrases, member_tree, values_tree, channel_tree_of, channel_tree, called_trees, datatype_trees, body_tree, body_trees, printed_primes, script_tree}
+use Rattle.read_back.proofs.Readable.{IsWritten}
 use Rattle.read_back.proofs.Fitting.{process_fits, process_high, process_nested, process_level}
 
 -- ---- sets of values
@@ -74,11 +74,6 @@ values_open : (vs : Values) → is_open (values_tree vs) ≡ false
 unfolding is_open ending
 values_open [] = refl
 values_open (v ∷ vs) = refl
-
-values_level : (vs : Values) → (nat_le (level_in (values_tree vs)) 0 ≡ true)
-unfolding level_in form_level
-values_level [] = refl
-values_level (v ∷ vs) = refl
 
 -- ---- fields
 

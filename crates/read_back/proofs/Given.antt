@@ -17,8 +17,8 @@ use Rattle.values.specs.Order.{value_total}
 use Rattle.values.specs.Names.{same_name}
 use Rattle.phrases.specs.Events.{field_value, field_values, are_within}
 use Rattle.phrases.specs.Phrases.{Scope}
-use Rattle.read_back.specs.Trees.{node, value_tree, dotted_trees}
-use Rattle.read_back.specs.Readable.{IsGiven}
+use Rattle.read_back.proofs.Trees.{node, value_tree, dotted_trees}
+use Rattle.read_back.proofs.Readable.{IsGiven}
 
 -- ---- values that are the same
 
@@ -33,11 +33,11 @@ compared (number y) (constant n) h = absurd (cc)
 compared (constant m) (number z) h = absurd (cc)
 compared (constant m) (constant n) h = ap constant (exact_bytes m n h)
 
-pub same_is : (v w : FieldValue) → is_same v w ≡ true → v ≡ w
+same_is : (v w : FieldValue) → is_same v w ≡ true → v ≡ w
 unfolding is_same
 same_is v w h = compared v w (equal_only (value_cmp v w) h)
 
-pub same_itself : (v : FieldValue) → is_same v v ≡ true
+same_itself : (v : FieldValue) → is_same v v ≡ true
 unfolding is_same
 same_itself v = by_total (value_cmp v v) (value_total.antisymm v v)
   where

@@ -12,7 +12,7 @@ use Rattle.declarations.proofs.TextNames.{texts_have_names}
 use Rattle.phrases.specs.Denotes.{Denotes}
 use Rattle.printing.specs.Names.{body_primes}
 use Rattle.printing.specs.Printed.{printed, reference}
-use Rattle.read_back.specs.Trees.{script_tree}
+use Rattle.read_back.proofs.Trees.{script_tree}
 use Rattle.read_back.proofs.ProperNames.{declared_proper}
 use Rattle.read_back.proofs.Origins.{shown, sound}
 use Rattle.read_back.proofs.Written.{reached_written}

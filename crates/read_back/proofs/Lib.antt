@@ -1,3 +1,5 @@
+pub mod Trees
+pub mod Readable
 pub mod Given
 pub mod Prefixes
 pub mod Sets

@@ -12,12 +12,11 @@ use Rattle.alphabet.specs.Channels as alphabets
 use Rattle.alphabet.specs.Names.{is_name}
 use Rattle.alphabet.specs.Elements.{In, here, there}
 use Rattle.alphabet.proofs.Lists.{none-from_In}
-use Rattle.syntax.specs.declared.form.Form.TheVariants as forms
-use Rattle.syntax.specs.Grammar.{Syntax, Called, Numeral, Node, Syntaxes, NoSyntax, MoreSyntax}
+use Rattle.syntax.specs.Grammar.{Syntaxes, NoSyntax, MoreSyntax}
 use Rattle.values.specs.Values.{◌>>=◌, Name, value_cmp}
 use Rattle.values.specs.Worths.{Worth, one, many, Known, worth, the_set}
 use Rattle.values.specs.Order.{value_total}
-use Rattle.values.specs.Names.{Entry, Meaning, channel, datatype, constant_name, definition, same_name, meaning, declared, declared_by_all, are_distinct, worth_of, known_in, Stands}
+use Rattle.values.specs.Names.{Entry, Meaning, channel, datatype, constant_name, definition, same_name, meaning, declared_by_all, are_distinct, worth_of, known_in, Stands}
 use Rattle.values.specs.Channels.{fields_of, with_channel, channels_of}
 use Rattle.declarations.proofs.Constants.{bind_some, some_same, left, right, both}
 use Rattle.declarations.proofs.Meanings as meanings
@@ -33,16 +32,9 @@ proper_in : (es : List Entry) (e : Entry) → EntriesProper es → meanings.In e
 proper_in [] e h k = absurd k
 proper_in (f ∷ es) e h k = elim k [ inl l ↦ subst (λ (x : Entry). IsProper x.0) l h.0 | inr l ↦ proper_in es e h.1 l ]
 
-script_of : (t : Syntax) (es : List Entry) → declared t ≡ Some es → (ts : Syntaxes) × (declared_by_all ts ≡ Some es)
-unfolding declared
-script_of (Called n) es h = absurd cc
-script_of (Numeral n) es h = absurd cc
-script_of (Node forms.Script ts) es h = (ts, h)
-script_of (Node f ts) es h = absurd cc
-
 module _ (ts : Syntaxes) (es : List Entry) (known : Known) (all : declared_by_all ts ≡ Some es) (once : are_distinct es ≡ true) (stands : Stands es known) (proper : EntriesProper es) (named : AreNamed es) where
   -- the name of a constant that is declared
-  abbrev pub IsConstant : Name → Type 0
+  abbrev IsConstant : Name → Type 0
   IsConstant n = IsProper n × (meaning es n ≡ Some constant_name) × (is_name n ≡ true)
 
   abbrev Good : Worth → Type 0

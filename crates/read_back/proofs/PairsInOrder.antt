@@ -1,5 +1,5 @@
 -- Pairs in order: what stands there, and that they stay.
-use Rattle.std.proofs.Common.{◌≡◌, ℕ, zero, suc, ◌+◌, ◌<◌, ◌≤◌, List, [], ◌∷◌, ◌++◌, map, filter, length, get_or, nat_eq, Bool, true, false, cond, ◌&&◌, ◌||◌, refl, sym, ap, ap₂, subst, ◌∙◌, arith}
+use Rattle.std.proofs.Common.{◌≡◌, ℕ, ◌<◌, List, [], ◌∷◌, ◌++◌, map, filter, length, get_or, nat_eq, Bool, true, false, cond, ◌&&◌, ◌||◌, refl, sym, ap, ap₂, subst, ◌∙◌, arith}
 use Rattle.std.proofs.lemmas.Bool.{false≢true, eqb-true}
 use Rattle.std.specs.List.{flat_map, range_with_len}
 use Rattle.std.specs.Cmp.{nat_eq_equiv}
@@ -7,8 +7,8 @@ use Rattle.alphabet.specs.Elements.{In, here, there}
 use Rattle.alphabet.proofs.Lists.{In-map, In-flat_map, In-under_map, In-get_or, and-left, and-right}
 use Rattle.term.specs.Traces.{Pairs}
 use Rattle.phrases.specs.Events.{is_pair_of, in_order}
-use Rattle.read_back.specs.Readable.{IsRenaming}
-use Rattle.read_back.proofs.Ordered.{in_flat}
+use Rattle.read_back.proofs.Readable.{IsRenaming}
+use Rattle.read_back.proofs.Ordered.{in_flat, in_range, range_in}
 
 -- ---- lists
 
@@ -44,24 +44,6 @@ filter_same p q (x ∷ xs) h = ap₂ (λ b ys. cond b (x ∷ ys) ys) (h x here) 
 flat_same : {X Y : Type 0} (f g : X → List Y) (xs : List X) → ((x : X) → In x xs → f x ≡ g x) → flat_map f xs ≡ flat_map g xs
 flat_same f g [] h = refl
 flat_same f g (x ∷ xs) h = ap₂ (λ ys zs. ys ++ zs) (h x here) (flat_same f g xs (λ y i. h y (there i)))
-
-in_range : (k start n : ℕ) → In k (range_with_len start n) → (start ≤ k) × (k < start + n)
-in_range k start zero i = elim i [ ]
-in_range k start (suc n) i = by i (λ j. in_range k (start + 1) n j)
-  where
-    by : {j : ℕ} → In j (start ∷ range_with_len (start + 1) n) → (In j (range_with_len (start + 1) n) → (start + 1 ≤ j) × (j < (start + 1) + n)) → (start ≤ j) × (j < start + suc n)
-    by here f = (omega arith, omega arith)
-    by (there j) f = let r = f j in (omega (arith, r.0), omega (arith, r.1))
-
-range_in : (k start n : ℕ) → start ≤ k → k < start + n → In k (range_with_len start n)
-range_in k start zero h l = absurd (omega (arith, h, l))
-range_in k start (suc n) h l = split k start h (λ e. subst (λ j. In k (j ∷ range_with_len (start + 1) n)) e here) (λ m. there (range_in k (start + 1) n (omega (arith, m)) (omega (arith, l))))
-  where
-    split : {P : Type 0} (k start : ℕ) → start ≤ k → (k ≡ start → P) → (start < k → P) → P
-    split zero zero h f g = f refl
-    split (suc k) zero h f g = g (omega arith)
-    split zero (suc start) h f g = absurd (omega (arith, h))
-    split (suc k) (suc start) h f g = split k start (omega (arith, h)) (λ e. f (ap suc e)) (λ l. g (omega (arith, l)))
 
 -- ---- pairs
 
@@ -116,7 +98,7 @@ module _ (n : ℕ) (R : Pairs) where
       by true false e f = sym (from_order (a, b) (pair_in (in_order n R) a b e)).2 ∙ f
       by false true e f = sym e ∙ in_pair (in_order n R) (a, b) (into_order a b l k f)
 
-pub order_stays : (n : ℕ) (R : Pairs) → in_order n (in_order n R) ≡ in_order n R
+order_stays : (n : ℕ) (R : Pairs) → in_order n (in_order n R) ≡ in_order n R
 unfolding in_order
 order_stays n R =
     flat_same (row n (in_order n R)) (row n R) (range_with_len 0 n)
@@ -125,9 +107,6 @@ order_stays n R =
 some_in : {X : Type 0} (xs : List X) (x : X) → In x xs → 0 < length xs
 some_in [] x i = elim i [ ]
 some_in (y ∷ xs) x i = omega arith
-
-same_item : (R : Pairs) (k : ℕ) (d : ℕ × ℕ) → k < length R → In (get_or R k d) R
-same_item R k d h = In-get_or R k d h
 
 -- a renaming of scripts has its pairs in order
 pub a_renaming : (n : ℕ) (p : ℕ × ℕ) (R : Pairs) → p.0 < n → p.1 < n → IsRenaming n (in_order n (p ∷ R))

@@ -27,8 +27,8 @@ use Rattle.syntax.specs.Rules.{rule}
 use Rattle.syntax.specs.Operators.{opening, behind}
 use Rattle.phrases.proofs.Reached.{get_or_view}
 use Rattle.printing.specs.Printed.{joined, set_text, shared_text, pair_text, reference, process_text}
-use Rattle.read_back.specs.Trees.{node, phrases, event_tree, no_parts, tree_of_event, braced, set_tree, pair_tree, process_tree}
-use Rattle.read_back.specs.Readable.{IsWritten}
+use Rattle.read_back.proofs.Trees.{node, phrases, event_tree, no_parts, tree_of_event, braced, set_tree, pair_tree, process_tree}
+use Rattle.read_back.proofs.Readable.{IsWritten}
 use Rattle.read_back.proofs.Prefixes.{event_parts}
 use Rattle.read_back.proofs.Given.{AreChosen, chosen}
 use Rattle.read_back.proofs.Sets.{AllBelow, all_kept, its_members}
@@ -108,7 +108,7 @@ module _ (cs : List Channel) (shown : IsShownAlphabet cs) where
   unfolding names
   its_name a l = get_or_view event_text (events cs) a [] no_parts (omega (arith, l, event_count-is cs))
 
-  pub event_is_read : (a : ℕ) → a < event_count cs → Reads Ends (name_of cs (ev a)) (flat (tree_of_event cs (ev a)))
+  event_is_read : (a : ℕ) → a < event_count cs → Reads Ends (name_of cs (ev a)) (flat (tree_of_event cs (ev a)))
   event_is_read a l =
       let h = shown_parts a l in
       subst (λ t. Reads Ends t (flat (event_tree (part a)))) (sym (its_name a l)) (event_read (part a) h.0 h.1)
@@ -170,7 +170,7 @@ module _ (cs : List Channel) (shown : IsShownAlphabet cs) where
       (braced_read (joined (codes ", ") (map (name_of cs) (map ev (a ∷ ks)))) (event_tokens (ev a) ++ behind_events (map ev ks)) b.0 (b.1 ++ between) (ap (λ t. t ++ between) b.2) b.3
       (joined_read (codes ", ") (Sign symbols.Comma) comma_read (λ rest. (refl, refl)) (name_of cs) event_tokens (ev a) (map ev ks) (each_event (a ∷ ks) h)))
 
-  pub set_read : (A : Set) → SetInSigma (event_count cs) A → Reads Any (set_text cs A) (flat (set_tree cs A))
+  set_read : (A : Set) → SetInSigma (event_count cs) A → Reads Any (set_text cs A) (flat (set_tree cs A))
   unfolding set_text
   set_read A sigma =
       subst (λ es. Reads Any (braces (joined (codes ", ") (map (name_of cs) es))) (flat (braced (map (tree_of_event cs) es)))) (sym (its_members (event_count cs) A sigma))

@@ -11,7 +11,7 @@ use Rattle.syntax.specs.Script.{HasTree}
 use Rattle.values.specs.Values.{◌>>=◌, Name}
 use Rattle.values.specs.Names.{Entry, Meaning, channel, datatype, constant_name, names_of, listed_names, field_sets, entries_of, declared_by, declared_by_all, declared}
 use Rattle.declarations.proofs.Constants.{bind_some, some_same}
-use Rattle.read_back.proofs.Scanned.{IsProper}
+use Rattle.read_back.proofs.Scanned.{IsProper, AllProper}
 
 -- ---- tokens
 
@@ -51,10 +51,6 @@ right_proper [] ys h = h
 right_proper (x ∷ xs) ys h = right_proper xs ys h.1
 
 -- ---- names
-
-abbrev pub AllProper : List Name → Type 0
-AllProper [] = Unit {0}
-AllProper (n ∷ ns) = IsProper n × AllProper ns
 
 -- behind the first of a list of channels
 later_names : (ts : Syntaxes) (ns : List Name) → names_of ts ≡ Some ns → TokensProper (spell ts (drop 1 (rule forms.Names))) → AllProper ns

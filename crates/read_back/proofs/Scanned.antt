@@ -25,7 +25,7 @@ use Rattle.tokens.proofs.Sound.{step_sound}
 pub nothing_read : Holds [] []
 nothing_read = record { parts = []; spelled = refl; are = refl }
 
-pub step_read : (text rest : List ℕ) (o : Option Lexeme) (ws : List Lexeme) → next_at text ≡ Some (o, rest) → Holds rest ws → Holds text (behind o ws)
+step_read : (text rest : List ℕ) (o : Option Lexeme) (ws : List Lexeme) → next_at text ≡ Some (o, rest) → Holds rest ws → Holds text (behind o ws)
 step_read text rest o ws e h =
     let s = step_sound text (o, rest) e in
     record { parts = s.part ∷ h.parts; spelled = (rest, s.spelled, s.is, h.spelled); are = ap₂ behind s.word h.are }
@@ -41,7 +41,7 @@ blank_read c rest ws e h = record { parts = Blank c ∷ h.parts; spelled = (rest
 pub other_byte : (c d : ℕ) → (c ≢ d) → (c == d) ≡ false
 other_byte c d h = elim (eqb_tells c d) [ inl p ↦ absurd (h p.1) | inr p ↦ p.0 ]
 
-pub no_comment : (c : ℕ) (rest : List ℕ) → (c == 45) ≡ false → (c == 123) ≡ false → opens_comment (c ∷ rest) ≡ false
+no_comment : (c : ℕ) (rest : List ℕ) → (c == 45) ≡ false → (c == 123) ≡ false → opens_comment (c ∷ rest) ≡ false
 no_comment c [] h k = refl
 no_comment c (e ∷ rest) h k = ap₂ (λ a b. (a && e == 45) || (b && e == 45)) h k
 
@@ -121,6 +121,10 @@ name_read w rest is e = subst (λ v. next_at (v ++ rest) ≡ named (reserved_of 
 -- a name that is no reserved word
 abbrev pub IsProper : List ℕ → Type 0
 IsProper n = IsName n × (reserved_of n ≡ None)
+
+abbrev pub AllProper : List (List ℕ) → Type 0
+AllProper [] = Unit {0}
+AllProper (n ∷ ns) = IsProper n × AllProper ns
 
 pub proper_read : (n rest : List ℕ) (ws : List Lexeme) → IsProper n → Ends rest → Holds rest ws → Holds (n ++ rest) (Name n ∷ ws)
 unfolding named

@@ -16,14 +16,11 @@ use Rattle.values.specs.Names.{Entry, Meaning, channel, datatype, constant_name,
 use Rattle.phrases.specs.Events.{KnownEvents, EventsStand, unless_value, event_set, events_of, events_in}
 use Rattle.printing.specs.Names.{Name, constants}
 use Rattle.printing.specs.Printed.{reference}
-use Rattle.read_back.specs.Trees.{phrases, tree_of_event, set_tree, pair_tree, process_tree, printed_primes, printed_entries}
-use Rattle.read_back.specs.Readable.{IsWritten}
+use Rattle.read_back.proofs.Trees.{phrases, tree_of_event, set_tree, pair_tree, process_tree, printed_primes, printed_entries}
+use Rattle.read_back.proofs.Readable.{IsWritten}
 use Rattle.read_back.proofs.Declared.{body_means, channel_means, constant_means, definition_is}
 
 -- ---- processes stand for no value
-
-abbrev nothing : Option Worth
-nothing = None
 
 none_bound : {X : Type 0} (o : Option X) (f : X → Option Worth) → ((x : X) → f x ≡ None) → (o >>= f) ≡ None
 none_bound None f h = refl

@@ -10,7 +10,7 @@ use Rattle.syntax.specs.declared.form.Form.TheVariants as forms
 use Rattle.syntax.specs.Grammar.{flat, spell, spell_part, spell_signs}
 use Rattle.syntax.specs.Rules.{rule}
 use Rattle.printing.specs.Printed.{joined, operation}
-use Rattle.read_back.specs.Trees.{value_tree, dotted_trees, event_tree}
+use Rattle.read_back.proofs.Trees.{value_tree, dotted_trees, event_tree}
 use Rattle.read_back.proofs.Scanned.{token_read, other_byte, letter_high, digit_low, Ends, IsProper, proper_read, number_read, first_digit, open_at, close_at, dot_at, minus_at}
 
 -- ---- texts with their tokens
@@ -62,7 +62,7 @@ value_read (number (negsuc n)) h rest ws e r = minus_read (suc n) rest ws (omega
 value_read (constant n) h rest ws e r = proper_read n rest ws h e r
 
 -- the first byte of a value's text is no dot
-pub begins_value : (v : FieldValue) → IsShown v → (c : ℕ) × (cs : List ℕ) × (value_text v ≡ c ∷ cs) × ((46 == c) ≡ false)
+begins_value : (v : FieldValue) → IsShown v → (c : ℕ) × (cs : List ℕ) × (value_text v ≡ c ∷ cs) × ((46 == c) ≡ false)
 begins_value (number (pos n)) h =
     let d = first_digit n h in
     let low = digit_low d.0 d.3 in
@@ -73,7 +73,7 @@ begins_value (constant n) h =
     (h.0.first, h.0.body ++ h.0.primes, h.0.spelled, other_byte 46 h.0.first (λ x. omega (arith, high.0, x)))
 
 -- a value behind a dot
-pub dotted_read : (v : FieldValue) → IsShown v → Reads Ends (46 ∷ value_text v) (Sign symbols.Dot ∷ flat (value_tree v))
+dotted_read : (v : FieldValue) → IsShown v → Reads Ends (46 ∷ value_text v) (Sign symbols.Dot ∷ flat (value_tree v))
 dotted_read v h rest ws e r =
     let b = begins_value v h in
     let z : value_text v ++ rest ≡ b.0 ∷ (b.1 ++ rest) = ap (λ t. t ++ rest) b.2 in
@@ -102,7 +102,7 @@ unfolding flat spell spell_part spell_signs rule
 fields_flat [] = refl
 fields_flat (v ∷ vs) = ap₂ (λ x y. (Sign symbols.Dot ∷ x) ++ y) (append-nil (flat (value_tree v))) (fields_flat vs)
 
-pub event_flat : (p : Parts) → flat (event_tree p) ≡ (Name p.channel ∷ []) ++ field_tokens p.values
+event_flat : (p : Parts) → flat (event_tree p) ≡ (Name p.channel ∷ []) ++ field_tokens p.values
 unfolding flat spell spell_part rule
 event_flat p = ap (λ ws. Name p.channel ∷ ws) (fields_flat p.values)
 

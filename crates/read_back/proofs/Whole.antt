@@ -18,13 +18,13 @@ use Rattle.phrases.specs.Phrases.{Scope}
 use Rattle.phrases.specs.Denotes.{body_by, body_of, place, nodes, Denotes}
 use Rattle.printing.specs.Names.{Name, constants}
 use Rattle.printing.specs.Printed.{reference, printed}
-use Rattle.read_back.specs.Trees.{printed_primes, script_tree, printed_entries}
-use Rattle.read_back.specs.Readable.{IsGiven, IsPrintedScope, IsWritten, referred}
+use Rattle.read_back.proofs.Trees.{printed_primes, script_tree, printed_entries}
+use Rattle.read_back.proofs.Readable.{IsGiven, IsPrintedScope, IsWritten, referred}
 use Rattle.read_back.proofs.Given.{AllGiven}
 use Rattle.read_back.proofs.Bodies.{body_denoted}
-use Rattle.read_back.proofs.Scanned.{IsProper}
+use Rattle.read_back.proofs.Scanned.{IsProper, AllProper}
 use Rattle.read_back.proofs.Processes.{IsShownAlphabet}
-use Rattle.read_back.proofs.Lines.{AllProper, whole_read}
+use Rattle.read_back.proofs.Lines.{whole_read}
 use Rattle.read_back.proofs.FittingLines.{whole_is}
 use Rattle.read_back.proofs.Primes.{is_constant, of_fields}
 use Rattle.read_back.proofs.Declared.{script_declared, once, body_means}

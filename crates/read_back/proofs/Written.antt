@@ -24,14 +24,14 @@ use Rattle.phrases.specs.Phrases.{Scope, Fitting, is_constant, with_input, again
 use Rattle.phrases.specs.Denotes.{body_by, body_of, place, Reached}
 use Rattle.phrases.proofs.SetsBelow.{member_is}
 use Rattle.declarations.proofs.Constants.{bind_some, some_same}
-use Rattle.read_back.specs.Readable.{IsRenaming, IsWritten}
+use Rattle.read_back.proofs.Readable.{IsRenaming, IsWritten}
 use Rattle.read_back.proofs.Numbers.{at_place, AllHave, all_named, all_left, all_right}
 use Rattle.read_back.proofs.Reaching.{reached_many}
 use Rattle.read_back.proofs.PairsInOrder.{a_renaming}
 
 -- ---- bodies in Sigma
 
-abbrev pub Lies : ℕ → Body → Type 0
+abbrev Lies : ℕ → Body → Type 0
 Lies n stop = Unit {0}
 Lies n skip = Unit {0}
 Lies n (prefix a p) = (a < n) × Lies n p
