@@ -2,7 +2,6 @@
 #![tactic(auto)]
 
 mod fields;
-mod found;
 mod law;
 mod names;
 mod printed;
