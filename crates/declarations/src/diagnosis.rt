@@ -235,6 +235,39 @@ struct Spot {
     own: Option<ScriptError>,
 }
 
+/// What evaluation tells of a phrase: its kind, its fault, or neither where its parts are to be looked into.
+enum Told {
+    Is(Kind),
+    Fault(ScriptError),
+    Nothing,
+}
+
+/// What evaluation tells of the phrase. What is made of two sets isn't evaluated as a whole, since that is dear and tells
+/// nothing but that it is too large.
+fn told_of<A: Allocator + Copy>(
+    sight: &Sight<'_, '_, A>,
+    phrase: &Tree<A>,
+) -> Result<Told, ScriptError> {
+    if let Tree::Node { form, .. } = phrase {
+        if matches!(
+            form,
+            Form::Brackets | Form::Union | Form::Intersection | Form::Difference
+        ) {
+            return Ok(Told::Nothing);
+        }
+    }
+    match worth_alone(sight.alloc, sight.known, phrase) {
+        Ok(worth) => match kind_of_worth(&worth) {
+            Kind::Nothing => Ok(Told::Nothing),
+            kind => Ok(Told::Is(kind)),
+        },
+        Err(own) => match own.kind {
+            ScriptErrorKind::Memory => Err(own),
+            _ => Ok(Told::Fault(own)),
+        },
+    }
+}
+
 /// What the phrase is, which is wanted on this line; else the fault that is met first.
 #[cycle(kinds)]
 fn kind_of<A: Allocator + Copy>(
@@ -243,15 +276,10 @@ fn kind_of<A: Allocator + Copy>(
     wanted: Wanted,
     outer: u32,
 ) -> Result<Kind, ScriptError> {
-    let own = match worth_alone(sight.alloc, sight.known, phrase) {
-        Ok(worth) => match kind_of_worth(&worth) {
-            Kind::Nothing => None,
-            kind => return as_wanted(wanted, kind, outer),
-        },
-        Err(own) => match own.kind {
-            ScriptErrorKind::Memory => return Err(own),
-            _ => Some(own),
-        },
+    let own = match told_of(sight, phrase)? {
+        Told::Is(kind) => return as_wanted(wanted, kind, outer),
+        Told::Fault(own) => Some(own),
+        Told::Nothing => None,
     };
     match phrase {
         Tree::Node { line, form, parts } => {
@@ -432,6 +460,10 @@ fn found_of<A: Allocator + Copy>(sight: &Sight<'_, '_, A>, body: &Tree<A>) -> Fo
         return Found::Is(kind);
     }
     match kind_of(sight, body, Wanted::Anything, body.line()) {
+        Ok(Kind::Values) => match worth_alone(sight.alloc, sight.known, body) {
+            Ok(_) => Found::Is(Kind::Values),
+            Err(error) => Found::Fault(error),
+        },
         Ok(kind) => Found::Is(kind),
         Err(error) => Found::Fault(error),
     }
@@ -509,8 +541,10 @@ fn fields_fault<'a, A: Allocator + Copy>(
     for set in sets {
         match worth_alone(alloc, known, set) {
             Ok(Worth::Many(_)) => {}
-            _ => {
+            Ok(Worth::One(_)) => return Err(fault(set.line(), ScriptErrorKind::Expected)),
+            Err(own) => {
                 field_fault(alloc, entries, known, set)?;
+                return Err(own);
             }
         }
     }

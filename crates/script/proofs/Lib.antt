@@ -6,3 +6,4 @@ pub mod Copies
 pub mod Masks
 pub mod Learning
 pub mod NamedSets
+pub mod RootNames

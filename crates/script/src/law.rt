@@ -1,9 +1,11 @@
 //! Laws of reading. Each function does nothing: its contract is the law.
-ghost use Rattle.std.specs.Prelude.{◌≡◌, ℕ, List};
+ghost use Rattle.std.specs.Prelude.{◌≡◌, ◌≤◌, ℕ, List, length, true};
+ghost use Rattle.alphabet.specs.Names.{is_name};
 ghost use Rattle.term.specs.Specs.{Specified};
 ghost use Rattle.values.specs.Values.{Name};
 ghost use Rattle.script.specs.Reading.{IsRead};
 
+use declarations::trees_have_names;
 use phrases::one_specification;
 use syntax::one_tree;
 
@@ -13,4 +15,12 @@ pub fn one_reading()
 {
     one_tree();
     one_specification();
+}
+
+/// A text is read for a root that is a name of the language, and is no larger than a script may be.
+pub fn roots_are_names()
+    ensures named { (text : List ℕ) (root : Name) (spec : Specified) → IsRead text root spec → is_name root ≡ true }
+    ensures small { (text : List ℕ) (root : Name) (spec : Specified) → IsRead text root spec → length text ≤ 65536 }
+{
+    trees_have_names();
 }

@@ -12,6 +12,6 @@ mod sigma;
 mod standing;
 mod table;
 
-pub use law::one_reading;
+pub use law::{one_reading, roots_are_names};
 pub use printing::print;
 pub use reading::read;
