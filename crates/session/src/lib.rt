@@ -5,7 +5,6 @@
 #![tactic(auto)]
 
 mod fault;
-mod law;
 mod opening;
 mod ready;
 mod records;
@@ -14,6 +13,5 @@ mod session;
 
 pub use fault::{Failed, Fault, SessionError};
 pub use history::{Entry, HISTORY_LIMIT, SeatNumber, Summary};
-pub use law::open_sessions_replay;
 pub use ready::Ready;
 pub use session::Session;
