@@ -16,6 +16,7 @@ import tempfile
 
 HERE = os.path.dirname(os.path.abspath(__file__))
 PROGRAM = os.path.join(os.path.dirname(HERE), "crates", "cspwatch", "out", "cspwatch")
+EXAMPLES = os.path.join(os.path.dirname(HERE), "examples")
 SECONDS = 120
 
 
@@ -36,6 +37,27 @@ def shown(data):
     return repr(data if len(data) <= 300 else data[:300] + b"..")
 
 
+def text_of(path):
+    with open(path, "rb") as file:
+        return file.read().decode("latin-1")
+
+
+def filled(case):
+    """The case with the files of its example, if it has one."""
+    if "example" not in case:
+        return case
+    path = os.path.join(EXAMPLES, case["example"])
+    script = case["example"] + ".csp"
+    return {
+        "args": ["check", script, "SYSTEM"],
+        "files": {script: text_of(path + ".csp")},
+        "input_bytes": text_of(path + ".reports"),
+        "stdout": text_of(path + ".replies").splitlines(),
+        "stderr": [],
+        **case,
+    }
+
+
 def words(case):
     if "args" in case:
         return [os.fsdecode(octets(word)) for word in case["args"]]
@@ -43,7 +65,7 @@ def words(case):
 
 
 def run(case, program, folder):
-    """What the program wrote on its output and its errors, and its status."""
+    """What the program wrote on its output and its errors, its status, and the files that are asked for as they stand then."""
     for name, content in case.get("files", {}).items():
         with open(os.path.join(folder, name), "wb") as file:
             file.write(octets(content))
@@ -67,13 +89,17 @@ def run(case, program, folder):
     finally:
         for file in opened:
             file.close()
-    return done.stdout or b"", done.stderr, done.returncode
+    after = {}
+    for name in case.get("files_after", {}):
+        path = os.path.join(folder, name)
+        after[name] = text_of(path).encode("latin-1") if os.path.exists(path) else None
+    return done.stdout or b"", done.stderr, done.returncode, after
 
 
 def problems_of(case, program):
     with tempfile.TemporaryDirectory(prefix="case-") as folder:
         try:
-            out, err, status = run(case, program, folder)
+            out, err, status, after = run(case, program, folder)
         except subprocess.TimeoutExpired:
             return ["took more than %d seconds" % SECONDS]
     problems = []
@@ -83,6 +109,10 @@ def problems_of(case, program):
         wanted = case.get(name + "_any")
         if wanted is not None and bool(got) != wanted:
             problems.append("%s is %s" % (name, shown(got)))
+    for name, content in case.get("files_after", {}).items():
+        wanted = None if content is None else octets(content)
+        if after[name] != wanted:
+            problems.append("%s is %s, wanted %s" % (name, after[name], wanted))
     if status != case["status"]:
         problems.append("status is %s, wanted %s" % (status, case["status"]))
     return problems
@@ -92,7 +122,7 @@ def cases_of(files):
     for path in files:
         with open(path, encoding="utf-8") as file:
             for case in json.load(file):
-                yield "%s: %s" % (os.path.splitext(os.path.basename(path))[0], case["name"]), case
+                yield "%s: %s" % (os.path.splitext(os.path.basename(path))[0], case["name"]), filled(case)
 
 
 def main():

@@ -55,7 +55,7 @@ fn undeclared(name: &[u8], line: u32) -> ScriptError {
     fault(line, ScriptErrorKind::UnknownName)
 }
 
-/// What a phrase is that stands for this.
+/// What a phrase is that stands for this: `Nothing` for a set without values, whatever it is made of.
 fn kind_of_worth<A: Allocator>(worth: &Worth<A>) -> Kind {
     match worth {
         Worth::One(Value::Number(_)) => Kind::Number,
@@ -143,12 +143,29 @@ fn kind_of_events<A: Allocator>(sight: &Sight<'_, '_, A>, line: u32) -> Result<K
     }
 }
 
+/// What a phrase is that stands for a set of values, or the fault of one that stands for nothing.
+fn ended(own: Option<ScriptError>) -> Result<Kind, ScriptError> {
+    match own {
+        Some(own) => Err(own),
+        None => Ok(Kind::Values),
+    }
+}
+
+/// The kind, where it is wanted of a phrase on this line.
+fn as_wanted(wanted: Wanted, kind: Kind, line: u32) -> Result<Kind, ScriptError> {
+    if takes(wanted, kind) {
+        Ok(kind)
+    } else {
+        Err(fault(line, ScriptErrorKind::Expected))
+    }
+}
+
 /// What is made of two sets, the second of which is on this line; `own` is the fault of a set that is too large.
 fn kind_of_both(
     first: Kind,
     second: Kind,
     line: u32,
-    own: ScriptError,
+    own: Option<ScriptError>,
 ) -> Result<Kind, ScriptError> {
     let kind = match first {
         Kind::Nothing => second,
@@ -158,8 +175,52 @@ fn kind_of_both(
         return Err(fault(line, ScriptErrorKind::Expected));
     }
     match kind {
-        Kind::Values => Err(own),
+        Kind::Values => ended(own),
         _ => Ok(kind),
+    }
+}
+
+/// Whether a field takes any value, which isn't allowed in a set.
+fn is_input<A: Allocator>(field: &Tree<A>) -> bool {
+    match field {
+        Tree::Node { form, .. } => matches!(form, Form::Input | Form::RestrictedInput),
+        Tree::Name { .. } | Tree::Number { .. } => false,
+    }
+}
+
+/// The sets of the fields of the channel with this name, which is used on this line.
+fn field_sets<'a, A: Allocator + Copy>(
+    sight: &Sight<'_, 'a, A>,
+    name: &Tree<A>,
+    line: u32,
+) -> Result<&'a [Tree<A>], ScriptError> {
+    let Part::Name(name) = part_of(name) else {
+        return Err(fault(line, ScriptErrorKind::Expected));
+    };
+    match sight.entries.get(name) {
+        Some(entry) => match &entry.meaning {
+            Meaning::Channel(sets) => Ok(*sets),
+            _ => Err(fault(line, ScriptErrorKind::Expected)),
+        },
+        None => Err(undeclared(name, line)),
+    }
+}
+
+/// Whether the phrase stands for a value of the set.
+fn is_in<A: Allocator + Copy>(
+    sight: &Sight<'_, '_, A>,
+    value: &Tree<A>,
+    set: Option<&Tree<A>>,
+) -> Result<bool, ScriptError> {
+    let Some(set) = set else {
+        return Ok(false);
+    };
+    let Worth::One(value) = worth_alone(sight.alloc, sight.known, value)? else {
+        return Ok(false);
+    };
+    match worth_alone(sight.alloc, sight.known, set)? {
+        Worth::Many(set) => Ok(set.contains(&value)),
+        Worth::One(_) => Ok(false),
     }
 }
 
@@ -170,8 +231,41 @@ struct Spot {
     /// The line of the brackets round the phrase, or else its own.
     outer: u32,
     line: u32,
-    /// What is told of it where its parts are as they should be.
-    own: ScriptError,
+    /// What is told of it where its parts are as they should be; none where it stands for a set.
+    own: Option<ScriptError>,
+}
+
+/// What evaluation tells of a phrase: its kind, its fault, or neither where its parts are to be looked into.
+enum Told {
+    Is(Kind),
+    Fault(ScriptError),
+    Nothing,
+}
+
+/// What evaluation tells of the phrase. What is made of two sets isn't evaluated as a whole, since that is dear and tells
+/// nothing but that it is too large.
+fn told_of<A: Allocator + Copy>(
+    sight: &Sight<'_, '_, A>,
+    phrase: &Tree<A>,
+) -> Result<Told, ScriptError> {
+    if let Tree::Node { form, .. } = phrase {
+        if matches!(
+            form,
+            Form::Brackets | Form::Union | Form::Intersection | Form::Difference
+        ) {
+            return Ok(Told::Nothing);
+        }
+    }
+    match worth_alone(sight.alloc, sight.known, phrase) {
+        Ok(worth) => match kind_of_worth(&worth) {
+            Kind::Nothing => Ok(Told::Nothing),
+            kind => Ok(Told::Is(kind)),
+        },
+        Err(own) => match own.kind {
+            ScriptErrorKind::Memory => Err(own),
+            _ => Ok(Told::Fault(own)),
+        },
+    }
 }
 
 /// What the phrase is, which is wanted on this line; else the fault that is met first.
@@ -182,25 +276,23 @@ fn kind_of<A: Allocator + Copy>(
     wanted: Wanted,
     outer: u32,
 ) -> Result<Kind, ScriptError> {
-    let kind = match worth_alone(sight.alloc, sight.known, phrase) {
-        Ok(worth) => kind_of_worth(&worth),
-        Err(own) => match phrase {
-            Tree::Node { line, form, parts } => {
-                let spot = Spot {
-                    wanted,
-                    outer,
-                    line: *line,
-                    own,
-                };
-                kind_of_form(sight, *form, parts, spot)?
-            }
-            Tree::Name { .. } | Tree::Number { .. } => return Err(own),
-        },
+    let own = match told_of(sight, phrase)? {
+        Told::Is(kind) => return as_wanted(wanted, kind, outer),
+        Told::Fault(own) => Some(own),
+        Told::Nothing => None,
     };
-    if takes(wanted, kind) {
-        Ok(kind)
-    } else {
-        Err(fault(outer, ScriptErrorKind::Expected))
+    match phrase {
+        Tree::Node { line, form, parts } => {
+            let spot = Spot {
+                wanted,
+                outer,
+                line: *line,
+                own,
+            };
+            let kind = kind_of_form(sight, *form, parts, spot)?;
+            as_wanted(wanted, kind, outer)
+        }
+        Tree::Name { .. } | Tree::Number { .. } => ended(own),
     }
 }
 
@@ -212,20 +304,19 @@ fn kind_of_form<A: Allocator + Copy>(
     parts: &[Tree<A>],
     spot: Spot,
 ) -> Result<Kind, ScriptError> {
-    if spot.own.kind == ScriptErrorKind::Memory {
-        return Err(spot.own);
-    }
     match form {
         Form::Brackets => match parts {
             [inner] => kind_of(sight, inner, spot.wanted, spot.outer),
-            _ => Err(spot.own),
+            _ => ended(spot.own),
         },
         Form::Event => kind_of_event(sight, parts, spot.line),
         _ if !takes_form(spot.wanted, form) => Err(fault(spot.outer, misplaced(form))),
         Form::Set => kind_of_members(sight, parts, spot.own),
         Form::Union | Form::Intersection | Form::Difference => kind_of_sets(sight, parts, spot.own),
+        Form::EmptySet => Ok(Kind::Nothing),
         Form::NoProductions => Ok(Kind::Events),
-        Form::Events | Form::Productions => kind_of_events(sight, spot.line),
+        Form::Events => kind_of_events(sight, spot.line),
+        Form::Productions => kind_of_productions(sight, parts),
         _ if form == Form::Range || is_number_form(form) => numbers(sight, parts, spot.own),
         _ if is_process_form(form) => Ok(Kind::Process),
         _ => Err(fault(spot.line, ScriptErrorKind::Unsupported)),
@@ -237,12 +328,12 @@ fn kind_of_form<A: Allocator + Copy>(
 fn numbers<A: Allocator + Copy>(
     sight: &Sight<'_, '_, A>,
     parts: &[Tree<A>],
-    own: ScriptError,
+    own: Option<ScriptError>,
 ) -> Result<Kind, ScriptError> {
     for part in parts {
         kind_of(sight, part, Wanted::Number, part.line())?;
     }
-    Err(own)
+    ended(own)
 }
 
 /// What a set of these members is.
@@ -250,20 +341,87 @@ fn numbers<A: Allocator + Copy>(
 fn kind_of_members<A: Allocator + Copy>(
     sight: &Sight<'_, '_, A>,
     members: &[Tree<A>],
-    own: ScriptError,
+    own: Option<ScriptError>,
 ) -> Result<Kind, ScriptError> {
     let mut first = None;
     for member in members {
         let line = member.line();
         let is_event = kind_of(sight, member, Wanted::Member, line)? == Kind::Event;
-        if *first.get_or_insert(is_event) != is_event || (is_event && !sight.has_events) {
+        if *first.get_or_insert(is_event) != is_event {
             return Err(fault(line, ScriptErrorKind::Expected));
+        }
+        if is_event {
+            kind_of_events(sight, line)?;
+            event_in_set(sight, member, true)?;
         }
     }
     match first {
         Some(true) => Ok(Kind::Events),
-        _ => Err(own),
+        _ => ended(own),
     }
+}
+
+/// What a set of all events that begin with one of these is.
+#[cycle(kinds)]
+fn kind_of_productions<A: Allocator + Copy>(
+    sight: &Sight<'_, '_, A>,
+    events: &[Tree<A>],
+) -> Result<Kind, ScriptError> {
+    for event in events {
+        kind_of_events(sight, event.line())?;
+        event_in_set(sight, event, false)?;
+    }
+    Ok(Kind::Events)
+}
+
+/// Looks into an event phrase in a set; as a member it is a whole event.
+#[cycle(kinds)]
+fn event_in_set<A: Allocator + Copy>(
+    sight: &Sight<'_, '_, A>,
+    phrase: &Tree<A>,
+    is_member: bool,
+) -> Result<(), ScriptError> {
+    match phrase {
+        Tree::Node { line, form, parts } => match parts.as_slice() {
+            [inner] if *form == Form::Brackets => event_in_set(sight, inner, is_member),
+            [first, fields @ ..] => {
+                let sets = field_sets(sight, first, *line)?;
+                let fits = fields.len() == sets.len() || (!is_member && fields.len() < sets.len());
+                if fields.iter().any(is_input) {
+                    return Err(fault(*line, ScriptErrorKind::Expected));
+                }
+                if !fits {
+                    return Err(fault(*line, ScriptErrorKind::WrongFields));
+                }
+                values_in_sets(sight, parts, sets)
+            }
+            [] => Ok(()),
+        },
+        Tree::Name { .. } | Tree::Number { .. } => Ok(()),
+    }
+}
+
+/// Looks into the fields behind the name of an event, each of which is to be a value of its set.
+#[cycle(kinds)]
+fn values_in_sets<A: Allocator + Copy>(
+    sight: &Sight<'_, '_, A>,
+    parts: &[Tree<A>],
+    sets: &[Tree<A>],
+) -> Result<(), ScriptError> {
+    for (place, part) in parts.iter().enumerate() {
+        let Some(set) = place.checked_sub(1) else {
+            continue;
+        };
+        if let Tree::Node { parts, .. } = part {
+            if let [value] = parts.as_slice() {
+                kind_of(sight, value, Wanted::Value, value.line())?;
+                if !is_in(sight, value, sets.get(set))? {
+                    return Err(fault(value.line(), ScriptErrorKind::OutOfRange));
+                }
+            }
+        }
+    }
+    Ok(())
 }
 
 /// What is made of two sets.
@@ -271,7 +429,7 @@ fn kind_of_members<A: Allocator + Copy>(
 fn kind_of_sets<A: Allocator + Copy>(
     sight: &Sight<'_, '_, A>,
     parts: &[Tree<A>],
-    own: ScriptError,
+    own: Option<ScriptError>,
 ) -> Result<Kind, ScriptError> {
     match parts {
         [first, second] => {
@@ -280,7 +438,7 @@ fn kind_of_sets<A: Allocator + Copy>(
             let second = kind_of(sight, second, Wanted::Set, line)?;
             kind_of_both(first, second, line, own)
         }
-        _ => Err(own),
+        _ => ended(own),
     }
 }
 
@@ -302,6 +460,10 @@ fn found_of<A: Allocator + Copy>(sight: &Sight<'_, '_, A>, body: &Tree<A>) -> Fo
         return Found::Is(kind);
     }
     match kind_of(sight, body, Wanted::Anything, body.line()) {
+        Ok(Kind::Values) => match worth_alone(sight.alloc, sight.known, body) {
+            Ok(_) => Found::Is(Kind::Values),
+            Err(error) => Found::Fault(error),
+        },
         Ok(kind) => Found::Is(kind),
         Err(error) => Found::Fault(error),
     }
@@ -379,8 +541,10 @@ fn fields_fault<'a, A: Allocator + Copy>(
     for set in sets {
         match worth_alone(alloc, known, set) {
             Ok(Worth::Many(_)) => {}
-            _ => {
+            Ok(Worth::One(_)) => return Err(fault(set.line(), ScriptErrorKind::Expected)),
+            Err(own) => {
                 field_fault(alloc, entries, known, set)?;
+                return Err(own);
             }
         }
     }
@@ -442,9 +606,10 @@ pub(crate) fn told_alphabet<'a, A: Allocator + Copy>(
 /// What is told of a name that is used on this line and isn't of the kind that is wanted there, or stands for nothing:
 /// `Unsupported` for the words of CSPM that stand for something without a declaration, `UnknownName` for another name that
 /// isn't declared, the first fault in the definitions that it needs, `UnknownName` for a value that depends on itself; else
-/// `Expected`. Sets of events are taken to be right.
+/// `Expected`.
 ///
-/// Costs about what it takes to find what the names stand for that it needs; `Memory` for want of it.
+/// Costs one look-up for the name of a process, of a channel or of what is known, and for one that isn't declared; else
+/// about what it takes to find what the names stand for that it needs. `Memory` is told for want of it.
 pub fn fault_of_name<'a, A: Allocator + Copy>(
     alloc: A,
     entries: &Entries<'a, A>,
@@ -466,6 +631,16 @@ fn kind_by_definitions<'a, A: Allocator + Copy>(
     name: &[u8],
     line: u32,
 ) -> Result<Kind, ScriptError> {
+    let Some(entry) = entries.get(name) else {
+        return Err(undeclared(name, line));
+    };
+    let is_clear = match &entry.meaning {
+        Meaning::Definition(_) => known.has(name) || entries.is_process(name),
+        _ => true,
+    };
+    if is_clear {
+        return Err(fault(line, ScriptErrorKind::Expected));
+    }
     let sight = nothing_found(alloc, entries, known, true)?;
     let places = order_to(alloc, entries, name)?;
     let sight = looked_into(sight, &places);

@@ -23,6 +23,8 @@ pub(crate) enum Kind {
 pub(crate) enum Wanted {
     Anything,
     Number,
+    /// A number or a constant.
+    Value,
     /// A set of values.
     Values,
     /// A set of values or of events.
@@ -36,6 +38,7 @@ pub(crate) fn takes(wanted: Wanted, kind: Kind) -> bool {
     match wanted {
         Wanted::Anything => true,
         Wanted::Number => matches!(kind, Kind::Number),
+        Wanted::Value => matches!(kind, Kind::Number | Kind::Constant),
         Wanted::Values => matches!(kind, Kind::Values | Kind::Nothing),
         Wanted::Set => matches!(kind, Kind::Values | Kind::Events | Kind::Nothing),
         Wanted::Member => matches!(kind, Kind::Number | Kind::Constant | Kind::Event),
@@ -74,7 +77,7 @@ fn is_set_form(form: Form) -> bool {
 pub(crate) fn takes_form(wanted: Wanted, form: Form) -> bool {
     match wanted {
         Wanted::Anything => true,
-        Wanted::Number | Wanted::Member => is_number_form(form),
+        Wanted::Number | Wanted::Value | Wanted::Member => is_number_form(form),
         Wanted::Values | Wanted::Set => is_set_form(form),
     }
 }

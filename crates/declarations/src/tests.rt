@@ -299,11 +299,11 @@ fn fault_at_9(alloc: Global, text: &[u8], name: &[u8]) -> Result<String, AllocEr
 
 #[test]
 fn faults_of_names(rt: HostRuntime) -> Result<(), AllocError> {
-    let text = b"N = M + 1\nM = N\nS = {X}\nP = STOP\n";
+    let text = b"N = M + 1\nM = N\nS = A\nP = STOP\nA = {|c.2|}\nchannel c:{1}";
     let got = fault_at_9(rt.alloc(), text, b"M")?;
     assert_eq!(rt; got.as_str(), "1: 4 unknown");
     let got = fault_at_9(rt.alloc(), text, b"S")?;
-    assert_eq!(rt; got.as_str(), "3: 4 unknown");
+    assert_eq!(rt; got.as_str(), "5: 7 range");
     let got = fault_at_9(rt.alloc(), text, b"P")?;
     assert_eq!(rt; got.as_str(), "9: 3 expected");
     let got = fault_at_9(rt.alloc(), text, b"DIV")?;

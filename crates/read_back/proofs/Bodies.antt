@@ -1,18 +1,17 @@
 -- The text of a body stands for this body.
-use Rattle.std.proofs.Common.{◌≡◌, ℕ, ◌<◌, [], ◌∷◌, length, map, cond, Option, Some, None, refl, ap, ◌∙◌, arith}
+use Rattle.std.proofs.Common.{◌≡◌, ℕ, [], ◌∷◌, map, cond, Option, Some, None, refl, ap, ◌∙◌, arith}
 use Rattle.alphabet.specs.Channels.{event_count}
-use Rattle.alphabet.specs.EventSets.{Set}
 use Rattle.term.specs.Proc as procs
 use Rattle.term.specs.Proc.{Proc}
 use Rattle.term.specs.Traces.{Pairs}
 use Rattle.values.specs.Values.{◌>>=◌}
 use Rattle.values.specs.Names.{is_process}
-use Rattle.phrases.specs.Events.{unless_value, pairs_of, in_order, set_of}
+use Rattle.phrases.specs.Events.{unless_value, pairs_of, set_of}
 use Rattle.phrases.specs.Bodies.{Body, prefix, ext, int, seq, par, hide, ren, intr, name}
-use Rattle.phrases.specs.Phrases.{Scope, events_by, prefixed, renamed, denoted, denoted_form}
+use Rattle.phrases.specs.Phrases.{Scope, events_by, renamed, denoted, denoted_form}
 use Rattle.printing.specs.Printed.{reference}
-use Rattle.read_back.specs.Trees.{phrases, pair_tree, set_tree, process_tree}
-use Rattle.read_back.specs.Readable.{IsPrintedScope, IsRenaming, IsWritten, referred}
+use Rattle.read_back.proofs.Trees.{phrases, pair_tree, set_tree, process_tree}
+use Rattle.read_back.proofs.Readable.{IsPrintedScope, IsRenaming, IsWritten, referred}
 use Rattle.read_back.proofs.Prefixes.{prefix_denoted}
 use Rattle.read_back.proofs.Sets.{set_denoted}
 use Rattle.read_back.proofs.Pairs.{pairs_given}

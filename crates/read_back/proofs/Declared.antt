@@ -1,24 +1,24 @@
 -- What a printed script declares: each name once.
-use Rattle.std.proofs.Common.{◌≡◌, ◌≢◌, ℕ, zero, suc, ◌+◌, ◌<◌, ◌≤◌, ◌^◌, List, [], ◌∷◌, ◌++◌, map, length, nat_eq, Bool, true, false, not, cond, ◌&&◌, ◌||◌, ◌⊎◌, Option, Some, None, inl, inr, refl, sym, ap, ap₂, ◌∙◌, subst, arith, append_assoc, append-nil}
+use Rattle.std.proofs.Common.{◌≡◌, ℕ, zero, suc, ◌+◌, ◌<◌, ◌≤◌, List, [], ◌∷◌, ◌++◌, map, length, nat_eq, Bool, true, false, not, ◌&&◌, ◌⊎◌, Some, inl, inr, refl, sym, ap, ap₂, ◌∙◌, subst, arith, append_assoc, append-nil}
 use Rattle.std.proofs.lemmas.Bool.{false≢true, not-true}
 use Rattle.std.proofs.lemmas.List.{map-append}
-use Rattle.std.specs.List.{list_any, list_all, range_with_len}
+use Rattle.std.specs.List.{list_all, range_with_len}
 use Rattle.std.specs.Cmp.Lexicographic.{pointwise, bytes_decides}
 use Rattle.alphabet.specs.Channels.{FieldValue, number, constant, Values, Channel, IsAlphabet, is_declared, is_apart_from}
 use Rattle.alphabet.specs.Channels as alphabets
 use Rattle.alphabet.specs.Elements.{In, here, there, Distinct}
-use Rattle.alphabet.proofs.Lists.{In-map, In-under_map, In-append, In-append_left, In-append_right, Distinct-append, Distinct-map, all-In, none-In, none-from_In, and-left, and-right}
+use Rattle.alphabet.proofs.Lists.{In-map, In-under_map, In-append, In-append_left, In-append_right, Distinct-append, all-In, none-In, none-from_In, and-left, and-right}
 use Rattle.term.specs.Proc.{Proc, bodies_of}
 use Rattle.term.specs.Specs.{Specified}
-use Rattle.syntax.specs.declared.form.Form.TheVariants as forms
-use Rattle.syntax.specs.Grammar.{Syntax, Called, Node}
+use Rattle.syntax.specs.Grammar.{Syntax}
 use Rattle.values.specs.Values.{◌>>=◌}
-use Rattle.values.specs.Names.{Entry, Meaning, channel, datatype, constant_name, definition, same_name, names_of, listed_names, field_sets, entries_of, declared_by, declared_by_all, declared, meaning, are_distinct, datatype_entries}
+use Rattle.values.specs.Names.{Entry, channel, datatype, constant_name, definition, same_name, names_of, listed_names, field_sets, entries_of, declared_by, declared_by_all, declared, meaning, are_distinct, datatype_entries}
 use Rattle.declarations.proofs.Constants.{bind_some}
 use Rattle.declarations.proofs.Meanings as meanings
 use Rattle.printing.specs.Names.{Name, constants, primed, datatype_name, datatype_primes}
 use Rattle.printing.specs.Printed.{reference}
-use Rattle.read_back.specs.Trees.{node, phrases, values_tree, names_tree, channel_tree_of, channel_tree, called_trees, datatype_trees, process_tree, body_tree, body_trees, printed_primes, script_tree, typed_entries, channel_entry, body_entry, body_entries, printed_entries}
+use Rattle.read_back.proofs.Trees.{phrases, values_tree, channel_tree_of, channel_tree, called_trees, datatype_trees, process_tree, body_tree, body_trees, printed_primes, script_tree, typed_entries, channel_entry, body_entry, body_entries, printed_entries}
+use Rattle.read_back.proofs.Ordered.{in_range, range_in}
 use Rattle.read_back.proofs.Reaching.{reference_is}
 use Rattle.read_back.proofs.Primes.{constants_distinct, of_fields, body_is_no_constant, body_is_no_channel, datatype_is_no_constant, datatype_is_no_channel, datatype_is_no_body}
 
@@ -93,31 +93,25 @@ distinct_entries (e ∷ es) d = ap₂ (λ a b. not a && b) (none-from_In (λ f. 
 
 channel_names : (cs : List Channel) → alphabets.are_distinct cs ≡ true → Distinct (map named (map channel_entry cs))
 channel_names [] d = tt
-channel_names (c ∷ cs) d =
-    ((λ i. let (e, j, p) = In-map named (map channel_entry cs) i in
+channel_names (c ∷ cs) d = (
+  (λ i. let (e, j, p) = In-map named (map channel_entry cs) i in
       let (a, k, q) = In-map channel_entry cs j in
       let no : is_declared cs c.name ≡ false = not-true (is_declared cs c.name) (and-left (not (is_declared cs c.name)) (alphabets.are_distinct cs) d) in
       let same : c.name ≡ a.name = p ∙ ap named q in
       false≢true (sym (none-In (λ x. pointwise nat_eq c.name x.name) cs no k) ∙ (bytes_decides c.name a.name).1 same)),
-      channel_names cs (and-right (not (is_declared cs c.name)) (alphabets.are_distinct cs) d))
-
-in_range : (k start n : ℕ) → In k (range_with_len start n) → (start ≤ k) × (k < start + n)
-in_range k start zero i = elim i [ ]
-in_range k start (suc n) i = by i (λ j. in_range k (start + 1) n j)
-  where
-    by : {j : ℕ} → In j (start ∷ range_with_len (start + 1) n) → (In j (range_with_len (start + 1) n) → (start + 1 ≤ j) × (j < (start + 1) + n)) → (start ≤ j) × (j < start + suc n)
-    by here f = (omega arith, omega arith)
-    by (there j) f = let r = f j in (omega (arith, r.0), omega (arith, r.1))
+  channel_names cs (and-right (not (is_declared cs c.name)) (alphabets.are_distinct cs) d),
+)
 
 body_names : (cs : List Channel) (primes : ℕ) (Ps : List Proc) (start n : ℕ) → start + n ≤ 65536 → Distinct (map named (map (body_entry cs primes Ps) (range_with_len start n)))
 body_names cs primes Ps start zero l = tt
-body_names cs primes Ps start (suc n) l =
-    ((λ i. let (e, j, p) = In-map named (map (body_entry cs primes Ps) (range_with_len (start + 1) n)) i in
+body_names cs primes Ps start (suc n) l = (
+  (λ i. let (e, j, p) = In-map named (map (body_entry cs primes Ps) (range_with_len (start + 1) n)) i in
       let (k, m, q) = In-map (body_entry cs primes Ps) (range_with_len (start + 1) n) j in
       let b = in_range k (start + 1) n m in
       let same : start ≡ k = reference_is primes start k (omega (arith, l)) (omega (arith, l, b.1)) (p ∙ ap named q) in
       omega (arith, b.0, same)),
-      body_names cs primes Ps (start + 1) n (omega (arith, l)))
+  body_names cs primes Ps (start + 1) n (omega (arith, l)),
+)
 
 constants_named : (ns : List Name) → map named (map (λ c. (c, constant_name)) ns) ≡ ns
 constants_named [] = refl
@@ -186,10 +180,10 @@ module _ (spec : Specified) (sound : IsAlphabet spec.alphabet) (few : length spe
       Distinct-append (map named typed ++ map named channelled) (map named defined) front_distinct
       (body_names cs primes spec.bodies 0 (length spec.bodies) (omega (arith, few)))
       (λ x i j. let (k, l, e) = body_of_name cs primes spec.bodies x j in
-        elim (In-append (map named typed) (map named channelled) i) [
-          | inl m ↦ (elim (typed_of (datatype_primes cs) (constants cs) x m) [ inl f ↦ datatype_is_no_body (datatype_primes cs) primes k (sym f ∙ e) | inr n ↦ body_is_no_constant cs (length spec.bodies) k x l n (sym e) ])
-          | inr m ↦ (let (c, n, f) = channel_of_name cs x m in body_is_no_channel cs (length spec.bodies) k c l n (sym e ∙ f))
-        ])
+      elim (In-append (map named typed) (map named channelled) i) [
+        | inl m ↦ (elim (typed_of (datatype_primes cs) (constants cs) x m) [ inl f ↦ datatype_is_no_body (datatype_primes cs) primes k (sym f ∙ e) | inr n ↦ body_is_no_constant cs (length spec.bodies) k x l n (sym e) ])
+        | inr m ↦ (let (c, n, f) = channel_of_name cs x m in body_is_no_channel cs (length spec.bodies) k c l n (sym e ∙ f))
+      ])
 
   pub once : are_distinct (printed_entries spec) ≡ true
   once = distinct_entries (printed_entries spec) (subst Distinct (sym (map-append named (typed ++ channelled) defined ∙ ap (λ ns. ns ++ map named defined) (map-append named typed channelled))) all_distinct)
@@ -210,16 +204,6 @@ module _ (spec : Specified) (sound : IsAlphabet spec.alphabet) (few : length spe
 
   means_so : (e : Entry) → In e (printed_entries spec) → meaning (printed_entries spec) e.0 ≡ Some e.1
   means_so e i = meanings.means (printed_entries spec) e once (entry_in (printed_entries spec) e i)
-
-  range_in : (k start n : ℕ) → start ≤ k → k < start + n → In k (range_with_len start n)
-  range_in k start zero h l = absurd (omega (arith, h, l))
-  range_in k start (suc n) h l = split k start h (λ e. subst (λ j. In k (j ∷ range_with_len (start + 1) n)) e here) (λ m. there (range_in k (start + 1) n (omega (arith, m)) (omega (arith, l))))
-    where
-      split : {P : Type 0} (k start : ℕ) → start ≤ k → (k ≡ start → P) → (start < k → P) → P
-      split zero zero h f g = f refl
-      split (suc k) zero h f g = g (omega arith)
-      split zero (suc start) h f g = absurd (omega (arith, h))
-      split (suc k) (suc start) h f g = split k start (omega (arith, h)) (λ e. f (ap suc e)) (λ l. g (omega (arith, l)))
 
   pub body_means : (k : ℕ) → k < length spec.bodies → meaning (printed_entries spec) (reference primes k) ≡ Some (definition (process_tree cs primes (bodies_of spec.bodies k)))
   body_means k l =

@@ -1,33 +1,32 @@
 -- The printed channels are declared with the values of their fields.
-use Rattle.std.proofs.Common.{◌≡◌, ℕ, zero, suc, ◌+◌, ◌-◌, ◌<◌, ◌≤◌, ℤ, pos, negsuc, ◌-ℤ◌, List, [], ◌∷◌, ◌++◌, map, length, Bool, true, false, cond, ◌&&◌, Option, Some, None, refl, sym, ap, ap₂, ◌∙◌, subst, arith, append_assoc}
+use Rattle.std.proofs.Common.{◌≡◌, ℕ, suc, ◌<◌, ◌≤◌, pos, negsuc, List, [], ◌∷◌, ◌++◌, map, length, true, cond, Some, None, refl, ap, ◌∙◌, arith, append_assoc}
 use Rattle.std.proofs.lemmas.Bool.{le-leb, false≢true}
 use Rattle.std.proofs.lemmas.List.{length-append}
-use Rattle.std.specs.Prelude.{nat_le, int_lt, codes}
+use Rattle.std.specs.Prelude.{int_lt, codes}
 use Rattle.std.specs.List.{list_all, flat_map, range_with_len}
 use Rattle.std.specs.Ordering.{is_lt, nat_cmp}
 use Rattle.std.specs.BTreeSet.{insert_key}
 use Rattle.std.specs.Cmp.Lexicographic.{slice_cmp}
 use Rattle.std.specs.declared.cmp.Ordering.{Ordering}
 use Rattle.std.specs.declared.cmp.Ordering.TheVariants.{Less, Equal, Greater}
-use Rattle.alphabet.specs.Channels.{FieldValue, number, constant, Values, Channel, IsAlphabet, is_below, is_rising, is_field, is_value, value_text}
+use Rattle.alphabet.specs.Channels.{FieldValue, number, constant, Values, Channel, is_below, is_rising, value_text}
 use Rattle.alphabet.specs.Elements.{In, here, there}
-use Rattle.alphabet.proofs.Lists.{all-In, and-left, and-right}
+use Rattle.alphabet.proofs.Lists.{and-left, and-right}
 use Rattle.term.specs.Proc.{Proc}
 use Rattle.term.specs.Specs.{Specified}
 use Rattle.syntax.specs.declared.form.Form.TheVariants as forms
-use Rattle.syntax.specs.Grammar.{Syntax, Syntaxes}
 use Rattle.values.specs.Values.{◌>>=◌, limited, value_cmp, set_of, fitting_set}
-use Rattle.values.specs.Worths.{Worth, one, many, Known, the_only, the_number, the_value, the_set, all_values, set_of_all, set_with, nothing_of, negated, formed, worth, worths}
+use Rattle.values.specs.Worths.{one, many, Known, the_only, the_number, the_value, the_set, all_values, set_of_all, set_with, nothing_of, negated, formed, worth, worths}
 use Rattle.values.specs.Order.{value_total}
-use Rattle.values.specs.Names.{Entry, Meaning, channel, datatype, constant_name, definition}
+use Rattle.values.specs.Names.{Entry, channel, datatype, constant_name}
 use Rattle.values.specs.Channels.{fields_of, with_channel, channels_of}
 use Rattle.phrases.specs.Phrases.{Scope}
 use Rattle.printing.specs.Names.{Name, constants, primed, datatype_name, datatype_primes}
 use Rattle.printing.specs.Printed.{joined, gap, field_text, fields_text, channel_line, datatype_line, body_lines, printed}
-use Rattle.read_back.specs.Trees.{node, phrases, member_tree, braced, values_tree, typed_entries, channel_entry, body_entry, body_entries, printed_primes, printed_entries}
-use Rattle.read_back.specs.Readable.{IsGiven}
+use Rattle.read_back.proofs.Trees.{phrases, member_tree, values_tree, typed_entries, channel_entry, body_entry, body_entries, printed_primes, printed_entries}
+use Rattle.read_back.proofs.Readable.{IsGiven}
 use Rattle.read_back.proofs.Given.{AllGiven, limited_pos, limited_neg, turned, a_number}
-use Rattle.read_back.proofs.Ordered.{Above, Rises, insert_front}
+use Rattle.read_back.proofs.Ordered.{Above, insert_front}
 
 -- ---- sets of values
 

@@ -1,10 +1,10 @@
 -- The trees of values, events, sets and processes fit the grammar, within its limits.
-use Rattle.std.proofs.Common.{◌≡◌, ℕ, zero, suc, ◌+◌, ◌<◌, ◌≤◌, pos, negsuc, List, [], ◌∷◌, ◌++◌, map, length, drop, max, Bool, true, false, not, ◌&&◌, ◌||◌, refl, sym, ap, ap₂, ◌∙◌, arith}
+use Rattle.std.proofs.Common.{◌≡◌, ℕ, ◌+◌, ◌≤◌, pos, negsuc, List, [], ◌∷◌, map, drop, Bool, true, false, not, ◌&&◌, ◌||◌, refl, ap, ap₂, ◌∙◌, arith}
 use Rattle.std.specs.Prelude.{nat_le, slice_index_or}
 use Rattle.std.proofs.lemmas.Bool.{le-leb}
 use Rattle.alphabet.specs.declared.events.Event.{Event}
 use Rattle.alphabet.specs.declared.events.Event.TheVariants.{Tick as tick, Of as ev}
-use Rattle.alphabet.specs.EventSets.{Set, members}
+use Rattle.alphabet.specs.EventSets.{members}
 use Rattle.alphabet.specs.Channels.{FieldValue, number, constant, Values, Channel, Parts, events}
 use Rattle.term.specs.Proc as procs
 use Rattle.term.specs.Proc.{Proc}
@@ -12,12 +12,11 @@ use Rattle.term.specs.Sizes.{depth}
 use Rattle.term.specs.Traces.{Pairs}
 use Rattle.syntax.specs.declared.form.Form.TheVariants as forms
 use Rattle.syntax.specs.declared.operator.Operator.TheVariants as operators
-use Rattle.syntax.specs.Grammar.{Syntax, Called, Numeral, Node, Syntaxes, NoSyntax, MoreSyntax, height_of, highest, nesting, nests, nests_part, is_open, last_open, is_last, level_in, is_event, is_value, is_field, is_pair, is_called, is_declaration, is_names, is_constants, is_field_sets, is_numeral, wants, left_fits, is, shut, may_stand, Fits, FitAll, FitsPart, takes}
+use Rattle.syntax.specs.Grammar.{Syntax, Called, MoreSyntax, height_of, highest, nesting, nests, nests_part, is_open, last_open, is_last, level_in, is_event, is_value, is_field, is_pair, is_called, is_numeral, wants, left_fits, is, shut, may_stand, Fits, FitAll}
 use Rattle.syntax.specs.Rules.{rule, form_level, is_heavy, ending}
 use Rattle.syntax.specs.Operators.{opening, level, left_limit, right_limit, behind}
-use Rattle.printing.specs.Printed.{reference}
-use Rattle.read_back.specs.Readable.{IsWritten}
-use Rattle.read_back.specs.Trees.{node, named, phrases, value_tree, dotted_trees, event_tree, no_parts, tree_of_event, braced, set_tree, pair_tree, process_tree}
+use Rattle.read_back.proofs.Readable.{IsWritten}
+use Rattle.read_back.proofs.Trees.{phrases, value_tree, dotted_trees, event_tree, no_parts, tree_of_event, braced, set_tree, pair_tree, process_tree}
 
 -- ---- values
 
@@ -27,7 +26,7 @@ value_open (number (pos n)) = refl
 value_open (number (negsuc n)) = refl
 value_open (constant n) = refl
 
-pub value_fits : (v : FieldValue) → Fits (value_tree v)
+value_fits : (v : FieldValue) → Fits (value_tree v)
 unfolding rule is is_numeral is_called may_stand shut
 value_fits (number (pos n)) = tt
 value_fits (number (negsuc n)) = (refl, (tt, (refl, refl)))
@@ -39,13 +38,13 @@ is_a_value (number (pos n)) = refl
 is_a_value (number (negsuc n)) = refl
 is_a_value (constant n) = refl
 
-pub value_high : (v : FieldValue) → height_of (value_tree v) ≤ 1
+value_high : (v : FieldValue) → height_of (value_tree v) ≤ 1
 unfolding is_heavy
 value_high (number (pos n)) = omega arith
 value_high (number (negsuc n)) = omega arith
 value_high (constant n) = omega arith
 
-pub value_nested : (v : FieldValue) → nesting (value_tree v) ≡ 0
+value_nested : (v : FieldValue) → nesting (value_tree v) ≡ 0
 unfolding nesting nests nests_part rule
 value_nested (number (pos n)) = refl
 value_nested (number (negsuc n)) = refl
@@ -90,7 +89,7 @@ unfolding rule is is_field may_stand
 fields_fit [] = refl
 fields_fit (v ∷ vs) = ((refl, (value_fits v, (is_a_value v, refl))), (refl, fields_fit vs))
 
-pub event_fits : (p : Parts) → Fits (event_tree p)
+event_fits : (p : Parts) → Fits (event_tree p)
 unfolding rule is_called may_stand
 event_fits p = (event_shut p, (tt, (refl, fields_fit p.values)))
 
@@ -99,7 +98,7 @@ unfolding is_heavy
 fields_high [] = omega arith
 fields_high (v ∷ vs) = omega (arith, value_high v, fields_high vs)
 
-pub event_high : (p : Parts) → height_of (event_tree p) ≤ 2
+event_high : (p : Parts) → height_of (event_tree p) ≤ 2
 unfolding is_heavy
 event_high p = omega (arith, fields_high p.values)
 
@@ -108,13 +107,9 @@ unfolding nesting nests nests_part rule
 fields_nested [] = refl
 fields_nested (v ∷ vs) = omega (arith, value_nested v, fields_nested vs)
 
-pub event_nested : (p : Parts) → nesting (event_tree p) ≡ 0
+event_nested : (p : Parts) → nesting (event_tree p) ≡ 0
 unfolding nesting nests nests_part rule
 event_nested p = fields_nested p.values
-
-part_of : List Channel → Event → Parts
-part_of cs tick = no_parts
-part_of cs (ev a) = slice_index_or (events cs) a no_parts
 
 depth_some : (P : Proc) → 1 ≤ depth P
 depth_some procs.stop = omega arith
@@ -169,11 +164,6 @@ module _ (cs : List Channel) where
   unfolding level_in form_level
   set_level [] = refl
   set_level (t ∷ ts) = refl
-
-  set_open : (ts : List Syntax) → is_open (braced ts) ≡ false
-  unfolding is_open ending
-  set_open [] = refl
-  set_open (t ∷ ts) = refl
 
   others_fit : (es : List Event) → FitAll (phrases (map tree es)) (drop 2 (rule forms.Set))
   unfolding rule is
@@ -271,7 +261,7 @@ module _ (cs : List Channel) where
     phrase P l = is_phrase (process P) l (process_level P)
 
     pub process_fits : (n m : ℕ) (P : Proc) → IsWritten n m P → Fits (process P)
-    unfolding is_pair rule opening level left_limit right_limit behind is left_fits wants level_in form_level may_stand shut is_called process_tree set_tree
+    unfolding is_pair rule opening level left_limit right_limit behind is left_fits wants level_in form_level may_stand shut is_called process_tree
     process_fits n m procs.stop w = (refl, refl)
     process_fits n m procs.skip w = (refl, refl)
     process_fits n m (procs.prefix a P) w = (refl, ((refl, (tree_fits (ev a), (ap₂ (λ x y. x && not y) (tree_event (ev a)) (tree_open (ev a)), (process_fits n m P w.1, (phrase P 9, refl))))), (refl, refl)))
@@ -286,7 +276,7 @@ module _ (cs : List Channel) where
     process_fits n m (procs.name k) w = (refl, (tt, (refl, refl)))
 
     pub process_high : (P : Proc) → height_of (process P) ≤ depth P + 2
-    unfolding is_heavy process_tree set_tree
+    unfolding is_heavy process_tree
     process_high procs.stop = omega arith
     process_high procs.skip = omega arith
     process_high (procs.prefix a P) = omega (arith, tree_high (ev a), process_high P)
@@ -300,7 +290,7 @@ module _ (cs : List Channel) where
     process_high (procs.name k) = omega arith
 
     pub process_nested : (P : Proc) → nesting (process P) ≤ depth P + 1
-    unfolding nesting nests nests_part rule opening behind process_tree set_tree
+    unfolding nesting nests nests_part rule opening behind process_tree
     process_nested procs.stop = omega arith
     process_nested procs.skip = omega arith
     process_nested (procs.prefix a P) = omega (arith, tree_nested (ev a), process_nested P)

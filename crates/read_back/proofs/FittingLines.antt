@@ -1,20 +1,18 @@
 -- The tree of a printed script fits the grammar, within its limits.
-use Rattle.std.proofs.Common.{◌≡◌, ℕ, zero, suc, ◌+◌, ◌<◌, ◌≤◌, pos, negsuc, List, [], ◌∷◌, ◌++◌, map, length, drop, max, Bool, true, false, not, ◌&&◌, ◌||◌, refl, sym, ap, ap₂, ◌∙◌, arith}
+use Rattle.std.proofs.Common.{◌≡◌, ℕ, zero, suc, ◌+◌, ◌<◌, ◌≤◌, pos, negsuc, List, [], ◌∷◌, ◌++◌, map, length, drop, Bool, true, false, not, ◌&&◌, ◌||◌, refl, ap, ap₂, ◌∙◌, arith}
 use Rattle.std.specs.Prelude.{nat_le}
 use Rattle.std.specs.List.{range_with_len}
-use Rattle.std.proofs.lemmas.Bool.{le-leb}
 use Rattle.alphabet.specs.Channels.{FieldValue, number, constant, Values, Channel, event_count}
-use Rattle.term.specs.Proc as procs
 use Rattle.term.specs.Proc.{Proc, bodies_of}
 use Rattle.term.specs.Specs.{Specified}
 use Rattle.term.specs.Sizes.{depth}
 use Rattle.syntax.specs.declared.form.Form.TheVariants as forms
-use Rattle.syntax.specs.Grammar.{Syntax, Called, Numeral, Node, Syntaxes, NoSyntax, MoreSyntax, height_of, highest, nesting, nests, nests_part, is_open, last_open, is_last, level_in, is_called, is_declaration, is_names, is_constants, is_field_sets, is_script, is, shut, may_stand, Fits, FitAll, takes, flat}
+use Rattle.syntax.specs.Grammar.{Syntax, height_of, highest, nesting, nests, nests_part, is_open, is_last, level_in, is_called, is_declaration, is_names, is_constants, is_field_sets, is_script, is, shut, may_stand, Fits, FitAll, takes, flat}
 use Rattle.syntax.specs.Rules.{rule, form_level, is_heavy, ending}
 use Rattle.syntax.specs.Script.{IsScript}
 use Rattle.printing.specs.Names.{Name, constants, datatype_primes}
-use Rattle.read_back.specs.Trees.{node, phrases, member_tree, braced, values_tree, names_tree, channel_tree_of, channel_tree, called_trees, datatype_trees, process_tree, body_tree, body_trees, printed_primes, script_tree}
-use Rattle.read_back.specs.Readable.{IsWritten}
+use Rattle.read_back.proofs.Trees.{node, phrases, member_tree, values_tree, channel_tree_of, channel_tree, called_trees, datatype_trees, body_tree, body_trees, printed_primes, script_tree}
+use Rattle.read_back.proofs.Readable.{IsWritten}
 use Rattle.read_back.proofs.Fitting.{process_fits, process_high, process_nested, process_level}
 
 -- ---- sets of values
@@ -76,11 +74,6 @@ values_open : (vs : Values) → is_open (values_tree vs) ≡ false
 unfolding is_open ending
 values_open [] = refl
 values_open (v ∷ vs) = refl
-
-values_level : (vs : Values) → (nat_le (level_in (values_tree vs)) 0 ≡ true)
-unfolding level_in form_level
-values_level [] = refl
-values_level (v ∷ vs) = refl
 
 -- ---- fields
 

@@ -1,9 +1,8 @@
 -- What the texts of values give, and which values are the same.
-use Rattle.std.proofs.Common.{◌≡◌, ℕ, suc, ◌-◌, ◌<◌, ◌≤◌, ℤ, pos, negsuc, ◌-ℤ◌, List, [], ◌∷◌, map, Bool, true, false, cond, ◌&&◌, ◌||◌, nat_le, Option, Some, None, refl, sym, ap, ap₂, ◌∙◌, subst, arith}
+use Rattle.std.proofs.Common.{◌≡◌, ℕ, suc, ◌-◌, ◌<◌, ◌≤◌, ℤ, pos, negsuc, ◌-ℤ◌, List, [], ◌∷◌, map, Bool, true, false, cond, ◌&&◌, ◌||◌, Option, Some, None, refl, sym, ap, ap₂, ◌∙◌, subst, arith}
 use Rattle.std.proofs.lemmas.Bool.{le-leb, lt-ltb, false≢true}
 use Rattle.std.proofs.lemmas.Map.Lookups.{exact_signed, exact_bytes}
-use Rattle.std.specs.List.{list_any, flat_map}
-use Rattle.std.specs.Cmp.{nat_eq_equiv}
+use Rattle.std.specs.List.{list_any}
 use Rattle.std.specs.Cmp.Lexicographic.{pointwise, bytes_decides}
 use Rattle.std.specs.Ordering.{is_eq, ordering_reverse}
 use Rattle.std.specs.declared.cmp.Ordering.{Ordering}
@@ -12,15 +11,14 @@ use Rattle.alphabet.specs.Channels.{FieldValue, number, constant, Values, choice
 use Rattle.alphabet.specs.Elements.{In, here, there}
 use Rattle.alphabet.proofs.Lists.{In-map, In-flat_map, and-left, and-right}
 use Rattle.syntax.specs.declared.form.Form.TheVariants as forms
-use Rattle.syntax.specs.Grammar.{Syntax, Syntaxes, NoSyntax, MoreSyntax}
 use Rattle.values.specs.Values.{◌>>=◌, Name, value_cmp, is_same, is_among, limited}
 use Rattle.values.specs.Worths.{Worth, one, worth, worths, formed, negated, the_only, the_number, the_value}
 use Rattle.values.specs.Order.{value_total}
 use Rattle.values.specs.Names.{same_name}
 use Rattle.phrases.specs.Events.{field_value, field_values, are_within}
 use Rattle.phrases.specs.Phrases.{Scope}
-use Rattle.read_back.specs.Trees.{node, value_tree, dotted_trees}
-use Rattle.read_back.specs.Readable.{IsGiven}
+use Rattle.read_back.proofs.Trees.{node, value_tree, dotted_trees}
+use Rattle.read_back.proofs.Readable.{IsGiven}
 
 -- ---- values that are the same
 
@@ -35,11 +33,11 @@ compared (number y) (constant n) h = absurd (cc)
 compared (constant m) (number z) h = absurd (cc)
 compared (constant m) (constant n) h = ap constant (exact_bytes m n h)
 
-pub same_is : (v w : FieldValue) → is_same v w ≡ true → v ≡ w
+same_is : (v w : FieldValue) → is_same v w ≡ true → v ≡ w
 unfolding is_same
 same_is v w h = compared v w (equal_only (value_cmp v w) h)
 
-pub same_itself : (v : FieldValue) → is_same v v ≡ true
+same_itself : (v : FieldValue) → is_same v v ≡ true
 unfolding is_same
 same_itself v = by_total (value_cmp v v) (value_total.antisymm v v)
   where

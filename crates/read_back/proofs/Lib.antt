@@ -1,3 +1,5 @@
+pub mod Trees
+pub mod Readable
 pub mod Given
 pub mod Prefixes
 pub mod Sets
@@ -17,3 +19,9 @@ pub mod Declared
 pub mod Standing
 pub mod Fields
 pub mod Whole
+pub mod KnownValues
+pub mod ProperNames
+pub mod Origins
+pub mod PairsInOrder
+pub mod Written
+pub mod Law

@@ -1,27 +1,26 @@
 -- The lines of a printed script have the tokens of their trees.
-use Rattle.std.proofs.Common.{◌≡◌, ℕ, zero, suc, ◌+◌, ◌<◌, ◌≤◌, pos, negsuc, List, [], ◌∷◌, ◌++◌, map, length, drop, get_or, replicate, Bool, true, false, Some, None, refl, sym, ap, ap₂, ◌∙◌, subst, arith, append_assoc, append-nil}
+use Rattle.std.proofs.Common.{◌≡◌, ℕ, zero, suc, ◌+◌, ◌<◌, ◌≤◌, pos, negsuc, List, [], ◌∷◌, ◌++◌, map, length, drop, replicate, false, Some, None, refl, sym, ap, ◌∙◌, subst, arith, append_assoc, append-nil}
 use Rattle.std.specs.Prelude.{◌==◌, codes, decimal}
 use Rattle.std.specs.List.{flat_map, range_with_len}
 use Rattle.alphabet.specs.Channels.{FieldValue, number, constant, Values, Channel, value_text, event_count}
 use Rattle.alphabet.specs.Elements.{In, here, there}
-use Rattle.term.specs.Proc as procs
 use Rattle.term.specs.Proc.{Proc, bodies_of}
 use Rattle.term.specs.Specs.{Specified}
 use Rattle.tokens.specs.declared.symbol.Symbol.TheVariants as symbols
 use Rattle.tokens.specs.declared.keyword.Keyword.TheVariants as keywords
-use Rattle.tokens.specs.Lexeme.{Lexeme, Name as NameToken, Number, Kept, Sign}
+use Rattle.tokens.specs.Lexeme.{Lexeme, Name as NameToken, Kept, Sign}
 use Rattle.tokens.specs.Spelling.{keyword_text, refused_word_text}
-use Rattle.tokens.specs.Text.{All, IsName, Holds, HasTokens}
-use Rattle.tokens.specs.Scanning.{reserved_of, named as named_word, next_at}
+use Rattle.tokens.specs.Text.{IsName, Holds, HasTokens}
+use Rattle.tokens.specs.Scanning.{reserved_of, named as named_word}
 use Rattle.syntax.specs.declared.form.Form.TheVariants as forms
 use Rattle.syntax.specs.Grammar.{Syntax, Called, flat, spell, spell_part, spell_signs}
 use Rattle.syntax.specs.Rules.{rule}
 use Rattle.printing.specs.Names.{Name, constants, primed, datatype_name, datatype_primes}
 use Rattle.printing.specs.Printed.{joined, gap, field_text, fields_text, channel_line, datatype_line, reference, process_text, body_line, body_lines, printed}
-use Rattle.read_back.specs.Trees.{node, phrases, member_tree, braced, values_tree, names_tree, channel_tree_of, channel_tree, called_trees, datatype_trees, process_tree, body_tree, body_trees, printed_primes, script_tree}
-use Rattle.read_back.specs.Readable.{IsWritten}
-use Rattle.read_back.proofs.Scanned.{nothing_read, token_read, blank_read, other_byte, letter_high, digit_low, first_digit, Ends, IsProper, name_read, proper_read, comma_at, close_brace_at, colon_at, definition_at, bar_at, dot_brace_at, brace_at}
-use Rattle.read_back.proofs.Texts.{Reads, Any, same_read, both_read, any_read, IsShown, AllShown, value_read, EachRead, behind_tokens, joined_read}
+use Rattle.read_back.proofs.Trees.{node, phrases, member_tree, braced, values_tree, channel_tree_of, channel_tree, called_trees, datatype_trees, process_tree, body_tree, body_trees, printed_primes, script_tree}
+use Rattle.read_back.proofs.Readable.{IsWritten}
+use Rattle.read_back.proofs.Scanned.{nothing_read, token_read, blank_read, other_byte, letter_high, digit_low, first_digit, Ends, IsProper, AllProper, name_read, proper_read, close_brace_at, colon_at, definition_at, bar_at, dot_brace_at, brace_at}
+use Rattle.read_back.proofs.Texts.{Reads, Any, same_read, both_read, IsShown, AllShown, value_read, EachRead, behind_tokens, joined_read}
 use Rattle.read_back.proofs.Processes.{spaced, comma_read, all_primes, proper_reference, IsShownAlphabet, process_read}
 
 -- ---- sets of values
@@ -77,7 +76,7 @@ empty_read rest ws u r =
     token_read (123 ∷ 125 ∷ rest) (125 ∷ rest) (Sign symbols.OpenBrace) (Sign symbols.CloseBrace ∷ ws) (brace_at rest 125 refl refl)
     (token_read (125 ∷ rest) rest (Sign symbols.CloseBrace) ws (close_brace_at rest) r)
 
-pub field_read : (vs : Values) → AllShown vs → Reads Any (field_text vs) (flat (values_tree vs))
+field_read : (vs : Values) → AllShown vs → Reads Any (field_text vs) (flat (values_tree vs))
 field_read [] h rest ws u r = empty_read rest ws u r
 field_read (v ∷ vs) h rest ws u r =
     let b = begins_so v vs h.0 in
@@ -87,7 +86,7 @@ field_read (v ∷ vs) h rest ws u r =
     let last = joined_read (codes ", ") (Sign symbols.Comma) comma_read (λ rest. (refl, refl)) value_text value_tokens v vs (each_value (v ∷ vs) h) (125 ∷ rest) (Sign symbols.CloseBrace ∷ ws) (refl, refl) (token_read (125 ∷ rest) rest (Sign symbols.CloseBrace) ws (close_brace_at rest) r) in
     let inner = gap_read (v ∷ vs) (all ++ (125 ∷ rest)) (tokens ++ (Sign symbols.CloseBrace ∷ ws)) last in
     let z : gap (v ∷ vs) ++ (all ++ (125 ∷ rest)) ≡ b.0 ∷ (b.1 ++ (tail ++ (125 ∷ rest))) =
-        ap (λ t. gap (v ∷ vs) ++ t) (append_assoc (value_text v) tail (125 ∷ rest)) ∙ sym (append_assoc (gap (v ∷ vs)) (value_text v) (tail ++ (125 ∷ rest))) ∙ ap (λ t. t ++ (tail ++ (125 ∷ rest))) b.2 in
+    ap (λ t. gap (v ∷ vs) ++ t) (append_assoc (value_text v) tail (125 ∷ rest)) ∙ sym (append_assoc (gap (v ∷ vs)) (value_text v) (tail ++ (125 ∷ rest))) ∙ ap (λ t. t ++ (tail ++ (125 ∷ rest))) b.2 in
     same_read (ap (λ t. 123 ∷ t) (append_assoc (gap (v ∷ vs) ++ all) (125 ∷ []) rest ∙ append_assoc (gap (v ∷ vs)) all (125 ∷ rest) ∙ z))
     (ap (λ ts. ts ++ ws) (set_flat v vs) ∙ ap (λ t. Sign symbols.OpenBrace ∷ t) (append_assoc tokens (Sign symbols.CloseBrace ∷ []) ws))
     (token_read (123 ∷ b.0 ∷ (b.1 ++ (tail ++ (125 ∷ rest)))) (b.0 ∷ (b.1 ++ (tail ++ (125 ∷ rest)))) (Sign symbols.OpenBrace) (tokens ++ (Sign symbols.CloseBrace ∷ ws)) (brace_at (b.1 ++ (tail ++ (125 ∷ rest))) b.0 b.3 b.4)
@@ -181,10 +180,6 @@ channel_read n (vs ∷ fields) h k =
 
 -- ---- the datatype
 
-abbrev pub AllProper : List Name → Type 0
-AllProper [] = Unit {0}
-AllProper (n ∷ ns) = IsProper n × AllProper ns
-
 abbrev itself : Name → List ℕ
 itself n = n
 
@@ -221,13 +216,13 @@ no_reserved : (rest : List ℕ) → reserved_of (84 ∷ rest) ≡ None
 unfolding keyword_text refused_word_text
 no_reserved rest = refl
 
-pub proper_datatype : (primes : ℕ) → IsProper (primed datatype_name primes)
+proper_datatype : (primes : ℕ) → IsProper (primed datatype_name primes)
 proper_datatype primes = (record { first = 84; body = []; primes = replicate primes 39; spelled = refl; letter = refl; bytes = tt; ends = all_primes primes }, no_reserved (replicate primes 39))
 
 -- ---- lines of trees
 
 -- the tokens of trees, one behind the other
-abbrev pub flats : List Syntax → List Lexeme
+abbrev flats : List Syntax → List Lexeme
 flats [] = []
 flats (t ∷ ts) = flat t ++ flats ts
 
@@ -240,7 +235,7 @@ unfolding spell spell_part spell_signs rule
 parts_flat [] = refl
 parts_flat (t ∷ ts) = ap (λ ws. flat t ++ ws) (parts_flat ts)
 
-pub script_flat : (ts : List Syntax) → flat (node forms.Script ts) ≡ flats ts
+script_flat : (ts : List Syntax) → flat (node forms.Script ts) ≡ flats ts
 unfolding flat
 script_flat ts = parts_flat ts
 

@@ -1,6 +1,6 @@
 -- Lists in order: items put in their place, and what stands there.
-use Rattle.std.proofs.Common.{◌≡◌, List, [], ◌∷◌, ◌++◌, Bool, ◌⊎◌, inl, inr, refl, sym, ap, subst, ◌∙◌}
-use Rattle.std.specs.List.{flat_map}
+use Rattle.std.proofs.Common.{◌≡◌, ℕ, zero, suc, ◌+◌, ◌<◌, ◌≤◌, arith, List, [], ◌∷◌, ◌⊎◌, inl, inr, refl, sym, ap, subst, ◌∙◌}
+use Rattle.std.specs.List.{flat_map, range_with_len}
 use Rattle.std.specs.Ordering.{ordering_reverse, match_ordering}
 use Rattle.std.specs.Cmp.{IsTotalOrder}
 use Rattle.std.specs.BTreeSet.{insert_key}
@@ -13,6 +13,28 @@ pub in_flat : {A B : Type 0} (f : A → List B) (xs : List A) (x : A) (y : B) �
 in_flat f [] x y i j = elim i [ ]
 in_flat f (z ∷ xs) x y here j = In-append_left (flat_map f xs) j
 in_flat f (z ∷ xs) x y (there i) j = In-append_right (f z) (flat_map f xs) (in_flat f xs x y i j)
+
+-- ---- numbers in a range
+
+pub in_range : (k start n : ℕ) → In k (range_with_len start n) → (start ≤ k) × (k < start + n)
+in_range k start zero i = elim i [ ]
+in_range k start (suc n) i = by i (λ j. in_range k (start + 1) n j)
+  where
+    by : {j : ℕ} → In j (start ∷ range_with_len (start + 1) n) → (In j (range_with_len (start + 1) n) → (start + 1 ≤ j) × (j < (start + 1) + n)) → (start ≤ j) × (j < start + suc n)
+    by here f = (omega arith, omega arith)
+    by (there j) f = let r = f j in (omega (arith, r.0), omega (arith, r.1))
+
+pub range_in : (k start n : ℕ) → start ≤ k → k < start + n → In k (range_with_len start n)
+range_in k start zero h l = absurd (omega (arith, h, l))
+range_in k start (suc n) h l = split k start h (λ e. subst (λ j. In k (j ∷ range_with_len (start + 1) n)) e here) (λ m. there (range_in k (start + 1) n (omega (arith, m)) (omega (arith, l))))
+  where
+    split : {P : Type 0} (k start : ℕ) → start ≤ k → (k ≡ start → P) → (start < k → P) → P
+    split zero zero h f g = f refl
+    split (suc k) zero h f g = g (omega arith)
+    split zero (suc start) h f g = absurd (omega (arith, h))
+    split (suc k) (suc start) h f g = split k start (omega (arith, h)) (λ e. f (ap suc e)) (λ l. g (omega (arith, l)))
+
+-- ---- orders
 
 module _ {K : Type 0} (R : K → K → Ordering) (total : IsTotalOrder R) where
   -- each is above it

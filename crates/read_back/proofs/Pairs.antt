@@ -1,18 +1,16 @@
 -- The text of a renaming stands for its pairs.
-use Rattle.std.proofs.Common.{◌≡◌, ◌≢◌, ℕ, zero, suc, ◌+◌, ◌<◌, List, [], ◌∷◌, ◌++◌, map, length, drop, slice_get, Bool, true, false, cond, ◌&&◌, Option, Some, None, refl, sym, ap, ap₂, ◌∙◌, subst, arith, append-nil}
+use Rattle.std.proofs.Common.{◌≡◌, ◌≢◌, ℕ, zero, suc, ◌+◌, ◌<◌, List, [], ◌∷◌, ◌++◌, map, length, drop, slice_get, true, false, cond, Option, Some, refl, ap, ◌∙◌, arith, append-nil}
 use Rattle.std.proofs.lemmas.Option.{none-some, same_Some}
-use Rattle.std.specs.Cmp.Lexicographic.{pointwise}
 use Rattle.alphabet.specs.declared.events.Event.TheVariants.{Of as ev}
 use Rattle.alphabet.specs.Channels.{Values, Parts, events, event_count}
 use Rattle.alphabet.proofs.Lists.{In-at}
 use Rattle.term.specs.Specs.{PairsInSigma}
 use Rattle.term.specs.Traces.{Pairs}
-use Rattle.values.specs.Values.{◌>>=◌, Name, is_same}
-use Rattle.values.specs.Names.{same_name}
+use Rattle.values.specs.Values.{◌>>=◌, Name}
 use Rattle.phrases.specs.Events.{Beginning, beginning, begins_so, number_in, pairs_from, pair_of, pairs_of}
 use Rattle.phrases.specs.Phrases.{Scope}
-use Rattle.read_back.specs.Trees.{phrases, tree_of_event, pair_tree}
-use Rattle.read_back.specs.Readable.{IsPrintedScope}
+use Rattle.read_back.proofs.Trees.{phrases, tree_of_event, pair_tree}
+use Rattle.read_back.proofs.Readable.{IsPrintedScope}
 use Rattle.read_back.proofs.Prefixes.{is_row, row_itself, other_row, parts, at}
 use Rattle.read_back.proofs.Sets.{its_beginning, begins_row}
 

@@ -2,7 +2,6 @@
 use Rattle.std.proofs.Common.{◌≡◌, ◌≢◌, ℕ, zero, suc, ◌+◌, ◌<◌, List, [], ◌∷◌, map, length, get_or, slice_get, Bool, true, false, cond, ◌&&◌, not, nat_eq, Option, Some, None, refl, sym, ap, ap₂, ◌∙◌, subst, arith}
 use Rattle.std.proofs.lemmas.Bool.{false≢true, not-true}
 use Rattle.std.proofs.lemmas.Option.{none-some, same_Some}
-use Rattle.std.specs.List.{flat_map}
 use Rattle.std.specs.Cmp.Lexicographic.{pointwise, bytes_decides}
 use Rattle.alphabet.specs.Channels.{FieldValue, Values, Channel, Parts, choices, channel_events, events, names, event_text, event_count, is_declared, are_distinct, IsAlphabet}
 use Rattle.alphabet.specs.Elements.{In, here, there, Distinct}
@@ -10,19 +9,19 @@ use Rattle.alphabet.proofs.Lists.{In-map, In-flat_map, In-under_map, In-get_or, 
 use Rattle.alphabet.proofs.ChannelPlaces.{event_count-is}
 use Rattle.alphabet.proofs.DistinctNames.{names_distinct}
 use Rattle.alphabet.specs.declared.events.Event.TheVariants.{Of as ev}
-use Rattle.syntax.specs.Grammar.{Syntaxes, NoSyntax, MoreSyntax}
-use Rattle.values.specs.Values.{◌>>=◌, Name, is_same, is_among}
+use Rattle.syntax.specs.Grammar.{Syntaxes}
+use Rattle.values.specs.Values.{◌>>=◌, Name, is_same}
 use Rattle.values.specs.Names.{same_name}
-use Rattle.phrases.specs.Events.{fields_named, channel_fields, unless_value, field_value}
+use Rattle.phrases.specs.Events.{fields_named, channel_fields, unless_value}
 use Rattle.phrases.specs.Bodies.{Body, prefix, choice_of, choice_in}
 use Rattle.phrases.specs.Phrases.{Scope, against, fits_field, fitting, has_all, branches, prefixed, with_branch, then_fits}
-use Rattle.read_back.specs.Trees.{dotted_trees, value_tree, event_tree, tree_of_event, no_parts}
-use Rattle.read_back.specs.Readable.{IsGiven, IsPrintedScope}
-use Rattle.read_back.proofs.Given.{same_is, all_same, all_themselves, name_itself, among-In, AreChosen, chosen, AllGiven, field_given}
+use Rattle.read_back.proofs.Trees.{dotted_trees, tree_of_event, no_parts}
+use Rattle.read_back.proofs.Readable.{IsGiven, IsPrintedScope}
+use Rattle.read_back.proofs.Given.{all_same, all_themselves, name_itself, among-In, AreChosen, chosen, AllGiven, field_given}
 
 -- ---- the events of an alphabet
 
-pub at_index : {A : Type 0} (xs : List A) (i : ℕ) (d : A) → i < length xs → slice_get xs i ≡ Some (get_or xs i d)
+at_index : {A : Type 0} (xs : List A) (i : ℕ) (d : A) → i < length xs → slice_get xs i ≡ Some (get_or xs i d)
 at_index [] i d h = absurd (omega arith)
 at_index (x ∷ xs) zero d h = refl
 at_index (x ∷ xs) (suc i) d h = at_index xs i d (omega (arith, h))
@@ -38,7 +37,7 @@ names_apart : (n m : Name) → pointwise nat_eq m n ≡ false → (b : Bool) →
 names_apart n m h true e = absurd (false≢true (sym h ∙ (bytes_decides m n).1 (sym ((bytes_decides n m).0 e))))
 names_apart n m h false e = e
 
-pub fields_are : (cs : List Channel) (c : Channel) → are_distinct cs ≡ true → In c cs → fields_named cs c.name ≡ Some c.fields
+fields_are : (cs : List Channel) (c : Channel) → are_distinct cs ≡ true → In c cs → fields_named cs c.name ≡ Some c.fields
 unfolding fields_named
 fields_are [] c d i = elim i [ ]
 fields_are (e ∷ cs) c d here = ap (λ b. cond b (Some c.fields) (fields_named cs c.name)) (name_itself c.name)
@@ -51,7 +50,7 @@ Distinct-unmap : {A B : Type 0} (f : A → B) (xs : List A) → Distinct (map f 
 Distinct-unmap f [] d = tt
 Distinct-unmap f (x ∷ xs) d = ((λ i. d.0 (In-under_map f xs i)), Distinct-unmap f xs d.1)
 
-pub events_distinct : (cs : List Channel) → IsAlphabet cs → Distinct (events cs)
+events_distinct : (cs : List Channel) → IsAlphabet cs → Distinct (events cs)
 unfolding names
 events_distinct cs a = Distinct-unmap event_text (events cs) (names_distinct cs a)
 
@@ -96,7 +95,7 @@ all_fields (v ∷ vs) (set ∷ sets) h = all_fields vs sets h.1
 abbrev fit_or_not : Bool → Scope → Option (Option Scope)
 fit_or_not b s = Some (cond b (Some s) None)
 
-pub fits_given : (s : Scope) (ws vs : Values) (sets : List Values) → AllGiven s ws → AreChosen ws sets → AreChosen vs sets → fitting (dotted_trees ws) sets vs s ≡ fit_or_not (pointwise is_same ws vs) s
+fits_given : (s : Scope) (ws vs : Values) (sets : List Values) → AllGiven s ws → AreChosen ws sets → AreChosen vs sets → fitting (dotted_trees ws) sets vs s ≡ fit_or_not (pointwise is_same ws vs) s
 unfolding fitting fits_field against
 fits_given s [] [] [] g h k = refl
 fits_given s [] (v ∷ vs) [] g h k = absurd k
@@ -180,10 +179,10 @@ module _ (s : Scope) (primes m : ℕ) (h : IsPrintedScope s primes m) (a : ℕ) 
   abbrev pub its_channel : Channel
   its_channel = (event_parts s.channels parts stands).0
 
-  pub is_channel : In its_channel s.channels
+  is_channel : In its_channel s.channels
   is_channel = (event_parts s.channels parts stands).1
 
-  pub is_named : parts.channel ≡ its_channel.name
+  is_named : parts.channel ≡ its_channel.name
   is_named = (event_parts s.channels parts stands).2
 
   pub is_chosen : AreChosen parts.values its_channel.fields

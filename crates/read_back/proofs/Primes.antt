@@ -1,20 +1,20 @@
 -- The names that are found for a datatype and for bodies are no others'.
-use Rattle.std.proofs.Common.{◌≡◌, ◌≢◌, ℕ, zero, suc, ◌+◌, ◌<◌, ◌≤◌, List, [], ◌∷◌, ◌++◌, map, length, max, fold, replicate, nat_eq, Bool, true, false, not, cond, ◌&&◌, ◌||◌, ◌⊎◌, inl, inr, refl, sym, ap, ap₂, ◌∙◌, subst, arith}
+use Rattle.std.proofs.Common.{◌≡◌, ℕ, zero, suc, ◌+◌, ◌<◌, ◌≤◌, List, [], ◌∷◌, ◌++◌, map, length, max, fold, replicate, nat_eq, Bool, true, false, not, cond, ◌&&◌, ◌||◌, ◌⊎◌, inl, inr, refl, sym, ap, ap₂, ◌∙◌, subst, arith}
 use Rattle.std.proofs.lemmas.Bool.{false≢true}
 use Rattle.std.proofs.lemmas.Cmp.{nat_list_cmp_total}
 use Rattle.std.proofs.lemmas.List.{length-append, length-replicate}
 use Rattle.std.proofs.lemmas.Map.Lookups.{exact_bytes}
-use Rattle.std.specs.List.{flat_map, list_any, list_all, range_with_len}
+use Rattle.std.specs.List.{flat_map, range_with_len}
 use Rattle.std.specs.Prelude.{decimal}
 use Rattle.std.specs.BTreeSet.{insert_key}
 use Rattle.std.specs.Cmp.Lexicographic.{pointwise, bytes_decides}
 use Rattle.alphabet.specs.Channels.{FieldValue, number, constant, Values, Channel}
 use Rattle.alphabet.specs.Elements.{In, here, there, Distinct}
-use Rattle.alphabet.proofs.Lists.{In-append, In-append_left, In-append_right, In-flat_map, In-under_map, all-In, none-from_In}
+use Rattle.alphabet.proofs.Lists.{In-append_left, In-append_right, In-flat_map, In-under_map, all-In, none-from_In}
 use Rattle.tokens.proofs.Complete.{same_head}
-use Rattle.printing.specs.Names.{Name, byte_order, with_names, in_order, constant_in, constants_in, constants, taken, is_among, primed, differ, first_from, longest, least_primes, datatype_name, datatype_primes, body_name, body_primes}
+use Rattle.printing.specs.Names.{Name, byte_order, with_names, constant_in, constants_in, constants, taken, is_among, primed, differ, first_from, longest, least_primes, datatype_name, datatype_primes, body_name, body_primes}
 use Rattle.printing.specs.Printed.{reference}
-use Rattle.read_back.proofs.Ordered.{in_flat, Rises, rises_insert, in_kept, in_from, in_put, rises_distinct}
+use Rattle.read_back.proofs.Ordered.{in_flat, range_in, Rises, rises_insert, in_kept, in_from, in_put, rises_distinct}
 
 -- ---- the least number of primes
 
@@ -142,29 +142,19 @@ channel_taken cs c i = put_with c.name [] (flat_map constants_in cs ++ map (λ c
 
 -- ---- no others' names
 
-body_names : ℕ → ℕ → List Name
-body_names start n = map body_name (range_with_len start n)
-
 some_bodies : (start n : ℕ) → AllSome (map body_name (range_with_len start n))
 some_bodies start zero = tt
 some_bodies start (suc n) = (omega arith, some_bodies (start + 1) n)
 
-in_bodies : (k start n : ℕ) → start ≤ k → k < start + n → In (body_name k) (map body_name (range_with_len start n))
-in_bodies k start zero h l = absurd (omega (arith, h, l))
-in_bodies k start (suc n) h l = split k start h (λ e. subst (λ j. In (body_name k) (body_name j ∷ map body_name (range_with_len (start + 1) n))) e here) (λ m. there (in_bodies k (start + 1) n (omega (arith, m)) (omega (arith, l))))
-  where
-    split : {P : Type 0} (k start : ℕ) → start ≤ k → (k ≡ start → P) → (start < k → P) → P
-    split zero zero h f g = f refl
-    split (suc k) zero h f g = g (omega arith)
-    split zero (suc start) h f g = absurd (omega (arith, h))
-    split (suc k) (suc start) h f g = split k start (omega (arith, h)) (λ e. f (ap suc e)) (λ l. g (omega (arith, l)))
+in_bodies : (k count : ℕ) → k < count → In (body_name k) (map body_name (range_with_len 0 count))
+in_bodies k count l = In-under_map body_name (range_with_len 0 count) (range_in k 0 count (omega arith) (omega (arith, l)))
 
 module _ (cs : List Channel) (count : ℕ) where
   pub body_is_no_constant : (k : ℕ) (n : Name) → k < count → In n (constants cs) → reference (body_primes cs count) k ≡ n → ⊥
-  body_is_no_constant k n l i e = apart (taken cs) (map body_name (range_with_len 0 count)) (some_bodies 0 count) (body_name k) n (in_bodies k 0 count (omega arith) (omega (arith, l))) (constant_taken cs n i) e
+  body_is_no_constant k n l i e = apart (taken cs) (map body_name (range_with_len 0 count)) (some_bodies 0 count) (body_name k) n (in_bodies k count l) (constant_taken cs n i) e
 
   pub body_is_no_channel : (k : ℕ) (c : Channel) → k < count → In c cs → reference (body_primes cs count) k ≡ c.name → ⊥
-  body_is_no_channel k c l i e = apart (taken cs) (map body_name (range_with_len 0 count)) (some_bodies 0 count) (body_name k) c.name (in_bodies k 0 count (omega arith) (omega (arith, l))) (channel_taken cs c i) e
+  body_is_no_channel k c l i e = apart (taken cs) (map body_name (range_with_len 0 count)) (some_bodies 0 count) (body_name k) c.name (in_bodies k count l) (channel_taken cs c i) e
 
 pub datatype_is_no_constant : (cs : List Channel) (n : Name) → In n (constants cs) → primed datatype_name (datatype_primes cs) ≡ n → ⊥
 datatype_is_no_constant cs n i e = apart (taken cs) (datatype_name ∷ []) (omega arith, tt) datatype_name n here (constant_taken cs n i) e

@@ -1,12 +1,12 @@
 -- The texts of processes have the tokens of their trees.
-use Rattle.std.proofs.Common.{◌≡◌, ℕ, zero, suc, ◌+◌, ◌<◌, ◌≤◌, List, [], ◌∷◌, ◌++◌, map, filter, length, drop, get_or, replicate, Bool, true, false, Some, None, refl, sym, ap, ap₂, ◌∙◌, subst, arith, append_assoc, append-nil}
-use Rattle.std.specs.Prelude.{◌==◌, codes, decimal, slice_index_or}
+use Rattle.std.proofs.Common.{◌≡◌, ℕ, zero, suc, ◌<◌, ◌≤◌, List, [], ◌∷◌, ◌++◌, map, filter, length, drop, get_or, replicate, true, Some, None, refl, sym, ap, ◌∙◌, subst, arith, append_assoc, append-nil}
+use Rattle.std.specs.Prelude.{codes, decimal}
 use Rattle.std.specs.List.{flat_map, range_with_len}
 use Rattle.std.specs.Char.{is_ascii_digit, is_ascii_alphabetic}
 use Rattle.alphabet.specs.declared.events.Event.{Event}
 use Rattle.alphabet.specs.declared.events.Event.TheVariants.{Of as ev}
-use Rattle.alphabet.specs.EventSets.{Set, has, members}
-use Rattle.alphabet.specs.Channels.{FieldValue, Values, Channel, Parts, dotted, event_text, events, names, event_count, name_of, choices}
+use Rattle.alphabet.specs.EventSets.{Set, has}
+use Rattle.alphabet.specs.Channels.{FieldValue, Values, Channel, Parts, dotted, event_text, events, names, event_count, name_of}
 use Rattle.alphabet.specs.Elements.{In, here, there}
 use Rattle.alphabet.proofs.Lists.{In-get_or}
 use Rattle.alphabet.proofs.ChannelPlaces.{event_count-is}
@@ -16,7 +16,7 @@ use Rattle.term.specs.Specs.{SetInSigma, PairsInSigma}
 use Rattle.term.specs.Traces.{Pairs}
 use Rattle.tokens.specs.declared.symbol.Symbol.TheVariants as symbols
 use Rattle.tokens.specs.declared.keyword.Keyword.TheVariants as keywords
-use Rattle.tokens.specs.Lexeme.{Lexeme, Name, Number, Kept, Sign}
+use Rattle.tokens.specs.Lexeme.{Lexeme, Kept, Sign}
 use Rattle.tokens.specs.Spelling.{keyword_text, refused_word_text}
 use Rattle.tokens.specs.Text.{All, IsName, is_name_byte, is_prime, Holds}
 use Rattle.tokens.specs.Scanning.{reserved_of, named as named_word, next_at}
@@ -26,9 +26,9 @@ use Rattle.syntax.specs.Grammar.{Syntax, flat, spell, spell_part, spell_signs}
 use Rattle.syntax.specs.Rules.{rule}
 use Rattle.syntax.specs.Operators.{opening, behind}
 use Rattle.phrases.proofs.Reached.{get_or_view}
-use Rattle.printing.specs.Printed.{joined, operation, set_text, shared_text, pair_text, reference, process_text}
-use Rattle.read_back.specs.Trees.{node, named, phrases, event_tree, no_parts, tree_of_event, braced, set_tree, pair_tree, process_tree}
-use Rattle.read_back.specs.Readable.{IsRenaming, IsWritten}
+use Rattle.printing.specs.Printed.{joined, set_text, shared_text, pair_text, reference, process_text}
+use Rattle.read_back.proofs.Trees.{node, phrases, event_tree, no_parts, tree_of_event, braced, set_tree, pair_tree, process_tree}
+use Rattle.read_back.proofs.Readable.{IsWritten}
 use Rattle.read_back.proofs.Prefixes.{event_parts}
 use Rattle.read_back.proofs.Given.{AreChosen, chosen}
 use Rattle.read_back.proofs.Sets.{AllBelow, all_kept, its_members}
@@ -108,7 +108,7 @@ module _ (cs : List Channel) (shown : IsShownAlphabet cs) where
   unfolding names
   its_name a l = get_or_view event_text (events cs) a [] no_parts (omega (arith, l, event_count-is cs))
 
-  pub event_is_read : (a : ℕ) → a < event_count cs → Reads Ends (name_of cs (ev a)) (flat (tree_of_event cs (ev a)))
+  event_is_read : (a : ℕ) → a < event_count cs → Reads Ends (name_of cs (ev a)) (flat (tree_of_event cs (ev a)))
   event_is_read a l =
       let h = shown_parts a l in
       subst (λ t. Reads Ends t (flat (event_tree (part a)))) (sym (its_name a l)) (event_read (part a) h.0 h.1)
@@ -170,7 +170,7 @@ module _ (cs : List Channel) (shown : IsShownAlphabet cs) where
       (braced_read (joined (codes ", ") (map (name_of cs) (map ev (a ∷ ks)))) (event_tokens (ev a) ++ behind_events (map ev ks)) b.0 (b.1 ++ between) (ap (λ t. t ++ between) b.2) b.3
       (joined_read (codes ", ") (Sign symbols.Comma) comma_read (λ rest. (refl, refl)) (name_of cs) event_tokens (ev a) (map ev ks) (each_event (a ∷ ks) h)))
 
-  pub set_read : (A : Set) → SetInSigma (event_count cs) A → Reads Any (set_text cs A) (flat (set_tree cs A))
+  set_read : (A : Set) → SetInSigma (event_count cs) A → Reads Any (set_text cs A) (flat (set_tree cs A))
   unfolding set_text
   set_read A sigma =
       subst (λ es. Reads Any (braces (joined (codes ", ") (map (name_of cs) es))) (flat (braced (map (tree_of_event cs) es)))) (sym (its_members (event_count cs) A sigma))

@@ -1,12 +1,12 @@
 -- The bodies of a printed script are reached from its first body, each by its number.
-use Rattle.std.proofs.Common.{◌≡◌, ℕ, zero, suc, ◌+◌, ◌<◌, ◌≤◌, ◌^◌, List, [], ◌∷◌, ◌++◌, map, length, take, get_or, replicate, nat_eq, Bool, true, false, cond, ◌&&◌, Option, Some, None, inl, inr, refl, sym, ap, ap₂, ◌∙◌, subst, arith}
+use Rattle.std.proofs.Common.{◌≡◌, ℕ, zero, suc, ◌<◌, ◌≤◌, ◌^◌, List, [], ◌∷◌, ◌++◌, map, length, take, get_or, replicate, nat_eq, Bool, true, false, cond, ◌&&◌, Option, Some, inl, inr, refl, sym, ap, ap₂, ◌∙◌, subst, arith}
 use Rattle.std.specs.Prelude.{codes, decimal}
 use Rattle.std.proofs.lemmas.Bool.{false≢true}
 use Rattle.std.proofs.lemmas.Bool.Decides.{eqb_tells}
 use Rattle.std.proofs.lemmas.List.{length-map, map-append, append_cancel_left, append_cancel_right}
 use Rattle.std.proofs.lemmas.Fmt.{decimal_injective}
 use Rattle.std.specs.Cmp.{nat_eq_equiv}
-use Rattle.std.specs.Cmp.Lexicographic.{pointwise, bytes_decides}
+use Rattle.std.specs.Cmp.Lexicographic.{bytes_decides}
 use Rattle.std.specs.List.{flat_map}
 use Rattle.term.specs.Proc as procs
 use Rattle.term.specs.Proc.{Proc, bodies_of}
@@ -16,9 +16,9 @@ use Rattle.phrases.specs.Phrases.{Scope}
 use Rattle.phrases.specs.Denotes.{body_of, place, has_key, with_keys, met, Reached}
 use Rattle.phrases.proofs.Keys.{key_same}
 use Rattle.phrases.proofs.Reached.{get_or_view}
-use Rattle.printing.specs.Names.{primed, body_name}
+use Rattle.printing.specs.Names.{body_name}
 use Rattle.printing.specs.Printed.{reference}
-use Rattle.read_back.specs.Readable.{referred}
+use Rattle.read_back.proofs.Readable.{referred}
 use Rattle.read_back.proofs.Numbers.{key_is, at_place, has_own, AllHave, Placed, placed, all_named, root_met, all_taken, all_left, all_right, all_other}
 
 -- ---- printed names of bodies
@@ -26,7 +26,7 @@ use Rattle.read_back.proofs.Numbers.{key_is, at_place, has_own, AllHave, Placed,
 pub reference_is : (primes i j : ℕ) → i < 2 ^ 64 → j < 2 ^ 64 → reference primes i ≡ reference primes j → i ≡ j
 reference_is primes i j h k e = decimal_injective i j h k (append_cancel_left (codes "P") (decimal i) (decimal j) (append_cancel_right (body_name i) (body_name j) (replicate primes 39) e))
 
-pub same_reference : (primes i j : ℕ) → i < 2 ^ 64 → j < 2 ^ 64 → same_name (reference primes i) (reference primes j) ≡ nat_eq i j
+same_reference : (primes i j : ℕ) → i < 2 ^ 64 → j < 2 ^ 64 → same_name (reference primes i) (reference primes j) ≡ nat_eq i j
 same_reference primes i j h k = by (same_name (reference primes i) (reference primes j)) refl
   where
     by : (b : Bool) → same_name (reference primes i) (reference primes j) ≡ b → same_name (reference primes i) (reference primes j) ≡ nat_eq i j
@@ -39,7 +39,7 @@ same_reference primes i j h k = by (same_name (reference primes i) (reference pr
 abbrev pub printed_key : ℕ → ℕ → Key
 printed_key primes k = (reference primes k, [])
 
-pub same_printed : (primes i j : ℕ) → i < 2 ^ 64 → j < 2 ^ 64 → same_key (printed_key primes i) (printed_key primes j) ≡ nat_eq i j
+same_printed : (primes i j : ℕ) → i < 2 ^ 64 → j < 2 ^ 64 → same_key (printed_key primes i) (printed_key primes j) ≡ nat_eq i j
 unfolding same_key
 same_printed primes i j h k = ap (λ b. b && true) (same_reference primes i j h k) ∙ plain (nat_eq i j)
   where
@@ -49,7 +49,7 @@ same_printed primes i j h k = ap (λ b. b && true) (same_reference primes i j h 
 
 -- ---- bodies with printed names
 
-pub names_referred : (primes : ℕ) (f : Key → ℕ) (b : Body) → names (referred primes (numbered f b)) ≡ map (λ k. printed_key primes (f k)) (names b)
+names_referred : (primes : ℕ) (f : Key → ℕ) (b : Body) → names (referred primes (numbered f b)) ≡ map (λ k. printed_key primes (f k)) (names b)
 unfolding names numbered
 names_referred primes f stop = refl
 names_referred primes f skip = refl
@@ -153,10 +153,10 @@ module _ (s : Scope) (root : Key) (keys : List Key) (bodies : List Body) (reache
       ap₂ (λ k ns. with_keys (k ∷ []) ns) (ap (printed_key primes) (sym root_there.1)) (all_referred primes (place keys) bs)
       ∙ all_other keys other apart (root ∷ []) (flat_map names bs) (root_there.0, tt) h
 
-  pub printed_first : met (printed_key primes 0) printed_bodies ≡ printed_keys
+  printed_first : met (printed_key primes 0) printed_bodies ≡ printed_keys
   printed_first = met_so bodies all_there ∙ ap (map other) reached.first
 
-  pub printed_below : (i : ℕ) → i < length printed_keys → i < length (met (printed_key primes 0) (take i printed_bodies))
+  printed_below : (i : ℕ) → i < length printed_keys → i < length (met (printed_key primes 0) (take i printed_bodies))
   printed_below i l =
       let front : take i printed_bodies ≡ map (referred primes) (map (numbered (place keys)) (take i bodies)) = take_map (referred primes) i found ∙ ap (map (referred primes)) (take_map (numbered (place keys)) i bodies) in
       let same : met (printed_key primes 0) (take i printed_bodies) ≡ map other (met root (take i bodies)) = ap (met (printed_key primes 0)) front ∙ met_so (take i bodies) (all_taken keys i bodies all_there) in
@@ -173,14 +173,11 @@ module _ (s : Scope) (root : Key) (keys : List Key) (bodies : List Body) (reache
   themselves [] h = tt
   themselves (k ∷ ks) h = (h 0 (omega arith), themselves ks (λ i a. h (suc i) (omega (arith, a))))
 
-  pub all_keys : AllHave keys keys
+  all_keys : AllHave keys keys
   all_keys = themselves keys (λ i a. has_own keys i root a)
 
   pub printed_numbers : map (numbered (place printed_keys)) printed_bodies ≡ found
   printed_numbers = all_again keys (place printed_keys) (place keys) primes (λ k h. place_so keys k all_keys h) bodies all_there
-
-  pub names_there : AllHave keys (flat_map names bodies)
-  names_there = all_there
 
   -- where each printed name has its body, they are what is reached
   module _ (t : Scope) (given : (k : ℕ) → k < length found → body_of t (printed_key primes k) ≡ Some (referred primes (bodies_of found k))) where

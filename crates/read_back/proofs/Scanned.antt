@@ -1,25 +1,23 @@
 -- Texts that are read token by token.
-use Rattle.std.proofs.Common.{◌≡◌, ◌≢◌, ℕ, zero, suc, ◌+◌, ◌*◌, ◌-◌, ◌/◌, ◌%◌, ◌<◌, ◌≤◌, ◌^◌, List, [], ◌∷◌, ◌++◌, map, length, take, drop, Bool, true, false, cond, ◌&&◌, ◌||◌, nat_eq, Option, Some, None, inl, inr, refl, sym, ap, ap₂, ◌∙◌, subst, arith, append_assoc, append-nil}
-use Rattle.std.specs.Prelude.{◌==◌, nat_le, codes, decimal}
+use Rattle.std.proofs.Common.{◌≡◌, ◌≢◌, ℕ, ◌+◌, ◌*◌, ◌-◌, ◌/◌, ◌%◌, ◌<◌, ◌≤◌, List, [], ◌∷◌, ◌++◌, length, take, drop, Bool, true, false, ◌&&◌, ◌||◌, Option, Some, None, inl, inr, refl, sym, ap, ap₂, ◌∙◌, subst, arith, append_assoc}
+use Rattle.std.specs.Prelude.{◌==◌, nat_le, decimal}
 use Rattle.std.specs.Char.{is_ascii_digit, is_ascii_alphabetic}
 use Rattle.std.specs.List.{prefix_len}
 use Rattle.std.specs.Int.{is_in_range}
 use Rattle.std.proofs.lemmas.Bool.{le-leb, leb-true, eqb-true, false≢true}
-use Rattle.std.proofs.lemmas.Bool.Decides.{eqb_tells, leb_tells}
+use Rattle.std.proofs.lemmas.Bool.Decides.{eqb_tells}
 use Rattle.std.proofs.lemmas.List.{length-append}
 use Rattle.std.proofs.lemmas.Fmt.{decimal_by_steps}
 use Rattle.std.proofs.Math.Nat.{mod-lt}
 use Rattle.std.proofs.Math.Seq.{take-append_seam, drop-append_seam}
-use Rattle.tokens.specs.declared.symbol.Symbol.{Symbol}
 use Rattle.tokens.specs.declared.symbol.Symbol.TheVariants as symbols
-use Rattle.tokens.specs.declared.keyword.Keyword.TheVariants as keywords
-use Rattle.tokens.specs.Lexeme.{Lexeme, Name, Number, Kept, Sign}
-use Rattle.tokens.specs.Spelling.{symbol_text, refused_symbol_text, keyword_text, refused_word_text}
-use Rattle.tokens.specs.Text.{All, IsName, is_name_byte, is_prime, is_blank, value_of, opens_comment, Part, Blank, behind, Holds}
+use Rattle.tokens.specs.Lexeme.{Lexeme, Name, Number, Sign}
+use Rattle.tokens.specs.Spelling.{symbol_text, refused_symbol_text}
+use Rattle.tokens.specs.Text.{All, IsName, is_name_byte, is_prime, is_blank, value_of, opens_comment, Blank, behind, Holds}
 use Rattle.tokens.specs.Scanning.{◌>>=◌, run, name_len, Step, reserved_of, named, name_at, number_at, signed, sign_at, word_at, next_at, value_from}
 use Rattle.tokens.proofs.Lists.{prefix_stops}
 use Rattle.tokens.proofs.Names.{run_exact, letter_is_name_byte, digit_is_no_letter}
-use Rattle.tokens.proofs.Complete.{next_word, word_letter, word_digit, word_sign}
+use Rattle.tokens.proofs.Complete.{next_word, word_letter, word_digit}
 use Rattle.tokens.proofs.Sound.{step_sound}
 
 -- ---- part by part
@@ -27,7 +25,7 @@ use Rattle.tokens.proofs.Sound.{step_sound}
 pub nothing_read : Holds [] []
 nothing_read = record { parts = []; spelled = refl; are = refl }
 
-pub step_read : (text rest : List ℕ) (o : Option Lexeme) (ws : List Lexeme) → next_at text ≡ Some (o, rest) → Holds rest ws → Holds text (behind o ws)
+step_read : (text rest : List ℕ) (o : Option Lexeme) (ws : List Lexeme) → next_at text ≡ Some (o, rest) → Holds rest ws → Holds text (behind o ws)
 step_read text rest o ws e h =
     let s = step_sound text (o, rest) e in
     record { parts = s.part ∷ h.parts; spelled = (rest, s.spelled, s.is, h.spelled); are = ap₂ behind s.word h.are }
@@ -43,7 +41,7 @@ blank_read c rest ws e h = record { parts = Blank c ∷ h.parts; spelled = (rest
 pub other_byte : (c d : ℕ) → (c ≢ d) → (c == d) ≡ false
 other_byte c d h = elim (eqb_tells c d) [ inl p ↦ absurd (h p.1) | inr p ↦ p.0 ]
 
-pub no_comment : (c : ℕ) (rest : List ℕ) → (c == 45) ≡ false → (c == 123) ≡ false → opens_comment (c ∷ rest) ≡ false
+no_comment : (c : ℕ) (rest : List ℕ) → (c == 45) ≡ false → (c == 123) ≡ false → opens_comment (c ∷ rest) ≡ false
 no_comment c [] h k = refl
 no_comment c (e ∷ rest) h k = ap₂ (λ a b. (a && e == 45) || (b && e == 45)) h k
 
@@ -123,6 +121,10 @@ name_read w rest is e = subst (λ v. next_at (v ++ rest) ≡ named (reserved_of 
 -- a name that is no reserved word
 abbrev pub IsProper : List ℕ → Type 0
 IsProper n = IsName n × (reserved_of n ≡ None)
+
+abbrev pub AllProper : List (List ℕ) → Type 0
+AllProper [] = Unit {0}
+AllProper (n ∷ ns) = IsProper n × AllProper ns
 
 pub proper_read : (n rest : List ℕ) (ws : List Lexeme) → IsProper n → Ends rest → Holds rest ws → Holds (n ++ rest) (Name n ∷ ws)
 unfolding named

@@ -1,6 +1,5 @@
 -- The text of a set of events stands for this set.
-use Rattle.std.proofs.Common.{◌≡◌, ◌≢◌, ℕ, zero, suc, ◌+◌, ◌<◌, ◌≤◌, List, [], ◌∷◌, ◌++◌, map, filter, length, slice_get, Bool, true, false, cond, ◌&&◌, ◌||◌, nat_eq, nat_lt, Option, Some, None, IsTrue, refl, sym, ap, ap₂, ◌∙◌, subst, inl, inr, arith, append-nil}
-use Rattle.std.proofs.lemmas.Bool.{false≢true}
+use Rattle.std.proofs.Common.{◌≡◌, ◌≢◌, ℕ, zero, suc, ◌+◌, ◌<◌, ◌≤◌, List, [], ◌∷◌, ◌++◌, map, filter, length, slice_get, Bool, true, false, cond, ◌&&◌, ◌||◌, nat_eq, nat_lt, Option, Some, None, refl, sym, ap, ap₂, ◌∙◌, inl, inr, arith, append-nil}
 use Rattle.std.proofs.lemmas.Bool.Decides.{eqb_tells}
 use Rattle.std.proofs.lemmas.Option.{none-some, same_Some}
 use Rattle.std.specs.Cmp.{nat_eq_equiv}
@@ -13,17 +12,17 @@ use Rattle.alphabet.specs.Channels.{Values, Parts, events, event_count}
 use Rattle.alphabet.specs.Elements.{In}
 use Rattle.alphabet.proofs.Lists.{In-at}
 use Rattle.alphabet.proofs.ChannelPlaces.{event_count-is}
-use Rattle.term.specs.Specs.{InSigma, SetInSigma}
+use Rattle.term.specs.Specs.{SetInSigma}
 use Rattle.syntax.specs.Grammar.{Syntax}
 use Rattle.values.specs.Values.{◌>>=◌, is_same}
 use Rattle.values.specs.Names.{same_name}
-use Rattle.phrases.specs.Events.{Events, no_events, either, field_values, are_within, begins, begins_so, beginning, beginning_so, channel_fields, at_number, whole_event, together, event_set, set_below, set_of}
+use Rattle.phrases.specs.Events.{Events, no_events, either, field_values, are_within, begins, begins_so, beginning, beginning_so, channel_fields, at_number, whole_event, together, event_set, set_of}
 use Rattle.phrases.specs.Phrases.{Scope, events_by}
-use Rattle.phrases.proofs.SetsBelow.{is_in, is_below, lt_is, ge_is}
-use Rattle.read_back.specs.Trees.{phrases, dotted_trees, tree_of_event, braced, set_tree, no_parts}
-use Rattle.read_back.specs.Readable.{IsPrintedScope}
+use Rattle.phrases.proofs.SetsBelow.{is_in, is_below, lt_is}
+use Rattle.read_back.proofs.Trees.{phrases, dotted_trees, tree_of_event, braced, set_tree}
+use Rattle.read_back.proofs.Readable.{IsPrintedScope}
 use Rattle.read_back.proofs.Given.{AreChosen, fields_given, within_sets}
-use Rattle.read_back.proofs.Prefixes.{at_index, is_row, row_itself, other_row, parts, there_is, at, its_channel, is_chosen, is_given, has_fields, also_chosen}
+use Rattle.read_back.proofs.Prefixes.{is_row, row_itself, other_row, parts, at, its_channel, is_chosen, is_given, has_fields, also_chosen}
 
 -- numbers below n
 abbrev pub AllBelow : ℕ → List ℕ → Type 0
@@ -90,7 +89,7 @@ module _ (s : Scope) (primes m : ℕ) (h : IsPrintedScope s primes m) where
           ∙ sym (ap (λ b. b && pointwise is_same (parts s primes m h a l).values q.values) e)
 
   -- of the events with numbers below n only the one itself begins with its channel and all its values
-  pub its_events : (a : ℕ) (l : a < n) (b : ℕ) → b < n → beginning_so s.channels ((parts s primes m h a l).channel, (parts s primes m h a l).values) b ≡ nat_eq b a
+  its_events : (a : ℕ) (l : a < n) (b : ℕ) → b < n → beginning_so s.channels ((parts s primes m h a l).channel, (parts s primes m h a l).values) b ≡ nat_eq b a
   its_events a l b k =
       let ps = events s.channels in
       let p = parts s primes m h a l in
@@ -119,7 +118,7 @@ module _ (s : Scope) (primes m : ℕ) (h : IsPrintedScope s primes m) where
       let ts = phrases (map (tree_of_event s.channels) (map ev ks)) in (
         either (beginning_so s.channels (p.channel, p.values)) r.0,
         ap (λ o. (o >>= λ b. Some (beginning_so s.channels b)) >>= λ A. together gives ts >>= λ B. Some (either A B)) (its_whole a l.0)
-        ∙ ap (λ o. o >>= λ B. Some (either (beginning_so s.channels (p.channel, p.values)) B)) r.1,
+            ∙ ap (λ o. o >>= λ B. Some (either (beginning_so s.channels (p.channel, p.values)) B)) r.1,
         λ b k. ap₂ (λ x y. x || y) (its_events a l.0 b k) (r.2 b k),
       )
 
@@ -137,9 +136,6 @@ all_kept n p start (suc k) f = by_test (p start) refl (all_kept n p (start + 1) 
     by_test : (b : Bool) → p start ≡ b → AllBelow n (filter p (range_with_len (start + 1) k)) → AllBelow n (cond b (start ∷ filter p (range_with_len (start + 1) k)) (filter p (range_with_len (start + 1) k)))
     by_test true e rest = (f start e, rest)
     by_test false e rest = rest
-
-same_number : (k : ℕ) → nat_eq k k ≡ true
-same_number k = nat_eq_equiv.refl k
 
 other_number : (k a : ℕ) → k ≢ a → nat_eq k a ≡ false
 other_number k a ne = elim (eqb_tells k a) [ inl p ↦ absurd (ne p.1) | inr p ↦ p.0 ]

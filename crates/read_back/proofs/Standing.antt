@@ -1,9 +1,7 @@
 -- What the names of a printed script stand for: its constants for themselves, its bodies for processes.
-use Rattle.std.proofs.Common.{◌≡◌, ℕ, zero, suc, ◌+◌, ◌-◌, ◌<◌, ◌≤◌, ℤ, pos, negsuc, ◌-ℤ◌, List, [], ◌∷◌, ◌++◌, map, length, Bool, true, false, cond, ◌&&◌, Option, Some, None, refl, sym, ap, ap₂, ◌∙◌, subst, arith}
-use Rattle.std.proofs.lemmas.Bool.{le-leb}
-use Rattle.std.specs.Prelude.{nat_le}
-use Rattle.alphabet.specs.Channels.{FieldValue, number, constant, Values, Channel, Parts, IsAlphabet, event_count, is_rising, is_below}
-use Rattle.alphabet.specs.Elements.{In, here, there}
+use Rattle.std.proofs.Common.{◌≡◌, ℕ, zero, suc, ◌<◌, ◌≤◌, ℤ, List, [], ◌∷◌, map, length, Bool, true, Option, Some, None, refl, sym, ap, ◌∙◌}
+use Rattle.alphabet.specs.Channels.{number, constant, Channel, IsAlphabet, event_count}
+use Rattle.alphabet.specs.Elements.{In}
 use Rattle.alphabet.specs.declared.events.Event.TheVariants.{Of as ev}
 use Rattle.term.specs.Proc as procs
 use Rattle.term.specs.Proc.{Proc, bodies_of}
@@ -11,21 +9,18 @@ use Rattle.term.specs.Specs.{Specified}
 use Rattle.syntax.specs.declared.operator.Operator.{Operator}
 use Rattle.syntax.specs.declared.operator.Operator.TheVariants as operators
 use Rattle.syntax.specs.declared.form.Form.TheVariants as forms
-use Rattle.syntax.specs.Grammar.{Syntax, Called, Node, Syntaxes, NoSyntax, MoreSyntax}
-use Rattle.values.specs.Values.{◌>>=◌, limited}
-use Rattle.values.specs.Worths.{Worth, one, many, Known, calculated, computed, two_numbers, formed, worth, worths, the_only}
+use Rattle.syntax.specs.Grammar.{Node, Syntaxes, NoSyntax, MoreSyntax}
+use Rattle.values.specs.Values.{◌>>=◌}
+use Rattle.values.specs.Worths.{Worth, one, many, Known, calculated, computed, two_numbers, formed, worth, worths}
 use Rattle.values.specs.Names.{Entry, Meaning, channel, datatype, constant_name, definition, meaning, worth_of, known_in, Stands, is_process_operator, is_process_form, is_process_by, is_process_meaning, is_process_in, is_process}
-use Rattle.phrases.specs.Events.{Events, KnownEvents, EventsStand, unless_value, event_set, events_of, events_in}
+use Rattle.phrases.specs.Events.{KnownEvents, EventsStand, unless_value, event_set, events_of, events_in}
 use Rattle.printing.specs.Names.{Name, constants}
 use Rattle.printing.specs.Printed.{reference}
-use Rattle.read_back.specs.Trees.{node, phrases, tree_of_event, set_tree, pair_tree, process_tree, printed_primes, printed_entries}
-use Rattle.read_back.specs.Readable.{IsWritten}
+use Rattle.read_back.proofs.Trees.{phrases, tree_of_event, set_tree, pair_tree, process_tree, printed_primes, printed_entries}
+use Rattle.read_back.proofs.Readable.{IsWritten}
 use Rattle.read_back.proofs.Declared.{body_means, channel_means, constant_means, definition_is}
 
 -- ---- processes stand for no value
-
-abbrev nothing : Option Worth
-nothing = None
 
 none_bound : {X : Type 0} (o : Option X) (f : X → Option Worth) → ((x : X) → f x ≡ None) → (o >>= f) ≡ None
 none_bound None f h = refl

@@ -1,21 +1,17 @@
 -- The texts of values, events, sets and processes have the tokens of their trees.
-use Rattle.std.proofs.Common.{◌≡◌, ℕ, zero, suc, ◌+◌, ◌<◌, ◌≤◌, ℤ, pos, negsuc, List, [], ◌∷◌, ◌++◌, map, length, drop, get_or, Bool, true, false, refl, sym, ap, ap₂, ◌∙◌, subst, arith, append_assoc, append-nil}
-use Rattle.std.specs.Prelude.{◌==◌, codes, decimal, slice_index_or}
+use Rattle.std.proofs.Common.{◌≡◌, ℕ, suc, ◌<◌, ◌≤◌, pos, negsuc, List, [], ◌∷◌, ◌++◌, map, drop, false, refl, sym, ap, ap₂, ◌∙◌, subst, arith, append_assoc, append-nil}
+use Rattle.std.specs.Prelude.{◌==◌, decimal}
 use Rattle.std.specs.List.{flat_map}
-use Rattle.std.specs.Char.{is_ascii_digit, is_ascii_alphabetic}
-use Rattle.alphabet.specs.Channels.{FieldValue, number, constant, Values, Channel, Parts, value_text, dotted, event_text, events, names, event_count, name_of}
-use Rattle.alphabet.specs.Elements.{In, here, there}
-use Rattle.alphabet.specs.declared.events.Event.TheVariants.{Of as ev}
+use Rattle.alphabet.specs.Channels.{FieldValue, number, constant, Values, Parts, value_text, dotted, event_text}
 use Rattle.tokens.specs.declared.symbol.Symbol.TheVariants as symbols
 use Rattle.tokens.specs.Lexeme.{Lexeme, Name, Number, Sign}
-use Rattle.tokens.specs.Text.{IsName, is_blank, Holds}
+use Rattle.tokens.specs.Text.{Holds}
 use Rattle.syntax.specs.declared.form.Form.TheVariants as forms
-use Rattle.syntax.specs.Grammar.{Syntax, Called, Syntaxes, NoSyntax, MoreSyntax, flat, spell, spell_part, spell_signs}
+use Rattle.syntax.specs.Grammar.{flat, spell, spell_part, spell_signs}
 use Rattle.syntax.specs.Rules.{rule}
-use Rattle.syntax.specs.Operators.{opening, behind}
 use Rattle.printing.specs.Printed.{joined, operation}
-use Rattle.read_back.specs.Trees.{node, named, value_tree, dotted_trees, event_tree}
-use Rattle.read_back.proofs.Scanned.{token_read, blank_read, other_byte, letter_high, digit_low, Ends, IsProper, proper_read, number_read, first_digit, open_at, close_at, dot_at, minus_at}
+use Rattle.read_back.proofs.Trees.{value_tree, dotted_trees, event_tree}
+use Rattle.read_back.proofs.Scanned.{token_read, other_byte, letter_high, digit_low, Ends, IsProper, proper_read, number_read, first_digit, open_at, close_at, dot_at, minus_at}
 
 -- ---- texts with their tokens
 
@@ -66,7 +62,7 @@ value_read (number (negsuc n)) h rest ws e r = minus_read (suc n) rest ws (omega
 value_read (constant n) h rest ws e r = proper_read n rest ws h e r
 
 -- the first byte of a value's text is no dot
-pub begins_value : (v : FieldValue) → IsShown v → (c : ℕ) × (cs : List ℕ) × (value_text v ≡ c ∷ cs) × ((46 == c) ≡ false)
+begins_value : (v : FieldValue) → IsShown v → (c : ℕ) × (cs : List ℕ) × (value_text v ≡ c ∷ cs) × ((46 == c) ≡ false)
 begins_value (number (pos n)) h =
     let d = first_digit n h in
     let low = digit_low d.0 d.3 in
@@ -77,7 +73,7 @@ begins_value (constant n) h =
     (h.0.first, h.0.body ++ h.0.primes, h.0.spelled, other_byte 46 h.0.first (λ x. omega (arith, high.0, x)))
 
 -- a value behind a dot
-pub dotted_read : (v : FieldValue) → IsShown v → Reads Ends (46 ∷ value_text v) (Sign symbols.Dot ∷ flat (value_tree v))
+dotted_read : (v : FieldValue) → IsShown v → Reads Ends (46 ∷ value_text v) (Sign symbols.Dot ∷ flat (value_tree v))
 dotted_read v h rest ws e r =
     let b = begins_value v h in
     let z : value_text v ++ rest ≡ b.0 ∷ (b.1 ++ rest) = ap (λ t. t ++ rest) b.2 in
@@ -106,7 +102,7 @@ unfolding flat spell spell_part spell_signs rule
 fields_flat [] = refl
 fields_flat (v ∷ vs) = ap₂ (λ x y. (Sign symbols.Dot ∷ x) ++ y) (append-nil (flat (value_tree v))) (fields_flat vs)
 
-pub event_flat : (p : Parts) → flat (event_tree p) ≡ (Name p.channel ∷ []) ++ field_tokens p.values
+event_flat : (p : Parts) → flat (event_tree p) ≡ (Name p.channel ∷ []) ++ field_tokens p.values
 unfolding flat spell spell_part rule
 event_flat p = ap (λ ws. Name p.channel ∷ ws) (fields_flat p.values)
 
@@ -153,8 +149,8 @@ module _ (left between right : List ℕ) (l m n inner : List Lexeme) where
       let middle = k (right ++ (41 ∷ rest)) (n ++ (Sign symbols.CloseParenthesis ∷ ws)) tt last in
       let first = h (between ++ (right ++ (41 ∷ rest))) (m ++ (n ++ (Sign symbols.CloseParenthesis ∷ ws))) (ends (right ++ (41 ∷ rest))) middle in
       let text : (((left ++ between) ++ right) ++ (41 ∷ [])) ++ rest ≡ left ++ (between ++ (right ++ (41 ∷ rest))) =
-          append_assoc ((left ++ between) ++ right) (41 ∷ []) rest ∙ append_assoc (left ++ between) right (41 ∷ rest) ∙ append_assoc left between (right ++ (41 ∷ rest)) in
+      append_assoc ((left ++ between) ++ right) (41 ∷ []) rest ∙ append_assoc (left ++ between) right (41 ∷ rest) ∙ append_assoc left between (right ++ (41 ∷ rest)) in
       let tokens : (inner ++ (Sign symbols.CloseParenthesis ∷ [])) ++ ws ≡ l ++ (m ++ (n ++ (Sign symbols.CloseParenthesis ∷ ws))) =
-          append_assoc inner (Sign symbols.CloseParenthesis ∷ []) ws ∙ ap (λ t. t ++ (Sign symbols.CloseParenthesis ∷ ws)) e ∙ append_assoc l (m ++ n) (Sign symbols.CloseParenthesis ∷ ws) ∙ ap (λ t. l ++ t) (append_assoc m n (Sign symbols.CloseParenthesis ∷ ws)) in
+      append_assoc inner (Sign symbols.CloseParenthesis ∷ []) ws ∙ ap (λ t. t ++ (Sign symbols.CloseParenthesis ∷ ws)) e ∙ append_assoc l (m ++ n) (Sign symbols.CloseParenthesis ∷ ws) ∙ ap (λ t. l ++ t) (append_assoc m n (Sign symbols.CloseParenthesis ∷ ws)) in
       same_read (ap (λ t. 40 ∷ t) text) (ap (λ t. Sign symbols.OpenParenthesis ∷ t) tokens)
       (token_read (40 ∷ (left ++ (between ++ (right ++ (41 ∷ rest))))) (left ++ (between ++ (right ++ (41 ∷ rest)))) (Sign symbols.OpenParenthesis) (l ++ (m ++ (n ++ (Sign symbols.CloseParenthesis ∷ ws)))) (open_at (left ++ (between ++ (right ++ (41 ∷ rest))))) first)

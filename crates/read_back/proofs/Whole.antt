@@ -1,32 +1,30 @@
 -- The printed form of a specification that some script denotes is a script that denotes it.
-use Rattle.std.proofs.Common.{◌≡◌, ℕ, zero, suc, ◌+◌, ◌<◌, ◌≤◌, pos, negsuc, List, [], ◌∷◌, map, length, Bool, true, false, cond, ◌&&◌, Option, Some, None, refl, sym, ap, ◌∙◌, subst, arith}
+use Rattle.std.proofs.Common.{◌≡◌, ℕ, ◌<◌, ◌≤◌, pos, negsuc, List, [], ◌∷◌, map, length, true, cond, Some, None, sym, ap, ◌∙◌, subst, arith}
 use Rattle.std.proofs.lemmas.List.{length-map}
 use Rattle.std.specs.List.{list_all}
 use Rattle.alphabet.specs.Channels.{FieldValue, number, constant, Values, Channel, IsAlphabet, event_count, is_value, is_rising, is_field}
 use Rattle.alphabet.specs.Elements.{In, here, there}
-use Rattle.alphabet.proofs.Lists.{all-In, and-left, and-right}
+use Rattle.alphabet.proofs.Lists.{all-In, and-right}
 use Rattle.term.specs.Proc as procs
 use Rattle.term.specs.Proc.{Proc, bodies_of}
-use Rattle.term.specs.Sizes.{size, depth}
+use Rattle.term.specs.Sizes.{size}
 use Rattle.term.specs.Specs.{Specified}
-use Rattle.tokens.specs.Text.{HasTokens}
 use Rattle.syntax.specs.Grammar.{Syntax, flat}
-use Rattle.syntax.specs.Script.{IsScript, HasTree}
-use Rattle.values.specs.Names.{Meaning, meaning, definition, is_process}
+use Rattle.syntax.specs.Script.{HasTree}
+use Rattle.values.specs.Names.{meaning}
 use Rattle.values.specs.Channels.{Declares}
-use Rattle.phrases.specs.Bodies.{Key, Body, numbered}
-use Rattle.phrases.specs.Phrases.{Scope, denoted}
-use Rattle.phrases.specs.Denotes.{body_by, body_of, place, nodes, Reached, Denotes}
+use Rattle.phrases.specs.Bodies.{numbered}
+use Rattle.phrases.specs.Phrases.{Scope}
+use Rattle.phrases.specs.Denotes.{body_by, body_of, place, nodes, Denotes}
 use Rattle.printing.specs.Names.{Name, constants}
 use Rattle.printing.specs.Printed.{reference, printed}
-use Rattle.read_back.specs.Trees.{process_tree, printed_primes, script_tree, printed_entries}
-use Rattle.read_back.specs.Readable.{IsGiven, IsPrintedScope, IsWritten, referred}
+use Rattle.read_back.proofs.Trees.{printed_primes, script_tree, printed_entries}
+use Rattle.read_back.proofs.Readable.{IsGiven, IsPrintedScope, IsWritten, referred}
 use Rattle.read_back.proofs.Given.{AllGiven}
 use Rattle.read_back.proofs.Bodies.{body_denoted}
-use Rattle.read_back.proofs.Scanned.{IsProper}
-use Rattle.read_back.proofs.Texts.{IsShown}
+use Rattle.read_back.proofs.Scanned.{IsProper, AllProper}
 use Rattle.read_back.proofs.Processes.{IsShownAlphabet}
-use Rattle.read_back.proofs.Lines.{AllProper, whole_read}
+use Rattle.read_back.proofs.Lines.{whole_read}
 use Rattle.read_back.proofs.FittingLines.{whole_is}
 use Rattle.read_back.proofs.Primes.{is_constant, of_fields}
 use Rattle.read_back.proofs.Declared.{script_declared, once, body_means}

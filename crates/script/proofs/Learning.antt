@@ -144,6 +144,10 @@ module _ (cs : List Channel) (known : Known) (es : List Entry) where
   pub learns_same : (f : KnownSets) (n : Name) → IsSettled cs known es f n → Learns cs known es f f false n
   learns_same f n h = (refl, h)
 
+  -- the same, where the sets are known by an equation
+  pub learns_same_as : (f g : KnownSets) (n : Name) → g ≡ f → IsSettled cs known es f n → Learns cs known es f g false n
+  learns_same_as f g n e h = (e, h)
+
   -- ---- the names one after the other
 
   -- what is known before a look at a further name is reached

@@ -2,6 +2,7 @@
 #![tactic(auto)]
 
 mod fields;
+mod found;
 mod law;
 mod names;
 mod reading;

@@ -5,7 +5,7 @@ use crate::sigma::{Sigma, sigma_of};
 use declarations::{Declared, Entries, Meaning};
 use std::alloc::{AllocError, Allocator};
 use syntax::{Form, Tree};
-use tokens::ScriptErrorKind;
+use tokens::{ScriptError, ScriptErrorKind};
 use values::Known;
 
 /// The names that a script declares, what those of numbers, constants and sets of values stand for, and Sigma.
@@ -48,6 +48,24 @@ fn is_built_in(name: &[u8]) -> bool {
         || name == b"Bool".as_slice()
         || name == b"Char".as_slice()
         || name == b"Proc".as_slice()
+}
+
+/// The name, where the phrase is nothing else.
+fn bare_name<A: Allocator>(phrase: &Tree<A>) -> Option<&[u8]> {
+    match phrase {
+        Tree::Node { form, parts, .. } => match form {
+            Form::Brackets => match parts.as_slice() {
+                [inner] => bare_name(inner),
+                _ => None,
+            },
+            Form::Event => match parts.as_slice() {
+                [Tree::Name { text, .. }] => Some(text),
+                _ => None,
+            },
+            _ => None,
+        },
+        Tree::Name { .. } | Tree::Number { .. } => None,
+    }
 }
 
 impl<'a, A: Allocator> Names<'a, A> {
@@ -100,6 +118,17 @@ impl<'a, A: Allocator> Names<'a, A> {
         }
     }
 
+    /// Whether the name is declared as what is no set of events, whatever its definition needs: a number, a set of values, an
+    /// event, a process, or no definition.
+    pub(crate) fn is_other(&self, name: &[u8]) -> bool {
+        match self.body(name) {
+            Some(body) => {
+                self.known.has(name) || self.entries.is_process(name) || self.is_event(body)
+            }
+            None => true,
+        }
+    }
+
     /// What is wrong with a name that stands where it can't.
     pub(crate) fn fault(&self, name: &[u8]) -> ScriptErrorKind {
         if self.entries.get(name).is_none() {
@@ -108,19 +137,35 @@ impl<'a, A: Allocator> Names<'a, A> {
             }
             return ScriptErrorKind::UnknownName;
         }
-        if self.known.has(name) || self.entries.is_process(name) {
+        if self.is_other(name) {
             return ScriptErrorKind::Expected;
         }
-        match self.body(name) {
-            Some(body) => {
-                if self.is_event(body) {
-                    ScriptErrorKind::Expected
-                } else {
-                    // A number or a set that depends on itself.
-                    ScriptErrorKind::UnknownName
-                }
+        // A number or a set that depends on itself.
+        ScriptErrorKind::UnknownName
+    }
+
+    /// What is wrong with a root that is no process: where its definition is a bare name, and this leads on to a name that isn't
+    /// declared, that is told.
+    pub(crate) fn root_fault(&self, root: &[u8]) -> ScriptError {
+        let mut name = root;
+        for _ in 0..self.entries.len() {
+            let Some(phrase) = self.body(name) else {
+                break;
+            };
+            let Some(next) = bare_name(phrase) else {
+                break;
+            };
+            if self.entries.get(next).is_none() {
+                return ScriptError {
+                    line: phrase.line(),
+                    kind: self.fault(next),
+                };
             }
-            None => ScriptErrorKind::Expected,
+            name = next;
+        }
+        ScriptError {
+            line: 1,
+            kind: ScriptErrorKind::NoSuchProcess,
         }
     }
 }

@@ -20,7 +20,7 @@ use phrases::gathered;
 use std::alloc::Allocator;
 use syntax::{Tree, parse};
 use term::{Spec, Term};
-use tokens::{ScriptError, ScriptErrorKind};
+use tokens::ScriptError;
 
 /// The bodies of what is reached from the root.
 fn bodies_of<'a, A: Allocator + Copy>(
@@ -32,13 +32,17 @@ fn bodies_of<'a, A: Allocator + Copy>(
     ensures only { (ps : List Proc) → AreBodies names.now.sigma.alphabet (table names.now.known) (entries_of names.now.entries) root.now ps → Gives (λ v. map proc v.items) result (Some ps) }
 {
     if !names.entries.is_process(root) {
-        return Err(ScriptError {
-            line: 1,
-            kind: ScriptErrorKind::NoSuchProcess,
-        });
+        return Err(names.root_fault(root));
     }
-    let sets = named_sets(alloc, names)?;
-    gathered(alloc, &Script { names, sets: &sets }, root)
+    let found = named_sets(alloc, names)?;
+    gathered(
+        alloc,
+        &Script {
+            names,
+            found: &found,
+        },
+        root,
+    )
 }
 
 /// The specification that the script with this tree denotes for the root.

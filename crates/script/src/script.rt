@@ -4,8 +4,8 @@ ghost use Rattle.alphabet.specs.EventSets.{has};
 ghost use Rattle.phrases.specs.Events.{set_of};
 ghost use Rattle.script.specs.Tables.{said};
 
+use crate::found::Found;
 use crate::names::Names;
-use crate::table::Table;
 use alphabet::EventSet;
 use phrases::{Facts, Row, Set};
 use std::alloc::Allocator;
@@ -17,8 +17,8 @@ use values::Known;
 #[derive(Drop)]
 pub(crate) struct Script<'a, A: Allocator> {
     pub(crate) names: &'a Names<'a, A>,
-    pub(crate) sets: &'a Table<EventSet, A>,
-    ghost lie: { (name : List ℕ) (set : ℕ) → said sets.now name ≡ Some set → set ≡ set_of names.now.sigma.alphabet (has set) },
+    pub(crate) found: &'a Found<A>,
+    ghost lie: { (name : List ℕ) (set : ℕ) → said found.now.sets name ≡ Some set → set ≡ set_of names.now.sigma.alphabet (has set) },
 }
 
 impl<'a, A: Allocator> Facts<A> for Script<'a, A> {
@@ -47,7 +47,7 @@ impl<'a, A: Allocator> Facts<A> for Script<'a, A> {
 
     #[tactic(auto, using(crate::proofs::Masks::stored))]
     fn set(&self, name: &[u8]) -> Option<EventSet> {
-        self.sets.get(name).copied()
+        self.found.sets.get(name).copied()
     }
 
     fn is_process(&self, name: &[u8]) -> bool {
@@ -70,10 +70,18 @@ impl<'a, A: Allocator> Facts<A> for Script<'a, A> {
     }
 
     fn fault(&self, name: &[u8], line: u32) -> ScriptError {
-        let kind = match self.sets.get(name) {
-            Some(_) => ScriptErrorKind::Expected,
-            None => self.names.fault(name),
-        };
-        ScriptError { line, kind }
+        if self.found.sets.has(name) {
+            return ScriptError {
+                line,
+                kind: ScriptErrorKind::Expected,
+            };
+        }
+        match self.found.faults.get(name) {
+            Some(fault) => *fault,
+            None => ScriptError {
+                line,
+                kind: self.names.fault(name),
+            },
+        }
     }
 }

@@ -1,11 +1,10 @@
 -- The tree of a printed specification.
-use Rattle.std.specs.Prelude.{ℕ, suc, ℤ, pos, negsuc, List, [], ◌∷◌, ◌++◌, map, length, slice_index_or}
-use Rattle.std.specs.List.{flat_map, range_with_len}
+use Rattle.std.specs.Prelude.{ℕ, suc, pos, negsuc, List, [], ◌∷◌, ◌++◌, map, length, slice_index_or}
+use Rattle.std.specs.List.{range_with_len}
 use Rattle.alphabet.specs.declared.events.Event.{Event}
 use Rattle.alphabet.specs.declared.events.Event.TheVariants.{Tick as tick, Of as ev}
 use Rattle.alphabet.specs.EventSets.{Set, members}
 use Rattle.alphabet.specs.Channels.{FieldValue, number, constant, Values, Channel, Parts, events}
-use Rattle.term.specs.Traces.{Pairs}
 use Rattle.term.specs.Proc.{Proc, stop, skip, prefix, ext, int, seq, par, hide, ren, intr, name, bodies_of}
 use Rattle.term.specs.Specs.{Specified}
 use Rattle.syntax.specs.declared.operator.Operator.{Operator}

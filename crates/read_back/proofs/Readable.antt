@@ -1,7 +1,7 @@
 -- What a printed body is read in, and what it stands for there.
-use Rattle.std.specs.Prelude.{◌≡◌, ℕ, ◌<◌, ◌≤◌, pos, negsuc, length, List, [], ◌∷◌, true, Some, None}
+use Rattle.std.specs.Prelude.{◌≡◌, ℕ, ◌<◌, ◌≤◌, pos, negsuc, length, [], true, Some, None}
 use Rattle.alphabet.specs.Elements.{In}
-use Rattle.alphabet.specs.Channels.{FieldValue, number, constant, Values, Channel, IsAlphabet, event_count}
+use Rattle.alphabet.specs.Channels.{FieldValue, number, constant, Values, Channel, IsAlphabet}
 use Rattle.term.specs.Proc as procs
 use Rattle.term.specs.Proc.{Proc}
 use Rattle.term.specs.Specs.{SetInSigma, PairsInSigma}

@@ -1,0 +1,344 @@
+-- What phrases denote has a text: its events, sets and pairs lie in Sigma, and its renamings are in order.
+use Rattle.std.proofs.Common.{◌≡◌, ℕ, zero, suc, ◌+◌, ◌<◌, ◌≤◌, List, [], ◌∷◌, ◌++◌, map, length, take, drop, nat_lt, Bool, true, false, cond, ◌&&◌, not, Option, Some, None, refl, sym, ap, subst, ◌∙◌, arith}
+use Rattle.std.proofs.lemmas.Bool.{ltb-true, false≢true}
+use Rattle.std.proofs.lemmas.List.{length-map}
+use Rattle.std.specs.List.{flat_map}
+use Rattle.std.specs.Cmp.Lexicographic.{pointwise}
+use Rattle.alphabet.specs.declared.events.Event.TheVariants.{Tick as tick, Of as ev}
+use Rattle.alphabet.specs.Channels.{FieldValue, Values, Channel, Parts, events, event_count}
+use Rattle.alphabet.proofs.Lists.{and-left}
+use Rattle.alphabet.proofs.ChannelPlaces.{event_count-is}
+use Rattle.term.specs.Proc.{Proc, bodies_of}
+use Rattle.term.specs.Traces.{Pairs}
+use Rattle.term.specs.Specs.{SetInSigma}
+use Rattle.syntax.specs.declared.form.Form.{Form}
+use Rattle.syntax.specs.declared.form.Form.TheVariants as forms
+use Rattle.syntax.specs.declared.operator.Operator.TheVariants as operators
+use Rattle.syntax.specs.Grammar.{Syntax, Called, Numeral, Node, Syntaxes, NoSyntax, MoreSyntax}
+use Rattle.values.specs.Values.{◌>>=◌, Name, is_among, is_same}
+use Rattle.values.specs.Worths.{Worth, one, many, Known, worth, the_set}
+use Rattle.values.specs.Names.{Meaning, channel, datatype, constant_name, definition, meaning, same_name, is_process}
+use Rattle.phrases.specs.Events.{Events, Beginning, unless_value, channel_fields, field_value, beginning, begins_so, number_in, pairs_from, pair_of, pairs_of, set_below, set_of, both}
+use Rattle.phrases.specs.Bodies.{Key, Body, stop, skip, prefix, ext, int, seq, par, hide, ren, intr, name, names, numbered, half, choice_in, choice_of}
+use Rattle.phrases.specs.Phrases.{Scope, Fitting, is_constant, with_input, against, against_input, against_part, fits_field, then_fits, fitting, has_all, with_branch, branches, prefixed, renamed, alphabetised, events_by, denoted, denoted_form}
+use Rattle.phrases.specs.Denotes.{body_by, body_of, place, Reached}
+use Rattle.phrases.proofs.SetsBelow.{member_is}
+use Rattle.declarations.proofs.Constants.{bind_some, some_same}
+use Rattle.read_back.proofs.Readable.{IsRenaming, IsWritten}
+use Rattle.read_back.proofs.Numbers.{at_place, AllHave, all_named, all_left, all_right}
+use Rattle.read_back.proofs.Reaching.{reached_many}
+use Rattle.read_back.proofs.PairsInOrder.{a_renaming}
+
+-- ---- bodies in Sigma
+
+abbrev Lies : ℕ → Body → Type 0
+Lies n stop = Unit {0}
+Lies n skip = Unit {0}
+Lies n (prefix a p) = (a < n) × Lies n p
+Lies n (ext p q) = Lies n p × Lies n q
+Lies n (int p q) = Lies n p × Lies n q
+Lies n (seq p q) = Lies n p × Lies n q
+Lies n (par A p q) = SetInSigma n A × Lies n p × Lies n q
+Lies n (hide A p) = SetInSigma n A × Lies n p
+Lies n (ren R p) = IsRenaming n R × Lies n p
+Lies n (intr p q) = Lies n p × Lies n q
+Lies n (name k) = Unit {0}
+
+abbrev AllLie : ℕ → List Body → Type 0
+AllLie n [] = Unit {0}
+AllLie n (p ∷ ps) = Lies n p × AllLie n ps
+
+-- ---- sets
+
+below_sigma : (n : ℕ) (A : Events) → SetInSigma n (set_below n A)
+below_sigma n A tick h = absurd (false≢true (sym (member_is n A tick) ∙ h))
+below_sigma n A (ev a) h = ltb-true a n (and-left (nat_lt a n) (A a) (sym (member_is n A (ev a)) ∙ h))
+
+none_sigma : (n : ℕ) → SetInSigma n 0
+unfolding set_below
+none_sigma n tick h = absurd (false≢true (sym (member_is 0 (λ a. false) tick) ∙ h))
+none_sigma n (ev a) h = let l : a < 0 = ltb-true a 0 (and-left (nat_lt a 0) false (sym (member_is 0 (λ a. false) (ev a)) ∙ h)) in omega (arith, l)
+
+-- ---- choices
+
+take_lies : (n k : ℕ) (ps : List Body) → AllLie n ps → AllLie n (take k ps)
+take_lies n zero ps h = tt
+take_lies n (suc k) [] h = tt
+take_lies n (suc k) (p ∷ ps) h = (h.0, take_lies n k ps h.1)
+
+drop_lies : (n k : ℕ) (ps : List Body) → AllLie n ps → AllLie n (drop k ps)
+drop_lies n zero ps h = h
+drop_lies n (suc k) [] h = tt
+drop_lies n (suc k) (p ∷ ps) h = drop_lies n k ps h.1
+
+choice_lies : (n k : ℕ) (ps : List Body) → AllLie n ps → Lies n (choice_in k ps)
+unfolding choice_in
+choice_lies n k [] h = tt
+choice_lies n k (p ∷ []) h = h.0
+choice_lies n zero (p ∷ q ∷ ps) h = tt
+choice_lies n (suc k) (p ∷ q ∷ ps) h = (choice_lies n k (take (half (p ∷ q ∷ ps)) (p ∷ q ∷ ps)) (take_lies n (half (p ∷ q ∷ ps)) (p ∷ q ∷ ps) h), choice_lies n k (drop (half (p ∷ q ∷ ps)) (p ∷ q ∷ ps)) (drop_lies n (half (p ∷ q ∷ ps)) (p ∷ q ∷ ps) h))
+
+-- ---- fields
+
+abbrev some_scope : Scope → Fitting
+some_scope s = Some (Some s)
+
+against_same : (set : Values) (v : FieldValue) (s : Scope) (o : Option FieldValue) (inner : Scope) → against set v s o ≡ some_scope inner → inner.channels ≡ s.channels
+unfolding against
+against_same set v s None inner e = absurd cc
+against_same set v s (Some w) inner e = by (is_among w set) (is_same w v) e
+  where
+    by : (a b : Bool) → cond a (cond b (Some (Some s)) (Some None)) None ≡ some_scope inner → inner.channels ≡ s.channels
+    by true true e = ap (λ (x : Scope). x.channels) (sym (some_same (some_same e)))
+    by true false e = absurd cc
+    by false b e = absurd cc
+
+input_same : (v : FieldValue) (s : Scope) (x : Name) (inner : Scope) → against_input v s x ≡ some_scope inner → inner.channels ≡ s.channels
+unfolding against_input
+input_same v s x inner e = by (is_constant (meaning s.entries x)) e
+  where
+    by : (b : Bool) → cond b None (Some (Some (with_input s x v))) ≡ some_scope inner → inner.channels ≡ s.channels
+    by true e = absurd cc
+    by false e = ap (λ (x : Scope). x.channels) (sym (some_same (some_same e)))
+
+part_same : (v : FieldValue) (s : Scope) (x : Name) (o : Option Values) (inner : Scope) → against_part v s x o ≡ some_scope inner → inner.channels ≡ s.channels
+unfolding against_part
+part_same v s x None inner e = absurd cc
+part_same v s x (Some part) inner e = by (is_constant (meaning s.entries x)) (is_among v part) e
+  where
+    by : (b c : Bool) → cond b None (cond c (Some (Some (with_input s x v))) (Some None)) ≡ some_scope inner → inner.channels ≡ s.channels
+    by true c e = absurd cc
+    by false true e = ap (λ (x : Scope). x.channels) (sym (some_same (some_same e)))
+    by false false e = absurd cc
+
+field_same : (t : Syntax) (set : Values) (v : FieldValue) (s inner : Scope) → fits_field t set v s ≡ some_scope inner → inner.channels ≡ s.channels
+unfolding fits_field
+field_same (Node forms.Input (MoreSyntax (Called x) NoSyntax)) set v s inner e = input_same v s x inner e
+field_same (Node forms.RestrictedInput (MoreSyntax (Called x) (MoreSyntax t NoSyntax))) set v s inner e = part_same v s x (worth s.known t >>= the_set) inner e
+field_same t set v s inner e = against_same set v s (field_value s.known t) inner e
+
+fitting_same : (ts : Syntaxes) (sets : List Values) (vs : Values) (s inner : Scope) → fitting ts sets vs s ≡ some_scope inner → inner.channels ≡ s.channels
+unfolding fitting
+fitting_same NoSyntax [] [] s inner e = ap (λ (x : Scope). x.channels) (sym (some_same (some_same e)))
+fitting_same (MoreSyntax t ts) (set ∷ sets) (v ∷ vs) s inner e = by (fits_field t set v s) refl e (λ m f. fitting_same ts sets vs m inner f)
+  where
+    by : (o : Fitting) → fits_field t set v s ≡ o → then_fits o (λ m. fitting ts sets vs m) ≡ some_scope inner → ((m : Scope) → fitting ts sets vs m ≡ some_scope inner → inner.channels ≡ m.channels) → inner.channels ≡ s.channels
+    by None p q rec = absurd cc
+    by (Some None) p q rec = absurd cc
+    by (Some (Some m)) p q rec = rec m q ∙ field_same t set v s m p
+fitting_same ts sets vs s inner e = absurd cc
+
+-- ---- branches
+
+-- what is denoted behind the fields lies in Sigma
+abbrev NextLies : List Channel → (Scope → Option Body) → Type 0
+NextLies cs next = (s : Scope) (b : Body) → s.channels ≡ cs → next s ≡ Some b → Lies (event_count cs) b
+
+module _ (cs : List Channel) (next : Scope → Option Body) (h : NextLies cs next) (c : Name) (ts : Syntaxes) (sets : List Values) (s : Scope) (same : s.channels ≡ cs) where
+  branch_lies : (a : ℕ) (x : Option Scope) (qs ps : List Body) → a < event_count cs → ((m : Scope) → x ≡ Some m → m.channels ≡ cs) → AllLie (event_count cs) qs → with_branch next a x qs ≡ Some ps → AllLie (event_count cs) ps
+  branch_lies a None qs ps l k g e = subst (AllLie (event_count cs)) (some_same e) g
+  branch_lies a (Some m) qs ps l k g e =
+      let (p, u, v) = bind_some (next m) (λ p. Some (prefix a p ∷ qs)) ps e in
+      subst (AllLie (event_count cs)) (some_same v) ((l, h m p (k m refl) u), g)
+
+  branches_lie : (rs : List Parts) (a : ℕ) (ps : List Body) → a + length rs ≤ event_count cs → branches next c ts sets s a rs ≡ Some ps → AllLie (event_count cs) ps
+  unfolding branches
+  branches_lie [] a ps l e = subst (AllLie (event_count cs)) (some_same e) tt
+  branches_lie (r ∷ rs) a ps l e = by (same_name c r.channel) e (λ qs f. branches_lie rs (suc a) qs (omega (arith, l)) f)
+    where
+      by : (b : Bool) → cond b (fitting ts sets r.values s >>= λ x. branches next c ts sets s (suc a) rs >>= with_branch next a x) (branches next c ts sets s (suc a) rs) ≡ Some ps → ((qs : List Body) → branches next c ts sets s (suc a) rs ≡ Some qs → AllLie (event_count cs) qs) → AllLie (event_count cs) ps
+      by true e rec =
+          let (x, u, v) = bind_some (fitting ts sets r.values s) (λ x. branches next c ts sets s (suc a) rs >>= with_branch next a x) ps e in
+          let (qs, y, z) = bind_some (branches next c ts sets s (suc a) rs) (with_branch next a x) ps v in
+          branch_lies a x qs ps (omega (arith, l)) (λ m g. fitting_same ts sets r.values s m (u ∙ ap (λ o. Some o) g) ∙ same) (rec qs y) z
+      by false e rec = rec ps e
+
+prefixed_lies : (cs : List Channel) (next : Scope → Option Body) → NextLies cs next → (s : Scope) (t : Syntax) (b : Body) → s.channels ≡ cs → prefixed s t next ≡ Some b → Lies (event_count cs) b
+unfolding prefixed choice_of
+prefixed_lies cs next h s (Node forms.Event (MoreSyntax (Called c) ts)) b same e =
+    let (sets, u, v) = bind_some (channel_fields s.channels s.known c) (λ sets. cond (has_all ts sets) (branches next c ts sets s 0 (events s.channels) >>= λ ps. Some (choice_of ps)) None) b e in
+    by sets (has_all ts sets) v
+  where
+    by : (sets : List Values) (t : Bool) → cond t (branches next c ts sets s 0 (events s.channels) >>= λ ps. Some (choice_of ps)) None ≡ Some b → Lies (event_count cs) b
+    by sets true v =
+        let (ps, x, y) = bind_some (branches next c ts sets s 0 (events s.channels)) (λ ps. Some (choice_of ps)) b v in
+        let z : length (events s.channels) ≡ length (events cs) = ap (λ ds. length (events ds)) same in
+        subst (Lies (event_count cs)) (some_same y) (choice_lies (event_count cs) (length ps) ps (branches_lie cs next h c ts sets s same (events s.channels) 0 ps (omega (arith, z, event_count-is cs)) x))
+    by sets false v = absurd cc
+prefixed_lies cs next h s t b same e = absurd cc
+
+-- ---- renamings
+
+abbrev AllPairs : ℕ → Pairs → Type 0
+AllPairs n [] = Unit {0}
+AllPairs n (p ∷ R) = (p.0 < n) × (p.1 < n) × AllPairs n R
+
+both_pairs : (n : ℕ) (R S : Pairs) → AllPairs n R → AllPairs n S → AllPairs n (R ++ S)
+both_pairs n [] S h k = k
+both_pairs n (p ∷ R) S h k = (h.0, h.1, both_pairs n R S h.2 k)
+
+number_below : (ps : List Parts) (b : Beginning) (k : ℕ) → number_in ps b ≡ Some k → k < length ps
+unfolding number_in
+number_below [] b k e = absurd cc
+number_below (p ∷ ps) b k e = by (same_name b.0 p.channel && pointwise is_same b.1 p.values) e (λ j f. number_below ps b j f)
+  where
+    by : (t : Bool) → cond t (Some 0) (number_in ps b >>= λ a. Some (suc a)) ≡ Some k → ((j : ℕ) → number_in ps b ≡ Some j → j < length ps) → k < suc (length ps)
+    by true e rec = let z : 0 ≡ k = some_same e in omega (arith, z)
+    by false e rec = let (j, u, v) = bind_some (number_in ps b) (λ a. Some (suc a)) k e in let z : suc j ≡ k = some_same v in omega (arith, z, rec j u)
+
+pairs_below : (cs : List Channel) (left right : Beginning) (ps : List Parts) (a : ℕ) (R : Pairs) → a + length ps ≤ event_count cs → pairs_from cs left right a ps ≡ Some R → AllPairs (event_count cs) R
+unfolding pairs_from
+pairs_below cs left right [] a R l e = subst (AllPairs (event_count cs)) (some_same e) tt
+pairs_below cs left right (p ∷ ps) a R l e = by (begins_so left p) e (λ S f. pairs_below cs left right ps (suc a) S (omega (arith, l)) f)
+  where
+    by : (t : Bool) → cond t (number_in (events cs) (right.0, right.1 ++ drop (length left.1) p.values) >>= λ b. pairs_from cs left right (suc a) ps >>= λ S. Some ((a, b) ∷ S)) (pairs_from cs left right (suc a) ps) ≡ Some R → ((S : Pairs) → pairs_from cs left right (suc a) ps ≡ Some S → AllPairs (event_count cs) S) → AllPairs (event_count cs) R
+    by true e rec =
+        let (b, u, v) = bind_some (number_in (events cs) (right.0, right.1 ++ drop (length left.1) p.values)) (λ b. pairs_from cs left right (suc a) ps >>= λ S. Some ((a, b) ∷ S)) R e in
+        let (S, x, y) = bind_some (pairs_from cs left right (suc a) ps) (λ S. Some ((a, b) ∷ S)) R v in
+        let low = number_below (events cs) (right.0, right.1 ++ drop (length left.1) p.values) b u in
+        subst (AllPairs (event_count cs)) (some_same y) (omega (arith, l), omega (arith, low, event_count-is cs), rec S x)
+    by false e rec = rec R e
+
+pair_below : (cs : List Channel) (known : Known) (t : Syntax) (R : Pairs) → pair_of cs known t ≡ Some R → AllPairs (event_count cs) R
+unfolding pair_of
+pair_below cs known (Node forms.Pair (MoreSyntax t (MoreSyntax u NoSyntax))) R e =
+    let (left, a, b) = bind_some (beginning cs known t) (λ left. beginning cs known u >>= λ right. pairs_from cs left right 0 (events cs)) R e in
+    let (right, c, d) = bind_some (beginning cs known u) (λ right. pairs_from cs left right 0 (events cs)) R b in
+    pairs_below cs left right (events cs) 0 R (omega (arith, event_count-is cs)) d
+pair_below cs known t R e = absurd cc
+
+all_below : (cs : List Channel) (known : Known) (ts : Syntaxes) (R : Pairs) → pairs_of cs known ts ≡ Some R → AllPairs (event_count cs) R
+unfolding pairs_of
+all_below cs known NoSyntax R e = subst (AllPairs (event_count cs)) (some_same e) tt
+all_below cs known (MoreSyntax t ts) R e =
+    let (S, a, b) = bind_some (pair_of cs known t) (λ S. pairs_of cs known ts >>= λ T. Some (S ++ T)) R e in
+    let (T, c, d) = bind_some (pairs_of cs known ts) (λ T. Some (S ++ T)) R b in
+    subst (AllPairs (event_count cs)) (some_same d) (both_pairs (event_count cs) S T (pair_below cs known t S a) (all_below cs known ts T c))
+
+renamed_lies : (n : ℕ) (R : Pairs) (p : Body) → AllPairs n R → Lies n p → Lies n (renamed n R p)
+unfolding renamed
+renamed_lies n [] p h k = k
+renamed_lies n (r ∷ R) p h k = (a_renaming n r R h.0 h.1, k)
+
+-- ---- phrases
+
+module _ (cs : List Channel) where
+  abbrev n : ℕ
+  n = event_count cs
+
+  sigma : (ds : List Channel) (A : Events) → ds ≡ cs → SetInSigma n (set_of ds A)
+  sigma ds A same = subst (λ es. SetInSigma (event_count es) (set_of ds A)) same (below_sigma (event_count ds) A)
+
+  two_lie : (f : Body → Body → Body) → ((p q : Body) → Lies n p → Lies n q → Lies n (f p q)) → (o r : Option Body) (b : Body) → ((p : Body) → o ≡ Some p → Lies n p) → ((q : Body) → r ≡ Some q → Lies n q) → (o >>= λ p. r >>= λ q. Some (f p q)) ≡ Some b → Lies n b
+  two_lie f g o r b h k e =
+      let (p, u, v) = bind_some o (λ p. r >>= λ q. Some (f p q)) b e in
+      let (q, x, y) = bind_some r (λ q. Some (f p q)) b v in
+      subst (Lies n) (some_same y) (g p q (h p u) (k q x))
+
+  named_lies : (o : Option Worth) (r : Option Body) (b : Body) → ((p : Body) → r ≡ Some p → Lies n p) → unless_value o r ≡ Some b → Lies n b
+  named_lies None r b h e = h b e
+  named_lies (Some (one v)) r b h e = absurd cc
+  named_lies (Some (many vs)) r b h e = h b e
+
+  name_lies : (c : Name) (t : Bool) (p : Body) → cond t (Some (name (c, []))) None ≡ Some p → Lies n p
+  name_lies c true p e = subst (Lies n) (some_same e) tt
+  name_lies c false p e = absurd cc
+
+  mutual
+    unfolding denoted denoted_form
+
+    pub lies : (t : Syntax) (s : Scope) (b : Body) → s.channels ≡ cs → denoted t s ≡ Some b → Lies n b
+    lies (Called c) s b same e = absurd cc
+    lies (Numeral k) s b same e = absurd cc
+    lies (Node f ts) s b same e = form_lies f ts s b same e
+
+    form_lies : (f : Form) (ts : Syntaxes) (s : Scope) (b : Body) → s.channels ≡ cs → denoted_form f ts s ≡ Some b → Lies n b
+    form_lies forms.Stop NoSyntax s b same e = subst (Lies n) (some_same e) tt
+    form_lies forms.Skip NoSyntax s b same e = subst (Lies n) (some_same e) tt
+    form_lies forms.Event (MoreSyntax (Called c) NoSyntax) s b same e = named_lies (s.known c) (cond (is_process s.entries c) (Some (name (c, []))) None) b (λ p f. name_lies c (is_process s.entries c) p f) e
+    form_lies forms.Brackets (MoreSyntax t NoSyntax) s b same e = lies t s b same e
+    form_lies (forms.Operation operators.Prefix) (MoreSyntax u (MoreSyntax t NoSyntax)) s b same e = prefixed_lies cs (denoted t) (λ m p g f. lies t m p g f) s u b same e
+    form_lies (forms.Operation operators.Sequence) (MoreSyntax t (MoreSyntax u NoSyntax)) s b same e = two_lie seq (λ p q h k. (h, k)) (denoted t s) (denoted u s) b (λ p f. lies t s p same f) (λ q f. lies u s q same f) e
+    form_lies (forms.Operation operators.Interrupt) (MoreSyntax t (MoreSyntax u NoSyntax)) s b same e = two_lie intr (λ p q h k. (h, k)) (denoted t s) (denoted u s) b (λ p f. lies t s p same f) (λ q f. lies u s q same f) e
+    form_lies (forms.Operation operators.ExternalChoice) (MoreSyntax t (MoreSyntax u NoSyntax)) s b same e = two_lie ext (λ p q h k. (h, k)) (denoted t s) (denoted u s) b (λ p f. lies t s p same f) (λ q f. lies u s q same f) e
+    form_lies (forms.Operation operators.InternalChoice) (MoreSyntax t (MoreSyntax u NoSyntax)) s b same e = two_lie int (λ p q h k. (h, k)) (denoted t s) (denoted u s) b (λ p f. lies t s p same f) (λ q f. lies u s q same f) e
+    form_lies (forms.Operation operators.Interleaving) (MoreSyntax t (MoreSyntax u NoSyntax)) s b same e = two_lie (par 0) (λ p q h k. (none_sigma n, h, k)) (denoted t s) (denoted u s) b (λ p f. lies t s p same f) (λ q f. lies u s q same f) e
+    form_lies (forms.Operation operators.Sharing) (MoreSyntax t (MoreSyntax a (MoreSyntax u NoSyntax))) s b same e =
+        let (p, v, w) = bind_some (denoted t s) (λ p. events_by s a >>= λ A. denoted u s >>= λ q. Some (par (set_of s.channels A) p q)) b e in
+        let (A, x, y) = bind_some (events_by s a) (λ A. denoted u s >>= λ q. Some (par (set_of s.channels A) p q)) b w in
+        let (q, z, o) = bind_some (denoted u s) (λ q. Some (par (set_of s.channels A) p q)) b y in
+        subst (Lies n) (some_same o) (sigma s.channels A same, lies t s p same v, lies u s q same z)
+    form_lies (forms.Operation operators.Alphabetised) (MoreSyntax t (MoreSyntax a (MoreSyntax c (MoreSyntax u NoSyntax)))) s b same e =
+        let (p, v, w) = bind_some (denoted t s) (λ p. events_by s a >>= λ A. events_by s c >>= λ B. denoted u s >>= λ q. Some (alphabetised (event_count s.channels) (set_of s.channels) p A B q)) b e in
+        let (A, x, y) = bind_some (events_by s a) (λ A. events_by s c >>= λ B. denoted u s >>= λ q. Some (alphabetised (event_count s.channels) (set_of s.channels) p A B q)) b w in
+        let (B, i, j) = bind_some (events_by s c) (λ B. denoted u s >>= λ q. Some (alphabetised (event_count s.channels) (set_of s.channels) p A B q)) b y in
+        let (q, z, o) = bind_some (denoted u s) (λ q. Some (alphabetised (event_count s.channels) (set_of s.channels) p A B q)) b j in
+        subst (Lies n) (some_same o)
+        (sigma s.channels (both A B) same, (sigma s.channels (λ k. nat_lt k (event_count s.channels) && not (A k)) same, lies t s p same v, tt), (sigma s.channels (λ k. nat_lt k (event_count s.channels) && not (B k)) same, lies u s q same z, tt))
+    form_lies (forms.Operation operators.Hiding) (MoreSyntax t (MoreSyntax a NoSyntax)) s b same e =
+        let (p, v, w) = bind_some (denoted t s) (λ p. events_by s a >>= λ A. Some (hide (set_of s.channels A) p)) b e in
+        let (A, x, y) = bind_some (events_by s a) (λ A. Some (hide (set_of s.channels A) p)) b w in
+        subst (Lies n) (some_same y) (sigma s.channels A same, lies t s p same v)
+    form_lies (forms.Operation operators.Renaming) (MoreSyntax t ts) s b same e =
+        let (p, v, w) = bind_some (denoted t s) (λ p. pairs_of s.channels s.known ts >>= λ R. Some (renamed (event_count s.channels) R p)) b e in
+        let (R, x, y) = bind_some (pairs_of s.channels s.known ts) (λ R. Some (renamed (event_count s.channels) R p)) b w in
+        let h : AllPairs n R = subst (λ ds. AllPairs (event_count ds) R) same (all_below s.channels s.known ts R x) in
+        subst (Lies n) (ap (λ ds. renamed (event_count ds) R p) (sym same) ∙ some_same y) (renamed_lies n R p h (lies t s p same v))
+    form_lies f ts s b same e = absurd cc
+
+-- ---- bodies with numbers
+
+by_lies : (cs : List Channel) (s : Scope) (m : Option Meaning) (b : Body) → s.channels ≡ cs → body_by s m ≡ Some b → Lies (event_count cs) b
+unfolding body_by
+by_lies cs s None b same e = absurd cc
+by_lies cs s (Some (channel ts)) b same e = absurd cc
+by_lies cs s (Some (datatype ns)) b same e = absurd cc
+by_lies cs s (Some constant_name) b same e = absurd cc
+by_lies cs s (Some (definition t)) b same e = lies cs t s b same e
+
+body_lies : (s : Scope) (k : Key) (b : Body) → body_of s k ≡ Some b → Lies (event_count s.channels) b
+unfolding body_of
+body_lies s (c, []) b e = by (is_process s.entries c) e
+  where
+    by : (t : Bool) → cond t (body_by s (meaning s.entries c)) None ≡ Some b → Lies (event_count s.channels) b
+    by true e = by_lies s.channels s (meaning s.entries c) b refl e
+    by false e = absurd cc
+body_lies s (c, v ∷ vs) b e = absurd cc
+
+bodies_lie : (s : Scope) (ks : List Key) (bs : List Body) → map (body_of s) ks ≡ map Some bs → AllLie (event_count s.channels) bs
+bodies_lie s [] [] e = tt
+bodies_lie s [] (b ∷ bs) e = absurd cc
+bodies_lie s (k ∷ ks) [] e = absurd cc
+bodies_lie s (k ∷ ks) (b ∷ bs) e =
+    let h : body_of s k ≡ Some b = cc in
+    let t : map (body_of s) ks ≡ map Some bs = cc in
+    (body_lies s k b h, bodies_lie s ks bs t)
+
+to_written : (n : ℕ) (keys : List Key) (b : Body) → Lies n b → AllHave keys (names b) → IsWritten n (length keys) (numbered (place keys) b)
+unfolding names numbered
+to_written n keys stop h k = tt
+to_written n keys skip h k = tt
+to_written n keys (prefix a p) h k = (h.0, to_written n keys p h.1 k)
+to_written n keys (ext p q) h k = (to_written n keys p h.0 (all_left keys (names p) (names q) k), to_written n keys q h.1 (all_right keys (names p) (names q) k))
+to_written n keys (int p q) h k = (to_written n keys p h.0 (all_left keys (names p) (names q) k), to_written n keys q h.1 (all_right keys (names p) (names q) k))
+to_written n keys (seq p q) h k = (to_written n keys p h.0 (all_left keys (names p) (names q) k), to_written n keys q h.1 (all_right keys (names p) (names q) k))
+to_written n keys (par A p q) h k = (h.0, to_written n keys p h.1 (all_left keys (names p) (names q) k), to_written n keys q h.2 (all_right keys (names p) (names q) k))
+to_written n keys (hide A p) h k = (h.0, to_written n keys p h.1 k)
+to_written n keys (ren R p) h k = (h.0, to_written n keys p h.1 k)
+to_written n keys (intr p q) h k = (to_written n keys p h.0 (all_left keys (names p) (names q) k), to_written n keys q h.1 (all_right keys (names p) (names q) k))
+to_written n keys (name j) h k = (at_place keys j j k.0).0
+
+all_written : (n : ℕ) (keys : List Key) (bs : List Body) → AllLie n bs → AllHave keys (flat_map names bs) → (k : ℕ) → k < length (map (numbered (place keys)) bs) → IsWritten n (length keys) (bodies_of (map (numbered (place keys)) bs) k)
+all_written n keys [] h a k l = absurd (omega (arith, l))
+all_written n keys (b ∷ bs) h a zero l = to_written n keys b h.0 (all_left keys (names b) (flat_map names bs) a)
+all_written n keys (b ∷ bs) h a (suc k) l = all_written n keys bs h.1 (all_right keys (names b) (flat_map names bs) a) k (omega (arith, l))
+
+-- what is reached has a text
+pub reached_written : (s : Scope) (root : Key) (keys : List Key) (bodies : List Body) (Ps : List Proc) → Reached s root keys bodies → Ps ≡ map (numbered (place keys)) bodies → (k : ℕ) → k < length Ps → IsWritten (event_count s.channels) (length Ps) (bodies_of Ps k)
+reached_written s root keys bodies Ps r e k l =
+    let there = subst (λ ks. AllHave ks (flat_map names bodies)) r.first (all_named root bodies) in
+    let a = reached_many s root keys bodies r in
+    let long : length keys ≡ length Ps = a ∙ sym (length-map bodies (numbered (place keys))) ∙ sym (ap length e) in
+    let h : (k : ℕ) → k < length Ps → IsWritten (event_count s.channels) (length keys) (bodies_of Ps k) =
+    subst (λ Qs. (k : ℕ) → k < length Qs → IsWritten (event_count s.channels) (length keys) (bodies_of Qs k)) (sym e) (all_written (event_count s.channels) keys bodies (bodies_lie s keys bodies r.each) there) in
+    subst (λ m. IsWritten (event_count s.channels) m (bodies_of Ps k)) long (h k l)
