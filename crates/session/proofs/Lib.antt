@@ -1,3 +1,4 @@
 pub mod SetLemmas
 pub mod ReplayLemmas
 pub mod Keeping
+pub mod ScriptLemmas

@@ -1,13 +1,14 @@
 //! Why a session takes no report, and why there is no session.
 
 ghost use Rattle.std.specs.Prelude.{◌≡◌};
-ghost use Rattle.session.specs.Faults.{code_of, word_of, fault_of, error_code, error_word, error_of, journal_error};
+ghost use Rattle.session.specs.Faults.{code_of, word_of, fault_of, error_code, error_word, error_of, journal_error, script_error};
 
 use after::AfterFault;
 use history::Entry;
 use journal::JournalError;
 use std::marker::Model;
 use thiserror::Error;
+use tokens::{ScriptError, ScriptErrorKind};
 
 /// The entry that a disk failed on, and that closed a session. Only this crate makes one.
 #[derive(Clone, Copy, Debug, PartialEq, Eq)]
@@ -113,7 +114,8 @@ impl From<AfterFault> for Fault {
     }
 }
 
-/// Why there is no session on a disk. Its text is its number and its word, for a record also its place.
+/// Why there is no session on a disk. Its text is its number and its word, for a record also its place; that of a script's
+/// fault is `script`, the line, and the number and the word of its kind.
 #[derive(Clone, Copy, Debug, PartialEq, Eq, Error)]
 pub enum SessionError {
     /// A state would be too deep.
@@ -143,10 +145,13 @@ pub enum SessionError {
     /// The record with this place, counted from 1, has another verdict than the specification's.
     #[error("53 verdict {0}")]
     OtherVerdict(usize),
+    /// The script denotes no specification for the root. Want of memory is `Memory`.
+    #[error("script {0}")]
+    Script(ScriptError),
 }
 
 impl SessionError {
-    /// The error's number.
+    /// The error's number, for a script that of its fault's kind.
     pub fn code(&self) -> u8
         ensures { result ≡ error_code self.now }
     {
@@ -160,10 +165,11 @@ impl SessionError {
             SessionError::Truncated => 51,
             SessionError::BadRecord(_) => 52,
             SessionError::OtherVerdict(_) => 53,
+            SessionError::Script(fault) => fault.kind.code(),
         }
     }
 
-    /// The error's word.
+    /// The error's word, for a script that of its fault's kind.
     pub fn word(&self) -> &'static str
         ensures { result.now ≡ error_word self.now }
     {
@@ -177,6 +183,7 @@ impl SessionError {
             SessionError::Truncated => "truncated",
             SessionError::BadRecord(_) => "record",
             SessionError::OtherVerdict(_) => "verdict",
+            SessionError::Script(fault) => fault.kind.word(),
         }
     }
 }
@@ -203,6 +210,17 @@ impl From<JournalError> for SessionError {
             JournalError::BadRecord(place) => SessionError::BadRecord(place),
             JournalError::Device => SessionError::Device,
             JournalError::Memory => SessionError::Memory,
+        }
+    }
+}
+
+impl From<ScriptError> for SessionError {
+    ghost from_gives = { λ fault result. result ≡ script_error fault };
+
+    fn from(fault: ScriptError) -> SessionError {
+        match fault.kind {
+            ScriptErrorKind::Memory => SessionError::Memory,
+            _ => SessionError::Script(fault),
         }
     }
 }

@@ -8,6 +8,7 @@ mod fault;
 mod opening;
 mod ready;
 mod records;
+mod scripted;
 mod session;
 
 pub use fault::{Failed, Fault, SessionError};
