@@ -8,6 +8,7 @@ use session::{Session, SessionError};
 use std::alloc::Global;
 use std::fs::OpenOptions;
 use std::io::Write;
+use std::os::unix::fs::FileExt;
 use std::rt::Files;
 use tokens::ScriptErrorKind;
 
@@ -61,7 +62,10 @@ pub(crate) fn replay<R: Files + AllocGlobal, O: Write, E: Write>(
     name: &str,
     output: &mut O,
     errors: &mut E,
-) -> u8 {
+) -> u8
+where
+    R::File: FileExt,
+{
     let Ok(file) = OpenOptions::new().read(true).write(true).open(rt, name) else {
         return tell_fault(errors, name, "cannot read", FILE_FAILED);
     };

@@ -8,6 +8,7 @@ use crate::telling::{BAD_USE, tell_error};
 use std::alloc::Global;
 use std::convert::AsStr;
 use std::io::{Read, Write};
+use std::os::unix::fs::FileExt;
 use std::rt::Files;
 use std::sync::Wait;
 
@@ -21,7 +22,10 @@ pub(crate) fn run<
     I: Read + Drop,
     O: Write + Drop,
     E: Write,
->(rt: &R, alloc: Global, words: &[S], input: I, mut output: O, errors: &mut E) -> u8 {
+>(rt: &R, alloc: Global, words: &[S], input: I, mut output: O, errors: &mut E) -> u8
+where
+    R::File: FileExt,
+{
     match read_words(alloc, words) {
         Err(error) => tell_error(&error, &mut output, errors),
         Ok(None) => BAD_USE,
@@ -29,5 +33,6 @@ pub(crate) fn run<
             check(rt, spec, process, input, output, errors)
         }
         Ok(Some(Wish::Print { spec, process })) => { print(rt, spec, process, &mut output, errors) }
+        Ok(Some(Wish::Replay { journal })) => replay(rt, journal, &mut output, errors),
     }
 }
