@@ -2,6 +2,6 @@
 #![tactic(auto)]
 
 #[cfg(test)]
-mod printing;
+mod appended;
 #[cfg(test)]
 mod tests;
