@@ -10,6 +10,8 @@ pub(crate) enum Wish<'a> {
     Check { spec: &'a str, process: &'a str },
     /// To print what the script in the file `spec` denotes for the process.
     Print { spec: &'a str, process: &'a str },
+    /// To judge the records in the file `journal` anew.
+    Replay { journal: &'a str },
 }
 
 fn word<'a>(alloc: Global, id: &'a str, help: &'a str) -> Arg<'a> {
@@ -50,16 +52,27 @@ fn print_command<'a>(alloc: Global) -> Result<Command<'a>, AllocError> {
     )
 }
 
+fn replay_command<'a>(alloc: Global) -> Result<Command<'a>, AllocError> {
+    Command::new(alloc, "replay")
+        .about("Judges the records of a journal anew, and tells how many there are of each kind")
+        .arg(word(alloc, "JOURNAL", "The file of the journal"))
+}
+
 fn command<'a>(alloc: Global) -> Result<Command<'a>, AllocError> {
     Command::new(alloc, "cspwatch")
         .about("Judges reports of running components against a CSP specification")
         .subcommand_required(true)
         .subcommand(check_command(alloc)?)?
-        .subcommand(print_command(alloc)?)
+        .subcommand(print_command(alloc)?)?
+        .subcommand(replay_command(alloc)?)
 }
 
 fn wish_of<'a>(matches: &ArgMatches<'a>) -> Option<Wish<'a>> {
     let (name, inner) = matches.subcommand()?;
+    if name == "replay" {
+        let journal = inner.get_str("JOURNAL")?;
+        return Some(Wish::Replay { journal });
+    }
     let spec = inner.get_str("SPEC")?;
     let process = inner.get_str("PROCESS")?;
     match name {

@@ -4,6 +4,7 @@
 mod checking;
 mod commands;
 mod forms;
+mod replaying;
 mod running;
 mod scripts;
 mod telling;

@@ -3,6 +3,7 @@
 use crate::checking::check;
 use crate::commands::{Wish, read_words};
 use crate::forms::print;
+use crate::replaying::replay;
 use crate::telling::{BAD_USE, tell_error};
 use std::alloc::Global;
 use std::convert::AsStr;
@@ -12,7 +13,7 @@ use std::sync::Wait;
 
 /// Runs the program on its words, the first of which is its name, and answers its exit status: 0 where all is done,
 /// 1 where a report was rejected, 2 for bad use (also a line that is no command, names no event or is too long),
-/// 3 for a script that is refused, 5 where a file, the input or the output failed, 6 for want of memory, a limit of the
+/// 3 for a script that is refused, 4 for a journal that no session wrote, 5 where a file, the input or the output failed, 6 for want of memory, a limit of the
 /// states or a full history. Of several it is the first of 5, 1, 6, 2, 0.
 pub(crate) fn run<
     S: AsStr,
@@ -28,5 +29,6 @@ pub(crate) fn run<
             check(rt, spec, process, input, output, errors)
         }
         Ok(Some(Wish::Print { spec, process })) => { print(rt, spec, process, &mut output, errors) }
+        Ok(Some(Wish::Replay { journal })) => replay(rt, journal, &mut output, errors),
     }
 }

@@ -19,6 +19,9 @@ pub(crate) const BAD_USE: u8 = 2;
 /// The script was refused.
 pub(crate) const BAD_SCRIPT: u8 = 3;
 
+/// The journal is none that a session wrote.
+pub(crate) const BAD_JOURNAL: u8 = 4;
+
 /// A file, standard input or standard output failed.
 pub(crate) const FILE_FAILED: u8 = 5;
 
