@@ -10,7 +10,7 @@ pub(crate) enum Wish<'a> {
     Check { spec: &'a str, process: &'a str },
     /// To print what the script in the file `spec` denotes for the process.
     Print { spec: &'a str, process: &'a str },
-    /// To judge the records in the file `journal` anew.
+    /// To judge the records of the journal in the file anew.
     Replay { journal: &'a str },
 }
 
@@ -54,7 +54,7 @@ fn print_command<'a>(alloc: Global) -> Result<Command<'a>, AllocError> {
 
 fn replay_command<'a>(alloc: Global) -> Result<Command<'a>, AllocError> {
     Command::new(alloc, "replay")
-        .about("Judges the records of a journal anew, and tells how many there are of each kind")
+        .about("Judges the records of a journal anew, and tells their summary")
         .arg(word(alloc, "JOURNAL", "The file of the journal"))
 }
 

@@ -22,7 +22,7 @@ pub(crate) fn print<R: Files + AllocGlobal, O: Write, E: Write>(
         Err(status) => return status,
     };
     let mut printed = Vec::new(rt.alloc());
-    if printing::print(&spec, &mut printed).is_err() {
+    if script::print(&spec, &mut printed).is_err() {
         return tell_fault(errors, name, "40 memory", LIMIT);
     }
     if output.write_all(&printed).is_err() || output.flush().is_err() {

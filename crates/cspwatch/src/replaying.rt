@@ -1,4 +1,5 @@
 //! `cspwatch replay`: the history that a journal holds, judged anew.
+ghost use Rattle.std.specs.Prelude.{◌≡◌};
 
 use crate::telling::{BAD_JOURNAL, DONE, FILE_FAILED, LIMIT, REJECTED, tell_fault};
 use disk::Disk;
@@ -7,7 +8,9 @@ use session::{Session, SessionError};
 use std::alloc::Global;
 use std::fs::OpenOptions;
 use std::io::Write;
+use std::os::unix::fs::FileExt;
 use std::rt::Files;
+use tokens::ScriptErrorKind;
 
 /// The status of a journal that gives no session.
 fn status_of(error: SessionError) -> u8 {
@@ -15,8 +18,11 @@ fn status_of(error: SessionError) -> u8 {
         SessionError::Device => FILE_FAILED,
         SessionError::Depth | SessionError::States | SessionError::History | SessionError::Memory =>
             LIMIT,
-        SessionError::Script(_)
-        | SessionError::BadHeader
+        SessionError::Script(fault) => match fault.kind {
+            ScriptErrorKind::Memory => LIMIT,
+            _ => BAD_JOURNAL,
+        },
+        SessionError::BadHeader
         | SessionError::Truncated
         | SessionError::BadRecord(_)
         | SessionError::OtherVerdict(_) => BAD_JOURNAL,
@@ -49,14 +55,17 @@ fn tell_summary<D: Disk, O: Write, E: Write>(
     }
 }
 
-/// Judges the records of the journal in the file anew, tells their summary, and answers the exit status. What stands behind
+/// Judges the records of the journal in the file anew, tells their summary, and answers the exit status. What stands past
 /// the first closed gate is cut off.
 pub(crate) fn replay<R: Files + AllocGlobal, O: Write, E: Write>(
     rt: &R,
     name: &str,
     output: &mut O,
     errors: &mut E,
-) -> u8 {
+) -> u8
+where
+    R::File: FileExt,
+{
     let Ok(file) = OpenOptions::new().read(true).write(true).open(rt, name) else {
         return tell_fault(errors, name, "cannot read", FILE_FAILED);
     };

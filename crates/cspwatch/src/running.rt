@@ -8,12 +8,13 @@ use crate::telling::{BAD_USE, tell_error};
 use std::alloc::Global;
 use std::convert::AsStr;
 use std::io::{Read, Write};
+use std::os::unix::fs::FileExt;
 use std::rt::Files;
 use std::sync::Wait;
 
 /// Runs the program on its words, the first of which is its name, and answers its exit status: 0 where all is done,
 /// 1 where a report was rejected, 2 for bad use (also a line that is no command, names no event or is too long),
-/// 3 for a script that is refused, 4 for a journal that no session wrote, 5 where a file, the input or the output failed, 6 for want of memory, a limit of the
+/// 3 for a script that is refused, 4 for a journal that gives no session, 5 where a file, the input or the output failed, 6 for want of memory, a limit of the
 /// states or a full history. Of several it is the first of 5, 1, 6, 2, 0.
 pub(crate) fn run<
     S: AsStr,
@@ -21,7 +22,10 @@ pub(crate) fn run<
     I: Read + Drop,
     O: Write + Drop,
     E: Write,
->(rt: &R, alloc: Global, words: &[S], input: I, mut output: O, errors: &mut E) -> u8 {
+>(rt: &R, alloc: Global, words: &[S], input: I, mut output: O, errors: &mut E) -> u8
+where
+    R::File: FileExt,
+{
     match read_words(alloc, words) {
         Err(error) => tell_error(&error, &mut output, errors),
         Ok(None) => BAD_USE,

@@ -3,7 +3,7 @@ ghost use Rattle.std.specs.Prelude.{◌≡◌, ◌≤◌, ◌↔◌, length, IsT
 ghost use Rattle.journal.specs.Format.{IsRoot};
 
 use crate::telling::{FILE_FAILED, LIMIT, tell_fault, tell_script};
-use outline::read;
+use script::read;
 use std::alloc::Global;
 use std::io::Write;
 use std::rt::Files;

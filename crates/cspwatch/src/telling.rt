@@ -19,7 +19,7 @@ pub(crate) const BAD_USE: u8 = 2;
 /// The script was refused.
 pub(crate) const BAD_SCRIPT: u8 = 3;
 
-/// The journal is none that a session wrote.
+/// The journal gives no session.
 pub(crate) const BAD_JOURNAL: u8 = 4;
 
 /// A file, standard input or standard output failed.

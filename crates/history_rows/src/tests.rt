@@ -1,7 +1,7 @@
-// What is expected is worked by hand: the counts from the lists of entries, the verdicts from `a -> b -> STOP`.
+// What is expected is worked by hand: the counts from the lists of entries, the verdicts from `P = a -> b -> P`.
 use alphabet::{Event, EventSet, Report};
 use history::{Entry, HISTORY_LIMIT, History, LegalHistory, SeatNumber};
-use outline::read;
+use script::read;
 use std::alloc::Global;
 use std::process::Abort;
 use std::test::Fail;
@@ -58,48 +58,87 @@ fn entries_of_two_seats(rt: HostRuntime) -> Result<(), Fail> {
     Ok(())
 }
 
-// Judges the report of this seat and appends its entry, which has to have this number and verdict.
+// The set of the events with these letters.
+fn set_of(legal: &LegalHistory<Global>, letters: &[u8]) -> Result<EventSet, Fail> {
+    let mut set = EventSet::empty();
+    for letter in letters {
+        match legal.spec().alphabet().event(&[*letter]) {
+            Some(event) => set = set.with(event),
+            None => return Err(Fail::new("no such event")),
+        }
+    }
+    Ok(set)
+}
+
+// The report that a letter of its kind and letters of its events stand for.
+fn report_of(legal: &LegalHistory<Global>, text: &[u8]) -> Result<Report, Fail> {
+    match text {
+        [b'E', letter] => match legal.spec().alphabet().event(&[*letter]) {
+            Some(event) => Ok(Report::Event(event)),
+            None => Err(Fail::new("no such event")),
+        },
+        [b'R', letters @ ..] => Ok(Report::Refusal(set_of(legal, letters)?)),
+        _ => Err(Fail::new("no such report")),
+    }
+}
+
+// Judges the report of this seat and appends its entry. Whether it is accepted is answered.
 fn judge(
-    rt: &impl Abort,
     legal: &mut LegalHistory<Global>,
     seat: SeatNumber,
-    report: Report,
-    verdict: bool,
-) -> Result<(), Fail> {
+    report: &Report,
+) -> Result<bool, Fail> {
     if legal.is_full() {
         return Err(Fail::new("there is room"));
     }
-    let number = legal.next_number(seat);
-    let Ok(candidate) = legal.judge(seat, &report) else {
+    let Ok(candidate) = legal.judge(seat, report) else {
         return Err(Fail::new("no limit is met"));
     };
-    let entry = candidate.entry();
-    assert!(rt; entry.seat == seat && entry.number == number && entry.verdict == verdict);
+    let verdict = candidate.entry().verdict;
     legal.push(candidate);
-    Ok(())
+    Ok(verdict)
+}
+
+// Asks one thing: `N` and letters for the next events; or a seat's digit, a report and `+` or `-` for its verdict.
+fn assert_step(rt: &impl Abort, legal: &mut LegalHistory<Global>, step: &[u8]) -> Result<(), Fail> {
+    match step {
+        [b'N', letters @ ..] => {
+            assert!(rt; legal.next() == set_of(legal, letters)?, "{letters:?}");
+            Ok(())
+        }
+        [digit, text @ .., sign] => {
+            let seat = seat((*digit as u16).saturating_sub(48))?;
+            let report = report_of(legal, text)?;
+            let accepted = judge(legal, seat, &report)?;
+            assert_eq!(rt; accepted, *sign == b'+', "{step:?}");
+            Ok(())
+        }
+        _ => Err(Fail::new("no such step")),
+    }
+}
+
+fn legal_history(alloc: Global) -> Result<LegalHistory<Global>, Fail> {
+    let script = "channel a, b\nP = a -> b -> P\n";
+    match LegalHistory::new(alloc, read(alloc, script.as_bytes(), b"P")?) {
+        Ok(legal) => Ok(legal),
+        Err(_) => Err(Fail::new("no limit is met")),
+    }
 }
 
 #[test]
 fn reports_one_after_the_other(rt: HostRuntime) -> Result<(), Fail> {
-    let script = "channel a, b\nP = a -> b -> STOP\n";
-    let spec = read(rt.alloc(), script.as_bytes(), b"P")?;
-    let Ok(mut legal) = LegalHistory::new(rt.alloc(), spec) else {
-        return Err(Fail::new("no limit is met"));
-    };
-    let (a, b) = (Event::Of(0), Event::Of(1));
-    let none = EventSet::empty();
-    assert!(rt; legal.next() == none.with(a));
-    judge(&rt, &mut legal, seat(2)?, Report::Event(b), false)?;
-    judge(&rt, &mut legal, seat(1)?, Report::Event(a), true)?;
-    judge(&rt, &mut legal, seat(2)?, Report::Refusal(none.with(a)), true)?;
-    judge(&rt, &mut legal, seat(2)?, Report::Refusal(none.with(b)), false)?;
-    assert!(rt; legal.next() == none.with(b));
-    judge(&rt, &mut legal, seat(2)?, Report::Event(b), true)?;
-    assert!(rt; legal.next().is_empty());
-    assert_eq!(rt; legal.entries().len(), 5);
+    let mut legal = legal_history(rt.alloc())?;
+    for step in "Na 2Eb- 1Ea+ 2Ra+ 2Rb- Nb 2Eb+ Na 2Rb+"
+        .as_bytes()
+        .split(|byte: &u8| *byte == b' ')
+    {
+        assert_step(&rt, &mut legal, step)?;
+    }
+    assert_eq!(rt; legal.entries().len(), 6);
     assert_eq!(rt; legal.greatest_seat(), 2);
+    assert_eq!(rt; legal.next_number(seat(2)?), 6);
     let told = legal.summary();
-    assert!(rt; told.judged == 5 && told.events == 2 && told.refusals == 1 && told.rejected == 2);
+    assert!(rt; told.judged == 6 && told.events == 2 && told.refusals == 2 && told.rejected == 2);
     assert_eq!(rt; legal.spec().bodies(), 1);
     Ok(())
 }

@@ -14,7 +14,7 @@ abbrev pub scope_with : {A : Type 0} → Names A → KnownSets → Scope
 scope_with n f = record { entries = entries n.entries; channels = n.sigma.alphabet; known = table n.known; sets = events_by f }
 
 abbrev pub scope : {A : Type 0} → Script A → Scope
-scope s = scope_with s.names.now (said s.found.now.sets)
+scope s = scope_with s.names.now (said s.sets.now)
 
 -- what is found of named sets of events, where these names are known
 abbrev pub AreReachedBy : {A : Type 0} → Names A → KnownSets → Type 0

@@ -2,9 +2,9 @@
 #![tactic(auto)]
 
 mod fields;
-mod found;
 mod law;
 mod names;
+mod printed;
 mod reading;
 mod rows;
 mod script;
@@ -13,5 +13,5 @@ mod standing;
 mod table;
 
 pub use law::{one_reading, roots_are_names};
-pub use printing::print;
+pub use printed::print;
 pub use reading::read;

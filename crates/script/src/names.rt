@@ -2,7 +2,7 @@
 ghost use Rattle.std.specs.Prelude.{◌≡◌, IfOk};
 
 use crate::sigma::{Sigma, sigma_of};
-use declarations::{Declared, Entries, Meaning};
+use declarations::{Declared, Entries, Meaning, fault_of_name};
 use std::alloc::{AllocError, Allocator};
 use syntax::{Form, Tree};
 use tokens::{ScriptError, ScriptErrorKind};
@@ -38,18 +38,6 @@ pub(crate) fn names_of<'a, A: Allocator + Copy>(
     })
 }
 
-/// Whether this is a process or a set of CSPM that the profile leaves out.
-fn is_built_in(name: &[u8]) -> bool {
-    name == b"CHAOS".as_slice()
-        || name == b"RUN".as_slice()
-        || name == b"DIV".as_slice()
-        || name == b"WAIT".as_slice()
-        || name == b"Int".as_slice()
-        || name == b"Bool".as_slice()
-        || name == b"Char".as_slice()
-        || name == b"Proc".as_slice()
-}
-
 /// The name, where the phrase is nothing else.
 fn bare_name<A: Allocator>(phrase: &Tree<A>) -> Option<&[u8]> {
     match phrase {
@@ -68,7 +56,7 @@ fn bare_name<A: Allocator>(phrase: &Tree<A>) -> Option<&[u8]> {
     }
 }
 
-impl<'a, A: Allocator> Names<'a, A> {
+impl<'a, A: Allocator + Copy> Names<'a, A> {
     ghost use Rattle.std.specs.Prelude.{MatchOption, Some};
     ghost use Rattle.syntax.specs.Grammar.{Syntax};
     ghost use Rattle.syntax.specs.View.{shape};
@@ -103,50 +91,9 @@ impl<'a, A: Allocator> Names<'a, A> {
         }
     }
 
-    /// Whether the phrase is an event: one that begins with the name of a channel.
-    fn is_event(&self, phrase: &Tree<A>) -> bool {
-        match phrase {
-            Tree::Node {
-                form: Form::Event,
-                parts,
-                ..
-            } => match parts.first() {
-                Some(Tree::Name { text, .. }) => self.sigma.fields.get(text).is_some(),
-                _ => false,
-            },
-            _ => false,
-        }
-    }
-
-    /// Whether the name is declared as what is no set of events, whatever its definition needs: a number, a set of values, an
-    /// event, a process, or no definition.
-    pub(crate) fn is_other(&self, name: &[u8]) -> bool {
-        match self.body(name) {
-            Some(body) => {
-                self.known.has(name) || self.entries.is_process(name) || self.is_event(body)
-            }
-            None => true,
-        }
-    }
-
-    /// What is wrong with a name that stands where it can't.
-    pub(crate) fn fault(&self, name: &[u8]) -> ScriptErrorKind {
-        if self.entries.get(name).is_none() {
-            if is_built_in(name) {
-                return ScriptErrorKind::Unsupported;
-            }
-            return ScriptErrorKind::UnknownName;
-        }
-        if self.is_other(name) {
-            return ScriptErrorKind::Expected;
-        }
-        // A number or a set that depends on itself.
-        ScriptErrorKind::UnknownName
-    }
-
     /// What is wrong with a root that is no process: where its definition is a bare name, and this leads on to a name that isn't
     /// declared, that is told.
-    pub(crate) fn root_fault(&self, root: &[u8]) -> ScriptError {
+    pub(crate) fn root_fault(&self, alloc: A, root: &[u8]) -> ScriptError {
         let mut name = root;
         for _ in 0..self.entries.len() {
             let Some(phrase) = self.body(name) else {
@@ -156,10 +103,7 @@ impl<'a, A: Allocator> Names<'a, A> {
                 break;
             };
             if self.entries.get(next).is_none() {
-                return ScriptError {
-                    line: phrase.line(),
-                    kind: self.fault(next),
-                };
+                return fault_of_name(alloc, &self.entries, &self.known, next, phrase.line());
             }
             name = next;
         }

@@ -32,17 +32,15 @@ fn bodies_of<'a, A: Allocator + Copy>(
     ensures only { (ps : List Proc) → AreBodies names.now.sigma.alphabet (table names.now.known) (entries_of names.now.entries) root.now ps → Gives (λ v. map proc v.items) result (Some ps) }
 {
     if !names.entries.is_process(root) {
-        return Err(names.root_fault(root));
+        return Err(names.root_fault(alloc, root));
     }
-    let found = named_sets(alloc, names)?;
-    gathered(
-        alloc,
-        &Script {
-            names,
-            found: &found,
-        },
-        root,
-    )
+    let sets = named_sets(alloc, names)?;
+    let script = Script {
+        names,
+        sets: &sets,
+        diagnosis: Some(alloc),
+    };
+    gathered(alloc, &script, root)
 }
 
 /// The specification that the script with this tree denotes for the root.

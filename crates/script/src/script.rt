@@ -4,9 +4,10 @@ ghost use Rattle.alphabet.specs.EventSets.{has};
 ghost use Rattle.phrases.specs.Events.{set_of};
 ghost use Rattle.script.specs.Tables.{said};
 
-use crate::found::Found;
 use crate::names::Names;
+use crate::table::Table;
 use alphabet::EventSet;
+use declarations::fault_of_name;
 use phrases::{Facts, Row, Set};
 use std::alloc::Allocator;
 use syntax::Tree;
@@ -17,11 +18,13 @@ use values::Known;
 #[derive(Drop)]
 pub(crate) struct Script<'a, A: Allocator> {
     pub(crate) names: &'a Names<'a, A>,
-    pub(crate) found: &'a Found<A>,
-    ghost lie: { (name : List ℕ) (set : ℕ) → said found.now.sets name ≡ Some set → set ≡ set_of names.now.sigma.alphabet (has set) },
+    pub(crate) sets: &'a Table<EventSet, A>,
+    /// Memory to look for what is wrong with a name's definition, where that is wanted.
+    pub(crate) diagnosis: Option<A>,
+    ghost lie: { (name : List ℕ) (set : ℕ) → said sets.now name ≡ Some set → set ≡ set_of names.now.sigma.alphabet (has set) },
 }
 
-impl<'a, A: Allocator> Facts<A> for Script<'a, A> {
+impl<'a, A: Allocator + Copy> Facts<A> for Script<'a, A> {
     ghost use Rattle.script.specs.View.{scope as scope_of};
 
     ghost scope = { scope_of };
@@ -47,7 +50,7 @@ impl<'a, A: Allocator> Facts<A> for Script<'a, A> {
 
     #[tactic(auto, using(crate::proofs::Masks::stored))]
     fn set(&self, name: &[u8]) -> Option<EventSet> {
-        self.found.sets.get(name).copied()
+        self.sets.get(name).copied()
     }
 
     fn is_process(&self, name: &[u8]) -> bool {
@@ -70,17 +73,11 @@ impl<'a, A: Allocator> Facts<A> for Script<'a, A> {
     }
 
     fn fault(&self, name: &[u8], line: u32) -> ScriptError {
-        if self.found.sets.has(name) {
-            return ScriptError {
-                line,
-                kind: ScriptErrorKind::Expected,
-            };
-        }
-        match self.found.faults.get(name) {
-            Some(fault) => *fault,
+        match self.diagnosis {
+            Some(alloc) => fault_of_name(alloc, &self.names.entries, &self.names.known, name, line),
             None => ScriptError {
                 line,
-                kind: self.names.fault(name),
+                kind: ScriptErrorKind::UnknownName,
             },
         }
     }

@@ -1,8 +1,8 @@
 //! Which sets of events names stand for.
 ghost use Rattle.std.specs.Prelude.{◌≡◌, IfOk, MatchResult};
 ghost use Rattle.phrases.specs.Events.{EventsStand, event_set, masked};
-ghost use Rattle.syntax.specs.View.{shape};
 ghost use Rattle.tokens.specs.declared.error.ScriptErrorKind.TheVariants.{Memory};
+ghost use Rattle.syntax.specs.View.{shape};
 ghost use Rattle.values.specs.Tables.{table};
 ghost use Rattle.values.specs.View.{Gives};
 ghost use Rattle.declarations.specs.View.{entries as entries_of};
@@ -10,41 +10,47 @@ ghost use Rattle.script.specs.Standing.{events_by, next_events};
 ghost use Rattle.script.specs.Tables.{said};
 ghost use Rattle.script.specs.View.{AreReachedBy, LearnsOf, LearnsAllOf};
 
-use crate::found::Found;
 use crate::names::Names;
 use crate::script::Script;
+use crate::table::Table;
 use alphabet::EventSet;
 use declarations::places_by_use;
 use phrases::set_of_events;
-use std::alloc::{AllocError, Allocator};
+use std::alloc::Allocator;
 use syntax::Tree;
 use tokens::{ScriptError, ScriptErrorKind};
 
-/// What the body of a definition says, where names stand for what was found.
+/// What the body of a definition says, where names stand for the sets in the table.
 fn set_of_body<'a, A: Allocator + Copy>(
     alloc: A,
     names: &Names<'a, A>,
-    found: &Found<A>,
+    sets: &Table<EventSet, A>,
     body: &'a Tree<A>,
 ) -> Result<EventSet, ScriptError>
-    requires { AreReachedBy names.now (said found.now.sets) }
-    ensures { Gives (λ s. s) result (masked names.now.sigma.alphabet (event_set names.now.sigma.alphabet (table names.now.known) (events_by (said found.now.sets)) (shape body.now))) }
+    requires { AreReachedBy names.now (said sets.now) }
+    ensures { Gives (λ s. s) result (masked names.now.sigma.alphabet (event_set names.now.sigma.alphabet (table names.now.known) (events_by (said sets.now)) (shape body.now))) }
 {
-    set_of_events(alloc, &Script { names, found }, body)
+    let script = Script {
+        names,
+        sets,
+        diagnosis: None,
+    };
+    set_of_events(alloc, &script, body)
 }
 
-/// What the definition of the name says, where names stand for what was found.
+/// What the definition of the name says, where names stand for the sets in the table.
+#[tactic(auto, unfolding(crate::specs::Standing::next_events))]
 fn next_set<'a, A: Allocator + Copy>(
     alloc: A,
     names: &Names<'a, A>,
-    found: &Found<A>,
+    sets: &Table<EventSet, A>,
     name: &[u8],
 ) -> Result<EventSet, ScriptError>
-    requires { AreReachedBy names.now (said found.now.sets) }
-    ensures { Gives (λ s. s) result (masked names.now.sigma.alphabet (next_events names.now.sigma.alphabet (table names.now.known) (entries_of names.now.entries) (events_by (said found.now.sets)) name.now)) }
+    requires { AreReachedBy names.now (said sets.now) }
+    ensures { Gives (λ s. s) result (masked names.now.sigma.alphabet (next_events names.now.sigma.alphabet (table names.now.known) (entries_of names.now.entries) (events_by (said sets.now)) name.now)) }
 {
     match names.body(name) {
-        Some(body) => set_of_body(alloc, names, found, body),
+        Some(body) => set_of_body(alloc, names, sets, body),
         None => Err(ScriptError {
             line: 1,
             kind: ScriptErrorKind::Expected,
@@ -52,101 +58,86 @@ fn next_set<'a, A: Allocator + Copy>(
     }
 }
 
-/// What was found, with what is wrong with the definition of the name, if it could be one of a set of events.
-fn noted<'a, A: Allocator + Copy>(
-    names: &Names<'a, A>,
-    found: Found<A>,
-    name: &[u8],
-    fault: ScriptError,
-) -> Result<Found<A>, AllocError>
-    ensures { IfOk result (λ f. f.sets ≡ found.sets) }
-{
-    if names.is_other(name) {
-        return Ok(found);
-    }
-    found.with_fault(name, fault)
-}
-
-/// What was found with the set that the name stands for, and whether that is new; a name whose definition is at fault or is
-/// none of a set of events stands for none.
+/// The table with the set that the name stands for, and whether it has learned that; a name whose definition is at fault or
+/// is none of a set of events stands for none.
 fn learned<'a, A: Allocator + Copy>(
     alloc: A,
     names: &Names<'a, A>,
-    found: Found<A>,
+    sets: Table<EventSet, A>,
     name: &[u8],
-) -> Result<(Found<A>, bool), ScriptError>
-    requires { AreReachedBy names.now (said found.sets) }
-    ensures { MatchResult result (λ r. LearnsOf names.now (said found.sets) (said r.0.sets) r.1 name.now) (λ e. e.kind ≡ Memory) }
+) -> Result<(Table<EventSet, A>, bool), ScriptError>
+    requires { AreReachedBy names.now (said sets) }
+    ensures { MatchResult result (λ r. LearnsOf names.now (said sets) (said r.0) r.1 name.now) (λ e. e.kind ≡ Memory) }
 {
-    if found.sets.has(name) {
-        return Ok((found, false));
+    if sets.has(name) {
+        return Ok((sets, false));
     }
-    match next_set(alloc, names, &found, name) {
-        Ok(set) => Ok((found.with_set(name, set)?, true)),
+    match next_set(alloc, names, &sets, name) {
+        Ok(set) => Ok((sets.with(name, set)?, true)),
         Err(error) => match error.kind {
             ScriptErrorKind::Memory => Err(error),
-            _ => Ok((noted(names, found, name, error)?, false)),
+            _ => Ok((sets, false)),
         },
     }
 }
 
-/// What is found behind a look at each name, and whether any of it is new.
+/// The table behind a look at each name, and whether it has learned of any.
 fn learned_all<'a, A: Allocator + Copy>(
     alloc: A,
     names: &Names<'a, A>,
-    found: Found<A>,
-) -> Result<(Found<A>, bool), ScriptError>
-    requires { AreReachedBy names.now (said found.sets) }
-    ensures { MatchResult result (λ r. LearnsAllOf names.now (said found.sets) (said r.0.sets) r.1) (λ e. e.kind ≡ Memory) }
+    sets: Table<EventSet, A>,
+) -> Result<(Table<EventSet, A>, bool), ScriptError>
+    requires { AreReachedBy names.now (said sets) }
+    ensures { MatchResult result (λ r. LearnsAllOf names.now (said sets) (said r.0) r.1) (λ e. e.kind ≡ Memory) }
 {
-    let mut found = found;
+    let mut sets = sets;
     let mut any = false;
     for place in 0..names.entries.len() {
         if let Some(name) = names.entries.name_at(place) {
-            let (next, new) = learned(alloc, names, found, name)?;
-            found = next;
+            let (next, new) = learned(alloc, names, sets, name)?;
+            sets = next;
             any = any || new;
         }
     }
-    Ok((found, any))
+    Ok((sets, any))
 }
 
-/// What is found behind a look at the names at these places.
+/// The table behind a look at the names at these places.
 fn learned_in_order<'a, A: Allocator + Copy>(
     alloc: A,
     names: &Names<'a, A>,
-    found: Found<A>,
+    sets: Table<EventSet, A>,
     places: &[usize],
-) -> Result<Found<A>, ScriptError>
-    requires { AreReachedBy names.now (said found.sets) }
-    ensures { MatchResult result (λ f. AreReachedBy names.now (said f.sets)) (λ e. e.kind ≡ Memory) }
+) -> Result<Table<EventSet, A>, ScriptError>
+    requires { AreReachedBy names.now (said sets) }
+    ensures { MatchResult result (λ t. AreReachedBy names.now (said t)) (λ e. e.kind ≡ Memory) }
 {
-    let mut found = found;
+    let mut sets = sets;
     for place in places {
         if let Some(name) = names.entries.name_at(*place) {
-            let (next, _new) = learned(alloc, names, found, name)?;
-            found = next;
+            let (next, _new) = learned(alloc, names, sets, name)?;
+            sets = next;
         }
     }
-    Ok(found)
+    Ok(sets)
 }
 
-/// The sets that the names stand for, where nothing else was found so far: looks at all names until nothing is new.
+/// The sets that the names stand for, from a table that says nothing else: looks at all names until nothing is learned.
 fn settled<'a, A: Allocator + Copy>(
     alloc: A,
     names: &Names<'a, A>,
-    found: Found<A>,
-) -> Result<Found<A>, ScriptError>
-    requires { AreReachedBy names.now (said found.sets) }
-    ensures stand { IfOk result (λ f. EventsStand names.now.sigma.alphabet (table names.now.known) (entries_of names.now.entries) (events_by (said f.sets))) }
-    ensures reached { MatchResult result (λ f. AreReachedBy names.now (said f.sets)) (λ e. e.kind ≡ Memory) }
+    sets: Table<EventSet, A>,
+) -> Result<Table<EventSet, A>, ScriptError>
+    requires { AreReachedBy names.now (said sets) }
+    ensures stand { IfOk result (λ t. EventsStand names.now.sigma.alphabet (table names.now.known) (entries_of names.now.entries) (events_by (said t))) }
+    ensures reached { MatchResult result (λ t. AreReachedBy names.now (said t)) (λ e. e.kind ≡ Memory) }
 {
-    let mut found = found;
+    let mut sets = sets;
     loop {
-        let (next, new) = learned_all(alloc, names, found)?;
-        found = next;
+        let (next, new) = learned_all(alloc, names, sets)?;
+        sets = next;
         if !new {
-            return Ok(found);
+            return Ok(sets);
         }
     }
 }
@@ -156,11 +147,11 @@ fn settled<'a, A: Allocator + Copy>(
 pub(crate) fn named_sets<'a, A: Allocator + Copy>(
     alloc: A,
     names: &Names<'a, A>,
-) -> Result<Found<A>, ScriptError>
-    ensures stand { IfOk result (λ f. EventsStand names.now.sigma.alphabet (table names.now.known) (entries_of names.now.entries) (events_by (said f.sets))) }
-    ensures reached { MatchResult result (λ f. AreReachedBy names.now (said f.sets)) (λ e. e.kind ≡ Memory) }
+) -> Result<Table<EventSet, A>, ScriptError>
+    ensures stand { IfOk result (λ t. EventsStand names.now.sigma.alphabet (table names.now.known) (entries_of names.now.entries) (events_by (said t))) }
+    ensures reached { MatchResult result (λ t. AreReachedBy names.now (said t)) (λ e. e.kind ≡ Memory) }
 {
     let places = places_by_use(alloc, &names.entries)?;
-    let found = learned_in_order(alloc, names, Found::new(alloc), &places)?;
-    settled(alloc, names, found)
+    let sets = learned_in_order(alloc, names, Table::new(alloc), &places)?;
+    settled(alloc, names, sets)
 }

@@ -1,17 +1,16 @@
 //! Sessions of one script, and journals of it.
 use disk::Disk;
 use journal::Journal;
-use outline::read;
+use script::read;
 use session::{Session, SessionError};
 use std::alloc::Global;
 use std::test::Fail;
 use term::Spec;
 
-const SCRIPT: &str = "channel a, b, c\nP = a -> b -> STOP\n";
+const SCRIPT: &str = "channel a, b, c\nP = a -> b -> P\n";
 
-/// The header of a journal of the script, 72 bytes.
-const HEADER: &str =
-    "cspwatch journal 1\nroot P\nscript 35\nchannel a, b, c\nP = a -> b -> STOP\n\n";
+/// The header of a journal of the script, 69 bytes.
+const HEADER: &str = "cspwatch journal 1\nroot P\nscript 32\nchannel a, b, c\nP = a -> b -> P\n\n";
 
 fn spec_of(alloc: Global) -> Result<Spec<Global>, Fail> {
     Ok(read(alloc, SCRIPT.as_bytes(), b"P")?)

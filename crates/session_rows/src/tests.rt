@@ -1,4 +1,4 @@
-// What is expected is worked by hand from the meaning of `a -> b -> STOP` and from the journal's format.
+// What is expected is worked by hand from the meaning of `P = a -> b -> P` and from the journal's format.
 use crate::opening::{begun, file_of, resumed};
 use crate::rows::assert_row;
 use journal::testing::{Afterwards, CrashDisk, FaultDisk, MemoryDisk, Part};
@@ -51,10 +51,11 @@ fn has_three(session: &Session<MemoryDisk<Global>, Global>) -> bool {
 fn a_journal_of_three(rt: HostRuntime) -> Result<(), Fail> {
     let alloc = rt.alloc();
     let mut session = begun(alloc, MemoryDisk::new(Vec::new(alloc)))?;
-    assert_row(&rt, &mut session, "110a+ 121a- 132b+ N")?;
+    assert_row(&rt, &mut session, "110a+ 121a- 132b+ Na")?;
     assert!(rt; has_three(&session) && !session.is_closed());
     let disk = session.into_disk();
     let wanted = file_of(alloc, b"+1 1 E+ a/+1 2 E- a/+1 3 E+ b/.")?;
+    assert_eq!(rt; wanted.len(), 100);
     assert_eq!(rt; disk.bytes(), wanted.as_slice());
     let Ok(mut session) = resumed(alloc, disk)? else {
         return Err(Fail::new("the journal opens"));
@@ -150,10 +151,10 @@ fn assert_failing(
 
 #[test]
 fn each_call_of_a_write_fails(rt: HostRuntime) -> Result<(), Fail> {
-    assert_failing(&rt, rt.alloc(), 1, 73, 0)?;
-    assert_failing(&rt, rt.alloc(), 2, 83, 0)?;
-    assert_failing(&rt, rt.alloc(), 3, 83, 0)?;
-    assert_failing(&rt, rt.alloc(), 4, 83, 1)
+    assert_failing(&rt, rt.alloc(), 1, 70, 0)?;
+    assert_failing(&rt, rt.alloc(), 2, 80, 0)?;
+    assert_failing(&rt, rt.alloc(), 3, 80, 0)?;
+    assert_failing(&rt, rt.alloc(), 4, 80, 1)
 }
 
 // How many entries an opening finds in what a crash after so many calls leaves.

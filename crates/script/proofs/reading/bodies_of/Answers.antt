@@ -12,12 +12,12 @@ returns-then-not-is_process-clause-only g c = λ ps a.
     let n = c.args.names.now in
     absurd (no_root n.sigma.alphabet (table n.known) (entries n.entries) c.args.root.now ps (sym c.is_process.ensures ∙ c.if-not-is_process.true) a)
 
-pub invariant_of-gathered : goal.invariant_of-gathered
-invariant_of-gathered g c =
+pub invariant_of-script : goal.invariant_of-script
+invariant_of-script g c =
     let n = c.args.names.now in
-    record { lie = sets_lie n.sigma.alphabet (table n.known) (entries n.entries) (said c.in_ok-found.found.sets) c.in_ok-found.ensures.reached }
+    record { lie = sets_lie n.sigma.alphabet (table n.known) (entries n.entries) (said c.in_ok-sets.sets) c.in_ok-sets.ensures.reached }
 
 pub returns-clause-only : goal.returns-clause-only
 returns-clause-only g c = λ ps a.
     let n = c.args.names.now in
-    c.gathered.ensures.only ps (bodies_with n.sigma.alphabet (table n.known) (entries n.entries) c.args.root.now (events_by (said c.in_ok-found.found.sets)) ps c.in_ok-found.ensures.stand a)
+    c.gathered.ensures.only ps (bodies_with n.sigma.alphabet (table n.known) (entries n.entries) c.args.root.now (events_by (said c.in_ok-sets.sets)) ps c.in_ok-sets.ensures.stand a)

@@ -1,23 +1,23 @@
-use Rattle.std.proofs.Common.{sym, ap, ◌∙◌}
+use Rattle.std.proofs.Common.{sym, ◌∙◌}
 use Rattle.values.specs.Tables.{table}
 use Rattle.declarations.specs.View.{entries}
 use Rattle.script.specs.Tables.{said}
-use Rattle.script.proofs.Learning.{settled_known, settled_fault, learns_more, learns_same, learns_same_as}
+use Rattle.script.proofs.Learning.{settled_known, settled_fault, learns_more, learns_same}
 use Rattle.script.proofs.standing.learned.Goals as goal
 
 pub returns-then-has : goal.returns-then-has
 returns-then-has g c =
     let n = c.args.names.now in
-    learns_same n.sigma.alphabet (table n.known) (entries n.entries) (said c.args.found.sets) c.args.name.now
-    (settled_known n.sigma.alphabet (table n.known) (entries n.entries) (said c.args.found.sets) c.args.name.now c.requires (sym c.has.ensures ∙ c.if-has.true))
+    learns_same n.sigma.alphabet (table n.known) (entries n.entries) (said c.args.sets) c.args.name.now
+    (settled_known n.sigma.alphabet (table n.known) (entries n.entries) (said c.args.sets) c.args.name.now c.requires (sym c.has.ensures ∙ c.if-has.true))
 
-pub returns-in_ok-with_set-in-Ok : goal.returns-in_ok-with_set-in-Ok
-returns-in_ok-with_set-in-Ok g c =
+pub returns-in_ok-with-in-Ok : goal.returns-in_ok-with-in-Ok
+returns-in_ok-with-in-Ok g c =
     let n = c.args.names.now in
-    learns_more n.sigma.alphabet (table n.known) (entries n.entries) (said c.args.found.sets) (said c.in_ok-with_set-in-Ok.field-0.sets) c.args.name.now c.in-Ok.set c.requires (sym c.has.ensures ∙ c.if-has.false) c.in-Ok.ensures c.in_ok-with_set-in-Ok.ensures
+    learns_more n.sigma.alphabet (table n.known) (entries n.entries) (said c.args.sets) (said c.in_ok-with-in-Ok.field-0) c.args.name.now c.in-Ok.set c.requires (sym c.has.ensures ∙ c.if-has.false) c.in-Ok.ensures c.in_ok-with-in-Ok.ensures
 
-pub returns-in_ok-noted-in_default : goal.returns-in_ok-noted-in_default
-returns-in_ok-noted-in_default g c =
+pub returns-in_default : goal.returns-in_default
+returns-in_default g c =
     let n = c.args.names.now in
-    learns_same_as n.sigma.alphabet (table n.known) (entries n.entries) (said c.args.found.sets) (said c.in_ok-noted-in_default.field-0.sets) c.args.name.now (ap said c.in_ok-noted-in_default.ensures)
-    (settled_fault n.sigma.alphabet (table n.known) (entries n.entries) c.in-Err.error.kind (said c.args.found.sets) c.args.name.now c.in_default.not-Memory c.in-Err.ensures)
+    learns_same n.sigma.alphabet (table n.known) (entries n.entries) (said c.args.sets) c.args.name.now
+    (settled_fault n.sigma.alphabet (table n.known) (entries n.entries) c.in-Err.error.kind (said c.args.sets) c.args.name.now c.in_default.not-Memory c.in-Err.ensures)

@@ -11,18 +11,18 @@ use Rattle.script.proofs.standing.learned_all.Goals.{in-Some+in_ok-next+then-any
 pub learned-requires : goal.learned-requires
 learned-requires g c =
     let n = c.args.names.now in
-    still_reached n.sigma.alphabet (table n.known) (entries n.entries) (said c.args.found.sets) (said c.loop-place.found.sets) c.loop-place.any c.loop-place.place c.requires c.loop-place.invariant
+    still_reached n.sigma.alphabet (table n.known) (entries n.entries) (said c.args.sets) (said c.loop-place.sets) c.loop-place.any c.loop-place.place c.requires c.loop-place.invariant
 
 pub loop-place-preserved : goal.loop-place-preserved
 loop-place-preserved g c =
     let n = c.args.names.now in
     elim c.match-name_at.branch [
-      | in-Some+in_ok-next+then-any w ↦ first_step n.sigma.alphabet (table n.known) (entries n.entries) (said c.args.found.sets) (said c.loop-place.found.sets) (said w.in_ok-next.next.sets) (said c.match-name_at.found.sets) c.loop-place.any w.in_ok-next.new c.match-name_at.any c.loop-place.place w.in-Some.name.now c.loop-place.invariant w.in-Some.ensures w.in_ok-next.ensures (ap (λ f. said f.sets) w.found-is) (w.any-is ∙ w.if-any.true ∙ sym (ap (λ b. b || w.in_ok-next.new) w.if-any.true))
-      | in-Some+in_ok-next+else-any w ↦ first_step n.sigma.alphabet (table n.known) (entries n.entries) (said c.args.found.sets) (said c.loop-place.found.sets) (said w.in_ok-next.next.sets) (said c.match-name_at.found.sets) c.loop-place.any w.in_ok-next.new c.match-name_at.any c.loop-place.place w.in-Some.name.now c.loop-place.invariant w.in-Some.ensures w.in_ok-next.ensures (ap (λ f. said f.sets) w.found-is) (w.any-is ∙ sym (ap (λ b. b || w.in_ok-next.new) w.if-any.false))
+      | in-Some+in_ok-next+then-any w ↦ first_step n.sigma.alphabet (table n.known) (entries n.entries) (said c.args.sets) (said c.loop-place.sets) (said w.in_ok-next.next) (said c.match-name_at.sets) c.loop-place.any w.in_ok-next.new c.match-name_at.any c.loop-place.place w.in-Some.name.now c.loop-place.invariant w.in-Some.ensures w.in_ok-next.ensures (ap said w.sets-is) (w.any-is ∙ w.if-any.true ∙ sym (ap (λ b. b || w.in_ok-next.new) w.if-any.true))
+      | in-Some+in_ok-next+else-any w ↦ first_step n.sigma.alphabet (table n.known) (entries n.entries) (said c.args.sets) (said c.loop-place.sets) (said w.in_ok-next.next) (said c.match-name_at.sets) c.loop-place.any w.in_ok-next.new c.match-name_at.any c.loop-place.place w.in-Some.name.now c.loop-place.invariant w.in-Some.ensures w.in_ok-next.ensures (ap said w.sets-is) (w.any-is ∙ sym (ap (λ b. b || w.in_ok-next.new) w.if-any.false))
       | in_default w ↦ absurd (there (entries n.entries) c.loop-place.place (let lt : c.loop-place.place < length (entries n.entries) = omega (arith, c.loop-place-test.true, c.len-place-end.ensures) in lt) (sym (ap (option_map (λ n. n.now)) w.in_default.is) ∙ c.name_at.ensures))
     ]
 
 pub returns : goal.returns
 returns g c =
     let end : c.loop-place.place ≡ length (entries c.args.names.now.entries) = omega (arith, c.loop-place-test.false, c.loop-place.auto.place-end, c.len-place-end.ensures) in
-    subst (λ i. LearnsFirstOf c.args.names.now (said c.args.found.sets) (said c.loop-place.found.sets) c.loop-place.any i) end c.loop-place.invariant
+    subst (λ i. LearnsFirstOf c.args.names.now (said c.args.sets) (said c.loop-place.sets) c.loop-place.any i) end c.loop-place.invariant

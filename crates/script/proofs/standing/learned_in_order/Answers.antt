@@ -11,6 +11,6 @@ pub loop-place-preserved : goal.loop-place-preserved
 loop-place-preserved g c =
     let n = c.args.names.now in
     elim c.match-name_at.branch [
-      | in-Some+in_ok-next w ↦ subst (λ t. AreReachedBy n (said t.sets)) (sym w.found-is) (reached_then n.sigma.alphabet (table n.known) (entries n.entries) (said c.loop-place.found.sets) (said w.in_ok-next.next.sets) w.in_ok-next._new w.in-Some.name.now c.loop-place.invariant w.in_ok-next.ensures)
-      | in_default w ↦ subst (λ t. AreReachedBy n (said t.sets)) (sym w.found-is) c.loop-place.invariant
+      | in-Some+in_ok-next w ↦ subst (λ t. AreReachedBy n (said t)) (sym w.sets-is) (reached_then n.sigma.alphabet (table n.known) (entries n.entries) (said c.loop-place.sets) (said w.in_ok-next.next) w.in_ok-next._new w.in-Some.name.now c.loop-place.invariant w.in_ok-next.ensures)
+      | in_default w ↦ subst (λ t. AreReachedBy n (said t)) (sym w.sets-is) c.loop-place.invariant
     ]

@@ -4,5 +4,5 @@ use Rattle.script.specs.Tables.{said}
 use Rattle.script.proofs.NamedSets.{sets_lie}
 use Rattle.script.proofs.standing.set_of_body.Goals as goal
 
-pub invariant_of-set_of_events : goal.invariant_of-set_of_events
-invariant_of-set_of_events g c = record { lie = sets_lie c.args.names.now.sigma.alphabet (table c.args.names.now.known) (entries c.args.names.now.entries) (said c.args.found.now.sets) c.requires }
+pub invariant_of-script : goal.invariant_of-script
+invariant_of-script g c = record { lie = sets_lie c.args.names.now.sigma.alphabet (table c.args.names.now.known) (entries c.args.names.now.entries) (said c.args.sets.now) c.requires }

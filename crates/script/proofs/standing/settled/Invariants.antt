@@ -5,7 +5,7 @@ use Rattle.script.specs.View.{AreReachedBy}
 use Rattle.script.proofs.standing.settled.Given as goal
 
 abbrev pub invariant-loop-next : goal.invariant-loop-next
-invariant-loop-next g l = AreReachedBy l.names (said l.found.sets)
+invariant-loop-next g l = AreReachedBy l.names (said l.sets)
 
 abbrev pub decreases-loop-next : goal.decreases-loop-next
-decreases-loop-next g l = lacking (entries l.names.entries) (said l.found.sets)
+decreases-loop-next g l = lacking (entries l.names.entries) (said l.sets)

@@ -6,5 +6,5 @@ use Rattle.script.proofs.script.ScriptFacts.set.Goals as goal
 
 pub returns : goal.returns
 returns g c =
-    stored c.args.self.now.names.now.sigma.alphabet (said c.args.self.now.found.now.sets) c.args.name.now c.copied.result
+    stored c.args.self.now.names.now.sigma.alphabet (said c.args.self.now.sets.now) c.args.name.now c.copied.result
     (c.copied.ensures ∙ sym (copied c.get.result) ∙ c.get.ensures) c.args.self.now.lie

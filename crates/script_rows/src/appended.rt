@@ -1,6 +1,6 @@
-// The expected texts are worked by hand from the rules of the printed form.
-use outline::read;
-use printing::print;
+//! Printed forms behind what stands there already. The expected texts are worked by hand from the rules of the printed form.
+
+use script::{print, read};
 use std::alloc::Global;
 use std::test::Fail;
 

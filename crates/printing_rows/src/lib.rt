@@ -1,5 +1,0 @@
-//! Tests of the printed form of specifications.
-#![tactic(auto)]
-
-#[cfg(test)]
-mod tests;
