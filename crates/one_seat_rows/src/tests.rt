@@ -1,6 +1,4 @@
 // The replies are worked by hand from the meaning of `P = a -> b -> P` and from the line protocol.
-ghost use Rattle.std.specs.Prelude.{◌≤◌, IfOk, length};
-
 use disk::Disk;
 use memory_disks::{Afterwards, FaultDisk};
 use one_seat::{OneSeat, Watch, seat_in_memory};
@@ -9,24 +7,9 @@ use session::Session;
 use std::alloc::Global;
 use std::sync::Wait;
 use std::test::Fail;
-use term::Spec;
 use wire::{End, Plain, WireError};
 
 const SCRIPT: &str = "channel a, b\nP = a -> b -> P\n";
-
-fn spec_of(alloc: Global) -> Result<Spec<Global>, Fail> {
-    Ok(read(alloc, SCRIPT.as_bytes(), b"P")?)
-}
-
-fn script() -> Result<&'static [u8], Fail>
-    ensures { IfOk result (λ text. length text.now ≤ 65536) }
-{
-    let script = SCRIPT.as_bytes();
-    if script.len() > 65_536 {
-        return Err(Fail::new("the script is short"));
-    }
-    Ok(script)
-}
 
 // What a conversation came to: how it ended, what was written, and which faults were noted.
 #[derive(Drop)]
@@ -58,7 +41,9 @@ fn talk<T: Wait, D: Disk + Drop>(
 #[test]
 fn a_conversation_and_the_next(rt: HostRuntime) -> Result<(), Fail> {
     let alloc = rt.alloc();
-    let Ok(mut seat) = seat_in_memory(alloc, script()?, b"P", spec_of(alloc)?) else {
+    let script = SCRIPT.as_bytes();
+    let spec = read(alloc, script, b"P")?;
+    let Ok(mut seat) = seat_in_memory(alloc, script, b"P", spec) else {
         return Err(Fail::new("the seat is there"));
     };
     let first = talk(&rt, alloc, &mut seat, "N\nE a\nR b\nS\nE b");
@@ -83,7 +68,7 @@ fn a_disk_that_fails(rt: HostRuntime) -> Result<(), Fail> {
     let alloc = rt.alloc();
     // a beginning is three calls
     let disk = FaultDisk::new(Vec::new(alloc), 4, Afterwards::GoOn);
-    let Ok(session) = Session::begin(alloc, disk, script()?, b"P", spec_of(alloc)?) else {
+    let Ok(session) = Session::create(alloc, disk, SCRIPT.as_bytes(), b"P") else {
         return Err(Fail::new("a session begins"));
     };
     let Ok(mut seat) = OneSeat::join(session) else {
