@@ -257,7 +257,7 @@ def own_answer(program, case):
         return done.stdout + done.stderr
 
 
-def reason(program, case, own, wanted):
+def reason(program, case):
     """Why the two answers may differ, as docs/DECISIONS.md says; None where they may not."""
     text, root = case
     if b"K(n)" in text:
@@ -265,8 +265,6 @@ def reason(program, case, own, wanted):
     channels = own_answer(program, (text + b"ZZ = STOP\n", "ZZ"))
     if b"{}" in channels:
         return "a channel without events, before which the program looks at no field"
-    if own.startswith(b"p.csp:") and wanted.startswith(b"p.csp:"):
-        return "both refuse the script, for another of its faults"
     return None
 
 

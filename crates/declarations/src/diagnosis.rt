@@ -19,7 +19,7 @@ use alphabet::Alphabet;
 use std::alloc::{AllocError, Allocator};
 use syntax::{Form, Tree};
 use tokens::{ScriptError, ScriptErrorKind};
-use values::{Known, Value, Worth};
+use values::{Input, Known, Value, Worth, is_value, stands_for};
 
 /// What was found of a definition.
 #[derive(Clone, Copy)]
@@ -36,6 +36,8 @@ struct Sight<'s, 'a, A: Allocator> {
     alloc: A,
     entries: &'s Entries<'a, A>,
     known: &'s Known<A>,
+    /// The inputs before the phrase that is looked into.
+    inputs: &'s [Input<A>],
     /// Whether events can be spoken of, which they can't in the sets of a channel's fields.
     has_events: bool,
     /// What was found of the name at each place.
@@ -68,6 +70,19 @@ fn kind_of_worth<A: Allocator>(worth: &Worth<A>) -> Kind {
             }
         }
     }
+}
+
+/// Whether the name stands for a value, which hides a channel of its name.
+fn hides<A: Allocator>(sight: &Sight<'_, '_, A>, name: &[u8]) -> bool {
+    is_value(sight.known, sight.inputs, name)
+}
+
+/// What a phrase behind the inputs stands for.
+fn worth_here<A: Allocator + Copy>(
+    sight: &Sight<'_, '_, A>,
+    phrase: &Tree<A>,
+) -> Result<Worth<A>, ScriptError> {
+    stands_for(&sight.alloc, sight.known, sight.inputs, phrase)
 }
 
 /// What was found of the definition with this name, which is used on this line.
@@ -124,6 +139,9 @@ fn kind_of_event<A: Allocator + Copy>(
     };
     if fields.is_empty() {
         return kind_of_name(sight, name, line);
+    }
+    if hides(sight, name) {
+        return Err(fault(line, ScriptErrorKind::Expected));
     }
     match sight.entries.get(name) {
         Some(entry) => match &entry.meaning {
@@ -197,6 +215,9 @@ fn field_sets<'a, A: Allocator + Copy>(
     let Part::Name(name) = part_of(name) else {
         return Err(fault(line, ScriptErrorKind::Expected));
     };
+    if hides(sight, name) {
+        return Err(fault(line, ScriptErrorKind::Expected));
+    }
     match sight.entries.get(name) {
         Some(entry) => match &entry.meaning {
             Meaning::Channel(sets) => Ok(*sets),
@@ -215,7 +236,7 @@ fn is_in<A: Allocator + Copy>(
     let Some(set) = set else {
         return Ok(false);
     };
-    let Worth::One(value) = worth_alone(sight.alloc, sight.known, value)? else {
+    let Worth::One(value) = worth_here(sight, value)? else {
         return Ok(false);
     };
     match worth_alone(sight.alloc, sight.known, set)? {
@@ -256,7 +277,7 @@ fn told_of<A: Allocator + Copy>(
             return Ok(Told::Nothing);
         }
     }
-    match worth_alone(sight.alloc, sight.known, phrase) {
+    match worth_here(sight, phrase) {
         Ok(worth) => match kind_of_worth(&worth) {
             Kind::Nothing => Ok(Told::Nothing),
             kind => Ok(Told::Is(kind)),
@@ -510,20 +531,21 @@ fn nothing_found<'s, 'a, A: Allocator + Copy>(
         alloc,
         entries,
         known,
+        inputs: &[],
         has_events,
         found,
     })
 }
 
 /// What is told of the phrase, which is to be a set of values for a channel's field and which evaluation refuses.
-fn field_fault<'a, A: Allocator + Copy>(
+fn field_fault<'s, 'a, A: Allocator + Copy>(
     alloc: A,
-    entries: &Entries<'a, A>,
-    known: &Known<A>,
+    entries: &'s Entries<'a, A>,
+    known: &'s Known<A>,
     phrase: &Tree<A>,
 ) -> Result<Kind, ScriptError> {
     let sight = nothing_found(alloc, entries, known, false)?;
-    let places = order_behind(alloc, entries, phrase)?;
+    let places = order_behind(alloc, entries, &[], phrase)?;
     let sight = looked_into(sight, &places);
     kind_of(&sight, phrase, Wanted::Values, phrase.line())
 }
@@ -645,4 +667,96 @@ fn kind_by_definitions<'a, A: Allocator + Copy>(
     let places = order_to(alloc, entries, name)?;
     let sight = looked_into(sight, &places);
     kind_of_name(&sight, name, line)
+}
+
+/// What can be seen behind these inputs, with what is found of the definitions that the phrase needs.
+fn seen_behind<'s, 'a, A: Allocator + Copy>(
+    alloc: A,
+    entries: &'s Entries<'a, A>,
+    known: &'s Known<A>,
+    inputs: &'s [Input<A>],
+    phrase: &Tree<A>,
+) -> Result<Sight<'s, 'a, A>, AllocError> {
+    let sight = nothing_found(alloc, entries, known, true)?;
+    let places = order_behind(alloc, entries, inputs, phrase)?;
+    let mut sight = looked_into(sight, &places);
+    sight.inputs = inputs;
+    Ok(sight)
+}
+
+/// What is told of a phrase behind these inputs that isn't what is wanted: a form that can't be that, before its parts are
+/// looked into; else the first fault in its parts and in the definitions of the names in them, from the left.
+///
+/// Costs about what it takes to find what the names stand for that it needs. `Memory` is told for want of it.
+pub fn fault_of_phrase<'a, A: Allocator + Copy>(
+    alloc: A,
+    entries: &Entries<'a, A>,
+    known: &Known<A>,
+    inputs: &[Input<A>],
+    phrase: &Tree<A>,
+    wanted: Wanted,
+) -> ScriptError {
+    match kind_behind_inputs(alloc, entries, known, inputs, phrase, wanted) {
+        Ok(_) => fault(phrase.line(), ScriptErrorKind::Expected),
+        Err(error) => error,
+    }
+}
+
+/// What the phrase behind these inputs is, of which this is wanted.
+fn kind_behind_inputs<'a, A: Allocator + Copy>(
+    alloc: A,
+    entries: &Entries<'a, A>,
+    known: &Known<A>,
+    inputs: &[Input<A>],
+    phrase: &Tree<A>,
+    wanted: Wanted,
+) -> Result<Kind, ScriptError> {
+    let sight = seen_behind(alloc, entries, known, inputs, phrase)?;
+    kind_of(&sight, phrase, wanted, phrase.line())
+}
+
+/// What is told of an event phrase behind these inputs that gives no channel and first values of its fields.
+pub fn fault_of_beginning<'a, A: Allocator + Copy>(
+    alloc: A,
+    entries: &Entries<'a, A>,
+    known: &Known<A>,
+    inputs: &[Input<A>],
+    phrase: &Tree<A>,
+) -> ScriptError {
+    match beginning_behind_inputs(alloc, entries, known, inputs, phrase) {
+        Ok(()) => fault(phrase.line(), ScriptErrorKind::Expected),
+        Err(error) => error,
+    }
+}
+
+/// Looks into an event phrase behind these inputs.
+fn beginning_behind_inputs<'a, A: Allocator + Copy>(
+    alloc: A,
+    entries: &Entries<'a, A>,
+    known: &Known<A>,
+    inputs: &[Input<A>],
+    phrase: &Tree<A>,
+) -> Result<(), ScriptError> {
+    let sight = seen_behind(alloc, entries, known, inputs, phrase)?;
+    event_in_set(&sight, phrase, false)
+}
+
+/// What is told of an event phrase behind these inputs whose name is no channel's: the definition of that name isn't looked
+/// into.
+pub fn fault_of_channel<'a, A: Allocator>(
+    entries: &Entries<'a, A>,
+    known: &Known<A>,
+    inputs: &[Input<A>],
+    phrase: &Tree<A>,
+) -> ScriptError {
+    let line = phrase.line();
+    match part_of(phrase) {
+        Part::Node(Form::Event, [first, ..]) => match part_of(first) {
+            Part::Name(name) if entries.get(name).is_none() && !is_value(known, inputs, name) => {
+                undeclared(name, line)
+            }
+            _ => fault(line, ScriptErrorKind::Expected),
+        },
+        _ => fault(line, ScriptErrorKind::Expected),
+    }
 }

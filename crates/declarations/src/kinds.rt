@@ -20,13 +20,16 @@ pub(crate) enum Kind {
 
 /// What is wanted of a phrase.
 #[derive(Clone, Copy, Debug, PartialEq, Eq)]
-pub(crate) enum Wanted {
+pub enum Wanted {
     Anything,
+    /// A number.
     Number,
     /// A number or a constant.
     Value,
     /// A set of values.
     Values,
+    /// A set of events.
+    Events,
     /// A set of values or of events.
     Set,
     /// A value or an event, in a set.
@@ -40,6 +43,7 @@ pub(crate) fn takes(wanted: Wanted, kind: Kind) -> bool {
         Wanted::Number => matches!(kind, Kind::Number),
         Wanted::Value => matches!(kind, Kind::Number | Kind::Constant),
         Wanted::Values => matches!(kind, Kind::Values | Kind::Nothing),
+        Wanted::Events => matches!(kind, Kind::Events | Kind::Nothing),
         Wanted::Set => matches!(kind, Kind::Values | Kind::Events | Kind::Nothing),
         Wanted::Member => matches!(kind, Kind::Number | Kind::Constant | Kind::Event),
     }
@@ -78,7 +82,7 @@ pub(crate) fn takes_form(wanted: Wanted, form: Form) -> bool {
     match wanted {
         Wanted::Anything => true,
         Wanted::Number | Wanted::Value | Wanted::Member => is_number_form(form),
-        Wanted::Values | Wanted::Set => is_set_form(form),
+        Wanted::Values | Wanted::Events | Wanted::Set => is_set_form(form),
     }
 }
 

@@ -17,8 +17,9 @@ mod standing;
 mod told;
 
 pub use declared::{Declared, declare};
-pub use diagnosis::fault_of_name;
+pub use diagnosis::{fault_of_beginning, fault_of_channel, fault_of_name, fault_of_phrase};
 pub use entries::{Entries, Entry, Meaning};
+pub use kinds::Wanted;
 pub use law::trees_have_names;
 pub use named::has_names;
 pub use naming::distinct_entries;

@@ -4,6 +4,7 @@
 use crate::entries::{Entries, Meaning};
 use std::alloc::{AllocError, Allocator};
 use syntax::Tree;
+use values::Input;
 
 /// What is still to be done, by the places of names.
 #[derive(Clone, Copy)]
@@ -101,13 +102,33 @@ pub fn places_by_use<'a, A: Allocator + Copy>(
     ordered(alloc, entries, stack)
 }
 
-/// The places of the names that the phrase uses and that those need, in this order.
+/// Whether an input has the name at the place.
+fn is_hidden<'a, A: Allocator>(
+    entries: &Entries<'a, A>,
+    inputs: &[Input<A>],
+    place: usize,
+) -> bool {
+    match entries.name_at(place) {
+        Some(name) => inputs.iter().any(|input| input.name.as_slice() == name),
+        None => false,
+    }
+}
+
+/// The places of the names that the phrase uses behind these inputs and that those need, in this order.
 pub(crate) fn order_behind<'a, A: Allocator + Copy>(
     alloc: A,
     entries: &Entries<'a, A>,
+    inputs: &[Input<A>],
     phrase: &Tree<A>,
 ) -> Result<Vec<usize, A>, AllocError> {
-    let stack = with_uses(entries, phrase, Vec::new(alloc))?;
+    let mut stack = Vec::new(alloc);
+    for turn in &with_uses(entries, phrase, Vec::new(alloc))? {
+        if let Turn::Meet(place) = turn {
+            if !is_hidden(entries, inputs, *place) {
+                stack.push(*turn)?;
+            }
+        }
+    }
     ordered(alloc, entries, stack)
 }
 

@@ -99,6 +99,22 @@ fails_none kinds.TooLarge o e = e
 fails_none kinds.Unsupported o e = e
 fails_none kinds.NoSuchProcess o e = e
 
+-- a fault that is told for another one, which isn't want of memory
+pub fails_too : {Y : Type 0} (k l : ScriptErrorKind) (o : Option Y) → Fails k o → (k ≡ kinds.Memory → l ≡ kinds.Memory) → Fails l o
+fails_too kinds.Memory l o h m = subst (λ x. Fails x o) (sym (m refl)) tt
+fails_too kinds.BadByte l o h m = fails_none l o h
+fails_too kinds.BadToken l o h m = fails_none l o h
+fails_too kinds.Expected l o h m = fails_none l o h
+fails_too kinds.UnknownName l o h m = fails_none l o h
+fails_too kinds.Redeclared l o h m = fails_none l o h
+fails_too kinds.WrongFields l o h m = fails_none l o h
+fails_too kinds.OutOfRange l o h m = fails_none l o h
+fails_too kinds.TooManyEvents l o h m = fails_none l o h
+fails_too kinds.TooDeep l o h m = fails_none l o h
+fails_too kinds.TooLarge l o h m = fails_none l o h
+fails_too kinds.Unsupported l o h m = fails_none l o h
+fails_too kinds.NoSuchProcess l o h m = fails_none l o h
+
 -- ---- slices
 
 pub no_items : {X : Type 0} (xs : List X) → length xs < 1 → xs ≡ []

@@ -10,9 +10,9 @@ ghost use Rattle.phrases.specs.Events.{beginning as beginning_in, field_value, w
 ghost use Rattle.phrases.specs.Shapes.{plain_field};
 ghost use Rattle.phrases.specs.View.{beginning as beginning_of, listed};
 
-use crate::facts::{Facts, Set};
+use crate::facts::{Facts, Set, Wanted};
 use crate::forms::{FieldPhrase, event_parts, field, in_brackets};
-use crate::place::{Place, fault, worth};
+use crate::place::{Place, fault, told, worth};
 use crate::row::Row;
 use std::alloc::Allocator;
 use syntax::Tree;
@@ -61,8 +61,7 @@ fn given<A: Allocator + Copy, F: Facts<A>>(
     }
 }
 
-/// The values before, and behind them those that the fields give, each of which is one of its field's. A fault has the
-/// line of its field, or of the event where there are too many of them.
+/// The values before, and behind them those that the fields give, each of which is one of its field's.
 #[tactic(auto, unfolding(crate::specs::EventForms::within_by), using(crate::proofs::Places::not_within))]
 fn more_values<A: Allocator + Copy, F: Facts<A>>(
     alloc: A,
@@ -91,7 +90,7 @@ fn more_values<A: Allocator + Copy, F: Facts<A>>(
     }
 }
 
-/// The values that the fields give, each of which is one of its field's; `WrongFields` where there are too many.
+/// The values that the fields give, each of which is one of its field's.
 #[tactic(auto, using(crate::proofs::EventLaws::too_many, crate::proofs::Places::from_none))]
 fn values_of<A: Allocator + Copy, F: Facts<A>>(
     alloc: A,
@@ -108,10 +107,7 @@ fn values_of<A: Allocator + Copy, F: Facts<A>>(
     more_values(alloc, place, fields, sets, Vec::new(alloc), line)
 }
 
-/// The channel and the first values that an event phrase without inputs gives.
-///
-/// The fault has the line of the phrase that is at fault: of the event where its name is no channel's (as `Facts::fault`
-/// says it) or it has too many fields (`WrongFields`), of a field whose value is none of its set (`OutOfRange`).
+/// The channel and the first values that an event phrase without inputs gives. Its fault isn't the one that is told.
 pub(crate) fn beginning<A: Allocator + Copy, F: Facts<A>>(
     alloc: A,
     place: &Place<'_, A, F>,
@@ -122,7 +118,7 @@ pub(crate) fn beginning<A: Allocator + Copy, F: Facts<A>>(
     match event_parts(tree) {
         None => Err(fault(tree.line(), ScriptErrorKind::Expected)),
         Some((channel, fields)) => match place.fields(channel) {
-            None => Err(place.facts.fault(channel, tree.line())),
+            None => Err(fault(tree.line(), ScriptErrorKind::Expected)),
             Some(sets) => {
                 let values = values_of(alloc, place, fields, sets, tree.line())?;
                 Ok(Row {
@@ -131,6 +127,22 @@ pub(crate) fn beginning<A: Allocator + Copy, F: Facts<A>>(
                 })
             }
         },
+    }
+}
+
+/// The same, and the fault where it gives none: of the event where its name is no channel's, one of its fields is an input or
+/// it has too many (`WrongFields`), and of a field whose value is none of its set (`OutOfRange`).
+#[tactic(auto, using(crate::proofs::Places::fails_too))]
+pub(crate) fn wanted_beginning<A: Allocator + Copy, F: Facts<A>>(
+    alloc: A,
+    place: &Place<'_, A, F>,
+    tree: &Tree<A>,
+) -> Result<Row<A>, ScriptError>
+    ensures { Gives (λ r. beginning_of r) result (beginning_in (F.scope place.now.facts.now).channels (within (F.scope place.now.facts.now) (map input place.now.inputs.items)).known (shape tree.now)) }
+{
+    match beginning(alloc, place, tree) {
+        Ok(row) => Ok(row),
+        Err(error) => Err(told(place.facts, &place.inputs, tree, Wanted::Beginning, error)),
     }
 }
 
@@ -144,7 +156,7 @@ fn unbracketed<A: Allocator>(tree: &Tree<A>) -> &Tree<A>
     }
 }
 
-/// The event that a phrase without inputs gives: it has all its fields, or the fault is `WrongFields`.
+/// The event that a phrase without inputs gives, with all its fields. Its fault isn't the one that is told.
 pub(crate) fn whole_event<A: Allocator + Copy, F: Facts<A>>(
     alloc: A,
     place: &Place<'_, A, F>,
@@ -156,7 +168,7 @@ pub(crate) fn whole_event<A: Allocator + Copy, F: Facts<A>>(
     match event_parts(inner) {
         None => Err(fault(tree.line(), ScriptErrorKind::Expected)),
         Some((channel, fields)) => match place.fields(channel) {
-            None => Err(place.facts.fault(channel, inner.line())),
+            None => Err(fault(inner.line(), ScriptErrorKind::Expected)),
             Some(sets) => {
                 if fields.len() != sets.len() {
                     return Err(fault(inner.line(), ScriptErrorKind::WrongFields));

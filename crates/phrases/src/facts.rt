@@ -18,10 +18,25 @@ use alphabet::EventSet;
 use std::alloc::Allocator;
 use syntax::Tree;
 use tokens::ScriptError;
-use values::{Known, Value};
+use values::{Input, Known, Value};
 
 /// The values of a field, in order.
 pub type Set<A> = Vec<Value<A>, A>;
+
+/// What is wanted of a phrase.
+#[derive(Clone, Copy, Debug, PartialEq, Eq)]
+pub enum Wanted {
+    /// A number or a constant.
+    Value,
+    /// A set of numbers and constants.
+    Values,
+    /// A set of events.
+    Events,
+    /// A channel and its first values, without inputs.
+    Beginning,
+    /// A channel, whatever its fields.
+    Channel,
+}
 
 /// What is known of a script's names where no input stands before a phrase.
 pub trait Facts<A: Allocator>: Drop {
@@ -64,6 +79,9 @@ pub trait Facts<A: Allocator>: Drop {
     /// The line of the name of a definition.
     fn line(&self, name: &[u8]) -> u32;
 
-    /// What is wrong with a name that is of another kind than is wanted on this line.
+    /// What is wrong with a name on this line that is no process.
     fn fault(&self, name: &[u8], line: u32) -> ScriptError;
+
+    /// What is wrong with a phrase behind these inputs that isn't what is wanted.
+    fn phrase_fault(&self, inputs: &[Input<A>], phrase: &Tree<A>, wanted: Wanted) -> ScriptError;
 }

@@ -21,7 +21,7 @@ mod sets;
 mod simple;
 mod work;
 
-pub use facts::{Facts, Set};
+pub use facts::{Facts, Set, Wanted};
 pub use gathering::gathered;
 pub use law::{one_specification, phrases_are_made};
 pub use row::Row;

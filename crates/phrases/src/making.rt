@@ -22,7 +22,7 @@ use crate::joining::{
 use crate::place::{Place, fault};
 use crate::prefix::{Prefix, inputs_behind};
 use crate::row::Row;
-use crate::sets::{event_set, two_sets};
+use crate::sets::{two_sets, wanted_events};
 use crate::simple::{called, skip, stop};
 use crate::work::Work;
 use std::alloc::Allocator;
@@ -96,7 +96,7 @@ fn prefixed<'a, A: Allocator + Copy, F: Facts<A>>(
     match event_parts(event) {
         None => Err(fault(event.line(), ScriptErrorKind::Expected)),
         Some((channel, fields)) => match place.fields(channel) {
-            None => Err(place.facts.fault(channel, event.line())),
+            None => Err(place.no_channel(event)),
             Some(sets) => {
                 if fields.len() != sets.len() {
                     return Err(fault(event.line(), ScriptErrorKind::WrongFields));
@@ -145,7 +145,7 @@ fn sharing_phrases<'a, A: Allocator + Copy, F: Facts<A>>(
     ensures { Gives (λ x. (proc x.0, count x.1)) result (make_phrase (sharing (shape first.now) (shape set.now) (shape second.now)) (within (F.scope place.now.facts.now) (map input place.now.inputs.items)) (count work)) }
 {
     let (first, work) = process(alloc, place, first, work)?;
-    let set = event_set(alloc, place, set)?;
+    let set = wanted_events(alloc, place, set)?;
     let (second, work) = process(alloc, place, second, work)?;
     shared(alloc, set, first, second, work, place.line)
 }
@@ -180,7 +180,7 @@ fn hiding_phrase<'a, A: Allocator + Copy, F: Facts<A>>(
     ensures { Gives (λ x. (proc x.0, count x.1)) result (make_phrase (hiding (shape tree.now) (shape set.now)) (within (F.scope place.now.facts.now) (map input place.now.inputs.items)) (count work)) }
 {
     let (term, work) = process(alloc, place, tree, work)?;
-    let set = event_set(alloc, place, set)?;
+    let set = wanted_events(alloc, place, set)?;
     hidden(alloc, set, term, work, place.line)
 }
 
@@ -248,7 +248,7 @@ pub(crate) fn process<'a, A: Allocator + Copy, F: Facts<A>>(
     match process_phrase(tree) {
         Some(phrase) => made(alloc, place, phrase, tree.line(), work),
         None => match event_parts(tree) {
-            Some((name, _)) => Err(place.facts.fault(name, tree.line())),
+            Some(_) => Err(place.no_channel(tree)),
             None => Err(fault(tree.line(), misplaced(tree))),
         },
     }

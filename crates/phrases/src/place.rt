@@ -2,6 +2,7 @@
 ghost use Rattle.std.specs.Prelude.{◌≡◌, IfOk, map};
 ghost use Rattle.std.specs.Option.{option_map};
 ghost use Rattle.syntax.specs.View.{shape};
+ghost use Rattle.tokens.specs.declared.error.ScriptErrorKind.TheVariants.{Memory};
 ghost use Rattle.values.specs.Tables.{input, names_value};
 ghost use Rattle.values.specs.View.{Gives, worth as worth_of};
 ghost use Rattle.values.specs.Worths.{worth as worth_in};
@@ -9,7 +10,7 @@ ghost use Rattle.phrases.specs.EventForms.{within};
 ghost use Rattle.phrases.specs.Events.{channel_fields};
 ghost use Rattle.phrases.specs.View.{listed};
 
-use crate::facts::{Facts, Set};
+use crate::facts::{Facts, Set, Wanted};
 use std::alloc::{AllocError, Allocator};
 use syntax::Tree;
 use tokens::{ScriptError, ScriptErrorKind};
@@ -60,6 +61,39 @@ pub(crate) fn worth<A: Allocator + Copy, F: Facts<A>>(
     stands_for(&alloc, facts.known(), inputs, tree)
 }
 
+/// The fault that is told of a phrase behind these inputs which isn't what is wanted for this error; want of memory stays.
+pub(crate) fn told<A: Allocator, F: Facts<A>>(
+    facts: &F,
+    inputs: &[Input<A>],
+    tree: &Tree<A>,
+    wanted: Wanted,
+    error: ScriptError,
+) -> ScriptError
+    ensures { error.kind ≡ Memory → result.kind ≡ Memory }
+{
+    match error.kind {
+        ScriptErrorKind::Memory => error,
+        _ => facts.phrase_fault(inputs, tree, wanted),
+    }
+}
+
+/// What a phrase stands for behind these inputs, where this is wanted of it; the fault where it stands for nothing.
+#[tactic(auto, using(crate::proofs::Places::fails_too))]
+pub(crate) fn wanted_worth<A: Allocator + Copy, F: Facts<A>>(
+    alloc: A,
+    facts: &F,
+    inputs: &[Input<A>],
+    tree: &Tree<A>,
+    wanted: Wanted,
+) -> Result<Worth<A>, ScriptError>
+    ensures { Gives worth_of result (worth_in (within (F.scope facts.now) (map input inputs.now)).known (shape tree.now)) }
+{
+    match worth(alloc, facts, inputs, tree) {
+        Ok(worth) => Ok(worth),
+        Err(error) => Err(told(facts, inputs, tree, wanted, error)),
+    }
+}
+
 impl<'a, A: Allocator + Copy, F: Facts<A>> Place<'a, A, F> {
     /// Whether the name stands for one value, which hides its other uses.
     pub(crate) fn is_value(&self, name: &[u8]) -> bool
@@ -77,5 +111,11 @@ impl<'a, A: Allocator + Copy, F: Facts<A>> Place<'a, A, F> {
             return None;
         }
         self.facts.fields(channel)
+    }
+
+    /// What is told of an event phrase whose name is no channel's.
+    pub(crate) fn no_channel(&self, event: &Tree<A>) -> ScriptError {
+        self.facts
+            .phrase_fault(&self.inputs, event, Wanted::Channel)
     }
 }

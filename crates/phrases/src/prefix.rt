@@ -12,9 +12,9 @@ ghost use Rattle.phrases.specs.Shapes.{plain_field};
 ghost use Rattle.phrases.specs.View.{listed, row};
 
 use crate::beginning::is_one_of;
-use crate::facts::{Facts, Set};
+use crate::facts::{Facts, Set, Wanted};
 use crate::forms::{FieldPhrase, field};
-use crate::place::{Place, copies, fault, worth};
+use crate::place::{Place, copies, fault, wanted_worth};
 use crate::row::{Row, is_equal};
 use std::alloc::{AllocError, Allocator};
 use syntax::Tree;
@@ -71,7 +71,7 @@ fn fits_phrase<A: Allocator + Copy, F: Facts<A>>(
 {
     match phrase {
         FieldPhrase::Given(phrase) => {
-            let found = worth(alloc, facts, &inputs, phrase)?;
+            let found = wanted_worth(alloc, facts, &inputs, phrase, Wanted::Value)?;
             let wanted = the_value(found, phrase.line())?;
             if !is_one_of(&wanted, set) {
                 return Err(fault(phrase.line(), ScriptErrorKind::OutOfRange));
@@ -92,7 +92,7 @@ fn fits_phrase<A: Allocator + Copy, F: Facts<A>>(
             if facts.is_constant(name) {
                 return Err(fault(line, ScriptErrorKind::Unsupported));
             }
-            let found = worth(alloc, facts, &inputs, phrase)?;
+            let found = wanted_worth(alloc, facts, &inputs, phrase, Wanted::Values)?;
             let part = the_set(found, phrase.line())?;
             if has_value(&part, value) {
                 Ok(Some(with_input(alloc, inputs, name, value)?))

@@ -9,7 +9,7 @@ ghost use Rattle.phrases.specs.EventForms.{behind_pairs, within};
 ghost use Rattle.phrases.specs.Events.{pair_of, pairs_from as pairs_from_events, pairs_of as pairs_of_all};
 ghost use Rattle.phrases.specs.View.{beginning as beginning_of, listed, row};
 
-use crate::beginning::beginning;
+use crate::beginning::wanted_beginning;
 use crate::events::number_of;
 use crate::facts::Facts;
 use crate::forms::sides;
@@ -101,8 +101,8 @@ fn pairs_with<A: Allocator + Copy, F: Facts<A>>(
     match sides(tree) {
         None => Err(fault(tree.line(), ScriptErrorKind::Expected)),
         Some((left, right)) => {
-            let left = beginning(alloc, place, left)?;
-            let right = beginning(alloc, place, right)?;
+            let left = wanted_beginning(alloc, place, left)?;
+            let right = wanted_beginning(alloc, place, right)?;
             pairs_from(
                 alloc,
                 place.facts.events(),

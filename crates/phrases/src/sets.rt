@@ -13,9 +13,9 @@ ghost use Rattle.phrases.specs.Shapes.{plain_set};
 
 use crate::beginning::{beginning, whole_event};
 use crate::events::beginning_so;
-use crate::facts::Facts;
+use crate::facts::{Facts, Wanted};
 use crate::forms::{Combination, Extent, SetPhrase, set_phrase};
-use crate::place::{Place, fault};
+use crate::place::{Place, fault, told};
 use alphabet::EventSet;
 use std::alloc::Allocator;
 use syntax::Tree;
@@ -67,9 +67,9 @@ fn several<A: Allocator + Copy, F: Facts<A>>(
     Ok(set)
 }
 
-/// The set of events that a phrase stands for. A fault has the line of the phrase that is at fault.
+/// The set of events that a phrase stands for. Its fault isn't the one that is told.
 #[cycle(sets)]
-pub(crate) fn event_set<A: Allocator + Copy, F: Facts<A>>(
+fn event_set<A: Allocator + Copy, F: Facts<A>>(
     alloc: A,
     place: &Place<'_, A, F>,
     tree: &Tree<A>,
@@ -100,7 +100,7 @@ fn set_of_phrase<A: Allocator + Copy, F: Facts<A>>(
             }
             match place.facts.set(name) {
                 Some(set) => Ok(set),
-                None => Err(place.facts.fault(name, line)),
+                None => Err(fault(line, ScriptErrorKind::UnknownName)),
             }
         }
         SetPhrase::Nothing => Ok(EventSet::empty()),
@@ -114,6 +114,21 @@ fn set_of_phrase<A: Allocator + Copy, F: Facts<A>>(
     }
 }
 
+/// The set of events that a phrase stands for, and the fault where it stands for none.
+#[tactic(auto, using(crate::proofs::Places::fails_too))]
+pub(crate) fn wanted_events<A: Allocator + Copy, F: Facts<A>>(
+    alloc: A,
+    place: &Place<'_, A, F>,
+    tree: &Tree<A>,
+) -> Result<EventSet, ScriptError>
+    ensures { Gives (λ s. s) result (masked (F.scope place.now.facts.now).channels (event_set_in (F.scope place.now.facts.now).channels (within (F.scope place.now.facts.now) (map input place.now.inputs.items)).known (F.scope place.now.facts.now).sets (shape tree.now))) }
+{
+    match event_set(alloc, place, tree) {
+        Ok(set) => Ok(set),
+        Err(error) => Err(told(place.facts, &place.inputs, tree, Wanted::Events, error)),
+    }
+}
+
 /// The sets of events that two phrases stand for.
 pub(crate) fn two_sets<A: Allocator + Copy, F: Facts<A>>(
     alloc: A,
@@ -123,13 +138,12 @@ pub(crate) fn two_sets<A: Allocator + Copy, F: Facts<A>>(
 ) -> Result<(EventSet, EventSet), ScriptError>
     ensures { Gives (λ p. p) result (two_masked (F.scope place.now.facts.now).channels (events_by (within (F.scope place.now.facts.now) (map input place.now.inputs.items)) (shape first.now)) (events_by (within (F.scope place.now.facts.now) (map input place.now.inputs.items)) (shape second.now))) }
 {
-    let first = event_set(alloc, place, first)?;
-    let second = event_set(alloc, place, second)?;
+    let first = wanted_events(alloc, place, first)?;
+    let second = wanted_events(alloc, place, second)?;
     Ok((first, second))
 }
 
-/// The set of events that a phrase stands for where no input stands before it. A fault has the line of the phrase that is at
-/// fault.
+/// The set of events that a phrase stands for where no input stands before it. Its fault isn't the one that is told.
 pub fn set_of_events<A: Allocator + Copy, F: Facts<A>>(
     alloc: A,
     facts: &F,

@@ -38,7 +38,7 @@ fn bodies_of<'a, A: Allocator + Copy>(
     let script = Script {
         names,
         sets: &sets,
-        diagnosis: Some(alloc),
+        alloc,
     };
     gathered(alloc, &script, root)
 }

@@ -7,20 +7,20 @@ ghost use Rattle.script.specs.Tables.{said};
 use crate::names::Names;
 use crate::table::Table;
 use alphabet::EventSet;
-use declarations::fault_of_name;
-use phrases::{Facts, Row, Set};
+use declarations::{fault_of_beginning, fault_of_channel, fault_of_name, fault_of_phrase};
+use phrases::{Facts, Row, Set, Wanted};
 use std::alloc::Allocator;
 use syntax::Tree;
-use tokens::{ScriptError, ScriptErrorKind};
-use values::Known;
+use tokens::ScriptError;
+use values::{Input, Known};
 
 /// What is known of a script's names, with the named sets of events that were found.
 #[derive(Drop)]
 pub(crate) struct Script<'a, A: Allocator> {
     pub(crate) names: &'a Names<'a, A>,
     pub(crate) sets: &'a Table<EventSet, A>,
-    /// Memory to look for what is wrong with a name's definition, where that is wanted.
-    pub(crate) diagnosis: Option<A>,
+    /// Memory to look for what is wrong with a phrase.
+    pub(crate) alloc: A,
     ghost lie: { (name : List ℕ) (set : ℕ) → said sets.now name ≡ Some set → set ≡ set_of names.now.sigma.alphabet (has set) },
 }
 
@@ -73,12 +73,25 @@ impl<'a, A: Allocator + Copy> Facts<A> for Script<'a, A> {
     }
 
     fn fault(&self, name: &[u8], line: u32) -> ScriptError {
-        match self.diagnosis {
-            Some(alloc) => fault_of_name(alloc, &self.names.entries, &self.names.known, name, line),
-            None => ScriptError {
-                line,
-                kind: ScriptErrorKind::UnknownName,
-            },
-        }
+        fault_of_name(
+            self.alloc,
+            &self.names.entries,
+            &self.names.known,
+            name,
+            line,
+        )
+    }
+
+    fn phrase_fault(&self, inputs: &[Input<A>], phrase: &Tree<A>, wanted: Wanted) -> ScriptError {
+        let alloc = self.alloc;
+        let Names { entries, known, .. } = self.names;
+        let wanted = match wanted {
+            Wanted::Value => declarations::Wanted::Value,
+            Wanted::Values => declarations::Wanted::Values,
+            Wanted::Events => declarations::Wanted::Events,
+            Wanted::Beginning => return fault_of_beginning(alloc, entries, known, inputs, phrase),
+            Wanted::Channel => return fault_of_channel(entries, known, inputs, phrase),
+        };
+        fault_of_phrase(alloc, entries, known, inputs, phrase, wanted)
     }
 }

@@ -30,11 +30,7 @@ fn set_of_body<'a, A: Allocator + Copy>(
     requires { AreReachedBy names.now (said sets.now) }
     ensures { Gives (λ s. s) result (masked names.now.sigma.alphabet (event_set names.now.sigma.alphabet (table names.now.known) (events_by (said sets.now)) (shape body.now))) }
 {
-    let script = Script {
-        names,
-        sets,
-        diagnosis: None,
-    };
+    let script = Script { names, sets, alloc };
     set_of_events(alloc, &script, body)
 }
 

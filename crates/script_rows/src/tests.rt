@@ -128,6 +128,30 @@ channel c : {-1..0}$P = STOP$#1: 2 token
 channel c : {0..1000000}$P = STOP$#1: 10 large
 channel c : {0..65535}$P = STOP$#1: 8 events";
 
+/// Names whose own definition is at fault, or that are of another kind than is wanted, where a body uses them.
+const USES: &str = "channel c : {0..3}$N = 1000000 + 1$P = c!N -> STOP#2: 7 range
+channel c : {0..3}$N = M + 1$M = 1 + X$P = c.(2 - N) -> STOP#3: 4 unknown
+channel c : {0..3}$N = M + 1$M = N$P = c.M -> STOP#2: 4 unknown
+channel c : {0..3}$N = 1 + {}$P = c!N -> STOP#2: 3 expected
+channel c : {0..3}$N = c.1$P = c!N -> STOP#3: 3 expected
+channel c : {0..3}$N = {c.1}$P = c!N -> STOP#3: 3 expected
+channel c : {0..3}$P = c!(1 + Int) -> STOP#2: 11 unsupported
+channel c : {0..3}$P = c!({X} + 1) -> STOP#2: 3 expected
+channel c : {0..3}$P = c.(1 +$(N)) -> STOP$N = ($X)#5: 4 unknown
+channel c : {0..3}$P = c?x:N -> STOP$N = M$M = {0..65536}#4: 10 large
+channel c : {0..3}$P = c?x:{0..N} -> STOP$N = M + 1$M = 1 % 0#4: 7 range
+channel c : {0..3}$D = union(D1, D2)$D1 = {0..1}$D2 = Events$P = c?x:D -> STOP#2: 3 expected
+channel c : {0..3}$N = 1 + X$P = STOP \\ {c.N}#2: 4 unknown
+channel c : {0..3}$N = 1 + X$P = STOP \\ {|c.N|}#2: 4 unknown
+channel c : {0..3}$P = STOP [| diff(Events, B) |] STOP$B = {X}#3: 4 unknown
+channel c, d : {0..3}$N = 1 + X$P = STOP [[c.1 <- d.N]]#2: 4 unknown
+channel c, d : {0..3}$P = STOP [[c.X?x <- d]]#2: 3 expected
+channel a$N = 1 + X$P = N -> STOP#3: 3 expected
+channel c : {0..3}$P = c?x -> x -> STOP#2: 3 expected
+channel c : {0..3}$P = c?x -> c?y:{c.x} -> STOP#2: 3 expected
+channel c : {0..3}$N = 1 + X$P = c?N -> c.(N + 3) -> STOP#3: 7 range
+channel c : {0..3}$M = N + 1$N = M$P = c?N -> c.(N + M) -> STOP#3: 4 unknown";
+
 #[test]
 fn script_rows(rt: HostRuntime) -> Result<(), Fail> {
     assert_rows(&rt, rt.alloc(), PRINTED)
@@ -136,4 +160,9 @@ fn script_rows(rt: HostRuntime) -> Result<(), Fail> {
 #[test]
 fn fault_rows(rt: HostRuntime) -> Result<(), Fail> {
     assert_rows(&rt, rt.alloc(), FAULTS)
+}
+
+#[test]
+fn use_rows(rt: HostRuntime) -> Result<(), Fail> {
+    assert_rows(&rt, rt.alloc(), USES)
 }

@@ -266,12 +266,12 @@ process-returns-in-Some g t c =
 pub process-returns-in-Some-event_parts : goal.process-returns-in-Some-event_parts
 process-returns-in-Some-event_parts g t c =
     let s = within (g.F.Facts.scope c.args.place.now.facts.now) (map input c.args.place.now.inputs.items) in
-    fails_none c.fault.result.kind (make (shape c.args.tree.now) s (count c.args.work)) (not_made (shape c.args.tree.now) s (count c.args.work) (sym c.in-None.ensures.shape))
+    fails_none c.no_channel.result.kind (make (shape c.args.tree.now) s (count c.args.work)) (not_made (shape c.args.tree.now) s (count c.args.work) (sym c.in-None.ensures.shape))
 
 pub process-returns : goal.process-returns
 process-returns g t c =
     let s = within (g.F.Facts.scope c.args.place.now.facts.now) (map input c.args.place.now.inputs.items) in
-    fails_none c.fault-in-None-event_parts.result.kind (make (shape c.args.tree.now) s (count c.args.work)) (not_made (shape c.args.tree.now) s (count c.args.work) (sym c.in-None.ensures.shape))
+    fails_none c.fault.result.kind (make (shape c.args.tree.now) s (count c.args.work)) (not_made (shape c.args.tree.now) s (count c.args.work) (sym c.in-None.ensures.shape))
 
 pub prefixed-returns-in-None : goal.prefixed-returns-in-None
 prefixed-returns-in-None g t c =
@@ -281,7 +281,7 @@ prefixed-returns-in-None g t c =
 pub prefixed-returns-in-None-fields : goal.prefixed-returns-in-None-fields
 prefixed-returns-in-None-fields g t c =
     let s = within (g.F.Facts.scope c.args.place.now.facts.now) (map input c.args.place.now.inputs.items) in
-    fails_none c.fault-in-None-fields.result.kind (make_prefixed s (shape c.args.event.now) (make (shape c.args.then.now)) (count c.args.work)) (no_channel s (make (shape c.args.then.now)) (count c.args.work) (shape c.args.event.now) c.in-Some.channel.now (shapes c.in-Some.fields.now) c.in-Some.ensures c.in-None-fields.ensures)
+    fails_none c.no_channel.result.kind (make_prefixed s (shape c.args.event.now) (make (shape c.args.then.now)) (count c.args.work)) (no_channel s (make (shape c.args.then.now)) (count c.args.work) (shape c.args.event.now) c.in-Some.channel.now (shapes c.in-Some.fields.now) c.in-Some.ensures c.in-None-fields.ensures)
 
 pub prefixed-returns-then-fields-sets : goal.prefixed-returns-then-fields-sets
 prefixed-returns-then-fields-sets g t c =
