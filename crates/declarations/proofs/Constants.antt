@@ -1,5 +1,5 @@
 -- The constants of what phrases stand for are those that names stand for.
-use Rattle.std.proofs.Common.{◌≡◌, ℕ, zero, suc, List, [], ◌∷◌, filter, Bool, true, false, cond, ◌&&◌, Option, Some, None, ℤ, pos, ◌+ℤ◌, ◌-ℤ◌, not, refl, sym, ap, ◌∙◌}
+use Rattle.std.proofs.Common.{◌≡◌, ℕ, zero, suc, List, [], ◌∷◌, filter, Bool, true, false, cond, ◌&&◌, Some, None, ℤ, pos, ◌+ℤ◌, ◌-ℤ◌, not, refl, sym, ap, ◌∙◌}
 use Rattle.std.specs.Prelude.{int_lt, int_le, nat_le, length}
 use Rattle.std.specs.Int.{int_gap}
 use Rattle.std.specs.List.{list_all}
