@@ -1,5 +1,5 @@
 -- The constants of what phrases stand for are those that names stand for.
-use Rattle.std.proofs.Common.{◌≡◌, ℕ, zero, suc, List, [], ◌∷◌, filter, Bool, true, false, cond, ◌&&◌, Option, Some, None, ℤ, pos, ◌+ℤ◌, ◌-ℤ◌, not, refl, sym, ap, ◌∙◌}
+use Rattle.std.proofs.Common.{◌≡◌, ℕ, zero, suc, List, [], ◌∷◌, filter, Bool, true, false, cond, ◌&&◌, Some, None, ℤ, pos, ◌+ℤ◌, ◌-ℤ◌, not, refl, sym, ap, ◌∙◌}
 use Rattle.std.specs.Prelude.{int_lt, int_le, nat_le, length}
 use Rattle.std.specs.Int.{int_gap}
 use Rattle.std.specs.List.{list_all}
@@ -14,25 +14,8 @@ use Rattle.syntax.specs.declared.operator.Operator.{Operator}
 use Rattle.syntax.specs.Grammar.{Syntax, Called, Numeral, Node, Syntaxes, NoSyntax, MoreSyntax}
 use Rattle.values.specs.Values.{◌>>=◌, Name, value_cmp, is_among, limited, set_of, union, intersection, difference, fitting_set, numbers_from, range}
 use Rattle.values.specs.Worths.{Worth, one, many, Known, the_value, the_number, the_set, the_only, the_two, two_numbers, two_sets, all_values, set_of_all, nothing_of, calculated, computed, negated, set_with, range_with, union_with, intersection_with, difference_with, formed, worth, worths}
-use Rattle.declarations.specs.Naming.{passes, all_pass, pass}
-
-pub bind_some : {X Y : Type 0} (o : Option X) (f : X → Option Y) (y : Y) → (o >>= f) ≡ Some y → (x : X) × (o ≡ Some x) × (f x ≡ Some y)
-bind_some None f y h = absurd cc
-bind_some (Some x) f y h = (x, refl, h)
-
-pub some_same : {X : Type 0} {x y : X} → Some x ≡ Some y → x ≡ y
-some_same h = cc
-
-pub left : (b c : Bool) → (b && c) ≡ true → b ≡ true
-left true c h = refl
-left false c h = absurd cc
-
-pub right : (b c : Bool) → (b && c) ≡ true → c ≡ true
-right true c h = h
-right false c h = absurd cc
-
-pub both : (b c : Bool) → b ≡ true → c ≡ true → (b && c) ≡ true
-both b c h k = ap (λ x. x && c) h ∙ k
+use Rattle.declared_names.proofs.Chains.{bind_some, some_same, left, right, both}
+use Rattle.declarations.specs.Passing.{passes, all_pass, pass}
 
 module _ (p : Name → Bool) where
   -- ---- sets

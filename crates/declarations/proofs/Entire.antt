@@ -13,11 +13,11 @@ use Rattle.values.specs.Values.{◌>>=◌, Name}
 use Rattle.values.specs.Worths.{Known}
 use Rattle.values.specs.Names.{Meaning, channel, datatype, constant_name, definition, Entry, same_name, names_of, listed_names, field_sets, entries_of, declared_by, declared_by_all, are_distinct}
 use Rattle.values.specs.Channels.{fields_of, with_channel, channels_of}
-use Rattle.declarations.specs.Steps.{steps, only_of, two_of}
-use Rattle.declarations.specs.Entering.{has_name, list_parts}
+use Rattle.declared_names.specs.Steps.{steps, only_of, two_of}
+use Rattle.declared_names.specs.Entering.{has_name, list_parts}
 use Rattle.declarations.specs.Sigma.{enter, enter_name, enter_names, enter_channels, enter_fielded, enter_form, enter_declaration}
-use Rattle.declarations.proofs.Constants.{bind_some, some_same, left, right, both}
-use Rattle.declarations.proofs.Entered.{same_sym, parts_names}
+use Rattle.declared_names.proofs.Chains.{bind_some, some_same, left, right, both}
+use Rattle.declared_names.proofs.Entered.{same_sym, parts_names}
 
 abbrev some_of : {X : Type 0} → X → Option X
 some_of x = Some x

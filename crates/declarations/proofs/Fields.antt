@@ -15,9 +15,9 @@ use Rattle.values.specs.Values.{◌>>=◌, value_cmp}
 use Rattle.values.specs.Worths.{Worth, Known, worth, the_set}
 use Rattle.values.specs.Channels.{fields_of}
 use Rattle.values.specs.View.{value}
-use Rattle.declarations.specs.Steps.{steps}
+use Rattle.declared_names.specs.Steps.{steps}
 use Rattle.declarations.specs.Sigma.{add_field}
-use Rattle.declarations.proofs.Constants.{both, left, right}
+use Rattle.declared_names.proofs.Chains.{both, left, right}
 
 -- ---- a set, taken value by value
 

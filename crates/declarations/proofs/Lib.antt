@@ -1,16 +1,6 @@
-pub mod Shapes
-pub mod Loops
-pub mod Tables
-pub mod Entered
-pub mod Learning
-pub mod Scripts
 pub mod Constants
 pub mod Fields
 pub mod Parted
 pub mod Entire
 pub mod Meanings
 pub mod Whole
-pub mod TreeNames
-pub mod ProcessNames
-pub mod TextNames
-pub mod ToldNames

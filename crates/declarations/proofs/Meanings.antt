@@ -10,12 +10,14 @@ use Rattle.syntax.specs.Grammar.{Syntax, Called, Numeral, Node, Syntaxes, NoSynt
 use Rattle.values.specs.Values.{◌>>=◌, Name}
 use Rattle.values.specs.Worths.{Worth, Known}
 use Rattle.values.specs.Names.{Meaning, channel, datatype, constant_name, definition, Entry, same_name, names_of, listed_names, field_sets, entries_of, declared_by, declared_by_all, meaning, are_distinct, worth_of, known_in, Stands}
-use Rattle.declarations.specs.Naming.{has_names, have_names, all_pass, pass}
-use Rattle.declarations.specs.Steps.{only_of, two_of}
-use Rattle.declarations.specs.Entering.{list_parts}
+use Rattle.declared_names.specs.Naming.{has_names, have_names}
+use Rattle.declarations.specs.Passing.{all_pass, pass}
+use Rattle.declared_names.specs.Steps.{only_of, two_of}
+use Rattle.declared_names.specs.Entering.{list_parts}
 use Rattle.declarations.specs.Sigma.{are_channels, lists_channels, declares_channels, declare_channels, KeepDeclared}
-use Rattle.declarations.proofs.Constants.{bind_some, some_same, left, right, both, worth_pass, set_pass}
-use Rattle.declarations.proofs.Entered.{parts_names}
+use Rattle.declared_names.proofs.Chains.{bind_some, some_same, left, right, both}
+use Rattle.declarations.proofs.Constants.{worth_pass, set_pass}
+use Rattle.declared_names.proofs.Entered.{parts_names}
 
 -- ---- entries among others
 

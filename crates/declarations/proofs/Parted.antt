@@ -19,11 +19,12 @@ use Rattle.values.specs.View.{Fails}
 use Rattle.values.proofs.Lists.{first_fails}
 use Rattle.values.specs.Names.{field_sets}
 use Rattle.values.specs.Channels.{fields_of}
-use Rattle.declarations.specs.Steps.{steps, only_of, two_of}
-use Rattle.declarations.specs.Naming.{passes, all_pass, pass}
-use Rattle.declarations.specs.Entering.{list_parts}
+use Rattle.declared_names.specs.Steps.{steps, only_of, two_of}
+use Rattle.declarations.specs.Passing.{passes, all_pass, pass}
+use Rattle.declared_names.specs.Entering.{list_parts}
 use Rattle.declarations.specs.Sigma.{enter, enter_name, enter_names, enter_channels, enter_fielded, enter_form, enter_declaration, are_channels, lists_channels, declares_channels, declare_channels, IsClear, AreParted, KeepsBy, KeepNames, KeepList, KeepParts, KeepDeclared}
-use Rattle.declarations.proofs.Constants.{bind_some, some_same, left, right, both, worth_pass, sets_pass}
+use Rattle.declared_names.proofs.Chains.{bind_some, some_same, left, right, both}
+use Rattle.declarations.proofs.Constants.{worth_pass, sets_pass}
 
 -- ---- lists in which all pass
 

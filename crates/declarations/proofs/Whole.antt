@@ -13,12 +13,12 @@ use Rattle.values.specs.Names.{Entry, declared, are_distinct, Stands}
 use Rattle.values.specs.Channels.{channels_of, Declares}
 use Rattle.values.specs.View.{Fails}
 use Rattle.values.proofs.Lists.{fails_on}
-use Rattle.declarations.specs.Steps.{steps}
-use Rattle.declarations.specs.Naming.{has_names, have_names}
-use Rattle.declarations.specs.Entering.{script_parts, distinct_entries}
+use Rattle.declared_names.specs.Steps.{steps}
+use Rattle.declared_names.specs.Naming.{has_names, have_names}
+use Rattle.declared_names.specs.Entering.{script_parts, distinct_entries}
 use Rattle.declarations.specs.Sigma.{enter_declaration, KeepDeclared}
-use Rattle.declarations.proofs.Constants.{bind_some, some_same}
-use Rattle.declarations.proofs.Scripts.{parts_declared, parts_none}
+use Rattle.declared_names.proofs.Chains.{bind_some, some_same}
+use Rattle.declared_names.proofs.Scripts.{parts_declared, parts_none}
 use Rattle.declarations.proofs.Entire.{entire}
 use Rattle.declarations.proofs.Meanings.{keeps}
 

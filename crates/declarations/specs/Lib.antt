@@ -1,9 +1,2 @@
-pub mod Stored
-pub mod View
-pub mod Steps
-pub mod Entering
-pub mod Standing
-pub mod Naming
+pub mod Passing
 pub mod Sigma
-pub mod Processes
-pub mod Told

@@ -10,9 +10,9 @@ use Rattle.values.specs.Values.{◌>>=◌, Name}
 use Rattle.values.specs.Worths.{Worth, Known, worth, the_set}
 use Rattle.values.specs.Names.{field_sets}
 use Rattle.values.specs.Channels.{fields_of}
-use Rattle.declarations.specs.Steps.{steps, only_of, two_of}
-use Rattle.declarations.specs.Entering.{list_parts}
-use Rattle.declarations.specs.Naming.{all_pass, pass}
+use Rattle.declared_names.specs.Steps.{steps, only_of, two_of}
+use Rattle.declared_names.specs.Entering.{list_parts}
+use Rattle.declarations.specs.Passing.{all_pass, pass}
 
 -- the fields and one more
 unfoldable pub add_field : Known → List Values → Syntax → Option (List Values)

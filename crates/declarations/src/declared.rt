@@ -7,14 +7,12 @@ ghost use Rattle.values.specs.Names.{Entry};
 ghost use Rattle.values.specs.Tables.{table};
 ghost use Rattle.values.specs.View.{Gives};
 ghost use Rattle.values.specs.Worths.{Known as Knowledge};
-ghost use Rattle.declarations.specs.Naming.{has_names};
-ghost use Rattle.declarations.specs.View.{entries as entries_of};
+ghost use Rattle.declared_names.specs.Naming.{has_names};
+ghost use Rattle.declared_names.specs.View.{entries as entries_of};
 
 use crate::diagnosis::told_alphabet;
-use crate::entries::Entries;
-use crate::naming::{declarations_of, distinct_entries};
-use crate::standing::table_of_names;
 use alphabet::Alphabet;
+use declared_names::{Entries, declarations_of, distinct_entries, table_of_names};
 use std::alloc::Allocator;
 use syntax::Tree;
 use tokens::ScriptError;

@@ -7,15 +7,15 @@ ghost use Rattle.tokens.specs.declared.error.ScriptErrorKind.TheVariants.{Memory
 ghost use Rattle.values.specs.Tables.{table};
 ghost use Rattle.values.specs.View.{Gives};
 ghost use Rattle.declarations.specs.Sigma.{KeepDeclared, enter_declaration};
-ghost use Rattle.declarations.specs.Steps.{steps};
+ghost use Rattle.declared_names.specs.Steps.{steps};
 
-use crate::entries::{Entries, Meaning};
 use crate::kinds::{Kind, Wanted, is_number_form, misplaced, takes, takes_form};
-use crate::order::{order_behind, order_to};
-use crate::part::{Part, fault, part_of, worth_alone};
-use crate::processes::{Answer, answer_of, is_process_form};
 use crate::sigma::alphabet_of;
 use alphabet::Alphabet;
+use declared_names::{
+    Answer, Entries, Meaning, Part, answer_of, fault, is_process_form, order_behind, order_to,
+    part_of, worth_alone,
+};
 use std::alloc::{AllocError, Allocator};
 use syntax::{Form, Tree};
 use tokens::{ScriptError, ScriptErrorKind};
@@ -609,7 +609,7 @@ fn diagnosed_channels<'a, A: Allocator + Copy>(
 }
 
 /// The alphabet of these declarations, whose names are among the entries. A fault is told where it is met first.
-#[tactic(auto, using(crate::proofs::Scripts::fails_too))]
+#[tactic(auto, using(declared_names::proofs::Scripts::fails_too))]
 pub(crate) fn told_alphabet<'a, A: Allocator + Copy>(
     alloc: A,
     entries: &Entries<'a, A>,

@@ -1,5 +1,5 @@
 //! Kinds of phrases, as faults speak of them.
-use crate::processes::is_process_form;
+use declared_names::is_process_form;
 use syntax::{Form, Operator};
 use tokens::ScriptErrorKind;
 

@@ -11,12 +11,13 @@ ghost use Rattle.values.specs.Channels.{fields_of as fields_in};
 ghost use Rattle.values.specs.Tables.{table};
 ghost use Rattle.values.specs.View.{Gives, value as value_of, values as values_of};
 ghost use Rattle.alphabet.specs.Channels.{are_apart};
-ghost use Rattle.declarations.specs.Steps.{steps};
+ghost use Rattle.declared_names.specs.Steps.{steps};
 ghost use Rattle.declarations.specs.Sigma.{add_field, enter, enter_name, enter_names, enter_channels, enter_fielded, enter_form, enter_declaration, AreParted, KeepNames, KeepList, KeepParts, KeepDeclared};
 
-use crate::naming::{name_list, set_list};
-use crate::part::{Part, fault, none_of, only, part_of, two, worth_alone};
 use alphabet::{Alphabet, AlphabetError, Field, Value as FieldValue};
+use declared_names::{
+    Part, fault, name_list, no_parts, only_part, part_of, set_list, two_parts, worth_alone,
+};
 use std::alloc::{AllocError, Allocator};
 use syntax::{Form, Tree};
 use tokens::{ScriptError, ScriptErrorKind};
@@ -66,7 +67,7 @@ fn with_field<A: Allocator + Copy>(
 }
 
 /// The values of the fields with these sets.
-#[tactic(auto, using(crate::proofs::Loops::all_start, crate::proofs::Loops::all_more, crate::proofs::Loops::all_fail, crate::proofs::Loops::all_end))]
+#[tactic(auto, using(declared_names::proofs::Loops::all_start, declared_names::proofs::Loops::all_more, declared_names::proofs::Loops::all_fail, declared_names::proofs::Loops::all_end))]
 fn fields_of<A: Allocator + Copy>(
     alloc: A,
     known: &Known<A>,
@@ -120,7 +121,7 @@ fn with_channel_of<A: Allocator + Copy>(
 }
 
 /// The alphabet and channels of these names with these fields.
-#[tactic(auto, using(crate::proofs::Loops::all_start, crate::proofs::Loops::all_more, crate::proofs::Loops::all_fail, crate::proofs::Loops::all_end))]
+#[tactic(auto, using(declared_names::proofs::Loops::all_start, declared_names::proofs::Loops::all_more, declared_names::proofs::Loops::all_fail, declared_names::proofs::Loops::all_end))]
 fn with_channels<A: Allocator + Copy>(
     alphabet: Alphabet<A>,
     names: &[Tree<A>],
@@ -201,11 +202,11 @@ fn with_form<A: Allocator + Copy>(
 {
     match form {
         Form::Channels => {
-            let names = only(parts, line)?;
-            with_list(alloc, known, alphabet, names, none_of(parts))
+            let names = only_part(parts, line)?;
+            with_list(alloc, known, alphabet, names, no_parts(parts))
         }
         Form::ChannelsWithFields => {
-            let (names, sets) = two(parts, line)?;
+            let (names, sets) = two_parts(parts, line)?;
             with_fielded(alloc, known, alphabet, names, sets)
         }
         _ => Ok(alphabet),
@@ -232,7 +233,7 @@ fn with_declaration<A: Allocator + Copy>(
 }
 
 /// The alphabet of these declarations. The sets of a declaration's fields are found once for all its names.
-#[tactic(auto, using(crate::proofs::Loops::all_start, crate::proofs::Loops::all_more, crate::proofs::Loops::all_fail, crate::proofs::Loops::all_end))]
+#[tactic(auto, using(declared_names::proofs::Loops::all_start, declared_names::proofs::Loops::all_more, declared_names::proofs::Loops::all_fail, declared_names::proofs::Loops::all_end))]
 pub(crate) fn alphabet_of<A: Allocator + Copy>(
     alloc: A,
     known: &Known<A>,

@@ -13,7 +13,7 @@ use Rattle.term.specs.Specs.{Specified}
 use Rattle.syntax.specs.Grammar.{Syntax}
 use Rattle.values.specs.Values.{◌>>=◌}
 use Rattle.values.specs.Names.{Entry, channel, datatype, constant_name, definition, same_name, names_of, listed_names, field_sets, entries_of, declared_by, declared_by_all, declared, meaning, are_distinct, datatype_entries}
-use Rattle.declarations.proofs.Constants.{bind_some}
+use Rattle.declared_names.proofs.Chains.{bind_some}
 use Rattle.declarations.proofs.Meanings as meanings
 use Rattle.printing.specs.Names.{Name, constants, primed, datatype_name, datatype_primes}
 use Rattle.printing.specs.Printed.{reference}

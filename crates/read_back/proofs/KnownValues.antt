@@ -17,7 +17,7 @@ use Rattle.syntax.specs.Grammar.{Syntax, Called, Numeral, Node, Syntaxes, NoSynt
 use Rattle.values.specs.Values.{◌>>=◌, Name, value_cmp, is_among, limited, remainder, set_of, union, intersection, difference, fitting_set, numbers_from, range}
 use Rattle.values.specs.Worths.{Worth, one, many, Known, the_value, the_number, the_set, the_only, the_two, two_numbers, two_sets, all_values, set_of_all, nothing_of, calculated, computed, negated, set_with, range_with, union_with, intersection_with, difference_with, formed, worth, worths}
 use Rattle.values.specs.Order.{value_total}
-use Rattle.declarations.proofs.Constants.{bind_some, some_same}
+use Rattle.declared_names.proofs.Chains.{bind_some, some_same}
 use Rattle.read_back.proofs.Ordered.{Above, Rises, rises_insert}
 
 -- ---- numbers

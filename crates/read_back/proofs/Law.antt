@@ -6,9 +6,9 @@ use Rattle.syntax.specs.Grammar.{Syntax, Called, Numeral, Node, Syntaxes}
 use Rattle.syntax.specs.Script.{HasTree}
 use Rattle.values.specs.Values.{Name}
 use Rattle.values.specs.Names.{Entry, declared, declared_by_all}
-use Rattle.declarations.specs.Naming.{has_names, have_names}
+use Rattle.declared_names.specs.Naming.{has_names, have_names}
 use Rattle.declarations.proofs.Meanings.{AreNamed, named}
-use Rattle.declarations.proofs.TextNames.{texts_have_names}
+use Rattle.declared_names.proofs.TextNames.{texts_have_names}
 use Rattle.phrases.specs.Denotes.{Denotes}
 use Rattle.printing.specs.Names.{body_primes}
 use Rattle.printing.specs.Printed.{printed, reference}

@@ -18,7 +18,7 @@ use Rattle.values.specs.Worths.{Worth, one, many, Known, worth, the_set}
 use Rattle.values.specs.Order.{value_total}
 use Rattle.values.specs.Names.{Entry, Meaning, channel, datatype, constant_name, definition, same_name, meaning, declared_by_all, are_distinct, worth_of, known_in, Stands}
 use Rattle.values.specs.Channels.{fields_of, with_channel, channels_of}
-use Rattle.declarations.proofs.Constants.{bind_some, some_same, left, right, both}
+use Rattle.declared_names.proofs.Chains.{bind_some, some_same, left, right, both}
 use Rattle.declarations.proofs.Meanings as meanings
 use Rattle.declarations.proofs.Meanings.{AreNamed, AllIn, in_named, means, meant, closed}
 use Rattle.read_back.proofs.Ordered.{Above, Rises}

@@ -10,7 +10,7 @@ use Rattle.syntax.specs.Rules.{rule}
 use Rattle.syntax.specs.Script.{HasTree}
 use Rattle.values.specs.Values.{◌>>=◌, Name}
 use Rattle.values.specs.Names.{Entry, Meaning, channel, datatype, constant_name, names_of, listed_names, field_sets, entries_of, declared_by, declared_by_all, declared}
-use Rattle.declarations.proofs.Constants.{bind_some, some_same}
+use Rattle.declared_names.proofs.Chains.{bind_some, some_same}
 use Rattle.read_back.proofs.Scanned.{IsProper, AllProper}
 
 -- ---- tokens

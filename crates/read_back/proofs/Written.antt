@@ -23,7 +23,7 @@ use Rattle.phrases.specs.Bodies.{Key, Body, stop, skip, prefix, ext, int, seq, p
 use Rattle.phrases.specs.Phrases.{Scope, Fitting, is_constant, with_input, against, against_input, against_part, fits_field, then_fits, fitting, has_all, with_branch, branches, prefixed, renamed, alphabetised, events_by, denoted, denoted_form}
 use Rattle.phrases.specs.Denotes.{body_by, body_of, place, Reached}
 use Rattle.phrases.proofs.SetsBelow.{member_is}
-use Rattle.declarations.proofs.Constants.{bind_some, some_same}
+use Rattle.declared_names.proofs.Chains.{bind_some, some_same}
 use Rattle.read_back.proofs.Readable.{IsRenaming, IsWritten}
 use Rattle.read_back.proofs.Numbers.{at_place, AllHave, all_named, all_left, all_right}
 use Rattle.read_back.proofs.Reaching.{reached_many}

@@ -2,7 +2,7 @@
 use Rattle.std.specs.Prelude.{ℕ, Bool}
 use Rattle.values.specs.Values.{Name}
 use Rattle.values.specs.Tables.{table}
-use Rattle.declarations.specs.View.{entries}
+use Rattle.declared_names.specs.View.{entries}
 use Rattle.phrases.specs.Phrases.{Scope}
 use Rattle.script.specs.declared.names.Names.{Names}
 use Rattle.script.specs.declared.script.Script.{Script}

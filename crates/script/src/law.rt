@@ -5,7 +5,7 @@ ghost use Rattle.term.specs.Specs.{Specified};
 ghost use Rattle.values.specs.Values.{Name};
 ghost use Rattle.script.specs.Reading.{IsRead};
 
-use declarations::trees_have_names;
+use declared_names::trees_have_names;
 use phrases::one_specification;
 use syntax::one_tree;
 

@@ -2,7 +2,8 @@
 ghost use Rattle.std.specs.Prelude.{◌≡◌, IfOk};
 
 use crate::sigma::{Sigma, sigma_of};
-use declarations::{Declared, Entries, Meaning, fault_of_name};
+use declarations::{Declared, fault_of_name};
+use declared_names::{Entries, Meaning};
 use std::alloc::{AllocError, Allocator};
 use syntax::{Form, Tree};
 use tokens::{ScriptError, ScriptErrorKind};
@@ -61,7 +62,7 @@ impl<'a, A: Allocator + Copy> Names<'a, A> {
     ghost use Rattle.syntax.specs.Grammar.{Syntax};
     ghost use Rattle.syntax.specs.View.{shape};
     ghost use Rattle.values.specs.Names.{definition as defined_by, meaning};
-    ghost use Rattle.declarations.specs.View.{entries as entries_of};
+    ghost use Rattle.declared_names.specs.View.{entries as entries_of};
     ghost use Rattle.phrases.specs.Phrases.{is_constant as is_constant_meaning};
 
     /// The body of the definition with this name.

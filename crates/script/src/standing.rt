@@ -5,7 +5,7 @@ ghost use Rattle.tokens.specs.declared.error.ScriptErrorKind.TheVariants.{Memory
 ghost use Rattle.syntax.specs.View.{shape};
 ghost use Rattle.values.specs.Tables.{table};
 ghost use Rattle.values.specs.View.{Gives};
-ghost use Rattle.declarations.specs.View.{entries as entries_of};
+ghost use Rattle.declared_names.specs.View.{entries as entries_of};
 ghost use Rattle.script.specs.Standing.{events_by, next_events};
 ghost use Rattle.script.specs.Tables.{said};
 ghost use Rattle.script.specs.View.{AreReachedBy, LearnsOf, LearnsAllOf};
@@ -14,7 +14,7 @@ use crate::names::Names;
 use crate::script::Script;
 use crate::table::Table;
 use alphabet::EventSet;
-use declarations::places_by_use;
+use declared_names::places_by_use;
 use phrases::set_of_events;
 use std::alloc::Allocator;
 use syntax::Tree;

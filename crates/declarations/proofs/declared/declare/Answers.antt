@@ -3,8 +3,8 @@ use Rattle.std.proofs.lemmas.Result.{err_from_is_err_and}
 use Rattle.syntax.specs.Parsing.{syntaxes}
 use Rattle.syntax.specs.View.{shape, shapes}
 use Rattle.values.specs.Tables.{table}
-use Rattle.declarations.specs.View.{entries}
-use Rattle.declarations.proofs.Constants.{some_same}
+use Rattle.declared_names.specs.View.{entries}
+use Rattle.declared_names.proofs.Chains.{some_same}
 use Rattle.declarations.proofs.Whole.{entries_fail, parts_fail, channels_fail, keeps_declared, found, declares_channels, same_all}
 use Rattle.declarations.proofs.declared.declare.Goals as goal
 

@@ -1,7 +1,7 @@
 use Rattle.std.proofs.Common.{arith}
 use Rattle.values.specs.Tables.{table}
 use Rattle.declarations.specs.Sigma.{enter_declaration}
-use Rattle.declarations.proofs.Loops.{all_more, all_end}
+use Rattle.declared_names.proofs.Loops.{all_more, all_end}
 use Rattle.declarations.proofs.Parted.{keep_one, keep_more}
 use Rattle.declarations.proofs.sigma.alphabet_of.Goals as goal
 

@@ -2,9 +2,9 @@ use Rattle.std.proofs.Common.{◌≡◌, []}
 use Rattle.syntax.specs.Parsing.{syntaxes}
 use Rattle.syntax.specs.View.{shapes}
 use Rattle.values.specs.Tables.{table}
-use Rattle.declarations.specs.Steps.{steps}
+use Rattle.declared_names.specs.Steps.{steps}
 use Rattle.declarations.specs.Sigma.{enter_declaration, KeepDeclared}
-use Rattle.declarations.proofs.Loops.{from}
+use Rattle.declared_names.proofs.Loops.{from}
 use Rattle.declarations.proofs.sigma.alphabet_of.Given as goal
 
 abbrev pub invariant-loop-declaration : goal.invariant-loop-declaration

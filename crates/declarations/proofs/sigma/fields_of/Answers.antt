@@ -2,7 +2,7 @@ use Rattle.std.proofs.Common.{map, arith}
 use Rattle.alphabet.specs.Stored.{field_of}
 use Rattle.values.specs.Tables.{table}
 use Rattle.declarations.specs.Sigma.{add_field}
-use Rattle.declarations.proofs.Loops.{all_more, all_end}
+use Rattle.declared_names.proofs.Loops.{all_more, all_end}
 use Rattle.declarations.proofs.sigma.fields_of.Goals as goal
 
 pub loop-set-preserved : goal.loop-set-preserved

@@ -5,9 +5,9 @@ use Rattle.alphabet.specs.Stored.{field_of}
 use Rattle.syntax.specs.Parsing.{syntaxes}
 use Rattle.syntax.specs.View.{shapes}
 use Rattle.values.specs.Tables.{table}
-use Rattle.declarations.specs.Steps.{steps}
+use Rattle.declared_names.specs.Steps.{steps}
 use Rattle.declarations.specs.Sigma.{add_field}
-use Rattle.declarations.proofs.Loops.{from}
+use Rattle.declared_names.proofs.Loops.{from}
 use Rattle.declarations.proofs.sigma.fields_of.Given as goal
 
 abbrev pub invariant-loop-set : goal.invariant-loop-set

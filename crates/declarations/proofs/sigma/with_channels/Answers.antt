@@ -1,7 +1,7 @@
 use Rattle.std.proofs.Common.{map, arith}
 use Rattle.alphabet.specs.Stored.{field_of}
 use Rattle.declarations.specs.Sigma.{enter_name}
-use Rattle.declarations.proofs.Loops.{all_more, all_end}
+use Rattle.declared_names.proofs.Loops.{all_more, all_end}
 use Rattle.declarations.proofs.Parted.{single_parted, parted_more}
 use Rattle.declarations.proofs.sigma.with_channels.Goals as goal
 

@@ -2,9 +2,9 @@ use Rattle.std.proofs.Common.{◌≡◌, map}
 use Rattle.alphabet.specs.Stored.{field_of}
 use Rattle.syntax.specs.Parsing.{syntaxes}
 use Rattle.syntax.specs.View.{shapes}
-use Rattle.declarations.specs.Steps.{steps}
+use Rattle.declared_names.specs.Steps.{steps}
 use Rattle.declarations.specs.Sigma.{enter_name, AreParted}
-use Rattle.declarations.proofs.Loops.{from}
+use Rattle.declared_names.proofs.Loops.{from}
 use Rattle.declarations.proofs.sigma.with_channels.Given as goal
 
 abbrev pub invariant-loop-name : goal.invariant-loop-name

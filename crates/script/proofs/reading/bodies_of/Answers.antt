@@ -1,6 +1,6 @@
 use Rattle.std.proofs.Common.{sym, ◌∙◌}
 use Rattle.values.specs.Tables.{table}
-use Rattle.declarations.specs.View.{entries}
+use Rattle.declared_names.specs.View.{entries}
 use Rattle.script.specs.Standing.{events_by}
 use Rattle.script.specs.Tables.{said}
 use Rattle.script.proofs.Denoting.{no_root, bodies_with}

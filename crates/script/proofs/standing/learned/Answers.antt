@@ -1,6 +1,6 @@
 use Rattle.std.proofs.Common.{sym, ◌∙◌}
 use Rattle.values.specs.Tables.{table}
-use Rattle.declarations.specs.View.{entries}
+use Rattle.declared_names.specs.View.{entries}
 use Rattle.script.specs.Tables.{said}
 use Rattle.script.proofs.Learning.{settled_known, settled_fault, learns_more, learns_same}
 use Rattle.script.proofs.standing.learned.Goals as goal

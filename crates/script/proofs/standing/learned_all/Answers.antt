@@ -1,7 +1,7 @@
 use Rattle.std.proofs.Common.{◌≡◌, ◌<◌, ◌||◌, length, sym, ap, subst, ◌∙◌, arith}
 use Rattle.std.specs.Option.{option_map}
 use Rattle.values.specs.Tables.{table}
-use Rattle.declarations.specs.View.{entries}
+use Rattle.declared_names.specs.View.{entries}
 use Rattle.script.specs.Tables.{said}
 use Rattle.script.specs.View.{LearnsFirstOf}
 use Rattle.script.proofs.Learning.{still_reached, first_step, there}

@@ -1,6 +1,6 @@
 use Rattle.std.proofs.Common.{sym, subst}
 use Rattle.values.specs.Tables.{table}
-use Rattle.declarations.specs.View.{entries}
+use Rattle.declared_names.specs.View.{entries}
 use Rattle.script.specs.Tables.{said}
 use Rattle.script.specs.View.{AreReachedBy}
 use Rattle.script.proofs.Learning.{reached_then}

@@ -3,7 +3,7 @@ use Rattle.alphabet.specs.EventSets.{Set}
 use Rattle.syntax.specs.View.{shape}
 use Rattle.values.specs.Tables.{table}
 use Rattle.values.specs.View.{Gives}
-use Rattle.declarations.specs.View.{entries}
+use Rattle.declared_names.specs.View.{entries}
 use Rattle.script.specs.Tables.{said}
 use Rattle.script.proofs.Learning.{next_is, next_not}
 use Rattle.script.proofs.standing.next_set.Goals as goal

@@ -1,5 +1,5 @@
 use Rattle.values.specs.Tables.{table}
-use Rattle.declarations.specs.View.{entries}
+use Rattle.declared_names.specs.View.{entries}
 use Rattle.script.specs.Tables.{said}
 use Rattle.script.proofs.NamedSets.{sets_lie}
 use Rattle.script.proofs.standing.set_of_body.Goals as goal

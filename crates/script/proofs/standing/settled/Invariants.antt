@@ -1,4 +1,4 @@
-use Rattle.declarations.specs.View.{entries}
+use Rattle.declared_names.specs.View.{entries}
 use Rattle.script.specs.Standing.{lacking}
 use Rattle.script.specs.Tables.{said}
 use Rattle.script.specs.View.{AreReachedBy}

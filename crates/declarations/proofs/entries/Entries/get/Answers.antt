@@ -1,9 +1,0 @@
-use Rattle.std.proofs.Common.{ap, ◌∙◌}
-use Rattle.std.specs.Option.{option_map}
-use Rattle.values.proofs.Lists.{copied}
-use Rattle.declarations.specs.View.{meaning_of}
-use Rattle.declarations.proofs.Tables.{looked_up}
-use Rattle.declarations.proofs.entries.Entries.get.Goals as goal
-
-pub returns : goal.returns
-returns g c = copied (λ e. meaning_of e.meaning) c.get.result ∙ ap (option_map (λ e. meaning_of e.meaning)) c.get.ensures.value ∙ looked_up c.args.self.now.table.entries c.args.name.now

@@ -1,6 +1,0 @@
-use Rattle.declarations.specs.View.{entries}
-use Rattle.declarations.specs.Processes.{Follows}
-use Rattle.declarations.proofs.entries.Entries.is_process_at_last.Given as goal
-
-abbrev pub invariant-loop : goal.invariant-loop
-invariant-loop g l = Follows (entries l.self) l.fn.name l.counter l.followed

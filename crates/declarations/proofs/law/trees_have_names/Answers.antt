@@ -1,5 +1,0 @@
-use Rattle.declarations.proofs.TextNames.{texts_have_names}
-use Rattle.declarations.proofs.law.trees_have_names.Goals as goal
-
-pub returns : goal.returns
-returns c = texts_have_names

@@ -1,0 +1,11 @@
+pub mod Chains
+pub mod Shapes
+pub mod Loops
+pub mod Tables
+pub mod Entered
+pub mod Learning
+pub mod Scripts
+pub mod TreeNames
+pub mod ProcessNames
+pub mod TextNames
+pub mod ToldNames

@@ -1,0 +1,40 @@
+//! The declared names.
+ghost use Rattle.declared_names.specs.Stored.{listed};
+ghost use Rattle.declared_names.specs.Told.{AreAnswers};
+
+use indexmap::IndexMap;
+use std::alloc::Allocator;
+use std::hash::{BuildHasherDefault, FoldHasher};
+use syntax::Tree;
+
+type Hashing = BuildHasherDefault<FoldHasher>;
+
+/// What a name is declared as.
+#[derive(Drop)]
+pub enum Meaning<'a, A: Allocator> {
+    /// A channel, with the sets of its fields as they are written.
+    Channel(&'a [Tree<A>]),
+    /// A datatype, with its constants as they are written.
+    Datatype(Vec<Vec<u8, A>, A>),
+    /// A constant of a datatype.
+    Constant,
+    /// A definition without parameters, with its body.
+    Definition(&'a Tree<A>),
+}
+
+/// A declared name's line and what it is declared as.
+#[derive(Drop)]
+pub struct Entry<'a, A: Allocator> {
+    /// The line of the name in its declaration.
+    pub line: u32,
+    pub meaning: Meaning<'a, A>,
+}
+
+/// The names that a script declares, in text order.
+#[derive(Drop)]
+pub struct Entries<'a, A: Allocator> {
+    pub(crate) table: IndexMap<Vec<u8, A>, Entry<'a, A>, Hashing, A>,
+    /// Whether the name at each place is one of a process, where it was found; `None` in a circle of names, which is one.
+    pub(crate) answers: Vec<Option<bool>, A>,
+    ghost answered: { AreAnswers (listed table.entries) answers.items },
+}

@@ -1,0 +1,22 @@
+//! The names that a script declares, and what they stand for.
+#![tactic(auto)]
+
+mod entries;
+mod law;
+mod named;
+mod names;
+mod naming;
+mod order;
+mod part;
+mod processes;
+mod standing;
+mod told;
+
+pub use entries::{Entries, Entry, Meaning};
+pub use law::trees_have_names;
+pub use named::has_names;
+pub use naming::{declarations_of, distinct_entries, name_list, set_list};
+pub use order::{order_behind, order_to, places_by_use};
+pub use part::{Part, fault, no_parts, only_part, part_of, two_parts, worth_alone};
+pub use processes::{Answer, answer_of, is_process_form};
+pub use standing::table_of_names;
