@@ -538,14 +538,15 @@ fn nothing_found<'s, 'a, A: Allocator + Copy>(
 }
 
 /// What is told of the phrase, which is to be a set of values for a channel's field and which evaluation refuses.
-fn field_fault<'s, 'a, A: Allocator + Copy>(
+fn field_fault<'a, A: Allocator + Copy>(
     alloc: A,
-    entries: &'s Entries<'a, A>,
-    known: &'s Known<A>,
+    entries: &Entries<'a, A>,
+    known: &Known<A>,
     phrase: &Tree<A>,
 ) -> Result<Kind, ScriptError> {
     let sight = nothing_found(alloc, entries, known, false)?;
-    let places = order_behind(alloc, entries, &[], phrase)?;
+    let none = Vec::new(alloc);
+    let places = order_behind(alloc, entries, &none, phrase)?;
     let sight = looked_into(sight, &places);
     kind_of(&sight, phrase, Wanted::Values, phrase.line())
 }
