@@ -1,30 +1,19 @@
-//! Tests of parallels with exponentially many targets, and of rows that were worked out by hand.
+//! Parallels with exponentially many targets, bounds, and depths.
 
-ghost use Rattle.std.specs.Prelude.{IfOk, ◌≡◌, ◌<◌, length};
-ghost use Rattle.alphabet.specs.Channels.{event_count};
+ghost use Rattle.std.specs.Prelude.{IfOk};
 ghost use Rattle.term.specs.Proc.{proc};
 ghost use Rattle.term.specs.Specs.{LiesIn, SetInSigma};
 
-use crate::{distinct_targets, has_deep_target};
-use alphabet::{Alphabet, Event, EventSet};
-use std::alloc::{AllocError, Global};
+use crate::notation::{Made, choice, only_a, parallel, prefix, specified};
+use alphabet::{Event, EventSet};
+use std::alloc::Global;
 use std::process::Abort;
 use std::test::Fail;
 use step::Label;
-use term::{Spec, Term};
-
-type Made = Result<Term<Global>, AllocError>;
+use targets::{distinct_targets, has_deep_target};
+use term::Term;
 
 const BY_A: Label = Label::Event(Event::Of(0));
-
-/// The process `event -> rest`.
-fn prefix(alloc: Global, event: u8, rest: Term<Global>) -> Made
-    requires event { event < 2 }
-    requires rest { LiesIn 2 1 (proc rest) }
-    ensures { IfOk result (λ term. LiesIn 2 1 (proc term)) }
-{
-    Ok(Term::Prefix(Event::Of(event), Box::new(alloc, rest)?))
-}
 
 /// The process `a -> STOP [] a -> b -> STOP`, or with two equal sides `a -> STOP [] a -> STOP`.
 fn branches(alloc: Global, equal: bool) -> Made
@@ -37,14 +26,7 @@ fn branches(alloc: Global, equal: bool) -> Made
         prefix(alloc, 1, Term::Stop)?
     };
     let right = prefix(alloc, 0, after)?;
-    Ok(Term::Ext(Box::new(alloc, left)?, Box::new(alloc, right)?))
-}
-
-/// The set of the event a.
-fn only_a() -> EventSet
-    ensures { SetInSigma 2 result }
-{
-    EventSet::empty().with(Event::Of(0))
+    choice(alloc, left, right)
 }
 
 /// So many more copies of the branches in parallel with the term, by the event a together.
@@ -54,7 +36,7 @@ fn together(alloc: Global, copies: u8, equal: bool) -> Made
     let mut term = branches(alloc, equal)?;
     for _ in 1..copies {
         let copy = branches(alloc, equal)?;
-        term = Term::Par(only_a(), Box::new(alloc, term)?, Box::new(alloc, copy)?);
+        term = parallel(alloc, only_a(), term, copy)?;
     }
     Ok(term)
 }
@@ -93,7 +75,7 @@ fn either(alloc: Global) -> Made
 {
     let left = prefix(alloc, 0, Term::Stop)?;
     let right = prefix(alloc, 1, Term::Stop)?;
-    Ok(Term::Ext(Box::new(alloc, left)?, Box::new(alloc, right)?))
+    choice(alloc, left, right)
 }
 
 /// Renamings of each of the events a and b to both, so many of them, each round a parallel of the one before with a
@@ -104,29 +86,10 @@ fn nested(alloc: Global, times: u8) -> Made
     let mut term = either(alloc)?;
     for _ in 0..times {
         let beside = either(alloc)?;
-        let pair = Term::Par(
-            both_events(),
-            Box::new(alloc, term)?,
-            Box::new(alloc, beside)?,
-        );
+        let pair = parallel(alloc, both_events(), term, beside)?;
         term = renamed(alloc, 1, pair)?;
     }
     Ok(term)
-}
-
-/// The specification of the events a and b with the one body `a -> STOP`.
-fn specified(rt: &impl Abort, alloc: Global) -> Result<Spec<Global>, Fail>
-    ensures events { IfOk result (λ spec. event_count spec.alphabet ≡ 2) }
-    ensures bodies { IfOk result (λ spec. length spec.bodies ≡ 1) }
-{
-    let mut alphabet = Alphabet::new(alloc);
-    alphabet.declare(b"a", &[])?;
-    alphabet.declare(b"b", &[])?;
-    let events = alphabet.len();
-    assert_eq!(rt; events, 2);
-    let mut bodies = Vec::new(alloc);
-    bodies.push(prefix(alloc, 0, Term::Stop)?)?;
-    Ok(Spec::new(alphabet, bodies))
 }
 
 /// Asserts how many targets the call gives, and that none is too deep.
