@@ -1,6 +1,8 @@
 //! Tokens of texts, and the faults of those that have none.
-use crate::{Token, Word, end_line, scan};
+
+use crate::rows::{assert_read, push_times, row_of};
 use std::alloc::{AllocError, Global};
+use tokens::{Token, Word, end_line, scan};
 
 fn push_bytes(out: &mut String, bytes: &[u8]) -> Result<(), AllocError> {
     for byte in bytes {
@@ -90,75 +92,71 @@ print => 1: 11 unsupported
 #[test]
 fn token_rows(rt: HostRuntime) -> Result<(), AllocError> {
     for row in ROWS.lines() {
-        let (text, want) = row.split_once(" => ").unwrap_or((row, "no row"));
-        let text = text.replace(rt.alloc(), '$', "\n")?;
+        let (text, want) = row_of(rt.alloc(), row)?;
         let got = read(rt.alloc(), text.as_bytes())?;
-        assert_eq!(rt; got.trim_start(), want, "at {row}");
+        assert_read(&rt, got.trim_start(), want, row);
     }
     Ok(())
 }
 
+/// The bytes with the numbers of the characters.
+fn bytes_of(alloc: Global, text: &str) -> Result<Vec<u8>, AllocError> {
+    let mut bytes = Vec::new(alloc);
+    for character in text.chars() {
+        bytes.push(u8::try_from(u32::from(character)).unwrap_or(b'?'))?;
+    }
+    Ok(bytes)
+}
+
+/// Bytes, each as the character with its number, and what is read of them.
+const ODD_ROWS: &str = "\
+\t \r$\r$P => 3:P
+a-->b$-- {- \u{ff}\u{0}$c => 1:a 3:c
+{- \u{ff}\u{0} -- -}a{-$-}b => 1:a 2:b
+assert # \u{ff}\u{0} {- ;$P => 2:P
+P$\u{0} => 2: 1 byte
+P\u{7f} => 1: 1 byte
+P\u{c8} => 1: 1 byte
+P # \u{0} => 1: 2 token
+";
+
 #[test]
 fn odd_bytes(rt: HostRuntime) -> Result<(), AllocError> {
-    let rows: [(&[u8], &str); 9] = [
-        (b"", ""),
-        (b"\t \r\n\r\nP", " 3:P"),
-        (b"a-->b\n-- {- \xff\x00\nc", " 1:a 3:c"),
-        (b"{- \xff\x00 -- -}a{-\n-}b", " 1:a 2:b"),
-        (b"assert # \xff\x00 {- ;\nP", " 2:P"),
-        (b"P\n\x00", "2: 1 byte"),
-        (b"P\x7f", "1: 1 byte"),
-        (b"P\xc8", "1: 1 byte"),
-        (b"P # \x00", "1: 2 token"),
-    ];
-    for (text, want) in rows {
-        let got = read(rt.alloc(), text)?;
-        assert_eq!(rt;
-            got.as_str(),
-            want,
-            "at {}",
-            String::from_utf8_lossy(rt.alloc(), text)?
-        );
+    for row in ODD_ROWS.lines() {
+        let (text, want) = row_of(rt.alloc(), row)?;
+        let bytes = bytes_of(rt.alloc(), &text)?;
+        let got = read(rt.alloc(), &bytes)?;
+        assert_read(&rt, got.trim_start(), want, row);
     }
     Ok(())
 }
 
 /// A text of pieces, as long as it may be within a length.
-fn repeated(alloc: Global, piece: &[u8], len: usize) -> Result<Vec<u8>, AllocError> {
-    let mut text = Vec::new(alloc);
-    for _ in 0..len / piece.len().max(1) {
-        text.extend_from_slice(piece)?;
-    }
+fn repeated(alloc: Global, piece: &str, len: usize) -> Result<String, AllocError> {
+    let mut text = String::new(alloc);
+    push_times(&mut text, piece, len / piece.len().max(1))?;
     Ok(text)
 }
 
 #[test]
 fn large_texts(rt: HostRuntime) -> Result<(), AllocError> {
-    let blank = repeated(rt.alloc(), b"\n", 65_536)?;
-    assert_eq!(rt; read(rt.alloc(), &blank)?.as_str(), "");
-    assert!(rt; blank.len() == 65_536);
-    assert_eq!(rt; end_line(&blank), 65_537);
-    let longer = repeated(rt.alloc(), b"\n", 65_537)?;
-    assert_eq!(rt; read(rt.alloc(), &longer)?.as_str(), "1: 10 large");
+    let got = read(rt.alloc(), b"")?;
+    assert_read(&rt, &got, "", "no bytes");
+    let blank = repeated(rt.alloc(), "\n", 65_536)?;
+    let bytes = blank.as_bytes();
+    assert!(rt; bytes.len() == 65_536);
+    let got = read(rt.alloc(), bytes)?;
+    assert_read(&rt, &got, "", "as many lines as there may be");
+    assert_eq!(rt; end_line(bytes), 65_537);
+    let longer = repeated(rt.alloc(), "\n", 65_537)?;
+    let got = read(rt.alloc(), longer.as_bytes())?;
+    assert_read(&rt, &got, "1: 10 large", "a line more");
     for piece in [
-        b"{-".as_slice(),
-        b"{",
-        b"-",
-        b"a",
-        b"a ",
-        b"P'",
-        b"|||",
-        b"[",
-        b"|}",
-        b"0",
-        b"1 ",
-        b"{-{-}",
-        b"-- \n",
-        b"assert\n",
-        b"{--}",
+        "{-", "{", "-", "a", "a ", "P'", "|||", "[", "|}", "0", "1 ", "{-{-}", "-- \n", "assert\n",
+        "{--}",
     ] {
         let text = repeated(rt.alloc(), piece, 65_536)?;
-        let _read = scan(rt.alloc(), &text);
+        let _read = scan(rt.alloc(), text.as_bytes());
     }
     Ok(())
 }

@@ -1,7 +1,9 @@
 //! Phrases, and what they stand for.
-use crate::{Known, Value, Worth, stands_for};
+
+use crate::rows::{assert_read, row_of};
 use std::alloc::{AllocError, Global};
 use syntax::{Form, Tree, parse};
+use values::{Known, Value, Worth, stands_for};
 
 /// The text of a value: a number in decimal, a constant by its name.
 fn value_text(alloc: Global, value: &Value<Global>) -> Result<String, AllocError> {
@@ -97,10 +99,9 @@ N = if true then 1 else 2 => 1: 3 expected
 #[test]
 fn value_rows(rt: HostRuntime) -> Result<(), AllocError> {
     for row in ROWS.lines() {
-        let (text, want) = row.split_once(" => ").unwrap_or((row, "no row"));
-        let text = text.replace(rt.alloc(), '$', "\n")?;
+        let (text, want) = row_of(rt.alloc(), row)?;
         let got = answer(rt.alloc(), text.as_bytes())?;
-        assert_eq!(rt; got.as_str(), want, "at {row}");
+        assert_read(&rt, &got, want, row);
     }
     Ok(())
 }

@@ -1,6 +1,8 @@
 //! Texts, and whether they have a tree.
-use crate::{Tree, parse};
+
+use crate::rows::{assert_read, push_times, row_of};
 use std::alloc::{AllocError, Global};
+use syntax::{Tree, parse};
 
 /// `ok` where there is a tree, else the line and the fault.
 fn answer(alloc: Global, text: &[u8]) -> Result<String, AllocError> {
@@ -87,15 +89,15 @@ channel a, => 1: 3 expected
 datatype D => 1: 3 expected
 datatype D = x | => 1: 3 expected
 P == STOP => 1: 3 expected
+channel a$P = \u{0} STOP => 2: 1 byte
 ";
 
 #[test]
-fn script_rows(rt: HostRuntime) -> Result<(), AllocError> {
+fn text_rows(rt: HostRuntime) -> Result<(), AllocError> {
     for row in ROWS.lines() {
-        let (text, want) = row.split_once(" => ").unwrap_or((row, "no row"));
-        let text = text.replace(rt.alloc(), '$', "\n")?;
+        let (text, want) = row_of(rt.alloc(), row)?;
         let got = answer(rt.alloc(), text.as_bytes())?;
-        assert_eq!(rt; got.as_str(), want, "at {row}");
+        assert_read(&rt, &got, want, row);
     }
     Ok(())
 }
@@ -112,17 +114,13 @@ struct Nest<'a> {
 
 fn nested(alloc: Global, nest: &Nest<'_>) -> Result<String, AllocError> {
     let mut text = String::from_str(alloc, "channel a\nP = ")?;
-    for _ in 0..nest.count {
-        text.push_str(nest.open)?;
-    }
+    push_times(&mut text, nest.open, nest.count)?;
     text.push_str(nest.middle)?;
-    for _ in 0..nest.count {
-        text.push_str(nest.close)?;
-    }
+    push_times(&mut text, nest.close, nest.count)?;
     Ok(text)
 }
 
-fn row_of<'a>(
+fn nest_of<'a>(
     open: &'a str,
     middle: &'a str,
     close: &'a str,
@@ -141,27 +139,27 @@ fn row_of<'a>(
 #[test]
 fn deep_rows(rt: HostRuntime) -> Result<(), AllocError> {
     let rows = [
-        row_of("(", "STOP", ")", 250, "ok"),
-        row_of("(", "STOP", ")", 251, "2: 9 depth"),
-        row_of("a -> ", "STOP", "", 249, "ok"),
-        row_of("a -> ", "STOP", "", 250, "2: 9 depth"),
-        row_of("{", "STOP", "}", 249, "ok"),
-        row_of("{", "STOP", "}", 250, "2: 9 depth"),
-        row_of("c.(", "STOP", ")", 249, "ok"),
-        row_of("c.(", "STOP", ")", 250, "2: 9 depth"),
-        row_of("[] x:(", "STOP", ") @ x", 249, "ok"),
-        row_of("[] x:(", "STOP", ") @ x", 250, "2: 9 depth"),
-        row_of("", "x", "+ x", 249, "ok"),
-        row_of("", "x", "+ x", 250, "2: 9 depth"),
-        row_of("- ", "x", "", 249, "ok"),
-        row_of("- ", "x", "", 250, "2: 9 depth"),
-        row_of("- ", ")", "", 250, "2: 3 expected"),
-        row_of("(", "", "", 250, "2: 3 expected"),
+        nest_of("(", "STOP", ")", 250, "ok"),
+        nest_of("(", "STOP", ")", 251, "2: 9 depth"),
+        nest_of("a -> ", "STOP", "", 249, "ok"),
+        nest_of("a -> ", "STOP", "", 250, "2: 9 depth"),
+        nest_of("{", "STOP", "}", 249, "ok"),
+        nest_of("{", "STOP", "}", 250, "2: 9 depth"),
+        nest_of("c.(", "STOP", ")", 249, "ok"),
+        nest_of("c.(", "STOP", ")", 250, "2: 9 depth"),
+        nest_of("[] x:(", "STOP", ") @ x", 249, "ok"),
+        nest_of("[] x:(", "STOP", ") @ x", 250, "2: 9 depth"),
+        nest_of("", "x", "+ x", 249, "ok"),
+        nest_of("", "x", "+ x", 250, "2: 9 depth"),
+        nest_of("- ", "x", "", 249, "ok"),
+        nest_of("- ", "x", "", 250, "2: 9 depth"),
+        nest_of("- ", ")", "", 250, "2: 3 expected"),
+        nest_of("(", "", "", 250, "2: 3 expected"),
     ];
     for row in rows {
         let text = nested(rt.alloc(), &row)?;
         let got = answer(rt.alloc(), text.as_bytes())?;
-        assert_eq!(rt; got.as_str(), row.want, "at {} of {}", row.count, row.open);
+        assert_read(&rt, &got, row.want, row.open);
     }
     Ok(())
 }
@@ -175,13 +173,10 @@ fn full(
     end: &str,
 ) -> Result<String, AllocError> {
     let mut text = String::from_str(alloc, start)?;
-    for _ in 0..count {
-        text.push_str(part)?;
-    }
+    push_times(&mut text, part, count)?;
     text.push_str(end)?;
-    for _ in text.len()..65_536 {
-        text.push(' ')?;
-    }
+    let blanks = 65_536usize.saturating_sub(text.len());
+    push_times(&mut text, " ", blanks)?;
     Ok(text)
 }
 
@@ -203,18 +198,11 @@ fn large_rows(rt: HostRuntime) -> Result<(), AllocError> {
     for (start, part, count, end, want) in rows {
         let mut text = full(rt.alloc(), start, part, count, end)?;
         let got = answer(rt.alloc(), text.as_bytes())?;
-        assert_eq!(rt; got.as_str(), want, "at {start}{part}");
+        assert_read(&rt, &got, want, part);
         text.push(' ')?;
         let got = answer(rt.alloc(), text.as_bytes())?;
-        assert_eq!(rt; got.as_str(), "1: 10 large", "at {start}{part}");
+        assert_read(&rt, &got, "1: 10 large", part);
     }
-    Ok(())
-}
-
-#[test]
-fn zero_byte(rt: HostRuntime) -> Result<(), AllocError> {
-    let got = answer(rt.alloc(), b"channel a\nP = \x00 STOP")?;
-    assert_eq!(rt; got.as_str(), "2: 1 byte");
     Ok(())
 }
 
@@ -238,21 +226,28 @@ fn last_part(tree: &Tree<Global>) -> Option<&Tree<Global>> {
     }
 }
 
+/// The line of a tree, those of its parts, those of its last part's parts, and so once more.
+fn lines_of(alloc: Global, tree: &Tree<Global>) -> Result<String, AllocError> {
+    let line = tree.line();
+    let mut text = format!(in alloc; "{line}:")?;
+    let mut at = tree;
+    for _ in 0..3 {
+        let lines = lines_of_parts(alloc, at)?;
+        text.push_str(&lines)?;
+        text.push(';')?;
+        at = last_part(at).unwrap_or(at);
+    }
+    Ok(text)
+}
+
+const SCRIPT: &str = "\n{- a\n -}channel\na, b\nP =\n a ->\n -- b\n b\n -> STOP";
+
 #[test]
 fn lines_of_trees(rt: HostRuntime) -> Result<(), AllocError> {
-    let text = b"\n{- a\n -}channel\na, b\nP =\n a ->\n -- b\n b\n -> STOP";
-    let Ok(script) = parse(rt.alloc(), text) else {
+    let Ok(script) = parse(rt.alloc(), SCRIPT.as_bytes()) else {
         return Err(AllocError);
     };
-    assert_eq!(rt; script.line(), 3);
-    assert_eq!(rt; lines_of_parts(rt.alloc(), &script)?.as_str(), " 3 5");
-    let Some(definition) = last_part(&script) else {
-        return Err(AllocError);
-    };
-    assert_eq!(rt; lines_of_parts(rt.alloc(), definition)?.as_str(), " 5 6");
-    let Some(body) = last_part(definition) else {
-        return Err(AllocError);
-    };
-    assert_eq!(rt; lines_of_parts(rt.alloc(), body)?.as_str(), " 6 8");
+    let got = lines_of(rt.alloc(), &script)?;
+    assert_read(&rt, &got, "3: 3 5; 5 6; 6 8;", SCRIPT);
     Ok(())
 }
