@@ -8,8 +8,6 @@ mod field_value;
 mod names;
 mod naming;
 mod table;
-#[cfg(test)]
-mod tests;
 
 pub use alphabet_error::AlphabetError;
 pub use event_set::{EventSet, Members};

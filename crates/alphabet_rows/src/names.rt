@@ -99,27 +99,35 @@ fn a_number_has_one_text(rt: HostRuntime) -> Result<(), Fail> {
     Ok(())
 }
 
-// The channel `c` with the fields {-1, x} and {2}.
+// The numbers 0 and 2.
+fn evens(alloc: Global) -> Result<Field<Global>, AllocError>
+    ensures { IfOk result (λ f. field_of f ≡ number (pos 0) ∷ number (pos 2) ∷ []) }
+{
+    let mut field = Vec::new(alloc);
+    field.push(Value::Number(0))?;
+    field.push(Value::Number(2))?;
+    Ok(field)
+}
+
+// The channel `c'` with the fields {0, 2} and {-1, x}.
 fn two_fields(alloc: Global) -> Result<Alphabet<Global>, AlphabetError> {
     let mut alphabet = Alphabet::new(alloc);
-    let (Ok(mixed), Ok(two)) = (mixed(alloc), two(alloc)) else {
+    let (Ok(evens), Ok(mixed)) = (evens(alloc), mixed(alloc)) else {
         return Err(AlphabetError::Memory);
     };
-    let fields = [mixed, two];
-    alphabet.declare(b"c", &fields)?;
+    let fields = [evens, mixed];
+    alphabet.declare(b"c'", &fields)?;
     Ok(alphabet)
 }
 
 #[test]
 fn fields_place_by_place(rt: HostRuntime) -> Result<(), Fail> {
     let alphabet = two_fields(rt.alloc())?;
-    assert!(rt; are_names(&alphabet, rt.alloc(), "c.-1.2\nc.x.2\n_tick")?);
-    assert!(rt;
-        are_no_names(
-            &alphabet,
-            "c\nc.\nc.x\nc.x.\nc.x.2.\nc.x.02\nc.-01.2\nc.--1.2\nc.2.x\nc.X.2\nc.x.2.2"
-        )
-    );
+    let names = "c'.0.-1\nc'.0.x\nc'.2.-1\nc'.2.x\n_tick";
+    assert!(rt; are_names(&alphabet, rt.alloc(), names)?);
+    let others =
+        "c'\nc'.\nc'.0\nc'.2.\nc'.2.x.\nc'.02.x\nc'.2.-01\nc'.2.--1\nc'.x.2\nc'.2.X\nc'.2.x.x\nc.2.x\nc'.1.x";
+    assert!(rt; are_no_names(&alphabet, others));
     Ok(())
 }
 
@@ -142,22 +150,23 @@ fn a_field_without_values(rt: HostRuntime) -> Result<(), Fail> {
 #[test]
 fn from_events_to_values(rt: HostRuntime) -> Result<(), Fail> {
     let alphabet = two_fields(rt.alloc())?;
-    let Some(event) = alphabet.event(b"c.x.2") else {
+    let Some(event) = alphabet.event(b"c'.2.x") else {
         return Err(AllocError.into());
     };
-    assert_eq!(rt; alphabet.channel_of(event), Some((0, 1)));
-    assert_eq!(rt; alphabet.event_at(0, 1), Some(event));
-    assert_eq!(rt; alphabet.event_at(0, 2), None);
+    assert_eq!(rt; event, Event::Of(3));
+    assert_eq!(rt; alphabet.channel_of(event), Some((0, 3)));
+    assert_eq!(rt; alphabet.event_at(0, 3), Some(event));
+    assert_eq!(rt; alphabet.event_at(0, 4), None);
     assert_eq!(rt; alphabet.event_at(1, 0), None);
+    assert!(rt; alphabet.value(event, 0) == Some(&Value::Number(2)));
     assert!(rt;
-        matches!(alphabet.value(event, 0), Some(Value::Name(name)) if name.as_slice() == b"x".as_slice())
+        matches!(alphabet.value(event, 1), Some(Value::Name(name)) if name.as_slice() == b"x".as_slice())
     );
-    assert!(rt; alphabet.value(event, 1) == Some(&Value::Number(2)));
     assert!(rt; alphabet.value(event, 2).is_none());
     assert_eq!(rt; alphabet.channel_of(Event::TICK), None);
     assert!(rt; alphabet.value(Event::TICK, 0).is_none());
     assert!(rt;
-        matches!(alphabet.channel(0), Some((name, fields)) if name == b"c".as_slice() && fields.len() == 2)
+        matches!(alphabet.channel(0), Some((name, fields)) if name == b"c'".as_slice() && fields.len() == 2)
     );
     assert!(rt; alphabet.channel(1).is_none());
     Ok(())

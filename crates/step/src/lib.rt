@@ -6,8 +6,6 @@ mod events;
 mod hidden;
 mod looks;
 mod targets;
-#[cfg(test)]
-mod tests;
 
 pub use hidden::body_of;
 pub use looks::{can_tick, is_stable, offers};

@@ -19,6 +19,3 @@ pub use law::one_tree;
 pub use operator::Operator;
 pub use script::parse;
 pub use tree::Tree;
-
-#[cfg(test)]
-mod tests;

@@ -1,15 +1,14 @@
 -- Sets of one event.
-use Rattle.std.proofs.Common.{◌≡◌, ◌↔◌, IsTrue, ℕ, ◌<◌, inl, inr, Bool, true, false, ◌||◌, nat_eq, refl, sym, ◌∙◌, subst, arith}
+use Rattle.std.proofs.Common.{◌≡◌, ◌↔◌, IsTrue, ℕ, ◌<◌, Bool, true, false, ◌||◌, nat_eq, refl, sym, ◌∙◌, subst, arith}
 use Rattle.std.proofs.lemmas.Bool.{eqb-true, eq-eqb}
 use Rattle.alphabet.specs.EventSets.{Set, has, member}
 use Rattle.alphabet.specs.Events.{is_event}
 use Rattle.alphabet.specs.declared.events.Event.{Event}
-use Rattle.alphabet.specs.declared.events.Event.TheVariants.{Tick as tick, Of as ev}
+use Rattle.alphabet.specs.declared.events.Event.TheVariants.{Of as ev}
 use Rattle.term.specs.Proc.{Proc, stop}
-use Rattle.term.specs.Specs.{InSigma, SetInSigma}
 use Rattle.term.specs.Steps.{Act, Ticks}
 use Rattle.term.specs.Sizes.{depth}
-use Rattle.term.proofs.Bools.{or-cases, or-left}
+use Rattle.term.proofs.Bools.{or-left}
 use Rattle.targets.specs.Cuts.{HasDeeper}
 use Rattle.targets.specs.Among.{ActsIn}
 use Rattle.targets.proofs.Depths.{deeper-to}
@@ -42,19 +41,3 @@ module _ (a : ℕ) (one none : Set) (empty : (x : Event) → member none x ≡ f
 
 pub tick-deep : (P : Proc) (n : ℕ) → 0 < n → IsTrue false ↔ HasDeeper (λ Q. Ticks P × (Q ≡ stop)) n
 tick-deep P n h = ((λ t. absurd (cc)), (λ (Q, (t, e), d). let w : n < depth stop = subst (λ v. n < depth v) e d in absurd (omega arith)))
-
--- a set of one event lies in Sigma where the event does
-pub one-below : (a n : ℕ) (one none : Set) → ((x : Event) → member none x ≡ false) → ((x : Event) → member one x ≡ (is_event (ev a) x || member none x)) → a < n → SetInSigma n one
-one-below a n one none empty with h tick t = let e = empty tick in let w = with tick in absurd (cc)
-one-below a n one none empty with h (ev b) t = subst (λ v. v < n) ((one-event a one none empty with b).0 t) h
-
--- a set with an event more lies in Sigma where both do
-pub with-below : (a n : ℕ) (one rest : Set) → SetInSigma n rest → ((x : Event) → member one x ≡ (is_event (ev a) x || member rest x)) → a < n → SetInSigma n one
-with-below a n one rest lies with h x t = elim (or-cases (is_event (ev a) x) (member rest x) (sym (with x) ∙ t)) [
-  | inl e ↦ itself x e
-  | inr e ↦ lies x e
-]
-  where
-    itself : (x : Event) → is_event (ev a) x ≡ true → InSigma n x
-    itself tick e = absurd (cc)
-    itself (ev b) e = subst (λ v. v < n) (eqb-true a b e) h

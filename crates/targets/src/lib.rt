@@ -9,8 +9,6 @@ mod distinct;
 mod event_cuts;
 mod event_sets;
 mod hidden_cuts;
-#[cfg(test)]
-mod tests;
 
 pub use deep::has_deep_target;
 pub use distinct::distinct_targets;

@@ -4,8 +4,6 @@
 pub mod laws;
 mod spec;
 mod terms;
-#[cfg(test)]
-mod tests;
 
 pub use spec::Spec;
 pub use terms::Term;

@@ -18,6 +18,3 @@ pub use law::one_token_list;
 pub use script::{MAX_SCRIPT_LEN, end_line, scan};
 pub use symbol::Symbol;
 pub use token::{Token, Word};
-
-#[cfg(test)]
-mod tests;

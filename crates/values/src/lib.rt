@@ -17,6 +17,3 @@ pub use phrase::stands_for;
 pub use sets::{SET_LIMIT, Values};
 pub use value::Value;
 pub use worth::{Worth, constant_set, the_set, the_value};
-
-#[cfg(test)]
-mod tests;

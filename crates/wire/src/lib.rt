@@ -9,8 +9,6 @@ mod lines;
 mod plain;
 mod replies;
 mod requests;
-#[cfg(test)]
-mod tests;
 
 pub use answers::{Fault, Receipt, Status, Summary};
 pub use ends::{Sink, SinkFault, Source, SourceFault};

@@ -1,5 +1,13 @@
-//! Worked connections: names of a channel with a field, replies that are flushed before more is read, and refused memory.
+//! Worked connections: rows of lines, ends that fail, replies that are flushed before more is read, and refused memory.
 #![tactic(auto)]
 
 #[cfg(test)]
-mod tests;
+mod devices;
+#[cfg(test)]
+mod flushes;
+#[cfg(test)]
+mod refusals;
+#[cfg(test)]
+mod rows;
+#[cfg(test)]
+mod turns;
