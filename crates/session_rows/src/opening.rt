@@ -1,4 +1,4 @@
-//! Sessions of one script, and journals of it.
+//! Sessions of two scripts, and journals of the first.
 use disk::Disk;
 use journal::Journal;
 use script::read;
@@ -9,7 +9,15 @@ use term::Spec;
 
 const SCRIPT: &str = "channel a, b, c\nP = a -> b -> P\n";
 
-/// The header of a journal of the script, 69 bytes.
+/// After a comes a level that is too deep, after b one with too many states; c changes nothing.
+const LIMITS: &str = "channel a, b, c
+P = a -> D [] b -> M [] c -> P
+D = D [] b -> STOP
+M = Q ||| Q ||| Q ||| Q ||| Q ||| Q
+Q = a -> STOP |~| b -> STOP
+";
+
+/// The header of a journal of the first script, 69 bytes.
 const HEADER: &str = "cspwatch journal 1\nroot P\nscript 32\nchannel a, b, c\nP = a -> b -> P\n\n";
 
 fn spec_of(alloc: Global) -> Result<Spec<Global>, Fail> {
@@ -23,6 +31,17 @@ pub(crate) fn begun<D: Disk + Drop>(alloc: Global, disk: D) -> Result<Session<D,
         return Err(Fail::new("the script is short"));
     }
     match Session::begin(alloc, disk, script, b"P", spec_of(alloc)?) {
+        Ok(session) => Ok(session),
+        Err(_) => Err(Fail::new("a session begins")),
+    }
+}
+
+/// A session on a new journal, in which a and b meet the limits of depth and of states.
+pub(crate) fn near_limits<D: Disk + Drop>(
+    alloc: Global,
+    disk: D,
+) -> Result<Session<D, Global>, Fail> {
+    match Session::create(alloc, disk, LIMITS.as_bytes(), b"P") {
         Ok(session) => Ok(session),
         Err(_) => Err(Fail::new("a session begins")),
     }

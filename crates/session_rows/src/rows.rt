@@ -14,6 +14,9 @@ use std::test::Fail;
 /// How a fault is written in a row.
 fn word_of(fault: Fault) -> &'static [u8] {
     match fault {
+        Fault::Depth => b"20",
+        Fault::States => b"21",
+        Fault::History => b"23",
         Fault::Turn => b"24",
         Fault::Behind => b"25",
         Fault::Journal(_) => b"30",
@@ -34,26 +37,40 @@ fn event_of<D: Disk>(session: &Session<D, Global>, letter: u8) -> Result<Event, 
     }
 }
 
-/// Reports the event as the seat's report with this number, where the seat has seen so many entries.
-fn report<D: Disk>(
+/// Reports the event as the seat's report with this number, where the seat has seen so many entries. Answers `+` or `-` for
+/// the verdict, or the fault's number.
+fn answer_to<D: Disk>(
     session: &mut Session<D, Global>,
-    seat: u8,
-    number: u8,
-    floor: u8,
+    seat: u16,
+    number: u32,
+    floor: usize,
     letter: u8,
 ) -> Result<&'static [u8], Fail> {
-    let Some(seat) = SeatNumber::new(number_of(seat)) else {
+    let Some(seat) = SeatNumber::new(seat) else {
         return Err(Fail::new("no such seat"));
     };
     let Some(event) = session.spec().alphabet().event(&[letter]) else {
         return Err(Fail::new("no such event"));
     };
-    let (number, floor) = (number_of(number), number_of(floor));
-    match session.report(seat, number as u32, floor as usize, &Report::Event(event)) {
+    match session.report(seat, number, floor, &Report::Event(event)) {
         Ok(entry) if entry.verdict => Ok(b"+"),
         Ok(_) => Ok(b"-"),
         Err(fault) => Ok(word_of(fault)),
     }
+}
+
+/// Asserts what is answered where the first seat reports the event so.
+pub(crate) fn assert_answer<D: Disk>(
+    rt: &impl Abort,
+    session: &mut Session<D, Global>,
+    number: u32,
+    floor: usize,
+    letter: u8,
+    wanted: &[u8],
+) -> Result<(), Fail> {
+    let answer = answer_to(session, 1, number, floor, letter)?;
+    assert_eq!(rt; answer, wanted, "report {number}");
+    Ok(())
 }
 
 /// Asks one thing of the session, and asserts the answer.
@@ -78,7 +95,8 @@ fn assert_step<D: Disk>(
             assert!(rt; session.next() == wanted, "{letters:?}");
         }
         [seat, number, floor, letter, answer @ ..] => {
-            let answered = report(session, *seat, *number, *floor, *letter)?;
+            let (seat, number, floor) = (number_of(*seat), number_of(*number), number_of(*floor));
+            let answered = answer_to(session, seat, number as u32, floor as usize, *letter)?;
             assert_eq!(rt; answered, answer, "{step:?}");
         }
         _ => return Err(Fail::new("no such step")),

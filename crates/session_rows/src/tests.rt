@@ -1,6 +1,6 @@
 // What is expected is worked by hand from the meaning of `P = a -> b -> P` and from the journal's format.
-use crate::opening::{begun, file_of, resumed};
-use crate::rows::assert_row;
+use crate::opening::{begun, file_of, near_limits, resumed};
+use crate::rows::{assert_answer, assert_row};
 use journal::testing::{Afterwards, CrashDisk, FaultDisk, MemoryDisk, Part};
 use session::{Fault, SeatNumber, Session, SessionError};
 use std::alloc::Global;
@@ -190,6 +190,52 @@ fn a_crash_after_each_call(rt: HostRuntime) -> Result<(), Fail> {
         assert_eq!(rt; between == 1, part != Part::Nothing);
         assert_eq!(rt; left_after(alloc, &disk, 7, part)?, 1);
     }
+    Ok(())
+}
+
+// A limit is told where nothing comes before it, and neither closes the session nor touches the journal.
+#[test]
+fn limits_come_last(rt: HostRuntime) -> Result<(), Fail> {
+    let alloc = rt.alloc();
+    let mut session = near_limits(alloc, MemoryDisk::new(Vec::new(alloc)))?;
+    let row = "J1 120a24 111a25 110a20 120b24 111b25 110b21 L0 Nabc 110c+ 121b21 L1 Nabc";
+    assert_row(&rt, &mut session, row)?;
+    assert!(rt; !session.is_closed());
+    let disk = session.into_disk();
+    assert!(rt; disk.bytes().ends_with(b"\n\n+1 1 E+ c\n."));
+    Ok(())
+}
+
+#[test]
+fn closed_comes_first(rt: HostRuntime) -> Result<(), Fail> {
+    let alloc = rt.alloc();
+    // a beginning is three calls
+    let disk = FaultDisk::new(Vec::new(alloc), 4, Afterwards::GoOn);
+    let mut session = near_limits(alloc, disk)?;
+    let row = "110b21 110c30 110a31 110b31 120a31 111a31 L0 Nabc";
+    assert_row(&rt, &mut session, row)
+}
+
+// A session whose history is full.
+fn full(rt: &impl Abort, alloc: Global) -> Result<Session<MemoryDisk<Global>, Global>, Fail> {
+    let mut session = near_limits(alloc, MemoryDisk::new(Vec::new(alloc)))?;
+    for number in 1..=1_000_000 {
+        assert_answer(rt, &mut session, number, 0, b'c', b"+")?;
+    }
+    Ok(session)
+}
+
+// A full history is told after a wrong turn and one that is behind, and before the limits.
+#[test]
+fn a_full_history(rt: HostRuntime) -> Result<(), Fail> {
+    let mut session = full(&rt, rt.alloc())?;
+    assert_answer(&rt, &mut session, 1_000_000, 1_000_001, b'c', b"24")?;
+    assert_answer(&rt, &mut session, 1_000_001, 1_000_001, b'c', b"25")?;
+    assert_answer(&rt, &mut session, 1_000_001, 1_000_000, b'c', b"23")?;
+    assert_answer(&rt, &mut session, 1_000_001, 1_000_000, b'a', b"23")?;
+    assert_answer(&rt, &mut session, 1_000_001, 1_000_000, b'b', b"23")?;
+    assert_eq!(rt; session.history().len(), 1_000_000);
+    assert!(rt; !session.is_closed());
     Ok(())
 }
 
