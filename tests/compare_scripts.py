@@ -286,7 +286,7 @@ def main():
             outcomes[wanted.split(b": ")[-1].decode().strip() if wanted.startswith(b"p.csp:") else "printed"] += 1
             if own == wanted:
                 continue
-            why = reason(given.program, case, own, wanted)
+            why = reason(given.program, case)
             reasons[why] += 1
             if given.keep:
                 with open(os.path.join(given.keep, "%d.csp" % place), "wb") as file:
