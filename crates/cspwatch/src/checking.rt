@@ -8,6 +8,7 @@ use crate::scripts::{spec_told, text_of};
 use crate::telling::{BAD_USE, DONE, FILE_FAILED, LIMIT, REJECTED, tell_fault, tell_opening};
 use disk::Disk;
 use one_seat::{OneSeat, Watch, seat_in_memory};
+use session::headers_take_scripts;
 use std::alloc::{Allocator, Global};
 use std::io::{Read, Write};
 use std::rt::Files;
@@ -72,6 +73,7 @@ pub(crate) fn check<R: Files + AllocGlobal + Wait, I: Read + Drop, O: Write + Dr
         Ok(spec) => spec,
         Err(status) => return status,
     };
+    headers_take_scripts();
     match seat_in_memory(rt.alloc(), script, process, spec) {
         Ok(seat) => converse(rt, rt.alloc(), name, seat, input, output, errors),
         Err(error) => tell_opening(errors, name, error),

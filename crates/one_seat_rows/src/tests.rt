@@ -3,7 +3,7 @@ use disk::Disk;
 use memory_disks::{Afterwards, FaultDisk};
 use one_seat::{OneSeat, Watch, seat_in_memory};
 use script::read;
-use session::Session;
+use session::{Session, headers_take_scripts};
 use std::alloc::Global;
 use std::sync::Wait;
 use std::test::Fail;
@@ -43,6 +43,7 @@ fn a_conversation_and_the_next(rt: HostRuntime) -> Result<(), Fail> {
     let alloc = rt.alloc();
     let script = SCRIPT.as_bytes();
     let spec = read(alloc, script, b"P")?;
+    headers_take_scripts();
     let Ok(mut seat) = seat_in_memory(alloc, script, b"P", spec) else {
         return Err(Fail::new("the seat is there"));
     };

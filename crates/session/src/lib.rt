@@ -5,6 +5,7 @@
 #![tactic(auto)]
 
 mod fault;
+mod law;
 mod opening;
 mod ready;
 mod records;
@@ -13,5 +14,6 @@ mod session;
 
 pub use fault::{Failed, Fault, SessionError};
 pub use history::{Entry, HISTORY_LIMIT, SeatNumber, Summary};
+pub use law::headers_take_scripts;
 pub use ready::Ready;
 pub use session::Session;
