@@ -1,8 +1,11 @@
 // What is expected is worked by hand from the rules of scripts, of the journal's format and of CSP.
 use alphabet::Report;
+use disk::Disk;
+use journal::Header;
 use journal::testing::MemoryDisk;
-use session::Session;
+use session::{Entry, SeatNumber, Session, SessionError};
 use std::alloc::Global;
+use std::process::Abort;
 use std::test::Fail;
 
 // The text, where `/` stands for an LF.
@@ -27,10 +30,10 @@ fn file_of(alloc: Global, root: &[u8], script: &[u8], records: &[u8]) -> Result<
     Ok(file)
 }
 
-// What a replay of this file comes to: how many entries there are, of events accepted, of refusals accepted, and rejected; or
-// the error.
-fn outcome(alloc: Global, file: Vec<u8>) -> Result<String, Fail> {
-    match Session::replay(alloc, MemoryDisk::new(file)) {
+// What a replay of the file on this disk comes to: how many entries there are, of events accepted, of refusals accepted, and
+// rejected; or the error.
+fn outcome<D: Disk + Drop>(alloc: Global, disk: D) -> Result<String, Fail> {
+    match Session::replay(alloc, disk) {
         Ok((session, _header)) => {
             let told = session.summary();
             let (judged, events) = (told.judged, told.events);
@@ -70,9 +73,62 @@ fn journals_by_their_scripts(rt: HostRuntime) -> Result<(), Fail> {
         let (Some(records), Some(wanted)) = (parts.next(), parts.next()) else {
             return Err(Fail::new("no row"));
         };
-        let told = outcome(alloc, file_of(alloc, root, script, records)?)?;
+        let disk = MemoryDisk::new(file_of(alloc, root, script, records)?);
+        let told = outcome(alloc, disk)?;
         assert_eq!(rt; told.as_bytes(), wanted, "{script:?} {records:?}");
     }
+    Ok(())
+}
+
+// A session of the script on a new journal, or why there is none, with the disk.
+fn created<D: Disk + Drop>(
+    alloc: Global,
+    disk: D,
+    script: &[u8],
+) -> Result<Session<D, Global>, (SessionError, D)> {
+    Session::create(alloc, disk, script, b"P")
+}
+
+// The session that the file on this disk gives, and its header.
+fn replayed<D: Disk + Drop>(
+    alloc: Global,
+    disk: D,
+) -> Result<(Session<D, Global>, Header<Global>), Fail> {
+    match Session::replay(alloc, disk) {
+        Ok(opened) => Ok(opened),
+        Err(_) => Err(Fail::new("the journal is a session's")),
+    }
+}
+
+// Reports the event a as the first seat's report with this number. Its entry is answered.
+fn reported<D: Disk>(session: &mut Session<D, Global>, number: u32) -> Result<Entry, Fail> {
+    let Some(event) = session.spec().alphabet().event(b"a") else {
+        return Err(Fail::new("there is such an event"));
+    };
+    let Some(seat) = SeatNumber::new(1) else {
+        return Err(Fail::new("there is such a seat"));
+    };
+    match session.report(seat, number, 0, &Report::Event(event)) {
+        Ok(entry) => Ok(entry),
+        Err(_) => Err(Fail::new("the report is judged")),
+    }
+}
+
+// Asserts that the session has these entries of the first seat, and is open.
+fn assert_entries<D: Disk>(
+    rt: &impl Abort,
+    session: &Session<D, Global>,
+    entries: &[Entry],
+) -> Result<(), Fail> {
+    assert_eq!(rt; session.history(), entries);
+    let Some(seat) = SeatNumber::new(1) else {
+        return Err(Fail::new("there is such a seat"));
+    };
+    assert_eq!(rt;
+        session.next_number(seat) as usize,
+        entries.len().saturating_add(1)
+    );
+    assert!(rt; !session.is_closed());
     Ok(())
 }
 
@@ -80,41 +136,22 @@ fn journals_by_their_scripts(rt: HostRuntime) -> Result<(), Fail> {
 fn a_session_and_its_replay(rt: HostRuntime) -> Result<(), Fail> {
     let alloc = rt.alloc();
     let script = lines_of(alloc, b"channel a, b/P = a -> b -> P/")?;
-    let disk = MemoryDisk::new(Vec::new(alloc));
-    let Ok(mut session) = Session::create(alloc, disk, &script, b"P") else {
+    let Ok(mut session) = created(alloc, MemoryDisk::new(Vec::new(alloc)), &script) else {
         return Err(Fail::new("a session begins"));
     };
-    let Some(event) = session.spec().alphabet().event(b"a") else {
-        return Err(Fail::new("there is such an event"));
-    };
-    let Ok(seat) = session.join() else {
-        return Err(Fail::new("there is a seat"));
-    };
-    let Ok(accepted) = session.report(seat, 1, 0, &Report::Event(event)) else {
-        return Err(Fail::new("the report is judged"));
-    };
-    let Ok(rejected) = session.report(seat, 2, 0, &Report::Event(event)) else {
-        return Err(Fail::new("the report is judged"));
-    };
+    let (accepted, rejected) = (reported(&mut session, 1)?, reported(&mut session, 2)?);
     assert!(rt; accepted.verdict && !rejected.verdict);
-    let Ok((replayed, header)) = Session::replay(alloc, session.into_disk()) else {
-        return Err(Fail::new("the journal is a session's"));
-    };
+    let (again, header) = replayed(alloc, session.into_disk())?;
     assert_eq!(rt; header.script.as_slice(), script.as_slice());
     assert_eq!(rt; header.root.as_slice(), b"P".as_slice());
-    assert_eq!(rt; replayed.history().len(), 2);
-    assert_eq!(rt; replayed.history().first(), Some(&accepted));
-    assert_eq!(rt; replayed.history().last(), Some(&rejected));
-    assert_eq!(rt; replayed.next_number(seat), 3);
-    assert!(rt; !replayed.is_closed());
-    Ok(())
+    assert_entries(&rt, &again, &[accepted, rejected])
 }
 
 #[test]
 fn a_refused_script(rt: HostRuntime) -> Result<(), Fail> {
     let alloc = rt.alloc();
     let disk = MemoryDisk::new(Vec::from_slice(alloc, b"old")?);
-    let Err((error, disk)) = Session::create(alloc, disk, b"P =", b"P") else {
+    let Err((error, disk)) = created(alloc, disk, b"P =") else {
         return Err(Fail::new("there is no such session"));
     };
     assert_eq!(rt;
