@@ -1,7 +1,6 @@
 // What is expected is worked by hand from the rules of scripts, of the journal's format and of CSP.
 use alphabet::Report;
 use disk::Disk;
-use journal::Header;
 use journal::testing::MemoryDisk;
 use session::{Entry, SeatNumber, Session, SessionError};
 use std::alloc::Global;
@@ -80,26 +79,6 @@ fn journals_by_their_scripts(rt: HostRuntime) -> Result<(), Fail> {
     Ok(())
 }
 
-// A session of the script on a new journal, or why there is none, with the disk.
-fn created<D: Disk + Drop>(
-    alloc: Global,
-    disk: D,
-    script: &[u8],
-) -> Result<Session<D, Global>, (SessionError, D)> {
-    Session::create(alloc, disk, script, b"P")
-}
-
-// The session that the file on this disk gives, and its header.
-fn replayed<D: Disk + Drop>(
-    alloc: Global,
-    disk: D,
-) -> Result<(Session<D, Global>, Header<Global>), Fail> {
-    match Session::replay(alloc, disk) {
-        Ok(opened) => Ok(opened),
-        Err(_) => Err(Fail::new("the journal is a session's")),
-    }
-}
-
 // Reports the event a as the first seat's report with this number. Its entry is answered.
 fn reported<D: Disk>(session: &mut Session<D, Global>, number: u32) -> Result<Entry, Fail> {
     let Some(event) = session.spec().alphabet().event(b"a") else {
@@ -132,28 +111,50 @@ fn assert_entries<D: Disk>(
     Ok(())
 }
 
-#[test]
-fn a_session_and_its_replay(rt: HostRuntime) -> Result<(), Fail> {
-    let alloc = rt.alloc();
-    let script = lines_of(alloc, b"channel a, b/P = a -> b -> P/")?;
-    let Ok(mut session) = created(alloc, MemoryDisk::new(Vec::new(alloc)), &script) else {
+// Asserts that a session of this script on this disk has two entries after two reports, and that a replay gives them again.
+fn assert_replayed<D: Disk + Drop>(
+    rt: &impl Abort,
+    alloc: Global,
+    disk: D,
+    script: &[u8],
+) -> Result<(), Fail> {
+    let Ok(mut session) = Session::create(alloc, disk, script, b"P") else {
         return Err(Fail::new("a session begins"));
     };
     let (accepted, rejected) = (reported(&mut session, 1)?, reported(&mut session, 2)?);
     assert!(rt; accepted.verdict && !rejected.verdict);
-    let (again, header) = replayed(alloc, session.into_disk())?;
-    assert_eq!(rt; header.script.as_slice(), script.as_slice());
+    let Ok((replayed, header)) = Session::replay(alloc, session.into_disk()) else {
+        return Err(Fail::new("the journal is a session's"));
+    };
+    assert_eq!(rt; header.script.as_slice(), script);
     assert_eq!(rt; header.root.as_slice(), b"P".as_slice());
-    assert_entries(&rt, &again, &[accepted, rejected])
+    assert_entries(rt, &replayed, &[accepted, rejected])
+}
+
+#[test]
+fn a_session_and_its_replay(rt: HostRuntime) -> Result<(), Fail> {
+    let alloc = rt.alloc();
+    let script = lines_of(alloc, b"channel a, b/P = a -> b -> P/")?;
+    assert_replayed(&rt, alloc, MemoryDisk::new(Vec::new(alloc)), &script)
+}
+
+// Why there is no session of this script, and the disk.
+fn refused<D: Disk + Drop>(
+    alloc: Global,
+    disk: D,
+    script: &[u8],
+) -> Result<(SessionError, D), Fail> {
+    match Session::create(alloc, disk, script, b"P") {
+        Ok(_) => Err(Fail::new("there is no such session")),
+        Err(refused) => Ok(refused),
+    }
 }
 
 #[test]
 fn a_refused_script(rt: HostRuntime) -> Result<(), Fail> {
     let alloc = rt.alloc();
     let disk = MemoryDisk::new(Vec::from_slice(alloc, b"old")?);
-    let Err((error, disk)) = created(alloc, disk, b"P =") else {
-        return Err(Fail::new("there is no such session"));
-    };
+    let (error, disk) = refused(alloc, disk, b"P =")?;
     assert_eq!(rt;
         format!(in alloc; "{error}")?.as_str(),
         "script 1: 3 expected"
