@@ -3,11 +3,10 @@
 ghost use Rattle.std.specs.Prelude.{◌≡◌};
 ghost use Rattle.alphabet.specs.AlphabetErrors.{code_of, word_of};
 
-use thiserror::Error;
+use std::fmt;
 
 /// Why a channel isn't declared. The text is the number and the word.
-#[derive(Clone, Copy, Debug, PartialEq, Eq, Error)]
-#[error("{} {}", self.code(), self.word())]
+#[derive(Clone, Copy, Debug, PartialEq, Eq)]
 pub enum AlphabetError {
     /// A channel of this name is declared already.
     Redeclared,
@@ -40,3 +39,11 @@ impl AlphabetError {
         }
     }
 }
+
+impl fmt::Display for AlphabetError {
+    fn fmt<W: fmt::Write>(&self, f: &mut fmt::Formatter<W>) -> fmt::Result {
+        write!(f, "{} {}", self.code(), self.word())
+    }
+}
+
+impl std::error::Error for AlphabetError {}

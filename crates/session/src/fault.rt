@@ -6,8 +6,8 @@ ghost use Rattle.session.specs.Faults.{code_of, word_of, fault_of, error_code, e
 use after::AfterFault;
 use history::Entry;
 use journal::JournalError;
+use std::fmt;
 use std::marker::Model;
-use thiserror::Error;
 use tokens::{ScriptError, ScriptErrorKind};
 
 /// The entry that a disk failed on, and that closed a session. Only this crate makes one.
@@ -43,8 +43,7 @@ impl Failed {
 }
 
 /// Why a session takes no report, or gives no seat. Its text is its number and its word.
-#[derive(Clone, Copy, Debug, PartialEq, Eq, Error)]
-#[error("{} {}", self.code(), self.word())]
+#[derive(Clone, Copy, Debug, PartialEq, Eq)]
 pub enum Fault {
     /// A state would be too deep.
     Depth,
@@ -102,6 +101,14 @@ impl Fault {
     }
 }
 
+impl fmt::Display for Fault {
+    fn fmt<W: fmt::Write>(&self, f: &mut fmt::Formatter<W>) -> fmt::Result {
+        write!(f, "{} {}", self.code(), self.word())
+    }
+}
+
+impl std::error::Error for Fault {}
+
 impl From<AfterFault> for Fault {
     ghost from_gives = { λ fault result. result ≡ fault_of fault };
 
@@ -116,37 +123,27 @@ impl From<AfterFault> for Fault {
 
 /// Why there is no session on a disk. Its text is its number and its word, for a record also its place; that of a script's
 /// fault is `script`, the line, and the number and the word of its kind.
-#[derive(Clone, Copy, Debug, PartialEq, Eq, Error)]
+#[derive(Clone, Copy, Debug, PartialEq, Eq)]
 pub enum SessionError {
     /// A state would be too deep.
-    #[error("20 depth")]
     Depth,
     /// There would be too many states.
-    #[error("21 states")]
     States,
     /// The journal has more records than a history takes.
-    #[error("23 history")]
     History,
     /// The device failed in this call.
-    #[error("30 journal")]
     Device,
     /// A request for memory was refused.
-    #[error("40 memory")]
     Memory,
     /// The file does not begin with a header.
-    #[error("50 header")]
     BadHeader,
     /// The file ends where a gate must stand, or before the LF of a line behind an open gate.
-    #[error("51 truncated")]
     Truncated,
     /// The record with this place, counted from 1, is none that the session could have written there.
-    #[error("52 record {0}")]
     BadRecord(usize),
     /// The record with this place, counted from 1, has another verdict than the specification's.
-    #[error("53 verdict {0}")]
     OtherVerdict(usize),
     /// The script denotes no specification for the root. Want of memory is `Memory`.
-    #[error("script {0}")]
     Script(ScriptError),
 }
 
@@ -187,6 +184,20 @@ impl SessionError {
         }
     }
 }
+
+impl fmt::Display for SessionError {
+    fn fmt<W: fmt::Write>(&self, f: &mut fmt::Formatter<W>) -> fmt::Result {
+        match self {
+            SessionError::Script(fault) => write!(f, "script {fault}"),
+            SessionError::BadRecord(place) | SessionError::OtherVerdict(place) => {
+                write!(f, "{} {} {place}", self.code(), self.word())
+            }
+            _ => write!(f, "{} {}", self.code(), self.word()),
+        }
+    }
+}
+
+impl std::error::Error for SessionError {}
 
 impl From<AfterFault> for SessionError {
     ghost from_gives = { λ fault result. result ≡ error_of fault };

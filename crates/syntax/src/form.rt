@@ -8,7 +8,7 @@ use crate::piece::{Fields, Kind, Piece, Place, Sign, Start};
 use tokens::{Keyword, Symbol};
 
 /// What a node of a tree stands for.
-#[derive(Clone, Copy, Debug, PartialEq, Eq)]
+#[derive(Clone, Copy, PartialEq, Eq)]
 pub enum Form {
     /// `STOP`
     Stop,

@@ -6,7 +6,7 @@ use crate::piece::{Kind, Piece, Place, Sign, Start};
 use tokens::{Keyword, Symbol};
 
 /// An operator between two phrases or behind one.
-#[derive(Clone, Copy, Debug, PartialEq, Eq)]
+#[derive(Clone, Copy, PartialEq, Eq)]
 pub enum Operator {
     /// `P[[a <- b]]`
     Renaming,

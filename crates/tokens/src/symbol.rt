@@ -3,7 +3,7 @@ ghost use Rattle.std.specs.Prelude.{◌≡◌};
 ghost use Rattle.tokens.specs.Spelling.{symbol_text, refused_symbol_text};
 
 /// An operator, a bracket or a separator.
-#[derive(Clone, Copy, Debug, PartialEq, Eq)]
+#[derive(Clone, Copy, PartialEq, Eq)]
 pub enum Symbol {
     /// `->`
     Arrow,

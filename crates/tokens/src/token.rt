@@ -5,7 +5,7 @@ use crate::symbol::Symbol;
 use std::alloc::Allocator;
 
 /// A token without its place.
-#[derive(Debug, Drop, PartialEq, Eq)]
+#[derive(Drop, PartialEq, Eq)]
 pub enum Word<A: Allocator> {
     /// The bytes of a name.
     Name(Vec<u8, A>),
@@ -16,7 +16,7 @@ pub enum Word<A: Allocator> {
 }
 
 /// A token and the line that it stands on, from 1.
-#[derive(Debug, Drop, PartialEq, Eq)]
+#[derive(Drop, PartialEq, Eq)]
 pub struct Token<A: Allocator> {
     pub word: Word<A>,
     pub line: u32,

@@ -12,7 +12,7 @@ use std::alloc::{AllocError, Allocator};
 use std::cmp::Ordering;
 
 /// A number, or a constant by the bytes of its name. Numbers come first, by size, then constants by their bytes.
-#[derive(Debug, Drop)]
+#[derive(Drop)]
 pub enum Value<A: Allocator> {
     Number(i64),
     Constant(Vec<u8, A>),

@@ -2,7 +2,7 @@
 ghost use Rattle.std.specs.Prelude.{◌≡◌, ◌≤◌, length};
 ghost use Rattle.wire.specs.Replies.{fault_code, fault_word, fault_text};
 
-use thiserror::Error;
+use std::fmt;
 
 /// The answer to a report that was judged: whether it was accepted, and the place of its entry in the history.
 #[derive(Clone, Copy, Debug, PartialEq, Eq)]
@@ -32,8 +32,7 @@ pub struct Status {
 }
 
 /// Why a report was not judged. Its text is its number and its word.
-#[derive(Clone, Copy, Debug, PartialEq, Eq, Error)]
-#[error("{} {}", self.code(), self.word())]
+#[derive(Clone, Copy, Debug, PartialEq, Eq)]
 pub enum Fault {
     /// A state would be too deep.
     Depth,
@@ -113,3 +112,11 @@ impl Fault {
         }
     }
 }
+
+impl fmt::Display for Fault {
+    fn fmt<W: fmt::Write>(&self, f: &mut fmt::Formatter<W>) -> fmt::Result {
+        write!(f, "{} {}", self.code(), self.word())
+    }
+}
+
+impl std::error::Error for Fault {}
