@@ -3,6 +3,9 @@ use clap::{Arg, ArgAction, ArgMatches, Command, Error};
 use std::alloc::{AllocError, Global};
 use std::convert::AsStr;
 
+/// The version of the program, as `--version` prints it.
+const VERSION: &str = "0.1.0";
+
 /// What the words ask for.
 #[derive(Clone, Copy, Debug, PartialEq, Eq)]
 pub(crate) enum Wish<'a> {
@@ -60,6 +63,7 @@ fn replay_command<'a>(alloc: Global) -> Result<Command<'a>, AllocError> {
 
 fn command<'a>(alloc: Global) -> Result<Command<'a>, AllocError> {
     Command::new(alloc, "cspwatch")
+        .version(VERSION)
         .about("Judges reports of running components against a CSP specification")
         .subcommand_required(true)
         .subcommand(check_command(alloc)?)?
