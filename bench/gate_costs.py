@@ -1,0 +1,97 @@
+#!/usr/bin/env python3
+"""Runs a command, and prints what each crate's checks below it took: processor seconds, and the peak memory of a process.
+
+    bench/gate_costs.py [--table FILE] COMMAND ..      for example bench/gate_costs.py --table costs.md .ci/run
+
+Once a second it looks at the checker's processes among the command's children (Linux alone). A check that runs in a
+temporary folder is one of a wrong body; every other one counts as proof and tests. What a process takes after the last
+look at it is missing, so a crate's figure is up to a second too small for each process. The status is the command's.
+"""
+import argparse
+import collections
+import os
+import resource
+import subprocess
+import sys
+import time
+
+TICKS = os.sysconf("SC_CLK_TCK")
+PAGE = os.sysconf("SC_PAGE_SIZE")
+
+
+def stat_of(number):
+    """The parent, the processor seconds and the memory in bytes of a process."""
+    with open("/proc/%s/stat" % number) as file:
+        fields = file.read().rpartition(")")[2].split()
+    return int(fields[1]), (int(fields[11]) + int(fields[12])) / TICKS, int(fields[21]) * PAGE
+
+
+def words_of(number):
+    with open("/proc/%s/cmdline" % number, "rb") as file:
+        return file.read().decode(errors="replace").split("\0")
+
+
+def check_of(number):
+    """The crate that a process checks and whether it is one of a wrong body; None for another process."""
+    words = words_of(number)
+    if "--crate-name" not in words[:-1] or "check" not in words:
+        return None
+    crate = words[words.index("--crate-name") + 1]
+    return crate, "rt-edit-" in os.readlink("/proc/%s/cwd" % number)
+
+
+def look(root, seconds, memory):
+    """Notes what each check below the process with this number has taken so far."""
+    found, parents = {}, {}
+    for number in filter(str.isdigit, os.listdir("/proc")):
+        try:
+            parents[int(number)], *found[int(number)] = stat_of(number)
+        except (OSError, IndexError):
+            continue
+    for number in found:
+        above = number
+        while above in parents and above != root:
+            above = parents[above]
+        if above != root:
+            continue
+        try:
+            check = check_of(number)
+        except OSError:
+            continue
+        if check:
+            seconds[check][number] = found[number][0]
+            memory[check] = max(memory[check], found[number][1])
+
+
+def table(seconds, memory):
+    sums = {check: sum(taken.values()) for check, taken in seconds.items()}
+    yield "| Crate | Processor seconds, proof and tests | Peak memory of a process | Wrong bodies, seconds |"
+    yield "|---|---|---|---|"
+    for crate in sorted({crate for crate, _ in sums}):
+        proof, edits = (crate, False), (crate, True)
+        yield "| `%s` | %.0f | %.1f GB | %.0f |" % (crate, sums.get(proof, 0), memory[proof] / 1e9, sums.get(edits, 0))
+    whole = [sum(it for (_, is_edit), it in sums.items() if is_edit == wanted) for wanted in (False, True)]
+    yield "| all | %.0f | | %.0f |" % tuple(whole)
+
+
+def main():
+    parser = argparse.ArgumentParser(description=__doc__.split("\n")[0])
+    parser.add_argument("--table", help="the file for the table; standard error where it is left out")
+    parser.add_argument("command", nargs=argparse.REMAINDER)
+    options = parser.parse_args()
+    seconds, memory = collections.defaultdict(dict), collections.defaultdict(int)
+    began = time.time()
+    with subprocess.Popen(options.command) as child:
+        while child.poll() is None:
+            look(child.pid, seconds, memory)
+            time.sleep(1)
+    used = resource.getrusage(resource.RUSAGE_CHILDREN)
+    minutes = (time.time() - began) / 60, (used.ru_utime + used.ru_stime) / 60
+    lines = [*table(seconds, memory), "", "%.1f minutes by the clock, %.1f of processor time" % minutes]
+    with open(options.table, "w") if options.table else os.fdopen(os.dup(2), "w") as file:
+        file.write("\n".join(lines) + "\n")
+    return child.returncode
+
+
+if __name__ == "__main__":
+    sys.exit(main())
