@@ -25,7 +25,10 @@ fn put_written<D: Disk>(disk: &mut D, out: &mut String) -> Result<(), AllocError
     let is_written = disk.write_at(8, b"abc").is_ok();
     let between = disk.len().unwrap_or(usize::MAX);
     let is_cut = disk.cut(10).is_ok() && disk.sync().is_ok();
-    write!(out, "length {before}, written {is_written}, length {between}, cut {is_cut}")
+    write!(
+        out,
+        "length {before}, written {is_written}, length {between}, cut {is_cut}"
+    )
 }
 
 /// Appends what comes of calls on a disk of ten bytes.
