@@ -10,6 +10,7 @@ import argparse
 import concurrent.futures
 import json
 import os
+import socket
 import subprocess
 import sys
 import tempfile
@@ -19,11 +20,27 @@ PROGRAM = os.path.join(os.path.dirname(HERE), "crates", "cspwatch", "out", "cspw
 EXAMPLES = os.path.join(os.path.dirname(HERE), "examples")
 SECONDS = 120
 
+# Runs a program whose files can't grow past a size: a write beyond it fails, and no signal comes.
+BOUNDED = """
+import os, resource, signal, sys
+signal.signal(signal.SIGXFSZ, signal.SIG_IGN)
+resource.setrlimit(resource.RLIMIT_FSIZE, (int(sys.argv[1]), int(sys.argv[1])))
+os.execv(sys.argv[2], sys.argv[2:])
+"""
+
+
+def numbered(text, first, last):
+    """A line for each number. The first %d in the text is the number, the next one the number after it, and so on."""
+    places = text.count("%d")
+    return "\n".join(text % tuple(range(number, number + places)) for number in range(first, last + 1))
+
 
 def octets(content):
-    """The bytes of a content: text with a character for each byte, [text, times], or a list of contents."""
+    """The bytes of a content, whose forms are in tests/README.md."""
     if isinstance(content, str):
         return content.encode("latin-1")
+    if isinstance(content, dict):
+        return octets(numbered(content["lines"], content["from"], content["to"]))
     if len(content) == 2 and isinstance(content[1], int):
         return octets(content[0]) * content[1]
     return b"".join(octets(part) for part in content)
@@ -64,36 +81,65 @@ def words(case):
     return ["check", "p.csp", os.fsdecode(octets(case.get("process", "P")))]
 
 
+def written(path, content):
+    with open(path, "wb") as file:
+        file.write(octets(content))
+
+
+def broken_off(given):
+    """A socket that gives these bytes, after which a read fails, since the other end was closed with a byte unread."""
+    ours, theirs = socket.socketpair()
+    theirs.send(b"x")
+    ours.sendall(given)
+    ours.close()
+    return theirs
+
+
+def input_of(case):
+    """The standard input of the case, as `subprocess.run` is to be given it."""
+    given = octets(case["input_bytes"]) if "input_bytes" in case else lines(case.get("input", []))
+    if case.get("stdin") == "failing":
+        # A read of this file's front fails.
+        return {"stdin": open("/proc/self/mem", "rb", buffering=0)}
+    if case.get("stdin") == "broken off":
+        return {"stdin": broken_off(given)}
+    return {"input": given}
+
+
+def output_of(case):
+    """The standard output of the case, as `subprocess.run` is to be given it."""
+    if case.get("output") == "full":
+        return {"stdout": open("/dev/full", "wb")}
+    if "output_bytes" in case:
+        return {"stdout": tempfile.TemporaryFile()}
+    return {"stdout": subprocess.PIPE}
+
+
 def run(case, program, folder):
     """What the program wrote on its output and its errors, its status, and the files that are asked for as they stand then."""
     for name, content in case.get("files", {}).items():
-        with open(os.path.join(folder, name), "wb") as file:
-            file.write(octets(content))
+        written(os.path.join(folder, name), content)
     if "script" in case:
-        with open(os.path.join(folder, "p.csp"), "wb") as file:
-            file.write(octets(case["script"]))
-    given = octets(case["input_bytes"]) if "input_bytes" in case else lines(case.get("input", []))
-    ends = {"stdout": subprocess.PIPE, "stderr": subprocess.PIPE}
-    opened = []
-    if case.get("stdin") == "failing":
-        # A read of this file's front fails.
-        opened.append(open("/proc/self/mem", "rb", buffering=0))
-        ends["stdin"] = opened[-1]
-    else:
-        ends["input"] = given
-    if case.get("output") == "full":
-        opened.append(open("/dev/full", "wb"))
-        ends["stdout"] = opened[-1]
+        written(os.path.join(folder, "p.csp"), case["script"])
+    command = [program] + words(case)
+    if "output_bytes" in case:
+        command = [sys.executable, "-c", BOUNDED, str(case["output_bytes"])] + command
+    ends = {**input_of(case), **output_of(case)}
     try:
-        done = subprocess.run([program] + words(case), cwd=folder, timeout=SECONDS, **ends)
+        done = subprocess.run(command, cwd=folder, timeout=SECONDS, stderr=subprocess.PIPE, **ends)
+        out = done.stdout or b""
+        if "output_bytes" in case:
+            ends["stdout"].seek(0)
+            out = ends["stdout"].read()
     finally:
-        for file in opened:
-            file.close()
+        for end in ends.values():
+            if hasattr(end, "close"):
+                end.close()
     after = {}
     for name in case.get("files_after", {}):
         path = os.path.join(folder, name)
         after[name] = text_of(path).encode("latin-1") if os.path.exists(path) else None
-    return done.stdout or b"", done.stderr, done.returncode, after
+    return out, done.stderr, done.returncode, after
 
 
 def problems_of(case, program):

@@ -8,8 +8,6 @@ mod replaying;
 mod running;
 mod scripts;
 mod telling;
-#[cfg(test)]
-mod tests;
 mod words;
 
 use running::run;
