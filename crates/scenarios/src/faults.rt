@@ -82,20 +82,24 @@ fn of_alphabet(into: &mut String, name: &str) -> Result<(), AllocError> {
     put(into, u32::from(fault.code()), fault.word(), &fault)
 }
 
+/// Appends what a fault of a crate is told as.
+fn put_of(into: &mut String, library: &str, name: &str) -> Result<(), AllocError> {
+    match library {
+        "wire" => of_wire(into, name),
+        "session" => of_session(into, name),
+        "journal" => of_journal(into, name),
+        "after" => of_after(into, name),
+        "step" => of_step(into, name),
+        _ => of_alphabet(into, name),
+    }
+}
+
 /// Appends what a fault of a crate is told as, where the row is of this kind.
 pub(crate) fn play(kind: &str, rest: &str, out: &mut String) -> Result<bool, AllocError> {
     if kind != "fault_text" {
         return Ok(false);
     }
     let (library, name) = first_word(rest);
-    match library {
-        "wire" => of_wire(out, name)?,
-        "session" => of_session(out, name)?,
-        "journal" => of_journal(out, name)?,
-        "after" => of_after(out, name)?,
-        "step" => of_step(out, name)?,
-        "alphabet" => of_alphabet(out, name)?,
-        _ => return Ok(false),
-    }
+    put_of(out, library, name)?;
     Ok(true)
 }

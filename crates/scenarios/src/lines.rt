@@ -4,7 +4,7 @@ ghost use Rattle.std.specs.Prelude.{◌≡◌};
 ghost use Rattle.alphabet.specs.Channels.{event_count};
 
 use crate::devices::{Gathering, Narrow, Pieces, Telling, Waiting};
-use crate::rows::{bytes_of, first_word, number, put_bytes};
+use crate::rows::{bytes_of, first_word, number, put_answer, put_bytes, put_word};
 use crate::turns::{Outcome, talk};
 use alphabet::Alphabet;
 use count::Count;
@@ -15,17 +15,23 @@ use std::cell::Cell;
 use std::sync::Wait;
 use wire::{End, Fault, Plain, WireError, refuse};
 
-/// Appends how a connection ended, how many entries the judge has, and what was written.
-fn put(into: &mut String, came: Outcome, written: &[u8]) -> Result<(), AllocError> {
-    let end = match came.end {
+/// How a connection ended.
+fn end_word(end: Result<End, WireError>) -> &'static str {
+    match end {
         Ok(End::Quit) => "quit",
         Ok(End::Input) => "input",
         Ok(End::Line) => "line",
         Err(WireError::Read) => "no read",
         Err(WireError::Write) => "no write",
         Err(WireError::Memory) => "no memory",
-    };
-    write!(into, "{end} {} [", came.judged)?;
+    }
+}
+
+/// Appends how a connection ended, how many entries the judge has, and what was written.
+fn put(into: &mut String, came: Outcome, written: &[u8]) -> Result<(), AllocError> {
+    into.push_str(end_word(came.end))?;
+    put_word(into, &came.judged)?;
+    into.push_str(" [")?;
     put_bytes(into, written)?;
     into.push(']')
 }
@@ -137,7 +143,7 @@ fn plain<T: Wait>(
     out.push_str(if refused { " refused" } else { " no refusal" })
 }
 
-/// The number of a request for memory that is refused, and the text.
+/// The request for memory with this number is refused.
 fn refusing<T: Wait>(
     rt: &T,
     alphabet: &Alphabet<Global>,
@@ -154,12 +160,42 @@ fn refusing<T: Wait>(
     let came = talk(rt, &refusing, &mut reader, &mut writer, alphabet);
     let left = reader.into_inner().len();
     put(out, came, &writer.into_inner())?;
-    let word = if refusing.has_refused() {
-        "refused"
-    } else {
-        "none refused"
-    };
-    write!(out, " {word}, {left} bytes left")
+    put_answer(out, refusing.has_refused())?;
+    put_word(out, &left)
+}
+
+/// The number of a request for memory that is refused, and the text.
+fn refused<T: Wait>(
+    rt: &T,
+    alphabet: &Alphabet<Global>,
+    alloc: Global,
+    rest: &str,
+    out: &mut String,
+) -> Result<(), AllocError>
+    requires { event_count alphabet.now ≡ 2 }
+{
+    let (which, text) = first_word(rest);
+    let lines = bytes_of(alloc, text)?;
+    refusing(rt, alphabet, alloc, number(which), &lines, out)
+}
+
+/// Appends what comes of a connection over a whole text.
+fn play_text<T: Wait>(
+    rt: &T,
+    alphabet: &Alphabet<Global>,
+    alloc: Global,
+    kind: &str,
+    rest: &str,
+    out: &mut String,
+) -> Result<(), AllocError>
+    requires { event_count alphabet.now ≡ 2 }
+{
+    let lines = bytes_of(alloc, rest)?;
+    match kind {
+        "waiting" => waiting(rt, alphabet, alloc, &lines, out),
+        "gathering" => gathering(rt, alphabet, alloc, &lines, out),
+        _ => plain(rt, alphabet, alloc, &lines, out),
+    }
 }
 
 /// Appends what comes of a connection.
@@ -173,22 +209,44 @@ fn play_kind<T: Wait>(
 ) -> Result<(), AllocError>
     requires { event_count alphabet.now ≡ 2 }
 {
-    let (which, text) = if kind == "refusing" {
-        first_word(rest)
-    } else {
-        ("", rest)
-    };
-    let lines = bytes_of(alloc, text)?;
     match kind {
         "pieces" => in_pieces(rt, alphabet, alloc, rest, out),
-        "waiting" => waiting(rt, alphabet, alloc, &lines, out),
-        "gathering" => gathering(rt, alphabet, alloc, &lines, out),
-        "refusing" => refusing(rt, alphabet, alloc, number(which), &lines, out),
-        _ => plain(rt, alphabet, alloc, &lines, out),
+        "refusing" => refused(rt, alphabet, alloc, rest, out),
+        _ => play_text(rt, alphabet, alloc, kind, rest, out),
     }
 }
 
 const SCRIPT: &str = "channel a\nchannel d : {2}\nP = a -> d.2 -> P";
+
+/// Appends what comes of a connection over the alphabet of the script.
+fn play_over<T: Wait>(
+    rt: &T,
+    alphabet: &Alphabet<Global>,
+    alloc: Global,
+    kind: &str,
+    rest: &str,
+    out: &mut String,
+) -> Result<(), AllocError> {
+    if alphabet.len() == 2 {
+        play_kind(rt, alphabet, alloc, kind, rest, out)
+    } else {
+        Err(AllocError)
+    }
+}
+
+/// Appends what comes of a connection.
+fn play_read<T: Wait>(
+    rt: &T,
+    alloc: Global,
+    kind: &str,
+    rest: &str,
+    out: &mut String,
+) -> Result<(), AllocError> {
+    match read(alloc, SCRIPT.as_bytes(), b"P") {
+        Ok(spec) => play_over(rt, spec.alphabet(), alloc, kind, rest, out),
+        Err(_) => Err(AllocError),
+    }
+}
 
 /// Appends what comes of a connection, where the row is of this kind.
 pub(crate) fn play<T: Wait>(
@@ -204,11 +262,6 @@ pub(crate) fn play<T: Wait>(
     ) {
         return Ok(false);
     }
-    match read(alloc, SCRIPT.as_bytes(), b"P") {
-        Ok(spec) if spec.alphabet().len() == 2 => {
-            play_kind(rt, spec.alphabet(), alloc, kind, rest, out)?;
-            Ok(true)
-        }
-        _ => Err(AllocError),
-    }
+    play_read(rt, alloc, kind, rest, out)?;
+    Ok(true)
 }

@@ -2,36 +2,37 @@
 //! what came of it.
 //!
 //! A row is a kind and what it is played on. A line that is empty or begins with `#`, a group's name, is written as it is.
-//! In texts `$` is a line feed, `%NN` is the byte with this hexadecimal number, and what stands between two backquotes is a
-//! count and, after a blank, what is repeated so many times. Scripts are read for the root `P`.
+//! In texts `$` is a line feed, any other character the byte of its number's last eight bits (`␍` a carriage return), and what
+//! stands between two backquotes is a count and, after a blank, what is repeated so many times. Scripts are read for the root
+//! `P`; for a script that has a fault that is told. After its kind a row tells, with `yes` and `no` for answers:
 //!
 //! | Row | Tells |
 //! |---|---|
-//! | `pieces N ROOM end TEXT` | a connection to the judge of `P = a -> d.2 -> P`: TEXT comes in pieces of at most N bytes and then ends (`fails`: then fails); the writer takes ROOM bytes and then fails |
-//! | `waiting TEXT` | the reader fails where it is asked for more before a reply was flushed |
-//! | `gathering TEXT` | the writer hands on what it took when it is flushed |
-//! | `plain TEXT` | a reader and a writer of the standard library, and then a refusal of the connection |
-//! | `refusing K TEXT` | the K-th request for memory is refused |
-//! | `tokens TEXT`, `token_count TEXT`, `end_line TEXT` | a script's tokens with their lines, how many there are, and the line of its end |
-//! | `parse TEXT`, `tree_lines TEXT` | whether a script has a tree, and the lines of the tree's last parts |
+//! | `pieces N ROOM end TEXT` | of a connection to the judge of `P = a -> d.2 -> P`, how it ended, how many reports were judged, and the replies: TEXT comes in pieces of at most N bytes and then ends (`fails`: then fails); the writer takes ROOM bytes and then fails |
+//! | `waiting TEXT` | the same where the reader fails if it is asked for more before a reply was flushed |
+//! | `gathering TEXT` | the same where the writer hands on what it took when it is flushed |
+//! | `plain TEXT` | the same over a reader and a writer of the standard library, and then a refusal of the connection |
+//! | `refusing K TEXT` | the same where the K-th request for memory is refused; whether it was, and how many bytes weren't read |
+//! | `tokens TEXT` | a script's tokens after their lines: a name as it is, a number after `#`, a kept word after `*` |
+//! | `token_count TEXT`, `end_line TEXT` | how many tokens there are; the line of the text's end |
+//! | `parse TEXT` | whether there is a tree |
+//! | `tree_lines TEXT` | the line of the tree, those of its parts, those of its last part's parts, and so once more |
 //! | `is_name WORD WORD ..` | which words are names of the language |
-//! | `names in SCRIPT` | each event with its place, and with its channel, its place there and its values |
+//! | `names in SCRIPT` | each event with its place, its channel and its place there, and its values; `?` where not each leads to the others |
 //! | `events NAME NAME .. in SCRIPT` | the places of the events with these names |
-//! | `channels in SCRIPT` | the channels with how many fields each has, and how many events there are |
-//! | `event_at CHANNEL PLACE in SCRIPT` | the event with this place in its channel |
-//! | `sigma in SCRIPT` | the set of all events |
-//! | `set SET`, `report SET` | the members in order, and a refusal of them; a set is numbers of events, and T is tick |
-//! | `union SET, SET`, `minus SET, SET`, `within SET, SET`, `has SET, SET` | the union, the difference, whether the one is within the other, and whether each event of the second is a member of the first |
-//! | `looks in SCRIPT` | whether the root's body can terminate and is stable, and what it offers |
-//! | `steps LABEL in SCRIPT` | whether the steps with this label lead to the body of `T` alone |
-//! | `targets MOST LABEL in SCRIPT` | how many targets there are, as far as this bound |
-//! | `hidden TIMES in SCRIPT` | the hidden steps of the root's body in so many hidings of no event |
-//! | `renamed TIMES LABEL in SCRIPT` | the targets of the root's body in so many renamings of the first two events to both |
-//! | `measures TIMES in SCRIPT` | how deep and how large the root's body is in so many hidings of no event |
-//! | `forms ROOT ROOT .. in SCRIPT` | how deep and how large the bodies of these roots are, and whether each equals no other |
-//! | `bodies in SCRIPT` | how many bodies there are, and how deep and how large each is |
-//! | `fault_text CRATE NAME` | a fault's number, word and text |
-//! | `requests K` | three requests for memory of which the K-th is refused |
+//! | `channels in SCRIPT` | each channel with how many fields it has; how many channels and events there are, and whether there are no events |
+//! | `event_at CHANNEL PLACE in SCRIPT`, `sigma in SCRIPT` | the event with this place in its channel; the set of all events |
+//! | `set SET`, `report SET` | the members in order, and a refusal of them; a set is written as numbers of events and `T`, tick |
+//! | `union SET, SET`, `minus SET, SET`, `within SET, SET` | the union, the difference, whether the first is within the second |
+//! | `has SET, EVENT EVENT ..` | which of the events are members |
+//! | `looks in SCRIPT` | whether the root's body can terminate, whether it is stable, and what it offers |
+//! | `steps LABEL in SCRIPT` | whether the body with number 1 has steps with this label, and whether each leads to the body with number 2 |
+//! | `targets MOST LABEL in SCRIPT` | how many targets the steps of the root's body have, as far as this bound, and whether one is too deep |
+//! | `hidden TIMES in SCRIPT` | of the root's body in so many hidings of no event how deep and how large it is, the same as `targets` of its hidden steps, and a fault or the depths of the list that they are appended to, which has `SKIP` before |
+//! | `same TIMES in SCRIPT` | whether the first two bodies are the same in so many hidings of no event |
+//! | `bodies in SCRIPT` | how deep and how large each body is, and how many it equals; `?` where a copy differs |
+//! | `fault_text CRATE NAME` | a fault's number and word, and its text |
+//! | `requests K` | which of three requests for memory are granted where the K-th is refused, and whether one was refused |
 #![tactic(auto)]
 
 mod alphabets;
@@ -48,16 +49,23 @@ mod texts;
 mod turns;
 
 use playing::told;
+use std::alloc::Global;
 use std::io;
+use std::sync::Wait;
+
+/// Writes what comes of a row.
+fn tell<R: Print + Wait>(rt: &R, alloc: Global, row: &str) -> io::Result<()> {
+    match told(rt, alloc, row) {
+        Ok(text) => rt.println(text),
+        Err(_) => rt.println("no memory for the row"),
+    }
+}
 
 fn main(rt: HostRuntime) -> io::Result<()> {
     let alloc = rt.alloc();
     for line in rt.lines(alloc) {
-        let line = line?;
-        match told(&rt, alloc, line.as_str()) {
-            Ok(text) => println!(rt; "{text}")?,
-            Err(_) => println!(rt; "no memory for the row")?,
-        }
+        let row = line?;
+        tell(&rt, alloc, row.as_str())?;
     }
     Ok(())
 }

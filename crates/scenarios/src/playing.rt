@@ -5,7 +5,22 @@ use crate::{alphabets, faults, lines, requests, scripts, sets, texts};
 use std::alloc::{AllocError, Global};
 use std::sync::Wait;
 
-/// Appends what comes of a row of one of these kinds, or answers that there is no such kind.
+/// Appends what comes of a row without a script, if it is of such a kind.
+fn played_values(
+    alloc: Global,
+    kind: &str,
+    rest: &str,
+    out: &mut String,
+) -> Result<bool, AllocError> {
+    Ok(
+        sets::play(kind, rest, out)?
+            || alphabets::play(kind, rest, out)?
+            || faults::play(kind, rest, out)?
+            || requests::play(alloc, kind, rest, out)?,
+    )
+}
+
+/// Appends what comes of a row, if it is of one of the kinds.
 fn played<T: Wait>(
     rt: &T,
     alloc: Global,
@@ -16,11 +31,8 @@ fn played<T: Wait>(
     Ok(
         lines::play(rt, alloc, kind, rest, out)?
             || texts::play(alloc, kind, rest, out)?
-            || sets::play(kind, rest, out)?
-            || scripts::play(alloc, kind, rest, out)?
-            || alphabets::play(kind, rest, out)?
-            || faults::play(kind, rest, out)?
-            || requests::play(alloc, kind, rest, out)?,
+            || played_values(alloc, kind, rest, out)?
+            || scripts::play(alloc, kind, rest, out)?,
     )
 }
 

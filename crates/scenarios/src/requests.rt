@@ -2,24 +2,29 @@
 
 use crate::rows::number;
 use refusing::Refusing;
-use std::alloc::{AllocError, Allocator, Global};
+use std::alloc::{AllocError, Global};
 
-/// Whether a request is granted.
-fn is_granted<A: Allocator>(alloc: A) -> bool {
-    Box::new(alloc, 1u8).is_ok()
-}
-
-/// Whether a request has been refused.
-fn word(refusing: &Refusing<Global>) -> &'static str {
-    if refusing.has_refused() {
+/// Appends whether a request has been refused.
+fn put_state(into: &mut String, refusing: &Refusing<Global>) -> Result<(), AllocError> {
+    into.push_str(if refusing.has_refused() {
         "refused"
     } else {
         "none refused"
-    }
+    })
 }
 
-/// For three requests, of which the one with the row's number is refused, which were granted; and before them and after each
-/// whether one has been refused.
+/// Appends whether a request is granted, and then whether one has been refused.
+fn put_request(into: &mut String, refusing: &Refusing<Global>) -> Result<(), AllocError> {
+    let is_granted = Box::new(refusing, 1u8).is_ok();
+    into.push_str(if is_granted {
+        "; granted, "
+    } else {
+        "; denied, "
+    })?;
+    put_state(into, refusing)
+}
+
+/// Appends what three requests come to, of which the one with the row's number is refused, where the row is of this kind.
 pub(crate) fn play(
     alloc: Global,
     kind: &str,
@@ -30,14 +35,9 @@ pub(crate) fn play(
         return Ok(false);
     }
     let refusing = Refusing::new(alloc, number(rest) as u64);
-    out.push_str(word(&refusing))?;
+    put_state(out, &refusing)?;
     for _ in 0..3 {
-        let answer = if is_granted(&refusing) {
-            "granted"
-        } else {
-            "denied"
-        };
-        write!(out, "; {answer}, {}", word(&refusing))?;
+        put_request(out, &refusing)?;
     }
     Ok(true)
 }

@@ -1,6 +1,7 @@
-//! What a row's words and texts are written for.
+//! What a row's words and texts are written for, and how what came of it is written.
 
 use std::alloc::{AllocError, Global};
+use std::fmt::Display;
 
 /// The number that a word is, or 0.
 pub(crate) fn number(word: &str) -> usize {
@@ -12,67 +13,44 @@ pub(crate) fn first_word(text: &str) -> (&str, &str) {
     text.split_once(' ').unwrap_or((text, ""))
 }
 
-/// The value of a hexadecimal digit.
-fn digit(byte: u8) -> Option<u8> {
-    match byte {
-        b'0'..=b'9' => Some(byte - b'0'),
-        b'a'..=b'f' => Some(byte - b'a' + 10),
-        _ => None,
+/// The byte that a character is written for.
+fn byte_of(character: char) -> u8 {
+    if character == '$' {
+        b'\n'
+    } else {
+        (u32::from(character) % 256) as u8
     }
 }
 
-/// The byte that is written as `%NN` at the front.
-fn escaped(bytes: &[u8]) -> Option<u8> {
-    if bytes.len() < 3 || bytes[0] != b'%' {
-        return None;
-    }
-    Some(digit(bytes[1])? * 16 + digit(bytes[2])?)
-}
-
-/// Appends what a text without repetitions is written for.
-fn put_plain(into: &mut Vec<u8>, text: &[u8]) -> Result<(), AllocError> {
-    let mut skipped = 0;
-    for place in 0..text.len() {
-        if skipped > 0 {
-            skipped -= 1;
-            continue;
-        }
-        match escaped(&text[place..]) {
-            Some(byte) => {
-                into.push(byte)?;
-                skipped = 2;
-            }
-            None => into.push(if text[place] == b'$' {
-                b'\n'
-            } else {
-                text[place]
-            })?,
-        }
-    }
-    Ok(())
-}
-
-/// Appends what a text is written for, so many times.
+/// Appends what a text without repetitions is written for, so many times.
 fn put_times(into: &mut Vec<u8>, text: &str, count: usize) -> Result<(), AllocError> {
     for _ in 0..count {
-        put_plain(into, text.as_bytes())?;
+        for character in text.chars() {
+            into.push(byte_of(character))?;
+        }
     }
     Ok(())
 }
 
-/// The bytes that a text is written for: `$` is a line feed, `%NN` the byte with this hexadecimal number, and between two
-/// backquotes stand a count and, after a blank, what is repeated so many times.
+/// The bytes that a text is written for: `$` is a line feed, any other character the byte of its number's last eight bits,
+/// and between two backquotes stand a count and, after a blank, what is repeated so many times.
 pub(crate) fn bytes_of(alloc: Global, text: &str) -> Result<Vec<u8>, AllocError> {
     let mut bytes = Vec::new(alloc);
     for (place, part) in text.split('`').enumerate() {
-        if place % 2 == 0 {
-            put_times(&mut bytes, part, 1)?;
+        let (count, repeated) = if place % 2 == 0 {
+            (1, part)
         } else {
-            let (count, repeated) = first_word(part);
-            put_times(&mut bytes, repeated, number(count))?;
-        }
+            counted(part)
+        };
+        put_times(&mut bytes, repeated, count)?;
     }
     Ok(bytes)
+}
+
+/// A count, and what is repeated so many times.
+fn counted(part: &str) -> (usize, &str) {
+    let (count, repeated) = first_word(part);
+    (number(count), repeated)
 }
 
 /// Appends bytes as text, each as the character with its number, and a line feed as `$`.
@@ -85,4 +63,14 @@ pub(crate) fn put_bytes(into: &mut String, bytes: &[u8]) -> Result<(), AllocErro
         })?;
     }
     Ok(())
+}
+
+/// Appends a blank and the word.
+pub(crate) fn put_word<D: Display>(into: &mut String, word: &D) -> Result<(), AllocError> {
+    write!(into, " {word}")
+}
+
+/// Appends a blank and the answer.
+pub(crate) fn put_answer(into: &mut String, answer: bool) -> Result<(), AllocError> {
+    into.push_str(if answer { " yes" } else { " no" })
 }

@@ -1,91 +1,77 @@
 //! Rows over a script's text, which is read for the root `P`.
 
-use crate::rows::bytes_of;
+use crate::rows::{bytes_of, put_word};
 use crate::{alphabets, steps};
+use alphabet::Alphabet;
 use script::read;
 use std::alloc::{AllocError, Global};
 use term::Spec;
 
 /// Appends what comes of the script's alphabet.
-fn play_alphabet(
+fn put_of_alphabet(
+    into: &mut String,
+    alloc: Global,
+    kind: &str,
+    words: &str,
+    alphabet: &Alphabet<Global>,
+) -> Result<(), AllocError> {
+    match kind {
+        "names" => alphabets::put_names(into, alloc, alphabet),
+        "events" => alphabets::put_events(into, alphabet, words),
+        "channels" => alphabets::put_channels(into, alphabet),
+        "event_at" => alphabets::put_event_at(into, alphabet, words),
+        "sigma" => alphabets::put_sigma(into, alphabet),
+        _ => into.push_str(" no such kind of row"),
+    }
+}
+
+/// Appends what comes of the script's processes.
+fn put_of_spec(
+    into: &mut String,
     alloc: Global,
     kind: &str,
     words: &str,
     spec: &Spec<Global>,
-    out: &mut String,
 ) -> Result<(), AllocError> {
-    let alphabet = spec.alphabet();
     match kind {
-        "names" => alphabets::put_names(out, alloc, alphabet),
-        "events" => alphabets::put_events(out, alphabet, words),
-        "channels" => alphabets::put_channels(out, alphabet),
-        "event_at" => alphabets::put_event_at(out, alphabet, words),
-        _ => alphabets::put_sigma(out, alphabet),
+        "looks" => steps::put_looks(into, spec),
+        "steps" => steps::put_steps(into, alloc, spec, words),
+        "targets" => steps::put_targets(into, alloc, spec, words),
+        "hidden" => steps::put_hidden(into, alloc, spec, words),
+        "same" => steps::put_same(into, alloc, spec, words),
+        "bodies" => steps::put_bodies(into, alloc, spec),
+        _ => put_of_alphabet(into, alloc, kind, words, spec.alphabet()),
     }
 }
 
-/// Appends what comes of the script's root.
-fn play_root(
-    alloc: Global,
-    kind: &str,
-    words: &str,
-    spec: &Spec<Global>,
-    out: &mut String,
-) -> Result<(), AllocError> {
-    match kind {
-        "looks" => steps::put_looks(out, spec),
-        "targets" => steps::put_targets(out, alloc, spec, words),
-        "hidden" => steps::put_hidden_steps(out, alloc, spec, words),
-        "renamed" => steps::put_renamed_targets(out, alloc, spec, words),
-        "bodies" => steps::put_bodies(out, spec),
-        _ => play_alphabet(alloc, kind, words, spec, out),
-    }
-}
-
-/// Appends what comes of the script, or its fault.
-fn play_script(
+/// Appends what comes of the script that is read for the root `P`, or its fault.
+fn put(
+    into: &mut String,
     alloc: Global,
     kind: &str,
     words: &str,
     text: &[u8],
-    out: &mut String,
 ) -> Result<(), AllocError> {
     match read(alloc, text, b"P") {
-        Ok(spec) => play_root(alloc, kind, words, &spec, out),
-        Err(error) => write!(out, "{error}"),
+        Ok(spec) => put_of_spec(into, alloc, kind, words, &spec),
+        Err(error) => put_word(into, &error),
     }
 }
 
-fn is_kind(kind: &str) -> bool {
-    matches!(
-        kind,
-        "names"
-            | "events"
-            | "channels"
-            | "event_at"
-            | "sigma"
-            | "looks"
-            | "targets"
-            | "hidden"
-            | "renamed"
-            | "bodies"
-    )
-}
-
-/// Appends what comes of a script or its fault, where the row is of this kind.
+/// Appends what comes of a script, where the row has one.
 pub(crate) fn play(
     alloc: Global,
     kind: &str,
     rest: &str,
     out: &mut String,
 ) -> Result<bool, AllocError> {
-    let (words, script) = rest.split_once("in ").unwrap_or((rest, ""));
-    let (words, text) = (words.trim_end(), bytes_of(alloc, script)?);
-    match kind {
-        "steps" => steps::put_steps(out, alloc, words, &text)?,
-        "forms" => steps::put_forms(out, alloc, words, &text)?,
-        _ if is_kind(kind) => play_script(alloc, kind, words, &text, out)?,
-        _ => return Ok(false),
+    match rest.split_once("in ") {
+        Some((words, script)) => {
+            let text = bytes_of(alloc, script)?;
+            out.push_str(kind)?;
+            put(out, alloc, kind, words.trim_end(), &text)?;
+            Ok(true)
+        }
+        None => Ok(false),
     }
-    Ok(true)
 }

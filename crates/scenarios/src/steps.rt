@@ -1,14 +1,12 @@
 //! The steps of a script's processes, and how large these are.
 
-ghost use Rattle.std.specs.Prelude.{IfOk, ◌≤◌};
-ghost use Rattle.alphabet.specs.Channels.{event_count};
+ghost use Rattle.std.specs.Prelude.{IfOk, ◌<◌, length};
 ghost use Rattle.term.specs.Proc.{proc};
 ghost use Rattle.term.specs.Specs.{IsProcessOf};
 
-use crate::rows::{first_word, number};
+use crate::rows::{first_word, number, put_answer, put_word};
 use crate::sets::put_set;
 use alphabet::{Alphabet, EventSet};
-use script::read;
 use std::alloc::{AllocError, Global};
 use std::hash::{DefaultHasher, Hash, Hasher};
 use step::{Label, can_tick, is_stable, offers, steps};
@@ -31,58 +29,53 @@ fn label(alphabet: &Alphabet<Global>, word: &str) -> Option<Label> {
     alphabet.event(word.as_bytes()).map(Label::Event)
 }
 
-/// Whether the root's body can terminate and is stable, and what it offers.
+/// Appends whether the root's body can terminate and whether it is stable, and what it offers.
 pub(crate) fn put_looks(into: &mut String, spec: &Spec<Global>) -> Result<(), AllocError> {
     let body = root(spec);
-    let end = if can_tick(body) { "may end" } else { "goes on" };
-    let rest = if is_stable(body) {
-        "stable"
-    } else {
-        "not stable"
-    };
-    write!(into, "{end}, {rest}, offers ")?;
+    put_answer(into, can_tick(body))?;
+    put_answer(into, is_stable(body))?;
     put_set(into, &offers(body))
 }
 
-/// Whether all of these are the process that is wanted.
-fn compared(found: &[Term<Global>], wanted: &Term<Global>) -> &'static str {
-    if found.is_empty() {
-        "none"
-    } else if found.iter().all(|target| target.equal(wanted)) {
-        "to T alone"
-    } else {
-        "to others"
+/// Whether each of these is the process that is wanted.
+fn are_all(found: &[Term<Global>], wanted: &Term<Global>) -> bool {
+    for target in found {
+        if !target.equal(wanted) {
+            return false;
+        }
     }
+    true
 }
 
-/// Appends whether the steps of the root's body with this label lead to this process alone.
+/// Appends whether the first process has steps with this label, and whether each leads to the second.
 fn put_led_to(
     into: &mut String,
     alloc: Global,
     spec: &Spec<Global>,
     label: Label,
-    wanted: &Term<Global>,
-) -> Result<(), AllocError> {
+) -> Result<(), AllocError>
+    requires { 2 < length spec.now.bodies }
+{
     let mut found = Vec::new(alloc);
-    match steps(spec, root(spec), label, &alloc, &mut found) {
-        Ok(()) => into.push_str(compared(&found, wanted)),
-        Err(fault) => write!(into, "{fault}"),
+    match steps(spec, spec.body(1), label, &alloc, &mut found) {
+        Ok(()) => {
+            put_answer(into, !found.is_empty())?;
+            put_answer(into, are_all(&found, spec.body(2)))
+        }
+        Err(fault) => put_word(into, &fault),
     }
 }
 
-/// Appends whether the steps of `P` with a label lead to the body of `T` alone.
+/// Appends whether the body with number 1 has steps with a label, and whether each leads to the body with number 2.
 pub(crate) fn put_steps(
     into: &mut String,
     alloc: Global,
+    spec: &Spec<Global>,
     word: &str,
-    text: &[u8],
 ) -> Result<(), AllocError> {
-    match (read(alloc, text, b"P"), read(alloc, text, b"T")) {
-        (Ok(spec), Ok(wanted)) => match label(spec.alphabet(), word) {
-            Some(label) => put_led_to(into, alloc, &spec, label, root(&wanted)),
-            None => into.push_str("no such event"),
-        },
-        _ => into.push_str("no process"),
+    match label(spec.alphabet(), word) {
+        Some(label) if spec.bodies() > 2 => put_led_to(into, alloc, spec, label),
+        _ => into.push_str(" no such event or process"),
     }
 }
 
@@ -97,13 +90,9 @@ fn put_count(
 ) -> Result<(), AllocError>
     requires { IsProcessOf spec.now (proc term.now) }
 {
-    let depth = if has_deep_target(spec, term, label) {
-        "too deep"
-    } else {
-        "none too deep"
-    };
     let found = distinct_targets(spec, term, label, most, &alloc)?;
-    write!(into, "{}, {depth}", found.len())
+    put_word(into, &found.len())?;
+    put_answer(into, has_deep_target(spec, term, label))
 }
 
 /// Appends how many targets the steps of the root's body with a label have.
@@ -116,16 +105,23 @@ pub(crate) fn put_targets(
     let (most, word) = first_word(words);
     match label(spec.alphabet(), word) {
         Some(label) => put_count(into, alloc, spec, root(spec), label, number(most)),
-        None => into.push_str("no such event"),
+        None => into.push_str(" no such event"),
     }
 }
 
-/// The root's body in so many hidings of no event.
-fn hidden(alloc: Global, spec: &Spec<Global>, times: usize) -> Result<Term<Global>, AllocError>
+/// The process in so many hidings of no event.
+fn hidden(
+    alloc: Global,
+    spec: &Spec<Global>,
+    inner: &Term<Global>,
+    times: usize,
+) -> Result<Term<Global>, AllocError>
+    requires { IsProcessOf spec.now (proc inner.now) }
     ensures { IfOk result (λ term. IsProcessOf spec.now (proc term)) }
 {
+    let _events = spec.alphabet().len();
     let none = EventSet::empty();
-    let mut term = root(spec).try_clone(&alloc)?;
+    let mut term = inner.try_clone(&alloc)?;
     for _ in 0..times {
         term = Term::Hide(none, Box::new(alloc, term)?);
     }
@@ -135,12 +131,13 @@ fn hidden(alloc: Global, spec: &Spec<Global>, times: usize) -> Result<Term<Globa
 /// Appends the depths of processes.
 fn put_depths(into: &mut String, terms: &[Term<Global>]) -> Result<(), AllocError> {
     for term in terms {
-        write!(into, " {}", term.depth())?;
+        put_word(into, &term.depth())?;
     }
     Ok(())
 }
 
-/// Appends the depths of the targets of the process's hidden steps, after `SKIP`, which stood in the list before.
+/// Appends a fault of the process's hidden steps, and the depths of their targets after `SKIP`, which stood in the list
+/// before.
 fn put_hidden_targets(
     into: &mut String,
     alloc: Global,
@@ -150,51 +147,70 @@ fn put_hidden_targets(
     requires { IsProcessOf spec.now (proc term.now) }
 {
     let mut found = vec![in alloc; Term::Skip]?;
-    write!(into, "{}:", term.depth())?;
     if let Err(fault) = steps(spec, term, Label::Tau, &alloc, &mut found) {
-        write!(into, " {fault},")?;
+        put_word(into, &fault)?;
     }
     put_depths(into, &found)
 }
 
-/// Appends the depth of the root's body in so many hidings of no event, and those of the targets of its hidden steps.
-pub(crate) fn put_hidden_steps(
+/// Appends how deep and how large the process is, how many targets its hidden steps have, whether one is too deep, and what
+/// `put_hidden_targets` tells.
+fn put_deep(
+    into: &mut String,
+    alloc: Global,
+    spec: &Spec<Global>,
+    term: &Term<Global>,
+) -> Result<(), AllocError>
+    requires { IsProcessOf spec.now (proc term.now) }
+{
+    put_form(into, alloc, term)?;
+    put_count(into, alloc, spec, term, Label::Tau, 4096)?;
+    put_hidden_targets(into, alloc, spec, term)
+}
+
+/// Appends what is told of the root's body in so many hidings of no event.
+pub(crate) fn put_hidden(
     into: &mut String,
     alloc: Global,
     spec: &Spec<Global>,
     times: &str,
 ) -> Result<(), AllocError> {
-    let term = hidden(alloc, spec, number(times))?;
-    put_hidden_targets(into, alloc, spec, &term)
+    let term = hidden(alloc, spec, root(spec), number(times))?;
+    put_deep(into, alloc, spec, &term)
 }
 
-/// The root's body in so many renamings of each of the first two events to both.
-fn renamed(alloc: Global, spec: &Spec<Global>, times: usize) -> Result<Term<Global>, AllocError>
-    requires { 2 ≤ event_count spec.now.alphabet }
-    ensures { IfOk result (λ term. IsProcessOf spec.now (proc term)) }
+/// Whether the process is that of the body with number 1 in so many hidings of no event.
+fn is_second(
+    alloc: Global,
+    spec: &Spec<Global>,
+    term: &Term<Global>,
+    times: usize,
+) -> Result<bool, AllocError>
+    requires { 1 < length spec.now.bodies }
 {
-    let mut term = root(spec).try_clone(&alloc)?;
-    for _ in 0..times {
-        let pairs = vec![in alloc; (0, 0), (0, 1), (1, 0), (1, 1)]?;
-        term = Term::Ren(pairs, Box::new(alloc, term)?);
-    }
-    Ok(term)
+    let second = hidden(alloc, spec, spec.body(1), times)?;
+    Ok(second.equal(term))
 }
 
-/// Appends how many targets the root's body in renamings has.
-pub(crate) fn put_renamed_targets(
+/// Whether the bodies with the numbers 0 and 1 are the same in so many hidings of no event.
+fn is_same(alloc: Global, spec: &Spec<Global>, times: usize) -> Result<bool, AllocError>
+    requires { 1 < length spec.now.bodies }
+{
+    let first = hidden(alloc, spec, root(spec), times)?;
+    is_second(alloc, spec, &first, times)
+}
+
+/// Appends whether the bodies with the numbers 0 and 1 are the same in so many hidings of no event.
+pub(crate) fn put_same(
     into: &mut String,
     alloc: Global,
     spec: &Spec<Global>,
-    words: &str,
+    times: &str,
 ) -> Result<(), AllocError> {
-    let (times, word) = first_word(words);
-    match label(spec.alphabet(), word) {
-        Some(label) if spec.alphabet().len() >= 2 => {
-            let term = renamed(alloc, spec, number(times))?;
-            put_count(into, alloc, spec, &term, label, 4096)
-        }
-        _ => into.push_str("no such event"),
+    if spec.bodies() > 1 {
+        put_answer(into, is_same(alloc, spec, number(times))?)
+    } else {
+        into.push_str(" one body")
     }
 }
 
@@ -210,61 +226,36 @@ fn is_copied(alloc: Global, term: &Term<Global>) -> Result<bool, AllocError> {
     Ok(copy.equal(term) && hash_of(&copy) == hash_of(term))
 }
 
-/// The bodies of these roots, each in so many hidings of no event.
-fn bodies_of(
-    alloc: Global,
-    roots: &str,
-    times: usize,
-    text: &[u8],
-) -> Result<Vec<Term<Global>>, AllocError> {
-    let mut terms = Vec::new(alloc);
-    for root in roots.split_whitespace() {
-        if let Ok(spec) = read(alloc, text, root.as_bytes()) {
-            terms.push(hidden(alloc, &spec, times)?)?;
+/// Appends how deep and how large the process is, and `?` where its copy isn't the same.
+fn put_form(into: &mut String, alloc: Global, term: &Term<Global>) -> Result<(), AllocError> {
+    let is_copied = is_copied(alloc, term)?;
+    put_word(into, &term.depth())?;
+    put_word(into, &term.size())?;
+    into.push_str(if is_copied { "" } else { "?" })
+}
+
+/// How many of the bodies this process equals.
+fn equals(spec: &Spec<Global>, term: &Term<Global>) -> usize {
+    let mut count: usize = 0;
+    for number in 0..spec.bodies() {
+        if spec.body(number).equal(term) {
+            count = count.saturating_add(1);
         }
     }
-    Ok(terms)
+    count
 }
 
-/// How many of the processes this one equals.
-fn equals(terms: &[Term<Global>], term: &Term<Global>) -> usize {
-    terms.iter().filter(|other| other.equal(term)).count()
-}
-
-/// Appends how deep and how large the process is, how many of the others it equals, and `?` where its copy isn't the same.
-fn put_form(
+/// Appends how deep and how large each body is, and how many of them it equals.
+pub(crate) fn put_bodies(
     into: &mut String,
     alloc: Global,
-    terms: &[Term<Global>],
-    term: &Term<Global>,
+    spec: &Spec<Global>,
 ) -> Result<(), AllocError> {
-    let equals = equals(terms, term);
-    write!(into, " {}/{}={equals}", term.depth(), term.size())?;
-    into.push_str(if is_copied(alloc, term)? { "" } else { "?" })
-}
-
-/// Appends how deep and how large each of the roots' bodies is, in hidings of no event, and how many of them it equals.
-pub(crate) fn put_forms(
-    into: &mut String,
-    alloc: Global,
-    words: &str,
-    text: &[u8],
-) -> Result<(), AllocError> {
-    let (times, roots) = first_word(words);
-    let terms = bodies_of(alloc, roots, number(times), text)?;
-    into.push_str("forms:")?;
-    for term in &terms {
-        put_form(into, alloc, &terms, term)?;
-    }
-    Ok(())
-}
-
-/// Appends how many bodies there are, and how deep and how large each is.
-pub(crate) fn put_bodies(into: &mut String, spec: &Spec<Global>) -> Result<(), AllocError> {
-    write!(into, "{} bodies:", spec.bodies())?;
     for number in 0..spec.bodies() {
         let body = spec.body(number);
-        write!(into, " {}/{}", body.depth(), body.size())?;
+        put_form(into, alloc, body)?;
+        put_word(into, &equals(spec, body))?;
+        into.push(';')?;
     }
     Ok(())
 }

@@ -1,12 +1,12 @@
 //! Texts of scripts: their tokens, and whether they have a tree.
 
-use crate::rows::{bytes_of, put_bytes};
+use crate::rows::{bytes_of, put_bytes, put_word};
 use std::alloc::{AllocError, Global};
 use syntax::{Tree, parse};
-use tokens::{Token, Word, end_line, scan};
+use tokens::{MAX_SCRIPT_LEN, Token, Word, end_line, scan};
 
 /// Appends a token: a name as it is, a number after `#`, a kept word after `*`.
-fn put_word(into: &mut String, word: &Word<Global>) -> Result<(), AllocError> {
+fn put_token(into: &mut String, word: &Word<Global>) -> Result<(), AllocError> {
     match word {
         Word::Name(name) => put_bytes(into, name),
         Word::Number(number) => write!(into, "#{number}"),
@@ -18,45 +18,45 @@ fn put_word(into: &mut String, word: &Word<Global>) -> Result<(), AllocError> {
     }
 }
 
-/// Each token after its line.
+/// Appends each token after its line.
 fn put_tokens(into: &mut String, tokens: &[Token<Global>]) -> Result<(), AllocError> {
     for token in tokens {
-        write!(into, " {}:", token.line)?;
-        put_word(into, &token.word)?;
+        put_word(into, &token.line)?;
+        into.push(':')?;
+        put_token(into, &token.word)?;
     }
     Ok(())
 }
 
 /// Appends the tokens of a text, or its fault.
 fn put_scanned(into: &mut String, alloc: Global, text: &[u8]) -> Result<(), AllocError> {
-    into.push_str("tokens")?;
     match scan(alloc, text) {
         Ok(tokens) => put_tokens(into, &tokens),
-        Err(error) => write!(into, " {error}"),
+        Err(error) => put_word(into, &error),
     }
 }
 
 /// Appends how many tokens a text has, or its fault.
 fn put_count(into: &mut String, alloc: Global, text: &[u8]) -> Result<(), AllocError> {
     match scan(alloc, text) {
-        Ok(tokens) => write!(into, "{}", tokens.len()),
-        Err(error) => write!(into, "{error}"),
+        Ok(tokens) => put_word(into, &tokens.len()),
+        Err(error) => put_word(into, &error),
     }
 }
 
 /// Appends `ok` where there is a tree, else the line and the fault.
 fn put_parsed(into: &mut String, alloc: Global, text: &[u8]) -> Result<(), AllocError> {
     match parse(alloc, text) {
-        Ok(_) => into.push_str("ok"),
-        Err(error) => write!(into, "{error}"),
+        Ok(_) => into.push_str(" ok"),
+        Err(error) => put_word(into, &error),
     }
 }
 
-/// Appends the lines of a tree's parts, each after a blank.
+/// Appends the lines of a tree's parts.
 fn put_lines(into: &mut String, tree: &Tree<Global>) -> Result<(), AllocError> {
     if let Tree::Node { parts, .. } = tree {
         for part in parts {
-            write!(into, " {}", part.line())?;
+            put_word(into, &part.line())?;
         }
     }
     into.push(';')
@@ -71,7 +71,8 @@ fn last_part(tree: &Tree<Global>) -> Option<&Tree<Global>> {
 
 /// Appends the line of a tree, those of its parts, those of its last part's parts, and so once more.
 fn put_tree(into: &mut String, tree: &Tree<Global>) -> Result<(), AllocError> {
-    write!(into, "{}:", tree.line())?;
+    put_word(into, &tree.line())?;
+    into.push(';')?;
     let mut at = tree;
     for _ in 0..3 {
         put_lines(into, at)?;
@@ -84,7 +85,18 @@ fn put_tree(into: &mut String, tree: &Tree<Global>) -> Result<(), AllocError> {
 fn put_tree_lines(into: &mut String, alloc: Global, text: &[u8]) -> Result<(), AllocError> {
     match parse(alloc, text) {
         Ok(tree) => put_tree(into, &tree),
-        Err(error) => write!(into, "{error}"),
+        Err(error) => put_word(into, &error),
+    }
+}
+
+/// Appends what comes of a text.
+fn put(into: &mut String, alloc: Global, kind: &str, text: &[u8]) -> Result<(), AllocError> {
+    match kind {
+        "tokens" => put_scanned(into, alloc, text),
+        "token_count" => put_count(into, alloc, text),
+        "end_line" if text.len() <= MAX_SCRIPT_LEN => put_word(into, &end_line(text)),
+        "parse" => put_parsed(into, alloc, text),
+        _ => put_tree_lines(into, alloc, text),
     }
 }
 
@@ -95,14 +107,14 @@ pub(crate) fn play(
     rest: &str,
     out: &mut String,
 ) -> Result<bool, AllocError> {
-    let text = bytes_of(alloc, rest)?;
-    match kind {
-        "tokens" => put_scanned(out, alloc, &text)?,
-        "token_count" => put_count(out, alloc, &text)?,
-        "end_line" => write!(out, "{}", end_line(&text))?,
-        "parse" => put_parsed(out, alloc, &text)?,
-        "tree_lines" => put_tree_lines(out, alloc, &text)?,
-        _ => return Ok(false),
+    if !matches!(
+        kind,
+        "tokens" | "token_count" | "end_line" | "parse" | "tree_lines"
+    ) {
+        return Ok(false);
     }
+    let text = bytes_of(alloc, rest)?;
+    out.push_str(kind)?;
+    put(out, alloc, kind, &text)?;
     Ok(true)
 }
