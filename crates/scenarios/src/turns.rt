@@ -1,0 +1,113 @@
+//! A judge of `P = a -> d.2 -> P`, and a connection to it.
+
+ghost use Rattle.std.specs.Prelude.{◌≡◌, ◌≢◌, Err};
+ghost use Rattle.alphabet.specs.Channels.{event_count};
+ghost use Rattle.wire.specs.Requests.{IsEventBelow};
+ghost use Rattle.wire.specs.declared.engine.WireError.{WireError};
+
+use alphabet::{Alphabet, Event, EventSet, Report};
+use std::alloc::{Allocator, Global};
+use std::sync::Wait;
+use wire::{End, Fault, Judge, Receipt, Sink, Source, Status, Summary, WireError, serve};
+
+/// A judge of `P = a -> d.2 -> P`, which answers a fault at its tenth report.
+#[derive(Drop)]
+struct Turns {
+    is_second_next: bool,
+    summary: Summary,
+}
+
+impl Turns {
+    fn new() -> Turns {
+        Turns {
+            is_second_next: false,
+            summary: Summary {
+                judged: 0,
+                events: 0,
+                refusals: 0,
+                rejected: 0,
+            },
+        }
+    }
+
+    fn next_event(&self) -> Event
+        ensures { IsEventBelow 2 result }
+    {
+        Event::Of(if self.is_second_next { 1 } else { 0 })
+    }
+}
+
+impl Judge for Turns {
+    ghost event_count = { λ _. 2 };
+
+    ghost reports = { λ _ _ _ _. Unit {0} };
+
+    ghost statuses = { λ _ _ _. Unit {0} };
+
+    ghost nexts = { λ _ _ _. Unit {0} };
+
+    fn report(&mut self, report: Report) -> Result<Receipt, Fault> {
+        if self.summary.judged >= 9 {
+            return Err(Fault::History);
+        }
+        self.summary.judged += 1;
+        let next = self.next_event();
+        let verdict = match report {
+            Report::Event(event) => event == next,
+            Report::Refusal(set) => !set.contains(next),
+        };
+        match report {
+            _ if !verdict => self.summary.rejected = self.summary.rejected.saturating_add(1),
+            Report::Event(_) => {
+                self.is_second_next = !self.is_second_next;
+                self.summary.events = self.summary.events.saturating_add(1);
+            }
+            Report::Refusal(_) => {
+                self.summary.refusals = self.summary.refusals.saturating_add(1);
+            }
+        }
+        Ok(Receipt {
+            verdict,
+            place: self.summary.judged,
+        })
+    }
+
+    fn status(&mut self) -> Status {
+        Status {
+            summary: self.summary,
+            closed: self.summary.judged >= 9,
+        }
+    }
+
+    fn next(&mut self) -> EventSet {
+        let none = EventSet::empty();
+        let one = none.with(self.next_event());
+        one.with(Event::Tick)
+    }
+}
+
+/// What a connection came to: how it ended, and how many entries the judge has.
+#[derive(Clone, Copy, Drop)]
+pub(crate) struct Outcome {
+    pub end: Result<End, WireError>,
+    pub judged: u64,
+}
+
+/// Serves a connection to a judge of its own.
+pub(crate) fn talk<T: Wait, R: Source, W: Sink, B: Allocator + Clone + Drop>(
+    rt: &T,
+    alloc: B,
+    reader: &mut R,
+    writer: &mut W,
+    alphabet: &Alphabet<Global>,
+) -> Outcome
+    requires { event_count alphabet.now ≡ 2 }
+    ensures handed_on { W.has_handed_on writer.old → result.end ≢ Err WireError.Write → W.has_handed_on writer.new }
+{
+    let mut judge = Turns::new();
+    let end = serve(rt, alloc, reader, writer, &mut judge, alphabet);
+    Outcome {
+        end,
+        judged: judge.summary.judged,
+    }
+}

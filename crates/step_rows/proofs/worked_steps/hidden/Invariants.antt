@@ -1,6 +1,0 @@
-use Rattle.term.specs.Proc.{proc}
-use Rattle.term.specs.Specs.{LiesIn}
-use Rattle.step_rows.proofs.worked_steps.hidden.Given as goal
-
-abbrev pub invariant-loop : goal.invariant-loop
-invariant-loop l = LiesIn 2 1 (proc l.term)
