@@ -1,0 +1,47 @@
+//! Plays rows of text over the libraries: each line of standard input is a row, and for each a line is written that says what
+//! came of it. In both `$` is a line feed. A line that begins with `#` names the rows that follow; it is written as it is, and so is an
+//! empty one.
+//!
+//! | Row | What is played |
+//! |---|---|
+//! | `session ROOT SCRIPT # ASKS` | a new session of the script, on a disk in memory: the answers |
+//! | `over FILE # ROOT SCRIPT # ASKS` | the same on a disk that holds this file before: the answers, and the journal's file |
+//! | `written ROOT SCRIPT # ASKS` | the same: the answers, and the journal's file |
+//! | `journal FILE # ASKS` | a session of what the file holds: the answers, and the file as it is then |
+//! | `records ROOT SCRIPT # RECORDS # ASKS` | a session of a file with such a header and these records |
+//! | `fault K once ROW` | a `session`, `over` or `journal` on a disk whose K-th call fails: the answers, the file, and what a session of that file answers to `S` and leaves |
+//! | `fault K always ROW` | the same where all calls from the K-th on fail |
+//! | `crash PART COUNT ROW` | the file that a crash after COUNT calls leaves, of which this part of what no sync has followed is done (`nothing`, `everything`, `first`, `plus`), and what a session of that file answers to `S` and leaves |
+//! | `crashes PART ROW` | what it answers and leaves after each number of calls, each outcome with the first number that has it |
+//! | `lengths FILE # ASKS` | sessions of the file cut to each length, each outcome with the first length that has it |
+//! | `talk ROOT SCRIPT # INPUT # INPUT ..` | conversations with the only seat of a session on a disk in memory |
+//! | `talk_fault K once ROOT SCRIPT # INPUT ..` | the same on a disk whose K-th call fails |
+//! | `copied FILE` | the journal in the file: its header and its records, and the file of a journal of the same |
+//! | `prepared ROOT SCRIPT # SEAT NUMBER + REPORT; ..` | a new journal with the lines of these reports: its file |
+//! | `seat NUMBER` | the seat with this number, and the one after it |
+//! | `memory ROW` | a `session` or `read ROOT SCRIPT` with each request for memory refused in turn |
+#![tactic(auto)]
+
+mod asks;
+mod crashes;
+mod journals;
+mod playing;
+mod scenes;
+mod sessions;
+mod shortage;
+mod talks;
+
+use playing::told;
+use std::io;
+
+fn main(rt: HostRuntime) -> io::Result<()> {
+    let alloc = rt.alloc();
+    for line in rt.lines(alloc) {
+        let line = line?;
+        match told(&rt, alloc, line.as_str()) {
+            Ok(text) => println!(rt; "{text}")?,
+            Err(_) => println!(rt; "no memory for the row")?,
+        }
+    }
+    Ok(())
+}
