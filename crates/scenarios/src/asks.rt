@@ -7,15 +7,16 @@
 //! | `N`, `S` | as the line protocol answers them |
 //! | `number SEAT` | the number of the seat's next report |
 //! | `report SEAT NUMBER FLOOR E NAME` or `.. R NAME ..` | as the line protocol answers a report |
-//! | `ready SEAT NUMBER FLOOR E NAME` or `.. R NAME ..` | the same, made ready first and then written: the verdict and the length between the two, and the answer |
+//! | `ready SEAT NUMBER FLOOR E NAME` or `.. R NAME ..` | the same, made ready first and then written: the verdict and the length between the two, and whether the entry written is the `same` |
 //! | `times COUNT SEAT E NAME` or `.. R NAME ..` | so many reports of the seat, each its next: how many were accepted, and the last answer |
 
 ghost use Rattle.std.specs.Prelude.{◌≡◌, IfSome};
 ghost use Rattle.journal.specs.Reports.{AreEvents, IsReport};
+ghost use Rattle.session.specs.Told.{IsReadyFor};
 
 use alphabet::{Alphabet, EventSet, Report};
 use disk::Disk;
-use session::{Entry, Fault, SeatNumber, Session};
+use session::{Entry, Fault, Ready, SeatNumber, Session};
 use std::alloc::{AllocError, Allocator};
 
 /// A report as a row asks for it.
@@ -39,7 +40,7 @@ fn set_of<A: Allocator>(alphabet: &Alphabet<A>, names: &str) -> Option<EventSet>
 }
 
 /// The report that the words ask for.
-pub(crate) fn report_of<A: Allocator>(alphabet: &Alphabet<A>, words: &str) -> Option<Report>
+fn report_of<A: Allocator>(alphabet: &Alphabet<A>, words: &str) -> Option<Report>
     ensures { IfSome result (IsReport alphabet.now) }
 {
     match words.split_once(' ').unwrap_or((words, "")) {
@@ -64,15 +65,18 @@ fn seat_of(word: &str) -> Option<SeatNumber> {
 fn wanted_by<A: Allocator>(alphabet: &Alphabet<A>, words: &str) -> Option<Wanted>
     ensures { IfSome result (λ wanted. IsReport alphabet.now wanted.report) }
 {
-    let (seat, words) = words.split_once(' ')?;
-    let (number, words) = words.split_once(' ')?;
-    let (floor, words) = words.split_once(' ')?;
-    Some(Wanted {
-        seat: seat_of(seat)?,
-        number: number.parse().unwrap_or(0),
-        floor: floor.parse().unwrap_or(0),
-        report: report_of(alphabet, words)?,
-    })
+    let (seat, words) = words.split_once(' ').unwrap_or((words, ""));
+    let (number, words) = words.split_once(' ').unwrap_or((words, ""));
+    let (floor, words) = words.split_once(' ').unwrap_or((words, ""));
+    match (seat_of(seat), report_of(alphabet, words)) {
+        (Some(seat), Some(report)) => Some(Wanted {
+            seat,
+            number: number.parse().unwrap_or(0),
+            floor: floor.parse().unwrap_or(0),
+            report,
+        }),
+        _ => None,
+    }
 }
 
 /// How a report was answered, as the line protocol tells it.
@@ -103,24 +107,38 @@ fn report<D: Disk, A: Allocator + Copy>(
     }
 }
 
+/// Writes what is ready: its verdict, how long the history is before, and the answer.
+fn write_ready<D: Disk, A: Allocator + Copy>(
+    session: &mut Session<D, A>,
+    ready: Ready<A>,
+    out: &mut String,
+) -> Result<(), AllocError>
+    requires { IsReadyFor session.old ready }
+{
+    let (entry, length) = (ready.entry(), session.history().len());
+    let answer = session.write(ready);
+    let word = match answer {
+        Ok(written) if written == entry => "same",
+        Ok(_) => "other",
+        Err(_) => "none",
+    };
+    write!(out, "{} {length} {word}", entry.verdict)
+}
+
 /// Makes ready what the words ask for, and writes it then.
 fn ready<D: Disk, A: Allocator + Copy + Drop>(
     session: &mut Session<D, A>,
     words: &str,
     out: &mut String,
 ) -> Result<(), AllocError> {
-    let Some(wanted) = wanted_by(session.spec().alphabet(), words) else {
-        return out.push_str("no such report");
-    };
-    match session.ready(wanted.seat, wanted.number, wanted.floor, &wanted.report) {
-        Ok(ready) => {
-            let (entry, length) = (ready.entry(), session.history().len());
-            let answer = session.write(ready);
-            let same = if answer == Ok(entry) { "same" } else { "other" };
-            write!(out, "{} {length} {same} ", entry.verdict)?;
-            put_answer(answer, session.history().len(), out)
+    match wanted_by(session.spec().alphabet(), words) {
+        Some(wanted) => {
+            match session.ready(wanted.seat, wanted.number, wanted.floor, &wanted.report) {
+                Ok(ready) => write_ready(session, ready, out),
+                Err(fault) => write!(out, "ERR {fault}"),
+            }
         }
-        Err(fault) => write!(out, "ERR {fault}"),
+        None => out.push_str("no such report"),
     }
 }
 
@@ -190,10 +208,14 @@ fn put_names<A: Allocator>(
     Ok(())
 }
 
-/// These bytes, each as a character.
+/// These bytes, each as a character, with `$` for a line feed.
 pub(crate) fn put_bytes(bytes: &[u8], out: &mut String) -> Result<(), AllocError> {
     for byte in bytes {
-        out.push(char::from(*byte))?;
+        out.push(if *byte == b'\n' {
+            '$'
+        } else {
+            char::from(*byte)
+        })?;
     }
     Ok(())
 }
@@ -245,6 +267,22 @@ fn number<D: Disk, A: Allocator>(
     }
 }
 
+/// The answer to one thing that changes nothing.
+fn look<D: Disk, A: Allocator>(
+    session: &Session<D, A>,
+    kind: &str,
+    words: &str,
+    out: &mut String,
+) -> Result<(), AllocError> {
+    match kind {
+        "L" => write!(out, "L {}", session.history().len()),
+        "N" => next(session, out),
+        "S" => status(session, out),
+        "number" => number(session, words, out),
+        _ => out.push_str("no such ask"),
+    }
+}
+
 /// The answer to one thing.
 fn answer<D: Disk, A: Allocator + Copy + Drop>(
     session: &mut Session<D, A>,
@@ -254,15 +292,27 @@ fn answer<D: Disk, A: Allocator + Copy + Drop>(
     let (kind, words) = ask.split_once(' ').unwrap_or((ask, ""));
     match kind {
         "J" => join(session, out),
-        "L" => write!(out, "L {}", session.history().len()),
-        "N" => next(session, out),
-        "S" => status(session, out),
-        "number" => number(session, words, out),
         "report" => report(session, words, out),
         "ready" => ready(session, words, out),
         "times" => times(session, words, out),
-        _ => out.push_str("no such ask"),
+        _ => look(session, kind, words, out),
     }
+}
+
+/// The answer to the thing at this place, and to the same again where that was `ERR 40 memory`.
+fn answer_at<D: Disk, A: Allocator + Copy + Drop>(
+    session: &mut Session<D, A>,
+    place: usize,
+    ask: &str,
+    out: &mut String,
+) -> Result<(), AllocError> {
+    out.push_str(if place > 0 { "; " } else { "" })?;
+    answer(session, ask, out)?;
+    if out.ends_with("ERR 40 memory") {
+        out.push_str("; ")?;
+        answer(session, ask, out)?;
+    }
+    Ok(())
 }
 
 /// The answers to all, parted by `; `. What is answered by `ERR 40 memory` is asked once more.
@@ -272,12 +322,7 @@ pub(crate) fn ask_all<D: Disk, A: Allocator + Copy + Drop>(
     out: &mut String,
 ) -> Result<(), AllocError> {
     for (place, ask) in asks.split("; ").enumerate() {
-        out.push_str(if place > 0 { "; " } else { "" })?;
-        answer(session, ask, out)?;
-        if out.ends_with("ERR 40 memory") {
-            out.push_str("; ")?;
-            answer(session, ask, out)?;
-        }
+        answer_at(session, place, ask, out)?;
     }
     Ok(())
 }

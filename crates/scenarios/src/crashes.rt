@@ -1,7 +1,6 @@
 //! What a crash leaves after each call, and what there is in a file cut to each length.
 
-use crate::asks::number_of;
-use crate::scenes::{Scene, in_memory, played, put_left, reopened};
+use crate::scenes::{Scene, in_memory, played, put_left};
 use memory_disks::{CrashDisk, Part};
 use std::alloc::{AllocError, Global};
 
@@ -42,21 +41,6 @@ fn kept(alloc: Global, scene: &Scene) -> Result<CrashDisk<Global>, AllocError> {
 }
 
 /// The file that a crash after so many calls leaves, and what a session of it answers and leaves.
-fn crash(
-    alloc: Global,
-    disk: &CrashDisk<Global>,
-    count: usize,
-    part: Part,
-    out: &mut String,
-) -> Result<(), AllocError> {
-    if count > disk.calls() {
-        return out.push_str("no such call");
-    }
-    let file = disk.left_after(count, part)?;
-    put_left(alloc, &file, out)
-}
-
-/// What a session answers and leaves where a crash after so many calls left the file.
 fn after_crash(
     alloc: Global,
     disk: &CrashDisk<Global>,
@@ -66,12 +50,12 @@ fn after_crash(
     let mut out = String::new(alloc);
     if count <= disk.calls() {
         let file = disk.left_after(count, part)?;
-        reopened(alloc, &file, &mut out)?;
+        put_left(alloc, &file, &mut out)?;
     }
     Ok(out)
 }
 
-/// What sessions answer and leave after a crash behind each number of calls.
+/// What a crash after each number of calls leaves.
 fn crashes(
     alloc: Global,
     disk: &CrashDisk<Global>,
@@ -82,7 +66,12 @@ fn crashes(
     let calls = disk.calls();
     write!(out, "{calls} calls, ")?;
     for count in 0..=calls {
-        put_outcome(count, after_crash(alloc, disk, count, part)?, &mut last, out)?;
+        put_outcome(
+            count,
+            after_crash(alloc, disk, count, part)?,
+            &mut last,
+            out,
+        )?;
     }
     Ok(())
 }
@@ -106,19 +95,6 @@ fn lengths(alloc: Global, scene: &Scene, out: &mut String) -> Result<(), AllocEr
     Ok(())
 }
 
-/// Plays `PART COUNT ROW`.
-fn play_crash(alloc: Global, text: &str, out: &mut String) -> Result<(), AllocError> {
-    let (part, text) = text.split_once(' ').unwrap_or((text, ""));
-    let (count, row) = text.split_once(' ').unwrap_or((text, ""));
-    match Scene::read(row) {
-        Some(scene) => {
-            let disk = kept(alloc, &scene)?;
-            crash(alloc, &disk, number_of(count) as usize, part_of(part), out)
-        }
-        None => out.push_str("no such row"),
-    }
-}
-
 /// Plays `PART ROW`.
 fn play_crashes(alloc: Global, text: &str, out: &mut String) -> Result<(), AllocError> {
     let (part, row) = text.split_once(' ').unwrap_or((text, ""));
@@ -138,11 +114,11 @@ pub(crate) fn play(
     text: &str,
     out: &mut String,
 ) -> Result<bool, AllocError> {
-    match kind {
-        "crash" => play_crash(alloc, text, out)?,
-        "crashes" => play_crashes(alloc, text, out)?,
-        "lengths" => lengths(alloc, &Scene::of_file(text), out)?,
+    let done = match kind {
+        "crashes" => play_crashes(alloc, text, out),
+        "lengths" => lengths(alloc, &Scene::of_file(text), out),
         _ => return Ok(false),
-    }
+    };
+    done?;
     Ok(true)
 }

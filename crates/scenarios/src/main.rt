@@ -11,13 +11,11 @@
 //! | `records ROOT SCRIPT # RECORDS # ASKS` | a session of a file with such a header and these records |
 //! | `fault K once ROW` | a `session`, `over` or `journal` on a disk whose K-th call fails: the answers, the file, and what a session of that file answers to `S` and leaves |
 //! | `fault K always ROW` | the same where all calls from the K-th on fail |
-//! | `crash PART COUNT ROW` | the file that a crash after COUNT calls leaves, of which this part of what no sync has followed is done (`nothing`, `everything`, `first`, `plus`), and what a session of that file answers to `S` and leaves |
-//! | `crashes PART ROW` | what it answers and leaves after each number of calls, each outcome with the first number that has it |
+//! | `crashes PART ROW` | the file that a crash after each number of calls leaves, of which this part of what no sync has followed is done (`nothing`, `everything`, `first`, `plus`), and what a session of that file answers to `S` and leaves; each with the first number that has it |
 //! | `lengths FILE # ASKS` | sessions of the file cut to each length, each outcome with the first length that has it |
 //! | `talk ROOT SCRIPT # INPUT # INPUT ..` | conversations with the only seat of a session on a disk in memory |
 //! | `talk_fault K once ROOT SCRIPT # INPUT ..` | the same on a disk whose K-th call fails |
 //! | `copied FILE` | the journal in the file: its header and its records, and the file of a journal of the same |
-//! | `prepared ROOT SCRIPT # SEAT NUMBER + REPORT; ..` | a new journal with the lines of these reports: its file |
 //! | `seat NUMBER` | the seat with this number, and the one after it |
 //! | `memory ROW` | a `session` or `read ROOT SCRIPT` with each request for memory refused in turn |
 #![tactic(auto)]

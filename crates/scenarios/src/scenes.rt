@@ -126,7 +126,7 @@ fn answers(alloc: Global, scene: &Scene, out: &mut String) -> Result<(), AllocEr
 }
 
 /// What a session of this file answers to `S`, and the file that it leaves.
-pub(crate) fn reopened(alloc: Global, file: &[u8], out: &mut String) -> Result<(), AllocError> {
+fn reopened(alloc: Global, file: &[u8], out: &mut String) -> Result<(), AllocError> {
     let scene = Scene {
         new: None,
         file,
@@ -203,14 +203,15 @@ pub(crate) fn play(
     text: &str,
     out: &mut String,
 ) -> Result<bool, AllocError> {
-    match kind {
-        "session" => answers(alloc, &Scene::new(text), out)?,
-        "written" => with_file(alloc, &Scene::new(text), out)?,
-        "over" => with_file(alloc, &Scene::over(text), out)?,
-        "journal" => with_file(alloc, &Scene::of_file(text), out)?,
-        "records" => records(alloc, text, out)?,
-        "fault" => fault(alloc, text, out)?,
+    let done = match kind {
+        "session" => answers(alloc, &Scene::new(text), out),
+        "written" => with_file(alloc, &Scene::new(text), out),
+        "over" => with_file(alloc, &Scene::over(text), out),
+        "journal" => with_file(alloc, &Scene::of_file(text), out),
+        "records" => records(alloc, text, out),
+        "fault" => fault(alloc, text, out),
         _ => return Ok(false),
-    }
+    };
+    done?;
     Ok(true)
 }

@@ -6,54 +6,70 @@ use memory_disks::MemoryDisk;
 use refusing::Refusing;
 use script::{print, read};
 use std::alloc::{AllocError, Global};
+use term::Spec;
 
 /// How many requests are refused at most.
 const MOST: u64 = 1_000_000;
 
 /// The answers of a session in memory of this allocator.
-fn session(
-    refusing: &Refusing<Global>,
-    scene: &Scene,
-    out: &mut String,
-) -> Result<(), AllocError> {
+fn session(refusing: &Refusing<Global>, scene: &Scene, out: &mut String) -> Result<(), AllocError> {
     let disk = MemoryDisk::new(Vec::new(refusing));
     let (done, _disk) = played(refusing, disk, scene, out);
     done
 }
 
-/// The printed specification that the script denotes for the root, read in memory of this allocator.
+/// The printed specification.
+fn put_printed(
+    refusing: &Refusing<Global>,
+    spec: &Spec<&Refusing<Global>>,
+    out: &mut String,
+) -> Result<(), AllocError> {
+    let mut printed = Vec::new(refusing);
+    match print(spec, &mut printed) {
+        Ok(()) => put_bytes(&printed, out),
+        Err(_) => out.push_str("40 memory"),
+    }
+}
+
+/// The specification that the script denotes for the root, read in memory of this allocator.
 fn reading(refusing: &Refusing<Global>, text: &str, out: &mut String) -> Result<(), AllocError> {
     let (root, script) = text.split_once(' ').unwrap_or((text, ""));
-    let mut printed = Vec::new(refusing);
     match read(refusing, script.as_bytes(), root.as_bytes()) {
-        Ok(spec) if print(&spec, &mut printed).is_ok() => put_bytes(&printed, out),
-        Ok(_) => out.push_str("40 memory"),
+        Ok(spec) => put_printed(refusing, &spec, out),
         Err(fault) => write!(out, "{}", fault.kind),
     }
 }
 
-/// What comes of the row where this request is refused.
+/// What comes of the row in memory of this allocator.
+fn put_row(refusing: &Refusing<Global>, row: &str, out: &mut String) -> Result<(), AllocError> {
+    match row.split_once(' ').unwrap_or((row, "")) {
+        ("session", text) => session(refusing, &Scene::new(text), out),
+        ("read", text) => reading(refusing, text, out),
+        _ => out.push_str("no such row"),
+    }
+}
+
+/// What comes of the row in memory of this allocator.
 fn came(alloc: Global, refusing: &Refusing<Global>, row: &str) -> Result<String, AllocError> {
     let mut out = String::new(alloc);
-    match row.split_once(' ').unwrap_or((row, "")) {
-        ("session", text) => session(refusing, &Scene::new(text), &mut out)?,
-        ("read", text) => reading(refusing, text, &mut out)?,
-        _ => out.push_str("no such row")?,
-    }
+    put_row(refusing, row, &mut out)?;
     Ok(out)
+}
+
+/// Whether these are the full answers, with the refusal told once among them.
+fn is_told_once(alloc: Global, full: &str, came: &str) -> Result<bool, AllocError> {
+    let without = came.replacen(alloc, "ERR 40 memory; ", "", 1)?;
+    Ok(without.as_str() == full)
 }
 
 /// Whether this is what may come in place of the full answers: these, with the refusal told once; or nothing but the refusal; or
 /// these up to where the disk could not grow.
 fn is_allowed(alloc: Global, full: &str, came: &str) -> Result<bool, AllocError> {
-    if came == full || came == "40 memory" || came == "30 journal" {
-        return Ok(true);
+    match came.split_once("ERR 30 journal") {
+        Some((before, _)) => Ok(full.starts_with(before)),
+        None if came == "40 memory" || came == "30 journal" => Ok(true),
+        None => is_told_once(alloc, full, came),
     }
-    if let Some((before, _)) = came.split_once("ERR 30 journal") {
-        return Ok(full.starts_with(before));
-    }
-    let without = came.replacen(alloc, "ERR 40 memory; ", "", 1)?;
-    Ok(without.as_str() == full)
 }
 
 /// Refuses this request. Whether it came is answered, and writes what came of it where that may not come.
@@ -78,7 +94,11 @@ fn sweep(alloc: Global, row: &str, out: &mut String) -> Result<(), AllocError> {
     out.push_str(&full)?;
     for which in 1..MOST {
         if !refuse(alloc, which, row, &full, out)? {
-            return out.push_str(if which > 1 { ", each refused" } else { ", no request" });
+            return out.push_str(if which > 1 {
+                ", each refused"
+            } else {
+                ", no request"
+            });
         }
     }
     out.push_str(", too many requests")
@@ -91,9 +111,8 @@ pub(crate) fn play(
     text: &str,
     out: &mut String,
 ) -> Result<bool, AllocError> {
-    match kind {
-        "memory" => sweep(alloc, text, out)?,
-        _ => return Ok(false),
+    if kind == "memory" {
+        sweep(alloc, text, out)?;
     }
-    Ok(true)
+    Ok(kind == "memory")
 }

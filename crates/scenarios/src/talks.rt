@@ -23,7 +23,22 @@ fn end_of(end: Result<End, WireError>) -> &'static str {
     }
 }
 
-/// One conversation: how it ended, which faults were noted, and what was written.
+/// How a conversation ended, which faults were noted, and what was written.
+fn put_talk(
+    end: &str,
+    misuse: bool,
+    limit: bool,
+    written: &[u8],
+    out: &mut String,
+) -> Result<(), AllocError> {
+    let misuse = if misuse { " misuse" } else { "" };
+    let limit = if limit { " limit" } else { "" };
+    write!(out, "{end}{misuse}{limit} ")?;
+    put_file(written, out)?;
+    out.push_str("; ")
+}
+
+/// One conversation.
 fn talk<T: Wait, D: Disk + Drop>(
     rt: &T,
     alloc: Global,
@@ -34,15 +49,12 @@ fn talk<T: Wait, D: Disk + Drop>(
     let mut reader = Plain::new(input.as_bytes());
     let mut watch = Watch::new(Plain::new(Vec::new(alloc)));
     let end = end_of(seat.serve(rt, alloc, &mut reader, &mut watch));
-    let misuse = if watch.told_misuse() { " misuse" } else { "" };
-    let limit = if watch.told_limit() { " limit" } else { "" };
+    let (misuse, limit) = (watch.told_misuse(), watch.told_limit());
     let written = watch.into_inner().into_inner();
-    write!(out, "{end}{misuse}{limit} ")?;
-    put_file(&written, out)?;
-    out.push_str("; ")
+    put_talk(end, misuse, limit, &written, out)
 }
 
-/// The conversations one after the other.
+/// The conversations one after the other, and what the session has then.
 fn talk_all<T: Wait, D: Disk + Drop>(
     rt: &T,
     alloc: Global,
@@ -53,10 +65,10 @@ fn talk_all<T: Wait, D: Disk + Drop>(
     for input in inputs.split(" # ") {
         talk(rt, alloc, seat, input, out)?;
     }
-    status(seat.session(), out)
+    write!(out, "L {}; ", seat.session().history().len())
 }
 
-/// The conversations, and what the session has then.
+/// The conversations, and what the session is then.
 fn with_seat<T: Wait, D: Disk + Drop>(
     rt: &T,
     alloc: Global,
@@ -65,8 +77,10 @@ fn with_seat<T: Wait, D: Disk + Drop>(
     out: &mut String,
 ) -> Result<(), AllocError> {
     let mut seat = seat;
-    talk_all(rt, alloc, &mut seat, inputs, out)?;
-    write!(out, "; L {}", seat.into_session().history().len())
+    match talk_all(rt, alloc, &mut seat, inputs, out) {
+        Ok(()) => status(&seat.into_session(), out),
+        Err(error) => Err(error),
+    }
 }
 
 /// Conversations with a seat whose journal is in memory.
@@ -90,6 +104,20 @@ fn in_memory<T: Wait>(
     }
 }
 
+/// Conversations with the next seat of the session.
+fn joined<T: Wait, D: Disk + Drop>(
+    rt: &T,
+    alloc: Global,
+    session: Session<D, Global>,
+    inputs: &str,
+    out: &mut String,
+) -> Result<(), AllocError> {
+    match OneSeat::join(session) {
+        Ok(seat) => with_seat(rt, alloc, seat, inputs, out),
+        Err(_session) => out.push_str("no seat"),
+    }
+}
+
 /// Conversations with a seat of a new session on this disk.
 fn on_disk<T: Wait, D: Disk + Drop>(
     rt: &T,
@@ -100,10 +128,7 @@ fn on_disk<T: Wait, D: Disk + Drop>(
     out: &mut String,
 ) -> Result<(), AllocError> {
     match Session::create(alloc, disk, begin.1.as_bytes(), begin.0.as_bytes()) {
-        Ok(session) => match OneSeat::join(session) {
-            Ok(seat) => with_seat(rt, alloc, seat, inputs, out),
-            Err(_session) => out.push_str("no seat"),
-        },
+        Ok(session) => joined(rt, alloc, session, inputs, out),
         Err((error, _disk)) => write!(out, "{error}"),
     }
 }
@@ -122,18 +147,19 @@ pub(crate) fn play<T: Wait>(
     text: &str,
     out: &mut String,
 ) -> Result<bool, AllocError> {
-    match kind {
+    let done = match kind {
         "talk" => {
             let ((root, script), inputs) = parts_of(text);
-            in_memory(rt, alloc, root.as_bytes(), script.as_bytes(), inputs, out)?;
+            in_memory(rt, alloc, root.as_bytes(), script.as_bytes(), inputs, out)
         }
         "talk_fault" => {
             let (call, afterwards, text) = failing(text);
             let (begin, inputs) = parts_of(text);
             let disk = FaultDisk::new(Vec::new(alloc), call, afterwards);
-            on_disk(rt, alloc, disk, begin, inputs, out)?;
+            on_disk(rt, alloc, disk, begin, inputs, out)
         }
         _ => return Ok(false),
-    }
+    };
+    done?;
     Ok(true)
 }
