@@ -2,7 +2,7 @@
 
 use disk::Disk;
 use file_disk::FileDisk;
-use std::alloc::{AllocError, Global};
+use std::alloc::AllocError;
 use std::fs::{self, OpenOptions};
 use std::io;
 use std::os::unix::fs::FileExt;
@@ -68,13 +68,19 @@ fn put_file<R: Files + AllocGlobal>(rt: &R, out: &mut String) -> Result<(), Allo
     }
 }
 
-/// What came of calls on a disk on a file, and the file's bytes after them. The file is removed.
-pub(crate) fn told<R: Files + AllocGlobal>(rt: &R, alloc: Global) -> Result<String, AllocError>
+/// Appends what comes of the row `file`, if it is that one: of calls on a disk on a file, which is removed after them.
+pub(crate) fn play<R: Files + AllocGlobal>(
+    rt: &R,
+    kind: &str,
+    out: &mut String,
+) -> Result<bool, AllocError>
 where
     R::File: FileExt,
 {
-    let mut out = String::new(alloc);
-    let done = put_disk(rt, &mut out).and_then(|()| put_file(rt, &mut out));
+    if kind != "file" {
+        return Ok(false);
+    }
+    let done = put_disk(rt, out).and_then(|()| put_file(rt, out));
     let _ = fs::remove_file(rt, NAME);
-    done.map(|()| out)
+    done.map(|()| true)
 }

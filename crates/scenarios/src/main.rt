@@ -33,28 +33,61 @@
 //! | `bodies in SCRIPT` | how deep and how large each body is, and how many it equals; `?` where a copy differs |
 //! | `fault_text CRATE NAME` | a fault's number and word, and its text |
 //! | `requests K` | which of three requests for memory are granted where the K-th is refused, and whether one was refused |
+//! | `file` | of calls on a disk on a real file how many bytes there are, were written and were read, and the file after them |
+//!
+//! Sessions and journals; in what a row tells `$` is a line feed too:
+//!
+//! | Row | Tells |
+//! |---|---|
+//! | `session ROOT SCRIPT # ASKS` | a new session of the script, on a disk in memory: the answers |
+//! | `over FILE # ROOT SCRIPT # ASKS` | the same on a disk that holds this file before: the answers, and the journal's file |
+//! | `written ROOT SCRIPT # ASKS` | the same: the answers, and the journal's file |
+//! | `journal FILE # ASKS` | a session of what the file holds: the answers, and the file as it is then |
+//! | `records ROOT SCRIPT # RECORDS # ASKS` | a session of a file with such a header and these records |
+//! | `fault K once ROW` | a `session`, `over` or `journal` on a disk whose K-th call fails: the answers, the file, and what a session of that file answers to `S` and leaves |
+//! | `fault K always ROW` | the same where all calls from the K-th on fail |
+//! | `crashes PART ROW` | the file that a crash after each number of calls leaves, of which this part of what no sync has followed is done (`nothing`, `everything`, `first`, `plus`), and what a session of that file answers to `S` and leaves; each with the first number that has it |
+//! | `lengths FILE # ASKS` | sessions of the file cut to each length, each outcome with the first length that has it |
+//! | `talk ROOT SCRIPT # INPUT # INPUT ..` | conversations with the only seat of a session on a disk in memory |
+//! | `talk_fault K once ROOT SCRIPT # INPUT ..` | the same on a disk whose K-th call fails |
+//! | `copied FILE` | the journal in the file: its header and its records, and the file of a journal of the same |
+//! | `seat NUMBER` | the seat with this number, and the one after it |
+//! | `memory ROW` | a `session` or `read ROOT SCRIPT` with each request for memory refused in turn |
 #![tactic(auto)]
 
 mod alphabets;
+mod asks;
+mod crashes;
 mod devices;
 mod faults;
+mod files;
+mod journals;
 mod lines;
 mod playing;
 mod requests;
 mod rows;
+mod scenes;
 mod scripts;
+mod sessions;
 mod sets;
+mod shortage;
 mod steps;
+mod talks;
 mod texts;
 mod turns;
 
 use playing::told;
 use std::alloc::Global;
 use std::io;
+use std::os::unix::fs::FileExt;
+use std::rt::Files;
 use std::sync::Wait;
 
 /// Writes what comes of a row.
-fn tell<R: Print + Wait>(rt: &R, alloc: Global, row: &str) -> io::Result<()> {
+fn tell<R: Print + Wait + Files + AllocGlobal>(rt: &R, alloc: Global, row: &str) -> io::Result<()>
+where
+    R::File: FileExt,
+{
     match told(rt, alloc, row) {
         Ok(text) => rt.println(text),
         Err(_) => rt.println("no memory for the row"),

@@ -1,8 +1,10 @@
 //! What comes of a row.
 
 use crate::rows::first_word;
-use crate::{alphabets, faults, lines, requests, scripts, sets, texts};
+use crate::{alphabets, faults, files, lines, requests, scripts, sessions, sets, texts};
 use std::alloc::{AllocError, Global};
+use std::os::unix::fs::FileExt;
+use std::rt::Files;
 use std::sync::Wait;
 
 /// Appends what comes of a row without a script, if it is of such a kind.
@@ -21,23 +23,35 @@ fn played_values(
 }
 
 /// Appends what comes of a row, if it is of one of the kinds.
-fn played<T: Wait>(
+fn played<T: Wait + Files + AllocGlobal>(
     rt: &T,
     alloc: Global,
     kind: &str,
     rest: &str,
     out: &mut String,
-) -> Result<bool, AllocError> {
+) -> Result<bool, AllocError>
+where
+    T::File: FileExt,
+{
     Ok(
         lines::play(rt, alloc, kind, rest, out)?
             || texts::play(alloc, kind, rest, out)?
             || played_values(alloc, kind, rest, out)?
-            || scripts::play(alloc, kind, rest, out)?,
+            || scripts::play(alloc, kind, rest, out)?
+            || sessions::play(rt, alloc, kind, rest, out)?
+            || files::play(rt, kind, out)?,
     )
 }
 
 /// What comes of a row. A line that is empty or begins with `#` is told as it is.
-pub(crate) fn told<T: Wait>(rt: &T, alloc: Global, row: &str) -> Result<String, AllocError> {
+pub(crate) fn told<T: Wait + Files + AllocGlobal>(
+    rt: &T,
+    alloc: Global,
+    row: &str,
+) -> Result<String, AllocError>
+where
+    T::File: FileExt,
+{
     let mut out = String::new(alloc);
     let (kind, rest) = first_word(row);
     if row.is_empty() || row.starts_with('#') {

@@ -1,0 +1,124 @@
+//! What a crash leaves after each call, and what there is in a file cut to each length.
+
+use crate::scenes::{Scene, in_memory, played, put_left};
+use memory_disks::{CrashDisk, Part};
+use std::alloc::{AllocError, Global};
+
+/// Adds the outcome at this place where it isn't the last one.
+fn put_outcome(
+    place: usize,
+    came: String,
+    last: &mut String,
+    out: &mut String,
+) -> Result<(), AllocError> {
+    if came == *last {
+        return Ok(());
+    }
+    let mark = if place > 0 { " | " } else { "" };
+    write!(out, "{mark}{place}: {came}")?;
+    *last = came;
+    Ok(())
+}
+
+/// The part that the word tells.
+fn part_of(word: &str) -> Part {
+    match word {
+        "everything" => Part::Everything,
+        "first" => Part::FirstByte,
+        "plus" => Part::Plus,
+        _ => Part::Nothing,
+    }
+}
+
+/// Plays the scene on a disk that keeps its calls, and gives back the disk.
+fn kept(alloc: Global, scene: &Scene) -> Result<CrashDisk<Global>, AllocError> {
+    let mut out = String::new(alloc);
+    let disk = CrashDisk::new(alloc, Vec::from_slice(alloc, scene.file)?)?;
+    match played(alloc, disk, scene, &mut out) {
+        (Ok(()), disk) => Ok(disk),
+        (Err(_), _) => Err(AllocError),
+    }
+}
+
+/// The file that a crash after so many calls leaves, and what a session of it answers and leaves.
+fn after_crash(
+    alloc: Global,
+    disk: &CrashDisk<Global>,
+    count: usize,
+    part: Part,
+) -> Result<String, AllocError> {
+    let mut out = String::new(alloc);
+    if count <= disk.calls() {
+        let file = disk.left_after(count, part)?;
+        put_left(alloc, &file, &mut out)?;
+    }
+    Ok(out)
+}
+
+/// What a crash after each number of calls leaves.
+fn crashes(
+    alloc: Global,
+    disk: &CrashDisk<Global>,
+    part: Part,
+    out: &mut String,
+) -> Result<(), AllocError> {
+    let mut last = String::new(alloc);
+    let calls = disk.calls();
+    write!(out, "{calls} calls, ")?;
+    for count in 0..=calls {
+        put_outcome(
+            count,
+            after_crash(alloc, disk, count, part)?,
+            &mut last,
+            out,
+        )?;
+    }
+    Ok(())
+}
+
+/// What a session of the file with this length answers, and whether it leaves the file as it was.
+fn at_length(alloc: Global, scene: &Scene) -> Result<String, AllocError> {
+    let mut out = String::new(alloc);
+    let disk = in_memory(alloc, scene, &mut out)?;
+    let kept = disk.bytes() == scene.file;
+    out.push_str(if kept { ", kept" } else { ", changed" })?;
+    Ok(out)
+}
+
+/// What sessions of the file, cut to each length, answer.
+fn lengths(alloc: Global, scene: &Scene, out: &mut String) -> Result<(), AllocError> {
+    let mut last = String::new(alloc);
+    for length in 0..=scene.file.len() {
+        let came = at_length(alloc, &scene.cut_to(length))?;
+        put_outcome(length, came, &mut last, out)?;
+    }
+    Ok(())
+}
+
+/// Plays `PART ROW`.
+fn play_crashes(alloc: Global, text: &str, out: &mut String) -> Result<(), AllocError> {
+    let (part, row) = text.split_once(' ').unwrap_or((text, ""));
+    match Scene::read(row) {
+        Some(scene) => {
+            let disk = kept(alloc, &scene)?;
+            crashes(alloc, &disk, part_of(part), out)
+        }
+        None => out.push_str("no such row"),
+    }
+}
+
+/// Plays a row of these kinds. Whether it is one is answered.
+pub(crate) fn play(
+    alloc: Global,
+    kind: &str,
+    text: &str,
+    out: &mut String,
+) -> Result<bool, AllocError> {
+    let done = match kind {
+        "crashes" => play_crashes(alloc, text, out),
+        "lengths" => lengths(alloc, &Scene::of_file(text), out),
+        _ => return Ok(false),
+    };
+    done?;
+    Ok(true)
+}

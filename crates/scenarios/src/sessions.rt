@@ -1,0 +1,34 @@
+//! Sessions and journals, on disks in memory of which some fail or crash, and with requests for memory refused.
+
+use crate::{crashes, journals, scenes, shortage, talks};
+use std::alloc::{AllocError, Global};
+use std::sync::Wait;
+
+/// Appends what comes of a row of one of these kinds, with line feeds in its text, or answers that there is no such kind.
+fn played<T: Wait>(
+    rt: &T,
+    alloc: Global,
+    kind: &str,
+    text: &str,
+    out: &mut String,
+) -> Result<bool, AllocError> {
+    Ok(
+        scenes::play(alloc, kind, text, out)?
+            || crashes::play(alloc, kind, text, out)?
+            || journals::play(alloc, kind, text, out)?
+            || talks::play(rt, alloc, kind, text, out)?
+            || shortage::play(alloc, kind, text, out)?,
+    )
+}
+
+/// Appends what comes of a row of one of these kinds, or answers that there is no such kind.
+pub(crate) fn play<T: Wait>(
+    rt: &T,
+    alloc: Global,
+    kind: &str,
+    rest: &str,
+    out: &mut String,
+) -> Result<bool, AllocError> {
+    let text = rest.replace(alloc, '$', "\n")?;
+    played(rt, alloc, kind, &text, out)
+}
