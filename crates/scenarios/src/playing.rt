@@ -1,26 +1,10 @@
 //! What comes of a row.
 
-use crate::rows::first_word;
-use crate::{alphabets, faults, files, lines, requests, scripts, sessions, sets, texts};
+use crate::{faults, files, sessions};
 use std::alloc::{AllocError, Global};
 use std::os::unix::fs::FileExt;
 use std::rt::Files;
 use std::sync::Wait;
-
-/// Appends what comes of a row without a script, if it is of such a kind.
-fn played_values(
-    alloc: Global,
-    kind: &str,
-    rest: &str,
-    out: &mut String,
-) -> Result<bool, AllocError> {
-    Ok(
-        sets::play(kind, rest, out)?
-            || alphabets::play(kind, rest, out)?
-            || faults::play(kind, rest, out)?
-            || requests::play(alloc, kind, rest, out)?,
-    )
-}
 
 /// Appends what comes of a row, if it is of one of the kinds.
 fn played<T: Wait + Files + AllocGlobal>(
@@ -34,16 +18,13 @@ where
     T::File: FileExt,
 {
     Ok(
-        lines::play(rt, alloc, kind, rest, out)?
-            || texts::play(alloc, kind, rest, out)?
-            || played_values(alloc, kind, rest, out)?
-            || scripts::play(alloc, kind, rest, out)?
-            || sessions::play(rt, alloc, kind, rest, out)?
+        sessions::play(rt, alloc, kind, rest, out)?
+            || faults::play(kind, rest, out)?
             || files::play(rt, kind, out)?,
     )
 }
 
-/// What comes of a row. A line that is empty or begins with `#` is told as it is.
+/// What comes of a row. A line that is empty or begins with `#` is written as it is.
 pub(crate) fn told<T: Wait + Files + AllocGlobal>(
     rt: &T,
     alloc: Global,
@@ -53,7 +34,7 @@ where
     T::File: FileExt,
 {
     let mut out = String::new(alloc);
-    let (kind, rest) = first_word(row);
+    let (kind, rest) = row.split_once(' ').unwrap_or((row, ""));
     if row.is_empty() || row.starts_with('#') {
         out.push_str(row)?;
     } else if !played(rt, alloc, kind, rest, &mut out)? {

@@ -1,7 +1,7 @@
 -- The next event is one of two, and tick is one anyway.
 use Rattle.alphabet.specs.declared.events.Event.TheVariants.{Tick}
 use Rattle.wire.proofs.RefusalLemmas.{below_more}
-use Rattle.scenarios.proofs.turns.TurnsJudge.next.Goals as goal
+use Rattle.part_scenarios.proofs.turns.TurnsJudge.next.Goals as goal
 
 pub returns-clause-members : goal.returns-clause-members
 returns-clause-members c =

@@ -1,0 +1,71 @@
+//! Plays rows of text over the libraries that a session is built on: each line of standard input is a row, and for each a line is written that tells
+//! what came of it.
+//!
+//! A row is a kind and what it is played on. A line that is empty or begins with `#`, a group's name, is written as it is.
+//! In texts `$` is a line feed, any other character the byte of its number's last eight bits (`␍` a carriage return), and what
+//! stands between two backquotes is a count and, after a blank, what is repeated so many times. Scripts are read for the root
+//! `P`; for a script that has a fault that is told. After its kind a row tells, with `yes` and `no` for answers:
+//!
+//! | Row | Tells |
+//! |---|---|
+//! | `pieces N ROOM end TEXT` | of a connection to the judge of `P = a -> d.2 -> P`, how it ended, how many reports were judged, and the replies: TEXT comes in pieces of at most N bytes and then ends (`fails`: then fails); the writer takes ROOM bytes and then fails |
+//! | `waiting TEXT` | the same where the reader fails if it is asked for more before a reply was flushed |
+//! | `gathering TEXT` | the same where the writer hands on what it took when it is flushed |
+//! | `plain TEXT` | the same over a reader and a writer of the standard library, and then a refusal of the connection |
+//! | `refusing K TEXT` | the same where the K-th request for memory is refused; whether it was, and how many bytes weren't read |
+//! | `tokens TEXT` | a script's tokens after their lines: a name as it is, a number after `#`, a kept word after `*` |
+//! | `token_count TEXT`, `end_line TEXT` | how many tokens there are; the line of the text's end |
+//! | `parse TEXT` | whether there is a tree |
+//! | `tree_lines TEXT` | the line of the tree, those of its parts, those of its last part's parts, and so once more |
+//! | `is_name WORD WORD ..` | which words are names of the language |
+//! | `names in SCRIPT` | each event with its place, its channel and its place there, and its values; `?` where not each leads to the others |
+//! | `events NAME NAME .. in SCRIPT` | the places of the events with these names |
+//! | `channels in SCRIPT` | each channel with how many fields it has; how many channels and events there are, and whether there are no events |
+//! | `event_at CHANNEL PLACE in SCRIPT`, `sigma in SCRIPT` | the event with this place in its channel; the set of all events |
+//! | `set SET`, `report SET` | the members in order, and a refusal of them; a set is written as numbers of events and `T`, tick |
+//! | `union SET, SET`, `minus SET, SET`, `within SET, SET` | the union, the difference, whether the first is within the second |
+//! | `has SET, EVENT EVENT ..` | which of the events are members |
+//! | `looks in SCRIPT` | whether the root's body can terminate, whether it is stable, and what it offers |
+//! | `steps LABEL in SCRIPT` | whether the body with number 1 has steps with this label, and whether each leads to the body with number 2 |
+//! | `targets MOST LABEL in SCRIPT` | how many targets the steps of the root's body have, as far as this bound, and whether one is too deep |
+//! | `hidden TIMES in SCRIPT` | of the root's body in so many hidings of no event how deep and how large it is, the same as `targets` of its hidden steps, and a fault or the depths of the list that they are appended to, which has `SKIP` before |
+//! | `same TIMES in SCRIPT` | whether the first two bodies are the same in so many hidings of no event |
+//! | `bodies in SCRIPT` | how deep and how large each body is, and how many it equals; `?` where a copy differs |
+//! | `fault_text CRATE NAME` | a fault's number and word, and its text |
+//! | `requests K` | which of three requests for memory are granted where the K-th is refused, and whether one was refused |
+#![tactic(auto)]
+
+mod alphabets;
+mod devices;
+mod faults;
+mod lines;
+mod playing;
+mod requests;
+mod rows;
+mod scripts;
+mod sets;
+mod steps;
+mod texts;
+mod turns;
+
+use playing::told;
+use std::alloc::Global;
+use std::io;
+use std::sync::Wait;
+
+/// Writes what comes of a row.
+fn tell<R: Print + Wait>(rt: &R, alloc: Global, row: &str) -> io::Result<()> {
+    match told(rt, alloc, row) {
+        Ok(text) => rt.println(text),
+        Err(_) => rt.println("no memory for the row"),
+    }
+}
+
+fn main(rt: HostRuntime) -> io::Result<()> {
+    let alloc = rt.alloc();
+    for line in rt.lines(alloc) {
+        let row = line?;
+        tell(&rt, alloc, row.as_str())?;
+    }
+    Ok(())
+}
