@@ -8,7 +8,7 @@
 //! | `number SEAT` | the number of the seat's next report |
 //! | `report SEAT NUMBER FLOOR E NAME` or `.. R NAME ..` | as the line protocol answers a report |
 //! | `ready SEAT NUMBER FLOOR E NAME` or `.. R NAME ..` | the same, made ready first and then written: the verdict and the length between the two, and whether the entry written is the `same` |
-//! | `times COUNT SEAT E NAME` or `.. R NAME ..` | so many reports of the seat, each its next: how many were accepted, and the last answer |
+//! | `times COUNT SEAT E NAME` or `.. R NAME ..` | so many reports of the seat, each its next: how many were accepted |
 
 ghost use Rattle.std.specs.Prelude.{◌≡◌, IfSome};
 ghost use Rattle.journal.specs.Reports.{AreEvents, IsReport};
@@ -51,12 +51,12 @@ fn report_of<A: Allocator>(alphabet: &Alphabet<A>, words: &str) -> Option<Report
     }
 }
 
-/// The number that the word tells, or 0.
+/// The number that the word is, or 0.
 pub(crate) fn number_of(word: &str) -> u64 {
     word.parse().unwrap_or(0)
 }
 
-/// The seat that the word tells.
+/// The seat with this number.
 fn seat_of(word: &str) -> Option<SeatNumber> {
     SeatNumber::new(word.parse().unwrap_or(0))
 }
@@ -79,7 +79,7 @@ fn wanted_by<A: Allocator>(alphabet: &Alphabet<A>, words: &str) -> Option<Wanted
     }
 }
 
-/// How a report was answered, as the line protocol tells it.
+/// How a report was answered, as the line protocol writes it.
 fn put_answer(
     answer: Result<Entry, Fault>,
     place: usize,
@@ -191,7 +191,7 @@ fn join<D: Disk, A: Allocator>(
     }
 }
 
-/// The events of the set, each behind a space.
+/// The events of the set, each after a space.
 fn put_names<A: Allocator>(
     alphabet: &Alphabet<A>,
     set: &EventSet,

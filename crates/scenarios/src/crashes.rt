@@ -20,7 +20,7 @@ fn put_outcome(
     Ok(())
 }
 
-/// The part that the word tells.
+/// The part with this name.
 fn part_of(word: &str) -> Part {
     match word {
         "everything" => Part::Everything,

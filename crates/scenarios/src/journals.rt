@@ -40,7 +40,7 @@ fn put_read(
     Ok(())
 }
 
-/// Puts the records into the journal, or tells that it can't.
+/// Puts the records into the journal, and notes each that it doesn't take.
 fn put_all<D: Disk>(
     alloc: Global,
     journal: &mut Journal<D>,
@@ -107,7 +107,7 @@ fn put_both(
     put_copy(alloc, header, records, out)
 }
 
-/// What the journal on the disk tells, and the file of a new one that tells the same.
+/// What the journal on the disk holds, and the file of a new one that holds the same.
 fn copied<D: Disk + Drop>(alloc: Global, disk: D, out: &mut String) -> Result<(), AllocError> {
     match Journal::open(alloc, disk) {
         Ok((_journal, header, records)) => put_both(alloc, &header, &records, out),

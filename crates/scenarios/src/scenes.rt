@@ -17,7 +17,7 @@ pub(crate) struct Scene<'a> {
 }
 
 impl<'a> Scene<'a> {
-    /// A new session of what the text's root and script tell.
+    /// A new session of the text's root and script.
     pub(crate) fn new(text: &'a str) -> Scene<'a> {
         let (begin, asks) = text.split_once(" # ").unwrap_or((text, ""));
         Scene {
@@ -156,7 +156,7 @@ fn records(alloc: Global, text: &str, out: &mut String) -> Result<(), AllocError
     answers(alloc, &Scene::of_file(&text), out)
 }
 
-/// What the words `K once ROW` or `K always ROW` tell: the call that fails, what the calls after it do, and the row.
+/// The parts of `K once ROW` or `K always ROW`: the call that fails, what the calls after it do, and the row.
 pub(crate) fn failing(text: &str) -> (u64, Afterwards, &str) {
     let (call, text) = text.split_once(' ').unwrap_or((text, ""));
     let (word, row) = text.split_once(' ').unwrap_or((text, ""));

@@ -56,19 +56,19 @@ fn came(alloc: Global, refusing: &Refusing<Global>, row: &str) -> Result<String,
     Ok(out)
 }
 
-/// Whether these are the full answers, with the refusal told once among them.
-fn is_told_once(alloc: Global, full: &str, came: &str) -> Result<bool, AllocError> {
+/// Whether these are the full answers, with the refusal reported once among them.
+fn is_reported_once(alloc: Global, full: &str, came: &str) -> Result<bool, AllocError> {
     let without = came.replacen(alloc, "ERR 40 memory; ", "", 1)?;
     Ok(without.as_str() == full)
 }
 
-/// Whether this is what may come in place of the full answers: these, with the refusal told once; or nothing but the refusal; or
+/// Whether this is what may come in place of the full answers: these, with the refusal reported once; or nothing but the refusal; or
 /// these up to where the disk could not grow.
 fn is_allowed(alloc: Global, full: &str, came: &str) -> Result<bool, AllocError> {
     match came.split_once("ERR 30 journal") {
         Some((before, _)) => Ok(full.starts_with(before)),
         None if came == "40 memory" || came == "30 journal" => Ok(true),
-        None => is_told_once(alloc, full, came),
+        None => is_reported_once(alloc, full, came),
     }
 }
 
