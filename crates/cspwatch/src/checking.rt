@@ -13,7 +13,7 @@ use std::alloc::{Allocator, Global};
 use std::io::{Read, Write};
 use std::rt::Files;
 use std::sync::Wait;
-use wire::{Plain, Sink, WireError};
+use wire::{End, Plain, Sink, Source, WireError};
 
 // The status of a conversation that neither reader nor writer ended, by its history and by what it told: 1 where a report
 // was rejected, else 6 where a line told a limit or want of memory, else 2 where a line told misuse.
@@ -34,10 +34,38 @@ fn status_of<D: Disk, A: Allocator, W: Sink>(seat: &OneSeat<D, A>, watch: &Watch
     }
 }
 
-// Judges the lines of the input, of which one seat reports.
-fn converse<R: Wait, D: Disk + Drop, I: Read + Drop, O: Write + Drop, E: Write>(
+// Tells the fault that ended a conversation, if one did, and answers the status.
+fn tell_end<D: Disk, W: Sink, E: Write>(
+    seat: &OneSeat<D, Global>,
+    watch: &Watch<W>,
+    name: &str,
+    end: Result<End, WireError>,
+    errors: &mut E,
+) -> u8 {
+    match end {
+        Ok(_) => status_of(seat, watch),
+        Err(WireError::Read) => tell_fault(errors, "-", "cannot read", FILE_FAILED),
+        Err(WireError::Write) => tell_fault(errors, "-", "cannot write", FILE_FAILED),
+        Err(WireError::Memory) => tell_fault(errors, name, "40 memory", LIMIT),
+    }
+}
+
+// Judges the lines of the reader, of which one seat reports.
+fn converse<R: AllocGlobal + Wait, D: Disk, I: Source, W: Sink, E: Write>(
     rt: &R,
-    alloc: Global,
+    name: &str,
+    seat: &mut OneSeat<D, Global>,
+    reader: &mut I,
+    watch: &mut Watch<W>,
+    errors: &mut E,
+) -> u8 {
+    let end = seat.serve(rt, rt.alloc(), reader, watch);
+    tell_end(seat, watch, name, end, errors)
+}
+
+// Judges the lines of the input, of which one seat reports.
+fn judge_lines<R: AllocGlobal + Wait, D: Disk + Drop, I: Read + Drop, O: Write + Drop, E: Write>(
+    rt: &R,
     name: &str,
     seat: OneSeat<D, Global>,
     input: I,
@@ -47,12 +75,7 @@ fn converse<R: Wait, D: Disk + Drop, I: Read + Drop, O: Write + Drop, E: Write>(
     let mut seat = seat;
     let mut reader = Plain::new(input);
     let mut watch = Watch::new(Plain::new(output));
-    match seat.serve(rt, alloc, &mut reader, &mut watch) {
-        Ok(_) => status_of(&seat, &watch),
-        Err(WireError::Read) => tell_fault(errors, "-", "cannot read", FILE_FAILED),
-        Err(WireError::Write) => tell_fault(errors, "-", "cannot write", FILE_FAILED),
-        Err(WireError::Memory) => tell_fault(errors, name, "40 memory", LIMIT),
-    }
+    converse(rt, name, &mut seat, &mut reader, &mut watch, errors)
 }
 
 /// Judges the lines of the input by the process of the script in the file, and answers the exit status.
@@ -75,7 +98,7 @@ pub(crate) fn check<R: Files + AllocGlobal + Wait, I: Read + Drop, O: Write + Dr
     };
     headers_take_scripts();
     match seat_in_memory(rt.alloc(), script, process, spec) {
-        Ok(seat) => converse(rt, rt.alloc(), name, seat, input, output, errors),
+        Ok(seat) => judge_lines(rt, name, seat, input, output, errors),
         Err(error) => tell_opening(errors, name, error),
     }
 }

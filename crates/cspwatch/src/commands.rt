@@ -61,14 +61,24 @@ fn replay_command<'a>(alloc: Global) -> Result<Command<'a>, AllocError> {
         .arg(word(alloc, "JOURNAL", "The file of the journal"))
 }
 
+fn with_check<'a>(alloc: Global, command: Command<'a>) -> Result<Command<'a>, AllocError> {
+    command.subcommand(check_command(alloc)?)
+}
+
+fn with_print<'a>(alloc: Global, command: Command<'a>) -> Result<Command<'a>, AllocError> {
+    command.subcommand(print_command(alloc)?)
+}
+
+fn with_replay<'a>(alloc: Global, command: Command<'a>) -> Result<Command<'a>, AllocError> {
+    command.subcommand(replay_command(alloc)?)
+}
+
 fn command<'a>(alloc: Global) -> Result<Command<'a>, AllocError> {
-    Command::new(alloc, "cspwatch")
+    let command = Command::new(alloc, "cspwatch")
         .version(VERSION)
         .about("Judges reports of running components against a CSP specification")
-        .subcommand_required(true)
-        .subcommand(check_command(alloc)?)?
-        .subcommand(print_command(alloc)?)?
-        .subcommand(replay_command(alloc)?)
+        .subcommand_required(true);
+    with_replay(alloc, with_print(alloc, with_check(alloc, command)?)?)
 }
 
 fn wish_of<'a>(matches: &ArgMatches<'a>) -> Option<Wish<'a>> {

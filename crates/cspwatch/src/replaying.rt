@@ -29,12 +29,8 @@ fn status_of(error: SessionError) -> u8 {
     }
 }
 
-/// Tells the summary of the session, as the line protocol does, and answers whether all reports were accepted.
-fn tell_summary<D: Disk, O: Write, E: Write>(
-    session: &Session<D, Global>,
-    output: &mut O,
-    errors: &mut E,
-) -> u8 {
+/// Writes the summary of the session, as the line protocol does, and answers whether that was done.
+fn is_written<D: Disk, O: Write>(session: &Session<D, Global>, output: &mut O) -> bool {
     let summary = session.summary();
     let end = if session.is_closed() {
         "closed"
@@ -46,12 +42,41 @@ fn tell_summary<D: Disk, O: Write, E: Write>(
         "S {} {} {} {} {end}",
         summary.judged, summary.events, summary.refusals, summary.rejected
     );
-    if told.is_err() || output.flush().is_err() {
+    told.is_ok() && output.flush().is_ok()
+}
+
+/// Tells the summary of the session, and answers whether all reports were accepted.
+fn tell_summary<D: Disk, O: Write, E: Write>(
+    session: &Session<D, Global>,
+    output: &mut O,
+    errors: &mut E,
+) -> u8 {
+    if !is_written(session, output) {
         tell_fault(errors, "-", "cannot write", FILE_FAILED)
-    } else if summary.rejected > 0 {
+    } else if session.summary().rejected > 0 {
         REJECTED
     } else {
         DONE
+    }
+}
+
+/// Tells why the journal gives no session, and answers the status.
+fn tell_refusal<E: Write>(errors: &mut E, name: &str, error: SessionError) -> u8 {
+    let _ = writeln!(errors, "{name}: {error}");
+    status_of(error)
+}
+
+/// Judges the records of the journal on the disk anew, tells their summary, and answers the exit status.
+fn replay_disk<D: Disk + Drop, O: Write, E: Write>(
+    alloc: Global,
+    name: &str,
+    disk: D,
+    output: &mut O,
+    errors: &mut E,
+) -> u8 {
+    match Session::replay(alloc, disk) {
+        Ok((session, _)) => tell_summary(&session, output, errors),
+        Err((error, _)) => tell_refusal(errors, name, error),
     }
 }
 
@@ -66,14 +91,8 @@ pub(crate) fn replay<R: Files + AllocGlobal, O: Write, E: Write>(
 where
     R::File: FileExt,
 {
-    let Ok(file) = OpenOptions::new().read(true).write(true).open(rt, name) else {
-        return tell_fault(errors, name, "cannot read", FILE_FAILED);
-    };
-    match Session::replay(rt.alloc(), FileDisk::new(file)) {
-        Ok((session, _)) => tell_summary(&session, output, errors),
-        Err((error, _)) => {
-            let _ = writeln!(errors, "{name}: {error}");
-            status_of(error)
-        }
+    match OpenOptions::new().read(true).write(true).open(rt, name) {
+        Ok(file) => replay_disk(rt.alloc(), name, FileDisk::new(file), output, errors),
+        Err(_) => tell_fault(errors, name, "cannot read", FILE_FAILED),
     }
 }

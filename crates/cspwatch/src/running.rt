@@ -12,6 +12,24 @@ use std::os::unix::fs::FileExt;
 use std::rt::Files;
 use std::sync::Wait;
 
+/// Does what is asked for, and answers the exit status.
+fn fulfil<R: Files + AllocGlobal + Wait, I: Read + Drop, O: Write + Drop, E: Write>(
+    rt: &R,
+    wish: Wish<'_>,
+    input: I,
+    mut output: O,
+    errors: &mut E,
+) -> u8
+where
+    R::File: FileExt,
+{
+    match wish {
+        Wish::Check { spec, process } => check(rt, spec, process, input, output, errors),
+        Wish::Print { spec, process } => print(rt, spec, process, &mut output, errors),
+        Wish::Replay { journal } => replay(rt, journal, &mut output, errors),
+    }
+}
+
 /// Runs the program on its words, the first of which is its name, and answers its exit status: 0 where all is done,
 /// 1 where a report was rejected, 2 for bad use (also a line that is no command, names no event or is too long),
 /// 3 for a script that is refused, 4 for a journal that gives no session, 5 where a file, the input or the output failed, 6 for want of memory, a limit of the
@@ -29,10 +47,6 @@ where
     match read_words(alloc, words) {
         Err(error) => tell_error(&error, &mut output, errors),
         Ok(None) => BAD_USE,
-        Ok(Some(Wish::Check { spec, process })) => {
-            check(rt, spec, process, input, output, errors)
-        }
-        Ok(Some(Wish::Print { spec, process })) => { print(rt, spec, process, &mut output, errors) }
-        Ok(Some(Wish::Replay { journal })) => replay(rt, journal, &mut output, errors),
+        Ok(Some(wish)) => fulfil(rt, wish, input, output, errors),
     }
 }
