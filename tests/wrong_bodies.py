@@ -89,9 +89,9 @@ def change(path, old, new):
 def fault(crate, function, ran):
     """What is wrong with the edit by the prover's answer, or None where the function was read and refused."""
     lines = ran.stdout.rstrip("\n").split("\n")
-    unread = next((line for line in lines if re.match(r"(\./)?(src|specs)/\S+: error", line)), None)
+    unread = [line for line in lines if re.match(r"(\./)?(src|specs)/\S+: error", line) or "Run the lower steps again" in line]
     if unread:
-        return "does not read: " + unread[:200]
+        return "does not read: " + unread[0][:200]
     refusal = r"fn %s::%s: (not proved|no proof: expected answers)" % (crate, function)
     if ran.returncode == 1 and any(re.match(refusal, line) for line in lines):
         return None
@@ -141,7 +141,8 @@ def main():
             print(line, flush=True)
             passed += is_refused
     spent = resource.getrusage(resource.RUSAGE_CHILDREN)
-    print("%d wrong bodies took %.0f seconds of processor time" % (len(edits), spent.ru_utime + spent.ru_stime))
+    cost = (len(edits), spent.ru_utime + spent.ru_stime, spent.ru_maxrss / 1e6)
+    print("%d wrong bodies: %.0f seconds of processor time, at most %.1f GB each" % cost)
     print("%d passed, %d failed" % (passed, len(edits) - passed))
     return 1 if passed < len(edits) else 0
 
