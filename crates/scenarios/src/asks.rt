@@ -299,6 +299,16 @@ fn answer<D: Disk, A: Allocator + Copy + Drop>(
     }
 }
 
+/// The answer to the same thing again.
+fn answer_again<D: Disk, A: Allocator + Copy + Drop>(
+    session: &mut Session<D, A>,
+    ask: &str,
+    out: &mut String,
+) -> Result<(), AllocError> {
+    out.push_str("; ")?;
+    answer(session, ask, out)
+}
+
 /// The answer to the thing at this place, and to the same again where that was `ERR 40 memory`.
 fn answer_at<D: Disk, A: Allocator + Copy + Drop>(
     session: &mut Session<D, A>,
@@ -309,10 +319,10 @@ fn answer_at<D: Disk, A: Allocator + Copy + Drop>(
     out.push_str(if place > 0 { "; " } else { "" })?;
     answer(session, ask, out)?;
     if out.ends_with("ERR 40 memory") {
-        out.push_str("; ")?;
-        answer(session, ask, out)?;
+        answer_again(session, ask, out)
+    } else {
+        Ok(())
     }
-    Ok(())
 }
 
 /// The answers to all, parted by `; `. What is answered by `ERR 40 memory` is asked once more.

@@ -77,10 +77,9 @@ fn with_seat<T: Wait, D: Disk + Drop>(
     out: &mut String,
 ) -> Result<(), AllocError> {
     let mut seat = seat;
-    match talk_all(rt, alloc, &mut seat, inputs, out) {
-        Ok(()) => status(&seat.into_session(), out),
-        Err(error) => Err(error),
-    }
+    let done = talk_all(rt, alloc, &mut seat, inputs, out);
+    let session = seat.into_session();
+    done.and(status(&session, out))
 }
 
 /// Conversations with a seat whose journal is in memory.
