@@ -173,7 +173,7 @@ pub(crate) fn play(kind: &str, words: &str, out: &mut String) -> Result<bool, Al
         return Ok(false);
     }
     out.push_str(kind)?;
-    for word in words.split(' ') {
+    for word in words.split(',') {
         put_answer(out, is_name(word.as_bytes()))?;
     }
     Ok(true)

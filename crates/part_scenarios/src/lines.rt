@@ -122,6 +122,9 @@ fn gathering<T: Wait>(
         failures: Count::new(),
     };
     let came = talk(rt, alloc, &mut reader, &mut writer, alphabet);
+    if came.end != Err(WireError::Write) {
+        prove!(writer.gathered.is_empty());
+    }
     put(out, came, &writer.handed_on)
 }
 

@@ -17,7 +17,7 @@
 //! | `token_count TEXT`, `end_line TEXT` | how many tokens there are; the line of the text's end |
 //! | `parse TEXT` | whether there is a tree |
 //! | `tree_lines TEXT` | the line of the tree, those of its parts, those of its last part's parts, and so once more |
-//! | `is_name WORD WORD ..` | which words are names of the language |
+//! | `is_name WORD,WORD,..` | which words are names of the language |
 //! | `names in SCRIPT` | each event with its place, its channel and its place there, and its values; `?` where not each leads to the others |
 //! | `events NAME NAME .. in SCRIPT` | the places of the events with these names |
 //! | `channels in SCRIPT` | each channel with how many fields it has; how many channels and events there are, and whether there are no events |
