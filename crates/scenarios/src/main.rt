@@ -19,7 +19,7 @@
 //! | `seat NUMBER` | the seat with this number, and the one after it |
 //! | `fault_text session NAME`, `fault_text journal NAME` | a fault's number and word, and its text |
 //! | `file` | a disk on a real file: how many bytes there are, were written and were read, and the file at the end |
-//! | `memory ROW` | a `session` or `read ROOT SCRIPT` with each request for memory refused in turn |
+//! | `memory ROW` | a `session`, a `journal` or `read ROOT SCRIPT` with each request for memory refused in turn: the full answers, and what came in their place that may not |
 #![tactic(auto)]
 
 mod asks;

@@ -13,9 +13,13 @@ const MOST: u64 = 1_000_000;
 
 /// The answers of a session in memory of this allocator.
 fn session(refusing: &Refusing<Global>, scene: &Scene, out: &mut String) -> Result<(), AllocError> {
-    let disk = MemoryDisk::new(Vec::new(refusing));
-    let (done, _disk) = played(refusing, disk, scene, out);
-    done
+    match Vec::from_slice(refusing, scene.file) {
+        Ok(file) => {
+            let (done, _disk) = played(refusing, MemoryDisk::new(file), scene, out);
+            done
+        }
+        Err(_) => out.push_str("40 memory"),
+    }
 }
 
 /// The printed specification.
@@ -44,6 +48,7 @@ fn reading(refusing: &Refusing<Global>, text: &str, out: &mut String) -> Result<
 fn put_row(refusing: &Refusing<Global>, row: &str, out: &mut String) -> Result<(), AllocError> {
     match row.split_once(' ').unwrap_or((row, "")) {
         ("session", text) => session(refusing, &Scene::new(text), out),
+        ("journal", text) => session(refusing, &Scene::of_file(text), out),
         ("read", text) => reading(refusing, text, out),
         _ => out.push_str("no such row"),
     }
