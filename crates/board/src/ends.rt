@@ -1,0 +1,106 @@
+//! The two ends of the board: one publishes, the others look.
+
+ghost use Rattle.std.specs.Prelude.{◌≡◌, [], ◌∷◌, ◌++◌, length, ◌<◌, ◌^◌, IfSome};
+ghost use Rattle.term.specs.Proc.{bodies_of};
+ghost use Rattle.history.specs.Entries.{summary_of};
+ghost use Rattle.history.specs.Legal.{Fits};
+ghost use Rattle.board.specs.Counting.{counting};
+
+use crate::counts::counted;
+use crate::{Counts, Front, Naming, Spine};
+use crossbeam_utils::rule::Unruled;
+use history::{Entry, Summary};
+use left_right::Absorb;
+use left_right::reader::Reader;
+use left_right::writer::Writer;
+use std::alloc::{AllocError, Allocator};
+use std::sync::{Arc, Mutex, Wait};
+
+/// The counts that the next publication shows, with evidence of their list. Whoever publishes puts them here first.
+pub type Source<N, A> = Arc<Mutex<Counts<N>>, A>;
+
+/// What readers look at: the counts of the published entries, and the same counts with evidence of their list.
+#[derive(Drop)]
+pub struct Board<N: Naming, A: Allocator> {
+    pub counts: Summary,
+    known: Counts<N>,
+    source: Source<N, A>,
+}
+
+impl<N: Naming, A: Allocator> Board<N, A> {
+    /// A board that shows these counts.
+    pub fn new(known: Counts<N>, source: Source<N, A>) -> Board<N, A>
+        ensures { result.counts ≡ summary_of (N.opening ++ known) }
+    {
+        Board {
+            counts: known.summary(),
+            known,
+            source,
+        }
+    }
+
+    /// The published counts, with evidence of their list. `None` where the evidence is of other counts.
+    pub fn shown(&self) -> Option<Counts<N>>
+        ensures { IfSome result (λ c. self.now.counts ≡ summary_of (N.opening ++ c)) }
+    {
+        if self.known.summary() == self.counts {
+            Some(self.known.again())
+        } else {
+            None
+        }
+    }
+}
+
+// The operations are the entries, and absorbing one counts it. An entry is no evidence of the list, so the counts that the writer
+// has prepared are taken over with it.
+impl<N: Naming, A: Allocator> Absorb<Entry> for Board<N, A> {
+    type State = Summary;
+
+    ghost state = { λ b. b.counts };
+
+    ghost applied = { counting };
+
+    ghost never_fails = { Unit {0} };
+
+    fn absorb_first(&mut self, operation: &Entry, _other: &Board<N, A>) -> Result<(), AllocError> {
+        self.counts = counted(self.counts, operation);
+        if let Some(known) = self.source.try_lock() {
+            self.known = known.again();
+        }
+        Ok(())
+    }
+}
+
+/// The end that publishes. It isn't `Drop`: end it by `take`.
+pub type Publisher<N, A> = Writer<Board<N, A>, Entry, (), Unruled, A>;
+
+/// The end that looks.
+pub type Looker<N, A> = Reader<Board<N, A>, (), Unruled, A>;
+
+/// What is published now, with evidence. It waits for nobody. `None` where the reader gets no look.
+pub fn look<N: Naming, A: Allocator>(looker: Looker<N, A>) -> (Looker<N, A>, Option<Counts<N>>) {
+    match looker.enter_as::<Unruled>() {
+        Ok(reading) => {
+            let counts = reading.get().shown();
+            (reading.leave(), counts)
+        }
+        Err(looker) => (looker, None),
+    }
+}
+
+/// Adds an entry to the list, of which `front` is the whole.
+///
+/// It tries again while the list is longer than `front`. Where `front` is the longest that there is, and nobody else adds, the first
+/// turn ends it: so it is under a lock that has the longest front.
+pub fn add<N: Naming, R: Wait>(rt: &R, spine: &Spine<N>, front: &mut Front<N>, entry: &Entry)
+    requires room { length front.old < 2 ^ 62 }
+    requires fits { Fits (bodies_of N.spec.bodies) (N.opening ++ front.old) entry.now }
+    ensures { front.new ≡ front.old ++ entry.now ∷ [] }
+{
+    for _ in rt.forever() {
+        if front.add(spine, entry) {
+            return;
+        }
+    }
+    unreachable!()
+}

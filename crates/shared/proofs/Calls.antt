@@ -1,0 +1,84 @@
+-- A seat's own calls in what it has seen.
+use Rattle.std.proofs.Common.{◌≡◌, ℕ, ◌+◌, ◌<◌, ◌≤◌, ◌==◌, List, [], ◌∷◌, ◌++◌, length, Bool, true, false, cond, refl, sym, ap, ◌∙◌, subst, arith, append_assoc, length-append}
+use Rattle.std.specs.Prelude.{IsTrue, MatchBool}
+use Rattle.std.proofs.lemmas.List.{append-nil}
+use Rattle.std.proofs.lemmas.List.Elements.{filter-append}
+use Rattle.std.proofs.lemmas.Bool.Decides.{nat_tests}
+use Rattle.term.specs.Proc.{Proc}
+use Rattle.history.specs.declared.entry.Entry.{Entry}
+use Rattle.history.specs.declared.entry.Summary.{Summary}
+use Rattle.history.specs.Entries.{calls, summary_of}
+use Rattle.history.specs.Legal.{Fits}
+use Rattle.history.proofs.Histories.{calls-le}
+use Rattle.history.specs.Beginnings.{StartsWith}
+use Rattle.history.proofs.Beginnings.{begins_after, begins_self}
+
+off : IsTrue false → ⊥
+off e = cc
+
+pub calls-append : (k : ℕ) (xs ys : List Entry) → calls (xs ++ ys) k ≡ calls xs k ++ calls ys k
+calls-append k xs ys = filter-append (λ (e : Entry). e.seat == k) xs ys
+
+own_if : (k : ℕ) (e : Entry) (b : Bool) → (e.seat == k) ≡ b → e.seat ≡ k → cond b (e ∷ []) [] ≡ e ∷ []
+own_if k e true is own = refl
+own_if k e false is own = absurd (grind (arith, nat_tests))
+
+-- one's own entry is one call more
+pub calls-push : (k : ℕ) (xs : List Entry) (e : Entry) → e.seat ≡ k → calls (xs ++ e ∷ []) k ≡ calls xs k ++ e ∷ []
+calls-push k xs e own = calls-append k xs (e ∷ []) ∙ ap (λ l. calls xs k ++ l) (own_if k e (e.seat == k) refl own)
+
+-- what begins the calls of a part begins those of the whole
+pub calls-longer : (k : ℕ) (whole part mine : List Entry) → StartsWith whole part → StartsWith (calls part k) mine → StartsWith (calls whole k) mine
+calls-longer k whole part mine p m =
+    (m.0 ++ calls p.0 k, ap (λ l. calls l k) p.1 ∙ calls-append k part p.0 ∙ ap (λ l. l ++ calls p.0 k) m.1 ∙ append_assoc mine m.0 (calls p.0 k))
+
+no_rest : (rest mine : List Entry) → length (mine ++ rest) ≡ length mine → mine ++ rest ≡ mine
+no_rest [] mine e = append-nil mine
+no_rest (x ∷ rest) mine e = absurd (omega (arith, length-append mine (x ∷ rest)))
+
+-- where there are no more calls than one's own, they are one's own
+pub calls_all : (all mine : List Entry) → StartsWith all mine → length all ≡ length mine → all ≡ mine
+calls_all all mine s e = s.1 ∙ no_rest s.0 mine (ap length (sym s.1) ∙ e)
+
+pub calls-left : (k : ℕ) (xs ys : List Entry) → calls (xs ++ ys) k ≡ [] → calls xs k ≡ []
+calls-left k xs ys none = go (calls xs k) (calls ys k) (sym (calls-append k xs ys) ∙ none)
+  where
+    go : (xs ys : List Entry) → xs ++ ys ≡ [] → xs ≡ []
+    go [] ys is = refl
+    go (x ∷ xs) ys is = absurd (cc)
+
+-- after an answered report the calls are one's own, and the new one
+answered : (B : ℕ → Proc) (k n : ℕ) (whole mine : List Entry) (e : Entry) → StartsWith (calls whole k) mine → n ≡ length mine + 1 → e.seat ≡ k → e.number ≡ n → Fits B whole e
+    → calls (whole ++ e ∷ []) k ≡ mine ++ e ∷ []
+answered B k n whole mine e had is seat number fits =
+    let same : length (calls whole k) ≡ length mine = omega (arith, fits.number, number, is, ap (λ j. length (calls whole j)) seat) in
+    calls-push k whole e seat ∙ ap (λ l. l ++ e ∷ []) (calls_all (calls whole k) mine had same)
+
+-- what a catch up leaves
+pub caught_up : (k : ℕ) (o front old locked mine : List Entry) (s t : Summary) (b : Bool)
+    → MatchBool b ((front ≡ locked) × StartsWith front old × (s ≡ summary_of (o ++ front))) ((front ≡ old) × (s ≡ t))
+    → t ≡ summary_of (o ++ old) → StartsWith (calls (o ++ old) k) mine
+    → (s ≡ summary_of (o ++ front)) × StartsWith (calls (o ++ front) k) mine
+caught_up k o front old locked mine s t true h is m = (h.2, calls-longer k (o ++ front) (o ++ old) mine (begins_after o old front h.1) m)
+caught_up k o front old locked mine s t false h is m =
+    (h.1 ∙ is ∙ ap (λ (f : List Entry). summary_of (o ++ f)) (sym h.0), subst (λ (f : List Entry). StartsWith (calls (o ++ f) k) mine) (sym h.0) m)
+
+-- a seat's own entry after all that it has seen is its next call
+pub own_call : (B : ℕ → Proc) (k : ℕ) (o front now mine : List Entry) (e : Entry) → now ≡ front ++ e ∷ [] → StartsWith (calls (o ++ front) k) mine → e.seat ≡ k → e.number ≡ length mine + 1 → Fits B (o ++ front) e
+    → calls (o ++ now) k ≡ mine ++ e ∷ []
+own_call B k o front now mine e is m seat number fits =
+    ap (λ (f : List Entry). calls (o ++ f) k) is ∙ ap (λ l. calls l k) (sym (append_assoc o front (e ∷ [])))
+    ∙ answered B k (length mine + 1) (o ++ front) mine e m refl seat number fits
+
+-- what a report leaves of a seat's calls
+pub after_report : (B : ℕ → Proc) (k : ℕ) (o front now mine items : List Entry) (e : Entry) → now ≡ front ++ e ∷ [] → StartsWith (calls (o ++ front) k) mine → e.seat ≡ k → e.number ≡ length mine + 1 → Fits B (o ++ front) e
+    → length (o ++ front) < 1000000 → items ≡ mine ++ e ∷ []
+    → (calls (o ++ now) k ≡ items) × StartsWith (calls (o ++ now) k) items × (length items ≤ 1000000)
+after_report B k o front now mine items e is m seat number fits within got =
+    let own = own_call B k o front now mine e is m seat number fits in
+    let all : calls (o ++ now) k ≡ items = own ∙ sym got in
+    let long : length (o ++ now) ≡ length (o ++ front) + 1 = omega (arith, length-append o now, length-append o front, ap length is, length-append front (e ∷ [])) in (
+      all,
+      subst (λ (l : List Entry). StartsWith (calls (o ++ now) k) l) all (begins_self (calls (o ++ now) k)),
+      omega (arith, ap length all, calls-le (o ++ now) k, long, within),
+    )

@@ -1,0 +1,29 @@
+-- What a crash leaves of a session that was shared.
+use Rattle.std.specs.Prelude.{ℕ, List, [], ◌∷◌, IsTrue}
+use Rattle.alphabet.specs.Channels.{Channel}
+use Rattle.disk.specs.State.{DiskState}
+use Rattle.journal.specs.Format.{Stands}
+use Rattle.history.specs.declared.entry.Entry.{Entry}
+use Rattle.session.specs.Records.{records_of}
+use Rattle.session.specs.Told.{Told}
+use Rattle.history.specs.Beginnings.{StartsWith}
+use Rattle.shared.specs.Told.{SeatTold}
+
+-- the file is a journal of a history that begins with this part
+pub record StandsForLonger (cs : List Channel) (part : List Entry) (file : List ℕ) : Type 0 where
+  pub script : List ℕ
+  pub root : List ℕ
+  pub history : List Entry
+  pub stands : Stands file script root (records_of cs history)
+  pub begins : StartsWith history part
+
+-- every crash leaves such a file, on a disk that claims its bytes and what crashes leave
+abbrev pub LeavesLonger : {D : Type 0} → (D → DiskState) → Told D → List Entry → Type 0
+LeavesLonger state t part =
+    IsTrue (state t.journal.disk).claims_bytes → IsTrue (state t.journal.disk).claims_files
+    → (file : List ℕ) → (state t.journal.disk).leaves file → StandsForLonger t.spec.alphabet part file
+
+-- and so for what each seat has seen
+abbrev pub AllLeft : {D : Type 0} → (D → DiskState) → Told D → List SeatTold → Type 0
+AllLeft state t [] = Unit {0}
+AllLeft state t (p ∷ ps) = LeavesLonger state t p.seen × AllLeft state t ps

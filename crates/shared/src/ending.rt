@@ -1,0 +1,110 @@
+//! How a shared session ends.
+
+ghost use Rattle.std.specs.Prelude.{◌≡◌, ◌≤◌, ◌<◌, ◌+◌, ◌++◌, ◌∷◌, [], length, true, ℕ, List, IfSome};
+ghost use Rattle.term.specs.Proc.{bodies_of};
+ghost use Rattle.history.specs.Legal.{Legal};
+ghost use Rattle.session.specs.Told.{IsFor};
+ghost use Rattle.history.specs.Beginnings.{StartsWith};
+ghost use Rattle.shared.specs.Crashes.{AllLeft};
+ghost use Rattle.shared.specs.Seats.{AllWithin, AllTold, receipts, apart, is_new};
+
+use crate::locked::{Ended, close};
+use crate::seat::Shared;
+use crate::share::Share;
+use board::{Front, Naming};
+use disk::Disk;
+use session::{SeatNumber, Session};
+use std::alloc::Allocator;
+use std::sync::{Wait, ledger};
+
+impl<D: Disk, A: Allocator + Copy, N: Naming> Ended<D, A, N> {
+    /// The session, and how many reports were answered with a receipt. `None` where these aren't the shares of all seats.
+    pub fn finish(self, shares: Vec<Share<N, A>, A>) -> (Session<D, A>, Option<u64>)
+        requires { N.all ≡ N.parts }
+        ensures session { (result.0.spec ≡ N.spec) × StartsWith result.0.history N.opening × Legal (bodies_of N.spec.bodies) result.0.history }
+        ensures kept { (script : List ℕ) × (root : List ℕ) × IsFor D.state script root result.0 }
+        ensures counted { IfSome result.1 (λ n. (length result.0.history ≡ length N.opening + n) × (n ≡ receipts shares.items)) }
+        ensures told { IfSome result.1 (λ n. AllTold result.0.history shares.items) }
+        ensures crash { IfSome result.1 (λ n. AllLeft D.state result.0 shares.items) }
+    {
+        let Self {
+            session,
+            front,
+            mut book,
+            mut rest,
+            given,
+        } = self;
+        let _ = session.history();
+        let all = shares.as_slice();
+        if all.len() as u64 != given || !are_apart(all) || !are_within(&front, all) {
+            return (session, None);
+        }
+        gather(&mut rest, shares);
+        book.audit(&mut rest);
+        (session, Some(front.len()))
+    }
+}
+
+impl<D: Disk, A: Allocator + Copy, N: Naming> Shared<D, A, N> {
+    /// Ends the board. It gives back the session, and how many reports were answered with a receipt: `None` where the shares aren't
+    /// as many as the seats given, or two have one seat number.
+    ///
+    /// All seats have ended, since a seat borrows the shared session. So there is nobody to wait for, although the call may wait.
+    pub fn finish<R: Wait>(
+        self,
+        rt: &R,
+        shares: Vec<Share<N, A>, A>,
+    ) -> (Session<D, A>, Option<u64>)
+        requires { N.all ≡ N.parts }
+        ensures session { (result.0.spec ≡ N.spec) × StartsWith result.0.history N.opening × Legal (bodies_of N.spec.bodies) result.0.history }
+        ensures kept { (script : List ℕ) × (root : List ℕ) × IsFor D.state script root result.0 }
+        ensures counted { IfSome result.1 (λ n. (length result.0.history ≡ length N.opening + n) × (n ≡ receipts shares.items)) }
+        ensures told { IfSome result.1 (λ n. AllTold result.0.history shares.items) }
+        ensures crash { IfSome result.1 (λ n. AllLeft D.state result.0 shares.items) }
+    {
+        let Shared { locked } = self;
+        close(rt, locked.into_inner()).finish(shares)
+    }
+}
+
+// Whether no two have one seat number.
+// It visits each pair: there are 64 at most.
+fn are_apart<N: Naming, A: Allocator>(shares: &[Share<N, A>]) -> bool
+    ensures { result ≡ apart shares.now }
+{
+    match shares {
+        [] => true,
+        [first, rest @ ..] => is_new_in(first.number(), rest) && are_apart(rest),
+    }
+}
+
+// Whether none has this seat number.
+fn is_new_in<N: Naming, A: Allocator>(number: SeatNumber, shares: &[Share<N, A>]) -> bool
+    ensures { result ≡ is_new number shares.now }
+{
+    match shares {
+        [] => true,
+        [first, rest @ ..] => first.number() != number && is_new_in(number, rest),
+    }
+}
+
+// Whether what each has seen begins the whole list.
+fn are_within<N: Naming, A: Allocator>(all: &Front<N>, shares: &[Share<N, A>]) -> bool
+    ensures { result ≡ true → AllWithin N.opening all.now shares.now }
+{
+    match shares {
+        [] => true,
+        [first, rest @ ..] => first.is_within(all) && are_within(all, rest),
+    }
+}
+
+// Puts all parts of the ledger together.
+fn gather<N: Naming, A: Allocator>(rest: &mut ledger::Share<N>, shares: Vec<Share<N, A>, A>)
+    ensures parts { rest.new.parts ≡ rest.old.parts + length shares.items }
+    ensures amount { rest.new.amount ≡ rest.old.amount + receipts shares.items }
+{
+    let mut shares = shares;
+    while let Some(share) = shares.pop() {
+        rest.merge(share.into_part());
+    }
+}

@@ -1,0 +1,193 @@
+//! A shared session, and the seats at it.
+
+ghost use Rattle.std.specs.Prelude.{◌≡◌, ◌↔◌, ◌≤◌, ◌<◌, ◌++◌, ◌∷◌, [], length, IsTrue, IfOk, IfErr};
+ghost use Rattle.alphabet.specs.declared.events.Event.{Event};
+ghost use Rattle.alphabet.specs.EventSets.{member};
+ghost use Rattle.term.specs.Meaning.{Trace};
+ghost use Rattle.term.specs.Proc.{bodies_of, root};
+ghost use Rattle.term.specs.Specs.{IsClosed};
+ghost use Rattle.journal.specs.Reports.{IsReport};
+ghost use Rattle.history.specs.Entries.{events, summary_of};
+ghost use Rattle.history.specs.Legal.{Legal};
+ghost use Rattle.history.specs.Beginnings.{StartsWith};
+ghost use Rattle.shared.specs.Seats.{Answered, Refused};
+
+use crate::fault::SeatFault;
+use crate::locked::Locked;
+use crate::share::{Receipt, Share, Status};
+use alphabet::{EventSet, Report};
+use board::{Board, Naming, Opened};
+use disk::Disk;
+use left_right::Absorb;
+use session::{Entry, Fault, Session, Summary};
+use std::alloc::Allocator;
+use std::sync::ledger::Blank;
+use std::sync::{Mutex, MutexGuard, Wait};
+
+/// A session that seats share. It isn't `Drop`: end it by `finish`.
+pub struct Shared<D: Disk, A: Allocator, N: Naming>
+where
+    Board<N, A>: Absorb<Entry, State = Summary>,
+{
+    pub(crate) locked: Mutex<Locked<D, A, N>>,
+}
+
+/// A seat at a shared session. It isn't `Drop`: end it by `end`. What may be dropped, and moved to a thread, is its `Share`.
+pub struct Seat<'a, D: Disk, A: Allocator, N: Naming>
+where
+    Board<N, A>: Absorb<Entry, State = Summary>,
+{
+    shared: &'a Shared<D, A, N>,
+    pub share: Share<N, A>,
+}
+
+impl<D: Disk + Drop, A: Allocator + Copy, N: Naming> Shared<D, A, N> {
+    /// A session that up to so many seats share. Where memory is refused, the session is gone, and its file stays.
+    pub fn new(
+        alloc: A,
+        session: Session<D, A>,
+        opened: Opened,
+        blank: Blank,
+        places: u64,
+    ) -> Result<Shared<D, A, N>, Fault>
+        requires story { (session.spec ≡ N.spec) × (session.history ≡ N.opening) }
+        requires book { opened.seen.book ≡ N.book }
+        requires ledger { (blank.name ≡ N.name) × (blank.parts ≡ N.parts) × (N.all ≡ N.parts) }
+        requires places { (0 < places) × (places ≤ 64) × (places < N.all) }
+        ensures fault { IfErr result (λ f. f ≡ Fault.Memory) }
+    {
+        match Locked::new(alloc, session, opened, blank, places) {
+            Ok(locked) => Ok(Shared {
+                locked: Mutex::new(locked),
+            }),
+            Err(fault) => Err(fault),
+        }
+    }
+}
+
+impl<D: Disk, A: Allocator + Copy, N: Naming> Shared<D, A, N> {
+    /// Gives a seat, which has seen the history as it stands.
+    ///
+    /// The faults are asked for in this order: `Closed`, `Seats`, `Reader`. After `Reader` a seat number is used up.
+    pub fn seat<R: Wait>(&self, rt: &R, alloc: A) -> Result<Seat<'_, D, A, N>, SeatFault>
+        ensures seat { IfOk result (λ s. (s.share.mine ≡ []) × StartsWith s.share.seen N.opening) }
+    {
+        let mut locked = self.locked.lock(rt);
+        let given = locked.seat();
+        MutexGuard::unlock(locked);
+        let (number, front, summary, part, looker) = given?;
+        Ok(Seat {
+            shared: self,
+            share: Share::new(alloc, number, front, summary, part, looker),
+        })
+    }
+
+    /// The seat of a share again.
+    pub fn again(&self, share: Share<N, A>) -> Seat<'_, D, A, N>
+        ensures { result.share ≡ share }
+    {
+        Seat {
+            shared: self,
+            share,
+        }
+    }
+}
+
+impl<D: Disk, A: Allocator + Copy, N: Naming> Seat<'_, D, A, N> {
+    /// Reports. The receipt has the verdict and the place of the report's entry in the history.
+    ///
+    /// The faults: `Depth` or `States` where judging met that limit; `History` at 1,000,000 entries; `Turn` where the history has
+    /// other calls of this seat than its own; `Journal` where the disk failed, which closes the session; `Closed` from then on;
+    /// `Memory`.
+    pub fn report<R: Wait>(&mut self, rt: &R, report: Report) -> Result<Receipt, Fault>
+        requires { IsReport N.spec.alphabet report }
+        ensures answered { IfOk result (λ r. Answered (bodies_of N.spec.bodies) self.old.share self.new.share report r.verdict r.place) }
+        ensures refused { IfErr result (λ f. Refused (bodies_of N.spec.bodies) self.old.share self.new.share report f) }
+    {
+        if self.share.make_room().is_err() {
+            let _ = self.share.known();
+            return Err(Fault::Memory);
+        }
+        let shared = self.shared;
+        report_at(rt, shared, &mut self.share, &report)
+    }
+
+    /// The events that may come next, tick among them, after the history as it stands, which is then what was seen.
+    pub fn next<R: Wait>(&mut self, rt: &R) -> EventSet
+        ensures next { (x : Event) → IsTrue (member result x) ↔ Trace (bodies_of N.spec.bodies) root (events self.new.share.seen ++ x ∷ []) }
+        ensures seen { StartsWith self.new.share.seen self.old.share.seen × Legal (bodies_of N.spec.bodies) self.new.share.seen }
+        ensures same { (self.new.share.seat ≡ self.old.share.seat) × (self.new.share.mine ≡ self.old.share.mine) × (self.new.share.closed ≡ self.old.share.closed) }
+        ensures closed { IsClosed N.spec }
+    {
+        let shared = self.shared;
+        next_at(rt, shared, &mut self.share)
+    }
+
+    /// The counts of a history that goes on from what was seen, and that is then what was seen.
+    ///
+    /// It waits for nobody, and takes no memory. Where the board gives no look, the counts are those of what was seen before.
+    pub fn status(&mut self) -> Status
+        ensures seen { StartsWith self.new.share.seen self.old.share.seen × Legal (bodies_of N.spec.bodies) self.new.share.seen }
+        ensures summary { result.summary ≡ summary_of self.new.share.seen }
+        ensures closed { result.closed ≡ self.old.share.closed }
+        ensures same { (self.new.share.seat ≡ self.old.share.seat) × (self.new.share.mine ≡ self.old.share.mine) × (self.new.share.closed ≡ self.old.share.closed) }
+    {
+        self.share.status()
+    }
+
+    /// Ends the seat. Its share has what it knows and has done.
+    pub fn end(self) -> Share<N, A>
+        ensures { result ≡ self.entry.share }
+    {
+        let Self { shared: _, share } = self;
+        share
+    }
+}
+
+// Reports once the seat has seen what stands under the lock. No seat has seen more than that, so the first turn ends it.
+fn report_at<D: Disk, A: Allocator + Copy, N: Naming, R: Wait>(
+    rt: &R,
+    shared: &Shared<D, A, N>,
+    share: &mut Share<N, A>,
+    report: &Report,
+) -> Result<Receipt, Fault>
+    requires room { length share.old.mine < share.old.room }
+    requires report { IsReport N.spec.alphabet report.now }
+    ensures answered { IfOk result (λ r. Answered (bodies_of N.spec.bodies) share.old share.new report.now r.verdict r.place) }
+    ensures refused { IfErr result (λ f. Refused (bodies_of N.spec.bodies) share.old share.new report.now f) }
+{
+    for _ in rt.forever() {
+        let mut locked = shared.locked.lock(rt);
+        if share.catch_up(&locked) {
+            let result = share.report(rt, &mut locked, report);
+            MutexGuard::unlock(locked);
+            return result;
+        }
+        MutexGuard::unlock(locked);
+    }
+    unreachable!()
+}
+
+// The next events, once the seat has seen what stands under the lock. No seat has seen more than that, so the first turn ends it.
+fn next_at<D: Disk, A: Allocator + Copy, N: Naming, R: Wait>(
+    rt: &R,
+    shared: &Shared<D, A, N>,
+    share: &mut Share<N, A>,
+) -> EventSet
+    ensures next { (x : Event) → IsTrue (member result x) ↔ Trace (bodies_of N.spec.bodies) root (events share.new.seen ++ x ∷ []) }
+    ensures seen { StartsWith share.new.seen share.old.seen × Legal (bodies_of N.spec.bodies) share.new.seen }
+    ensures same { (share.new.seat ≡ share.old.seat) × (share.new.mine ≡ share.old.mine) × (share.new.closed ≡ share.old.closed) }
+    ensures closed { IsClosed N.spec }
+{
+    for _ in rt.forever() {
+        let locked = shared.locked.lock(rt);
+        if share.catch_up(&locked) {
+            let _ = share.known();
+            let next = locked.next();
+            MutexGuard::unlock(locked);
+            return next;
+        }
+        MutexGuard::unlock(locked);
+    }
+    unreachable!()
+}
