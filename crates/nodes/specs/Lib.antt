@@ -1,0 +1,4 @@
+pub mod SameNodes
+pub mod Shapes
+pub mod Known
+pub mod Tables
