@@ -1,9 +1,11 @@
 -- The processes of nodes.
-use Rattle.std.specs.Prelude.{◌≡◌, ℕ, suc, ◌<◌, List, [], ◌∷◌, ◌++◌, length, get_or}
+use Rattle.std.specs.Prelude.{◌≡◌, ℕ, suc, ◌<◌, Bool, true, false, List, [], ◌∷◌, ◌++◌, length, get_or}
 use Rattle.alphabet.specs.EventSets.{Set}
 use Rattle.term.specs.Traces.{Pairs}
 use Rattle.term.specs.Proc.{Proc, stop, skip, prefix, ext, int, seq, par, hide, ren, intr, name}
 use Rattle.nodes.specs.declared.node.Node.{Node}
+use Rattle.nodes.specs.declared.terms.Operator.{Operator}
+use Rattle.nodes.specs.declared.terms.Operator.TheVariants as operator
 use Rattle.nodes.specs.declared.node.Node.TheVariants.{Stop, Skip, Prefix, Ext, Int, Seq, Par, Hide, Ren, Intr, Name}
 
 -- What operators take beside processes, each by its place: sets of events, and the relations of renamings.
@@ -36,6 +38,27 @@ shape S ps (Hide A p) = hide (set_at S A) (at ps p)
 shape S ps (Ren R p) = ren (relation_at S R) (at ps p)
 shape S ps (Intr p q) = intr (at ps p) (at ps q)
 shape S ps (Name k) = name k
+
+-- The operator over these two.
+abbrev pub over : Operator → Proc → Proc → Proc
+over operator.Ext P Q = ext P Q
+over operator.Int P Q = int P Q
+over operator.Seq P Q = seq P Q
+over operator.Intr P Q = intr P Q
+
+-- The process is made of two others.
+abbrev pub has_two_parts : Proc → Bool
+has_two_parts stop = false
+has_two_parts skip = false
+has_two_parts (prefix a P) = false
+has_two_parts (ext P Q) = true
+has_two_parts (int P Q) = true
+has_two_parts (seq P Q) = true
+has_two_parts (par A P Q) = true
+has_two_parts (hide A P) = false
+has_two_parts (ren R P) = false
+has_two_parts (intr P Q) = true
+has_two_parts (name k) = false
 
 -- The node's set or relation is one of these, and the numbers of its parts are below n.
 abbrev pub IsWithin : Parameters → ℕ → Node → Type 0

@@ -1,14 +1,39 @@
 //! Terms by number.
 
-ghost use Rattle.std.specs.Prelude.{IfOk};
-ghost use Rattle.term.specs.Proc.{proc};
+ghost use Rattle.std.specs.Prelude.{◌≡◌, ◌<◌, ℕ, List, IfOk, true};
+ghost use Rattle.term.specs.Proc.{Proc, prefix, par, hide, ren, proc};
+ghost use Rattle.nodes.specs.Shapes.{Parameters, at, has_two_parts, over, shape, IsWithin};
 ghost use Rattle.nodes.specs.Tables.{HasGrown, IsNumber};
 
 use crate::node::Node;
 use crate::table::Table;
-use alphabet::Event;
+use alphabet::{Event, EventSet};
 use std::alloc::{AllocError, Allocator};
 use term::Term;
+
+/// An operator over two processes alone.
+#[derive(Clone, Copy)]
+enum Operator {
+    Ext,
+    Int,
+    Seq,
+    Intr,
+}
+
+impl Operator {
+    /// The operator's node over the parts with these numbers.
+    fn node(self, left: u32, right: u32) -> Node
+        ensures shape { (S : Parameters) (ps : List Proc) → shape S ps result ≡ over self (at ps left) (at ps right) }
+        ensures within { (S : Parameters) (n : ℕ) → left < n → right < n → IsWithin S n result }
+    {
+        match self {
+            Operator::Ext => Node::Ext(left, right),
+            Operator::Int => Node::Int(left, right),
+            Operator::Seq => Node::Seq(left, right),
+            Operator::Intr => Node::Intr(left, right),
+        }
+    }
+}
 
 impl<A: Allocator + Copy> Table<A> {
     /// The number of this term's process. Numbers keep what they are of, also where memory is refused.
@@ -20,43 +45,104 @@ impl<A: Allocator + Copy> Table<A> {
         match term {
             Term::Stop | Term::Prefix(Event::Tick, _) => self.put(Node::Stop),
             Term::Skip => self.put(Node::Skip),
-            Term::Prefix(Event::Of(event), p) => {
-                let p = self.number_of_term(p)?;
-                self.put(Node::Prefix(*event, p))
-            }
-            Term::Ext(p, q) => {
-                let (p, q) = self.numbers_of(p, q)?;
-                self.put(Node::Ext(p, q))
-            }
-            Term::Int(p, q) => {
-                let (p, q) = self.numbers_of(p, q)?;
-                self.put(Node::Int(p, q))
-            }
-            Term::Seq(p, q) => {
-                let (p, q) = self.numbers_of(p, q)?;
-                self.put(Node::Seq(p, q))
-            }
-            Term::Par(set, p, q) => {
-                let (p, q) = self.numbers_of(p, q)?;
-                let set = self.put_set(*set)?;
-                self.put(Node::Par(set, p, q))
-            }
-            Term::Hide(set, p) => {
-                let p = self.number_of_term(p)?;
-                let set = self.put_set(*set)?;
-                self.put(Node::Hide(set, p))
-            }
-            Term::Ren(pairs, p) => {
-                let p = self.number_of_term(p)?;
-                let relation = self.put_pairs(pairs)?;
-                self.put(Node::Ren(relation, p))
-            }
-            Term::Intr(p, q) => {
-                let (p, q) = self.numbers_of(p, q)?;
-                self.put(Node::Intr(p, q))
-            }
+            Term::Prefix(Event::Of(event), p) => self.number_of_prefix(*event, p),
+            Term::Hide(set, p) => self.number_of_hide(*set, p),
+            Term::Ren(pairs, p) => self.number_of_ren(pairs, p),
             Term::Name(k) => self.put(Node::Name(*k)),
+            _ => self.number_of_two(term),
         }
+    }
+
+    /// The number of this term's process, which has two parts.
+    #[cycle(number_of_term)]
+    fn number_of_two<B: Allocator>(&mut self, term: &Term<B>) -> Result<u32, AllocError>
+        requires { has_two_parts (proc term.now) ≡ true }
+        ensures number { IfOk result (λ n. IsNumber self.new n (proc term.now)) }
+        ensures grown { HasGrown self.old self.new }
+    {
+        match term {
+            Term::Par(set, p, q) => self.number_of_par(*set, p, q),
+            Term::Ext(p, q) => self.number_over(Operator::Ext, p, q),
+            Term::Int(p, q) => self.number_over(Operator::Int, p, q),
+            Term::Seq(p, q) => self.number_over(Operator::Seq, p, q),
+            Term::Intr(p, q) => self.number_over(Operator::Intr, p, q),
+            _ => self.put(Node::Stop),
+        }
+    }
+
+    /// The number of the prefix of this term's process.
+    #[cycle(number_of_term)]
+    fn number_of_prefix<B: Allocator>(
+        &mut self,
+        event: u8,
+        then: &Term<B>,
+    ) -> Result<u32, AllocError>
+        ensures number { IfOk result (λ n. IsNumber self.new n (prefix event (proc then.now))) }
+        ensures grown { HasGrown self.old self.new }
+    {
+        let then = self.number_of_term(then)?;
+        self.put(Node::Prefix(event, then))
+    }
+
+    /// The number of the operator's process over those of both terms.
+    #[cycle(number_of_term)]
+    fn number_over<B: Allocator>(
+        &mut self,
+        operator: Operator,
+        left: &Term<B>,
+        right: &Term<B>,
+    ) -> Result<u32, AllocError>
+        ensures number { IfOk result (λ n. IsNumber self.new n (over operator (proc left.now) (proc right.now))) }
+        ensures grown { HasGrown self.old self.new }
+    {
+        let (left, right) = self.numbers_of(left, right)?;
+        self.put(operator.node(left, right))
+    }
+
+    /// The number of the parallel of both terms' processes.
+    #[cycle(number_of_term)]
+    fn number_of_par<B: Allocator>(
+        &mut self,
+        set: EventSet,
+        left: &Term<B>,
+        right: &Term<B>,
+    ) -> Result<u32, AllocError>
+        ensures number { IfOk result (λ n. IsNumber self.new n (par set (proc left.now) (proc right.now))) }
+        ensures grown { HasGrown self.old self.new }
+    {
+        let (left, right) = self.numbers_of(left, right)?;
+        let set = self.put_set(set)?;
+        self.put(Node::Par(set, left, right))
+    }
+
+    /// The number of this term's process with the set hidden.
+    #[cycle(number_of_term)]
+    fn number_of_hide<B: Allocator>(
+        &mut self,
+        set: EventSet,
+        part: &Term<B>,
+    ) -> Result<u32, AllocError>
+        ensures number { IfOk result (λ n. IsNumber self.new n (hide set (proc part.now))) }
+        ensures grown { HasGrown self.old self.new }
+    {
+        let part = self.number_of_term(part)?;
+        let set = self.put_set(set)?;
+        self.put(Node::Hide(set, part))
+    }
+
+    /// The number of this term's process, renamed.
+    #[cycle(number_of_term)]
+    fn number_of_ren<B: Allocator>(
+        &mut self,
+        pairs: &[(u8, u8)],
+        part: &Term<B>,
+    ) -> Result<u32, AllocError>
+        ensures number { IfOk result (λ n. IsNumber self.new n (ren pairs.now (proc part.now))) }
+        ensures grown { HasGrown self.old self.new }
+    {
+        let part = self.number_of_term(part)?;
+        let relation = self.put_pairs(pairs)?;
+        self.put(Node::Ren(relation, part))
     }
 
     /// The numbers of both terms' processes.
