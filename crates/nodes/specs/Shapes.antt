@@ -1,5 +1,5 @@
 -- The processes of nodes.
-use Rattle.std.specs.Prelude.{◌≡◌, ℕ, suc, ◌<◌, Bool, true, false, List, [], ◌∷◌, ◌++◌, length, get_or}
+use Rattle.std.specs.Prelude.{◌≡◌, ℕ, suc, ◌<◌, List, [], ◌∷◌, ◌++◌, length, get_or}
 use Rattle.alphabet.specs.EventSets.{Set}
 use Rattle.term.specs.Traces.{Pairs}
 use Rattle.term.specs.Proc.{Proc, stop, skip, prefix, ext, int, seq, par, hide, ren, intr, name}
@@ -46,19 +46,19 @@ over operator.Int P Q = int P Q
 over operator.Seq P Q = seq P Q
 over operator.Intr P Q = intr P Q
 
--- The process is made of two others.
-abbrev pub has_two_parts : Proc → Bool
-has_two_parts stop = false
-has_two_parts skip = false
-has_two_parts (prefix a P) = false
-has_two_parts (ext P Q) = true
-has_two_parts (int P Q) = true
-has_two_parts (seq P Q) = true
-has_two_parts (par A P Q) = true
-has_two_parts (hide A P) = false
-has_two_parts (ren R P) = false
-has_two_parts (intr P Q) = true
-has_two_parts (name k) = false
+-- The number of processes that the process is made of.
+abbrev pub parts : Proc → ℕ
+parts stop = 0
+parts skip = 0
+parts (prefix a P) = 1
+parts (ext P Q) = 2
+parts (int P Q) = 2
+parts (seq P Q) = 2
+parts (par A P Q) = 2
+parts (hide A P) = 1
+parts (ren R P) = 1
+parts (intr P Q) = 2
+parts (name k) = 0
 
 -- The node's set or relation is one of these, and the numbers of its parts are below n.
 abbrev pub IsWithin : Parameters → ℕ → Node → Type 0

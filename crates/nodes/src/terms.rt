@@ -1,8 +1,8 @@
 //! Terms by number.
 
-ghost use Rattle.std.specs.Prelude.{◌≡◌, ◌<◌, ℕ, List, IfOk, true};
+ghost use Rattle.std.specs.Prelude.{◌≡◌, ◌<◌, ℕ, List, IfOk};
 ghost use Rattle.term.specs.Proc.{Proc, prefix, par, hide, ren, proc};
-ghost use Rattle.nodes.specs.Shapes.{Parameters, at, has_two_parts, over, shape, IsWithin};
+ghost use Rattle.nodes.specs.Shapes.{Parameters, at, over, parts, shape, IsWithin};
 ghost use Rattle.nodes.specs.Tables.{HasGrown, IsNumber};
 
 use crate::node::Node;
@@ -45,29 +45,45 @@ impl<A: Allocator + Copy> Table<A> {
         match term {
             Term::Stop | Term::Prefix(Event::Tick, _) => self.put(Node::Stop),
             Term::Skip => self.put(Node::Skip),
+            Term::Name(k) => self.put(Node::Name(*k)),
+            Term::Prefix(Event::Of(_), _) | Term::Hide(_, _) | Term::Ren(_, _) => {
+                self.number_of_one(term)
+            }
+            _ => self.number_of_two(term),
+        }
+    }
+
+    /// The number of this term's process, which has one part.
+    #[cycle(number_of_term)]
+    fn number_of_one<B: Allocator>(&mut self, term: &Term<B>) -> Result<u32, AllocError>
+        requires { parts (proc term.now) ≡ 1 }
+        ensures number { IfOk result (λ n. IsNumber self.new n (proc term.now)) }
+        ensures grown { HasGrown self.old self.new }
+    {
+        match term {
             Term::Prefix(Event::Of(event), p) => self.number_of_prefix(*event, p),
             Term::Hide(set, p) => self.number_of_hide(*set, p),
             Term::Ren(pairs, p) => self.number_of_ren(pairs, p),
-            Term::Name(k) => self.put(Node::Name(*k)),
-            _ => self.number_of_two(term),
+            _ => self.put(Node::Stop),
         }
     }
 
     /// The number of this term's process, which has two parts.
     #[cycle(number_of_term)]
     fn number_of_two<B: Allocator>(&mut self, term: &Term<B>) -> Result<u32, AllocError>
-        requires { has_two_parts (proc term.now) ≡ true }
+        requires { parts (proc term.now) ≡ 2 }
         ensures number { IfOk result (λ n. IsNumber self.new n (proc term.now)) }
         ensures grown { HasGrown self.old self.new }
     {
-        match term {
-            Term::Par(set, p, q) => self.number_of_par(*set, p, q),
-            Term::Ext(p, q) => self.number_over(Operator::Ext, p, q),
-            Term::Int(p, q) => self.number_over(Operator::Int, p, q),
-            Term::Seq(p, q) => self.number_over(Operator::Seq, p, q),
-            Term::Intr(p, q) => self.number_over(Operator::Intr, p, q),
-            _ => self.put(Node::Stop),
-        }
+        let (operator, p, q) = match term {
+            Term::Par(set, p, q) => return self.number_of_par(*set, p, q),
+            Term::Ext(p, q) => (Operator::Ext, p, q),
+            Term::Int(p, q) => (Operator::Int, p, q),
+            Term::Seq(p, q) => (Operator::Seq, p, q),
+            Term::Intr(p, q) => (Operator::Intr, p, q),
+            _ => return self.put(Node::Stop),
+        };
+        self.number_over(operator, p, q)
     }
 
     /// The number of the prefix of this term's process.

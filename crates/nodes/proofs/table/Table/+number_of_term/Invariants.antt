@@ -9,6 +9,9 @@ decreases-number_of_term g l = 4 * size (proc l.term.now)
 abbrev pub decreases-number_of_two : goal.decreases-number_of_two
 decreases-number_of_two g l = 4 * size (proc l.term.now) - 1
 
+abbrev pub decreases-number_of_one : goal.decreases-number_of_one
+decreases-number_of_one g l = 4 * size (proc l.term.now) - 1
+
 abbrev pub decreases-number_of_prefix : goal.decreases-number_of_prefix
 decreases-number_of_prefix g l = 4 * size (proc l.then.now) + 1
 
