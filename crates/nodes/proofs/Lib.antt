@@ -1,3 +1,6 @@
 pub mod Listing
 pub mod Putting
 pub mod Knowing
+pub mod Looking
+pub mod Joining
+pub mod Acting
