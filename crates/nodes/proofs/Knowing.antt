@@ -1,5 +1,5 @@
 -- What is known of a process, from what is known of its parts.
-use Rattle.std.proofs.Common.{◌≡◌, ℕ, Bool, true, false, not, ◌&&◌, ◌||◌, ◌↔◌, inl, inr, IsTrue, refl, sym, ap, ◌∙◌}
+use Rattle.std.proofs.Common.{◌≡◌, Bool, true, false, not, ◌&&◌, ◌||◌, ◌↔◌, inl, inr, IsTrue, refl, sym, ap, ◌∙◌}
 use Rattle.term.proofs.Bools.{or-cases, or-left, or-right}
 use Rattle.term.specs.SameLaws.{and-cases, and-both}
 use Rattle.term.specs.Proc.{Proc}

@@ -1,13 +1,11 @@
 -- A list of nodes, and their processes.
-use Rattle.std.proofs.Common.{◌≡◌, ℕ, zero, suc, ◌+◌, ◌<◌, ◌≤◌, ◌⊎◌, inl, inr, List, [], ◌∷◌, ◌++◌, length, get_or, refl, sym, ap, ◌∙◌, subst, arith, append_assoc, length-append, add-zero}
+use Rattle.std.proofs.Common.{◌≡◌, ℕ, zero, suc, ◌+◌, ◌<◌, ◌≤◌, inl, inr, List, [], ◌∷◌, ◌++◌, length, get_or, refl, sym, ap, ◌∙◌, subst, arith, append_assoc, length-append, add-zero}
 use Rattle.std.proofs.lemmas.List.{append-nil, get_or_append_left, get_or_at, get_or_push}
 use Rattle.std.proofs.lemmas.Bool.{cases_lt}
-use Rattle.alphabet.specs.EventSets.{Set}
-use Rattle.term.specs.Traces.{Pairs}
-use Rattle.term.specs.Proc.{Proc, stop, skip, prefix, ext, int, seq, par, hide, ren, intr, name}
+use Rattle.term.specs.Proc.{Proc, stop, prefix, par, hide, ren}
 use Rattle.nodes.specs.declared.node.Node.{Node}
 use Rattle.nodes.specs.declared.node.Node.TheVariants.{Stop, Skip, Prefix, Ext, Int, Seq, Par, Hide, Ren, Intr, Name}
-use Rattle.nodes.specs.Shapes.{Parameters, set_at, relation_at, at, shape, IsWithin, listed, processes, AllWithin}
+use Rattle.nodes.specs.Shapes.{Parameters, set_at, relation_at, at, shape, IsWithin, listed, AllWithin}
 use Rattle.nodes.specs.Tables.{NoneTwice, Begins, HasMore, AreParameters}
 
 -- ---- lists

@@ -1,9 +1,7 @@
 -- Lists of numbers in a table that grows.
-use Rattle.std.proofs.Common.{◌≡◌, ℕ, zero, suc, ◌+◌, ◌<◌, ◌≤◌, List, [], ◌∷◌, ◌++◌, length, map, take, drop, get_or, refl, sym, ap, ◌∙◌, subst, arith}
-use Rattle.std.proofs.lemmas.List.{map-append, map_more, take-append-drop, append-nil, append_assoc}
-use Rattle.term.specs.Proc.{Proc, stop, seq, par, hide, ren, intr}
+use Rattle.std.proofs.Common.{◌≡◌, ℕ, zero, suc, ◌<◌, ◌≤◌, List, [], ◌∷◌, ◌++◌, length, map, get_or, refl, sym, ap, ◌∙◌, subst, arith}
+use Rattle.term.specs.Proc.{Proc, stop, seq, hide, ren, intr}
 use Rattle.term.specs.Limits.{Terms}
-use Rattle.step.specs.Targets.{pairs_of}
 use Rattle.targets.specs.Cuts.{CutOf}
 use Rattle.nodes.specs.declared.places.Place.{Place}
 use Rattle.nodes.specs.declared.places.Place.TheVariants.{SeqLeft, ParLeft, ParRight, Hide, Ren, IntrLeft}

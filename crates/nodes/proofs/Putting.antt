@@ -1,5 +1,5 @@
 -- A node that is looked up in a table, and one that is put into it.
-use Rattle.std.proofs.Common.{◌≡◌, ℕ, ◌+◌, ◌<◌, ◌≤◌, ◌^◌, ◌⊎◌, inl, inr, Bool, true, false, not, cond, nat_eq, Option, None, Some, List, [], ◌∷◌, ◌++◌, length, get_or, map, position, refl, sym, ap, ◌∙◌, subst, arith, length-append, true≢false, is_some, slice_get}
+use Rattle.std.proofs.Common.{◌≡◌, ℕ, ◌+◌, ◌<◌, ◌≤◌, ◌^◌, inl, inr, Bool, true, false, not, cond, nat_eq, Option, None, Some, List, [], ◌∷◌, ◌++◌, length, get_or, map, position, refl, sym, ap, ◌∙◌, subst, arith, length-append, true≢false, is_some, slice_get}
 use Rattle.std.specs.List.{position_or_len}
 use Rattle.std.specs.Map.{keys_of, values_of}
 use Rattle.std.specs.declared.vec.Vec.{Vec}
@@ -20,7 +20,7 @@ use Rattle.nodes.specs.declared.node.Node.TheVariants.{Stop}
 use Rattle.nodes.specs.declared.facts.Facts.{Facts}
 use Rattle.nodes.specs.Known.{IsKnown, AllKnown}
 use Rattle.nodes.specs.SameNodes.{same_node, same_node-eq, same_node-refl}
-use Rattle.nodes.specs.Shapes.{Parameters, set_at, relation_at, at, shape, IsWithin, processes, AllWithin}
+use Rattle.nodes.specs.Shapes.{Parameters, at, shape, IsWithin, processes, AllWithin}
 use Rattle.nodes.specs.Tables.{Tabled, tabled, relations_of, is_relation, NoneTwice, HasMore, HasGrown, IsNumber, AreParameters, IsTable}
 use Rattle.nodes.proofs.Listing.{once-push, begins-same, begins-at, begins-longer, begins-on, more-same, more-on, shape-same, within-more, length-listed, listed-append, listed-at, listed-more, within-at, within-push, all-more}
 

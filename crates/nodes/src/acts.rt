@@ -1,8 +1,7 @@
 //! What a process becomes by an event of Sigma, from what its parts become.
 
-ghost use Rattle.std.specs.Prelude.{OnOk, ◌≡◌, ◌<◌, ◌∷◌, [], ℕ, false, length, nat_eq};
-ghost use Rattle.alphabet.specs.EventSets.{has};
-ghost use Rattle.term.specs.Proc.{Proc, ext, intr, par};
+ghost use Rattle.std.specs.Prelude.{OnOk, ◌≡◌, ◌<◌, ◌∷◌, [], ℕ, length, nat_eq};
+ghost use Rattle.term.specs.Proc.{Proc, ext, hide, intr, par};
 ghost use Rattle.term.specs.Steps.{Act};
 ghost use Rattle.step.specs.Targets.{where_};
 ghost use Rattle.targets.specs.Cuts.{CutOf};
@@ -40,20 +39,8 @@ impl<A: Allocator> Table<A> {
             Node::Prefix(first, p) => put_single(first == event, p, into),
             Node::Ext(_, _) => self.put_ext(lefts, rights, most, into),
             Node::Seq(_, q) => self.put_each(Place::SeqLeft(q), lefts, most, into),
-            Node::Par(set, p, q) => {
-                if self.set(set).contains(Event::Of(event)) {
-                    self.put_parallels(set, lefts, rights, most, into)
-                } else {
-                    self.put_alone(set, p, q, lefts, rights, most, into)
-                }
-            }
-            Node::Hide(set, _) => {
-                if self.set(set).contains(Event::Of(event)) {
-                    Ok(())
-                } else {
-                    self.put_each(Place::Hide(set), lefts, most, into)
-                }
-            }
+            Node::Par(set, p, q) => self.put_par(set, p, q, event, lefts, rights, most, into),
+            Node::Hide(set, _) => self.put_hide(set, event, lefts, most, into),
             Node::Ren(relation, _) => self.put_each(Place::Ren(relation), lefts, most, into),
             Node::Intr(_, q) => self.put_intr(q, lefts, rights, most, into),
         }
@@ -100,12 +87,13 @@ impl<A: Allocator> Table<A> {
         Ok(())
     }
 
-    /// The same for a parallel over the set, where one side takes the event alone.
-    fn put_alone(
+    /// The same for a parallel over the set of the processes with the numbers `p` and `q`.
+    fn put_par(
         &mut self,
         set: u32,
         p: u32,
         q: u32,
+        event: u8,
         lefts: &[u32],
         rights: &[u32],
         most: usize,
@@ -114,15 +102,41 @@ impl<A: Allocator> Table<A> {
         requires set { set < length self.old.parameters.sets }
         requires left { p < length self.old.processes }
         requires right { q < length self.old.processes }
-        requires lefts { AllBelow (length self.old.processes) lefts.now }
-        requires rights { AllBelow (length self.old.processes) rights.now }
+        requires lefts { IsCutIn self.old (Act (at self.old.processes p) event) most lefts.now }
+        requires rights { IsCutIn self.old (Act (at self.old.processes q) event) most rights.now }
         requires empty { into.old.items ≡ [] }
-        ensures here { OnOk result (AllBelow (length self.new.processes) into.new.items) }
-        ensures cut { OnOk result ((S : ℕ) (P Q : Proc) (a : ℕ) → S ≡ set_at self.old.parameters set → P ≡ at self.old.processes p → Q ≡ at self.old.processes q → has S a ≡ false → CutOf (Act P a) most (look self.old.processes lefts.now) → CutOf (Act Q a) most (look self.old.processes rights.now) → CutOf (Act (par S P Q) a) most (look self.new.processes into.new.items)) }
+        ensures cut { OnOk result (IsCutIn self.new (Act (par (set_at self.old.parameters set) (at self.old.processes p) (at self.old.processes q)) event) most into.new.items) }
         ensures grown { HasGrown self.old self.new }
     {
+        if self.set(set).contains(Event::Of(event)) {
+            self.put_parallels(set, lefts, rights, most, into)?;
+            return Ok(());
+        }
         self.put_each(Place::ParLeft(set, q), lefts, most, into)?;
         self.put_each(Place::ParRight(set, p), rights, most, into)?;
+        Ok(())
+    }
+
+    /// The same for a hiding of the set.
+    fn put_hide(
+        &mut self,
+        set: u32,
+        event: u8,
+        parts: &[u32],
+        most: usize,
+        into: &mut Vec<u32, A>,
+    ) -> Result<(), AllocError>
+        requires set { set < length self.old.parameters.sets }
+        requires parts { AllBelow (length self.old.processes) parts.now }
+        requires empty { into.old.items ≡ [] }
+        ensures here { OnOk result (AllBelow (length self.new.processes) into.new.items) }
+        ensures cut { OnOk result ((P : Proc) → CutOf (Act P event) most (look self.old.processes parts.now) → CutOf (Act (hide (set_at self.old.parameters set) P) event) most (look self.new.processes into.new.items)) }
+        ensures grown { HasGrown self.old self.new }
+    {
+        if self.set(set).contains(Event::Of(event)) {
+            return Ok(());
+        }
+        self.put_each(Place::Hide(set), parts, most, into)?;
         Ok(())
     }
 }

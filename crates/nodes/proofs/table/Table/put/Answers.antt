@@ -1,4 +1,4 @@
-use Rattle.std.proofs.Common.{◌≡◌, ℕ, ◌++◌, [], ◌∷◌, List, sym, ap, ◌∙◌, subst, arith, length}
+use Rattle.std.proofs.Common.{◌≡◌, ◌++◌, [], ◌∷◌, List, sym, ap, ◌∙◌, subst, arith, length}
 use Rattle.std.proofs.lemmas.List.{length-map}
 use Rattle.std.specs.Map.{keys_of, values_of}
 use Rattle.nodes.specs.declared.node.Node.{Node}
