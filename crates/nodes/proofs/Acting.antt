@@ -73,7 +73,7 @@ module _ (a k : ℕ) where
 
   -- ---- over the lists of the parts
   module _ (e found : List Proc) (none : e ≡ []) where
-    cut-first : (S : Terms) (l m : List Proc) → CutOf S k l → Joined k e l m → CutOf S k m
+    pub cut-first : (S : Terms) (l m : List Proc) → CutOf S k l → Joined k e l m → CutOf S k m
     cut-first S l m c j =
         cut-to (λ Q. ⊥ ⊎ S Q) S k m (λ Q. ((λ s. elim s [ inl b ↦ absurd b | inr x ↦ x ]), (λ x. inr x)))
         (joined-cut (λ Q. ⊥) S k e l m (subst (CutOf (λ Q. ⊥) k) (sym none) (cut-none (λ Q. ⊥) k (λ Q b. b))) c j)

@@ -4,3 +4,4 @@ pub mod Knowing
 pub mod Looking
 pub mod Joining
 pub mod Acting
+pub mod HiddenSteps

@@ -1,10 +1,10 @@
 -- Lists of numbers in a table that grows.
 use Rattle.std.proofs.Common.{◌≡◌, ℕ, zero, suc, ◌<◌, ◌≤◌, List, [], ◌∷◌, ◌++◌, length, map, get_or, refl, sym, ap, ◌∙◌, subst, arith}
-use Rattle.term.specs.Proc.{Proc, stop, seq, hide, ren, intr}
+use Rattle.term.specs.Proc.{Proc, stop, ext, seq, hide, ren, intr}
 use Rattle.term.specs.Limits.{Terms}
 use Rattle.targets.specs.Cuts.{CutOf}
 use Rattle.nodes.specs.declared.places.Place.{Place}
-use Rattle.nodes.specs.declared.places.Place.TheVariants.{SeqLeft, ParLeft, ParRight, Hide, Ren, IntrLeft}
+use Rattle.nodes.specs.declared.places.Place.TheVariants.{ExtLeft, ExtRight, SeqLeft, ParLeft, ParRight, Hide, Ren, IntrLeft, IntrRight}
 use Rattle.nodes.specs.Shapes.{at, set_at, relation_at}
 use Rattle.nodes.specs.Tables.{Tabled, HasGrown}
 use Rattle.nodes.specs.Looks.{look, around, AllBelow, IsCutIn, IsPlaceIn}
@@ -66,20 +66,26 @@ module _ (t u : Tabled) (g : HasGrown t u) where
   part-within p h = omega (arith, longer t u g)
 
   pub place-grown : (place : Place) → IsPlaceIn t place → IsPlaceIn u place
+  place-grown (ExtLeft q) w = part-within q w
+  place-grown (ExtRight p) w = part-within p w
   place-grown (SeqLeft q) w = part-within q w
   place-grown (ParLeft A q) w = (set-within A w.0, part-within q w.1)
   place-grown (ParRight A p) w = (set-within A w.0, part-within p w.1)
   place-grown (Hide A) w = set-within A w
   place-grown (Ren R) w = omega (arith, relations-grown)
   place-grown (IntrLeft q) w = part-within q w
+  place-grown (IntrRight p) w = part-within p w
 
   pub around-grown : (place : Place) (P : Proc) → IsPlaceIn t place → around u place P ≡ around t place P
+  around-grown (ExtLeft q) P w = ap (ext P) (at-grown q w)
+  around-grown (ExtRight p) P w = ap (λ X. ext X P) (at-grown p w)
   around-grown (SeqLeft q) P w = ap (seq P) (at-grown q w)
   around-grown (ParLeft A q) P w = rw (set-grown A w.0, at-grown q w.1) refl
   around-grown (ParRight A p) P w = rw (set-grown A w.0, at-grown p w.1) refl
   around-grown (Hide A) P w = ap (λ s. hide s P) (set-grown A w)
   around-grown (Ren R) P w = ap (λ r. ren r P) (relation-grown R w)
   around-grown (IntrLeft q) P w = ap (intr P) (at-grown q w)
+  around-grown (IntrRight p) P w = ap (λ X. intr X P) (at-grown p w)
 
   pub each-grown : (place : Place) (ns : List ℕ) → IsPlaceIn t place → AllBelow (length t.processes) ns → map (around u place) (look u.processes ns) ≡ map (around t place) (look t.processes ns)
   each-grown place ns w a = map-same (around u place) (around t place) (λ P. around-grown place P w) (look u.processes ns) ∙ ap (map (around t place)) (look-grown ns a)

@@ -3,6 +3,7 @@
 
 mod acts;
 mod facts;
+mod hids;
 mod lists;
 mod node;
 mod offers;

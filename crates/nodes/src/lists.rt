@@ -33,7 +33,7 @@ impl<A: Allocator> Table<A> {
     }
 
     /// Appends the number, unless it is in the list or there are more than `most`.
-    fn add(&self, number: u32, most: usize, into: &mut Vec<u32, A>) -> Result<(), AllocError>
+    pub fn add(&self, number: u32, most: usize, into: &mut Vec<u32, A>) -> Result<(), AllocError>
         requires number { number < length self.now.processes }
         requires here { AllBelow (length self.now.processes) into.old.items }
         ensures here { OnOk result (AllBelow (length self.now.processes) into.new.items) }

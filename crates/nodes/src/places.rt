@@ -11,12 +11,15 @@ use crate::node::Node;
 /// An operator with a place for one of its parts, over the numbers of what else it has.
 #[derive(Clone, Copy)]
 pub enum Place {
+    ExtLeft(u32),
+    ExtRight(u32),
     SeqLeft(u32),
     ParLeft(u32, u32),
     ParRight(u32, u32),
     Hide(u32),
     Ren(u32),
     IntrLeft(u32),
+    IntrRight(u32),
 }
 
 impl Place {
@@ -26,12 +29,15 @@ impl Place {
         ensures within { (t : Tabled) → IsPlaceIn t self → part < length t.processes → IsWithin t.parameters (length t.processes) result }
     {
         match self {
+            Place::ExtLeft(q) => Node::Ext(part, q),
+            Place::ExtRight(p) => Node::Ext(p, part),
             Place::SeqLeft(q) => Node::Seq(part, q),
             Place::ParLeft(set, q) => Node::Par(set, part, q),
             Place::ParRight(set, p) => Node::Par(set, p, part),
             Place::Hide(set) => Node::Hide(set, part),
             Place::Ren(relation) => Node::Ren(relation, part),
             Place::IntrLeft(q) => Node::Intr(part, q),
+            Place::IntrRight(p) => Node::Intr(p, part),
         }
     }
 }
