@@ -1,10 +1,10 @@
 -- What a process becomes by a hidden step, from what its parts become.
-use Rattle.std.proofs.Common.{◌≡◌, ℕ, ◌⊎◌, inl, inr, true, false, List, [], ◌∷◌, map, sym, ◌∙◌, true≢false}
+use Rattle.std.proofs.Common.{◌≡◌, ℕ, ◌⊎◌, Bool, true, false, not, ◌&&◌, inl, inr, List, [], ◌∷◌, map, refl, sym, ◌∙◌, true≢false}
 use Rattle.alphabet.specs.EventSets.{Set}
 use Rattle.term.specs.Traces.{Pairs as Relation}
 use Rattle.term.specs.Limits.{Terms}
 use Rattle.term.specs.Proc.{Proc, stop, skip, prefix, ext, int, seq, par, hide, ren, intr, name}
-use Rattle.term.specs.Steps.{Hid, Ticks}
+use Rattle.term.specs.Steps.{Hid, Ticks, is_skip}
 use Rattle.step.specs.Targets.{ticks}
 use Rattle.step.proofs.HidList.{ticks-Ticks, Ticks-ticks}
 use Rattle.targets.specs.Cuts.{CutOf}
@@ -86,3 +86,24 @@ module _ (B : ℕ → Proc) (k : ℕ) where
 pub both-found : (k : ℕ) (P Q : Proc) (e m found : List Proc) → e ≡ [] → Joined k e (P ∷ []) m → Joined k m (Q ∷ []) found → CutOf (λ R. (R ≡ P) ⊎ (R ≡ Q)) k found
 both-found k P Q e m found none j i =
     joined-cut (λ R. R ≡ P) (λ R. R ≡ Q) k m (Q ∷ []) found (cut-first 0 k e m none (λ R. R ≡ P) (P ∷ []) m (cut-one k P) j) (cut-one k Q) i
+
+-- ---- the end of a side
+module _ (S : Terms) (P : Proc) (k : ℕ) where
+  pub end-found : (m found : List Proc) (x y : Bool) → x ≡ ticks P → y ≡ is_skip P → (x && not y) ≡ true → CutOf S k m → Joined k m (skip ∷ []) found → CutOf (OrEnd S P) k found
+  end-found m found true false t s e c j =
+      let T : Terms = λ R. (R ≡ skip) × ((is_skip P ≡ false) × Ticks P) in
+      let ends : (is_skip P ≡ false) × Ticks P = (sym s, ticks-Ticks P (sym t)) in
+      cut-to (λ R. S R ⊎ T R) (OrEnd S P) k found (λ R. ((λ v. v), (λ v. v)))
+      (joined-cut S T k m (skip ∷ []) found c (cut-to (λ R. R ≡ skip) T k (skip ∷ []) (λ R. ((λ f. (f, ends)), (λ v. v.0))) (cut-one k skip)) j)
+  end-found m found true true t s e c j = absurd (cc)
+  end-found m found false y t s e c j = absurd (cc)
+
+  both : (x y : Bool) → x ≡ true → y ≡ false → (x && not y) ≡ true
+  both true false e f = refl
+  both true true e f = absurd (cc)
+  both false y e f = absurd (cc)
+
+  pub end-none : (m : List Proc) (x y : Bool) → x ≡ ticks P → y ≡ is_skip P → (x && not y) ≡ false → CutOf S k m → CutOf (OrEnd S P) k m
+  end-none m x y t s e c =
+      cut-to S (OrEnd S P) k m
+      (λ R. ((λ v. inl v), (λ v. elim v [ inl w ↦ w | inr (f, (o, d)) ↦ absurd (true≢false (sym (both x y (t ∙ Ticks-ticks d) (s ∙ o)) ∙ e)) ]))) c

@@ -6,7 +6,7 @@ ghost use Rattle.term.specs.Steps.{Hid};
 ghost use Rattle.targets.specs.Among.{Joined};
 ghost use Rattle.targets.specs.Cuts.{CutOf};
 ghost use Rattle.nodes.specs.Shapes.{at, shape, IsWithin};
-ghost use Rattle.nodes.specs.Looks.{look, around, AllBelow, AreHidsOfParts, IsCutIn, IsPlaceIn};
+ghost use Rattle.nodes.specs.Looks.{look, around, AllBelow, AreHidsOfParts, IsCutIn, IsPlaceIn, OrEnd};
 ghost use Rattle.nodes.specs.Tables.{HasGrown};
 
 use crate::node::Node;
@@ -72,6 +72,29 @@ impl<A: Allocator> Table<A> {
             }
             Node::Name(_) => self.join(lefts, most, into),
         }
+    }
+
+    /// Appends `SKIP` to what this side of a parallel becomes by a hidden step, where the side can terminate and isn't
+    /// `SKIP` itself, unless it is in the list or there are more than `most`.
+    pub fn put_end(
+        &mut self,
+        side: u32,
+        most: usize,
+        into: &mut Vec<u32, A>,
+    ) -> Result<(), AllocError>
+        requires side { side < length self.old.processes }
+        requires here { AllBelow (length self.old.processes) into.old.items }
+        ensures here { OnOk result (AllBelow (length self.new.processes) into.new.items) }
+        ensures cut { OnOk result ((B : ℕ → Proc) → CutOf (Hid B (at self.old.processes side)) most (look self.old.processes into.old.items) → CutOf (OrEnd (Hid B (at self.old.processes side)) (at self.old.processes side)) most (look self.new.processes into.new.items)) }
+        ensures grown { HasGrown self.old self.new }
+    {
+        let facts = self.facts(side);
+        let ends = facts.ticks & !facts.skip;
+        if ends {
+            let skip = self.put(Node::Skip)?;
+            self.add(skip, most, into)?;
+        }
+        Ok(())
     }
 
     /// Puts the left parts in the left place and the right ones in the right place, and appends those that aren't in the
