@@ -38,7 +38,7 @@ module _ (ps : List Proc) (n : ℕ) where
     pub number-absent : (ns : List ℕ) → AllBelow (length ps) ns → list_any (λ y. nat_eq y n) ns ≡ false → In (at ps n) (look ps ns) → ⊥
     number-absent ns b e i = true≢false (sym (found ns (look ps ns) (at ps n) b refl refl i) ∙ e)
 
--- ---- one list behind the other
+-- ---- one list after the other
 distinct-back : (l m : List Proc) → Distinct (l ++ m) → Distinct m
 distinct-back [] m d = d
 distinct-back (P ∷ l) m d = distinct-back l m d.1

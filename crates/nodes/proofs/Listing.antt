@@ -59,7 +59,7 @@ more-on S T U g h = record {
 }
 
 -- ---- shapes
--- more processes and more parameters behind the others don't matter
+-- more processes after the others don't matter
 pub shape-parts : (S : Parameters) (ps qs : List Proc) (n : ℕ) (x : Node) → IsWithin S n x → n ≡ length ps → shape S (ps ++ qs) x ≡ shape S ps x
 shape-parts S ps qs n x w e = go x w
   where
@@ -79,6 +79,7 @@ shape-parts S ps qs n x w e = go x w
     go (Intr p q) v = rw (same p v.0, same q v.1) refl
     go (Name k) v = refl
 
+-- nor do more parameters
 pub shape-more : (S T : Parameters) (ps : List Proc) (n : ℕ) (x : Node) → HasMore S T → IsWithin S n x → shape T ps x ≡ shape S ps x
 shape-more S T ps n (Par A p q) m w = ap (λ s. par s (at ps p) (at ps q)) (begins-at 0 S.sets T.sets A m.sets w.0)
 shape-more S T ps n (Hide A p) m w = ap (λ s. hide s (at ps p)) (begins-at 0 S.sets T.sets A m.sets w.0)
@@ -190,7 +191,7 @@ pub listed-append : (S : Parameters) (xs ys : List Node) (ps : List Proc) → li
 listed-append S [] ys ps = refl
 listed-append S (x ∷ xs) ys ps = listed-append S xs ys (ps ++ shape S ps x ∷ [])
 
--- more parameters behind the others don't matter
+-- more parameters after the others don't matter
 pub listed-more : (S T : Parameters) (xs : List Node) (n : ℕ) (ps : List Proc) → HasMore S T → AllWithin S n xs → listed T xs ps ≡ listed S xs ps
 listed-more S T [] n ps m w = refl
 listed-more S T (x ∷ xs) n ps m w =

@@ -11,14 +11,23 @@ use crate::node::Node;
 /// An operator with a place for one of its parts, over the numbers of what else it has.
 #[derive(Clone, Copy)]
 pub enum Place {
+    /// `_ [] Q`.
     ExtLeft(u32),
+    /// `P [] _`.
     ExtRight(u32),
+    /// `_ ; Q`.
     SeqLeft(u32),
+    /// `_ [| A |] Q`: the set's number and then the part's.
     ParLeft(u32, u32),
+    /// `P [| A |] _`: the set's number and then the part's.
     ParRight(u32, u32),
+    /// `_ \ A`.
     Hide(u32),
+    /// `_[[R]]`.
     Ren(u32),
+    /// `_ /\ Q`.
     IntrLeft(u32),
+    /// `P /\ _`.
     IntrRight(u32),
 }
 
