@@ -1,0 +1,7 @@
+pub mod Listing
+pub mod Putting
+pub mod Knowing
+pub mod Looking
+pub mod Joining
+pub mod Acting
+pub mod HiddenSteps

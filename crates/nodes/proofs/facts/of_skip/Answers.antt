@@ -1,0 +1,13 @@
+use Rattle.std.proofs.Common.{refl, arith}
+use Rattle.alphabet.specs.declared.events.Event.TheVariants.{Tick as tick, Of as ev}
+use Rattle.nodes.proofs.facts.of_skip.Goals as goal
+
+pub returns : goal.returns
+returns c = record {
+  depth_is = omega arith;
+  offers_are = λ a. c.empty.ensures (ev a);
+  no_tick = c.empty.ensures tick;
+  rests_is = ((λ _. tt), (λ _. refl));
+  ticks_is = refl;
+  skip_is = refl;
+}

@@ -1,0 +1,5 @@
+pub mod SameNodes
+pub mod Shapes
+pub mod Known
+pub mod Tables
+pub mod Looks

@@ -1,0 +1,17 @@
+//! Processes by number: each is a node over the numbers of its parts, and stands once in a table.
+#![tactic(auto)]
+
+mod acts;
+mod facts;
+mod hids;
+mod lists;
+mod node;
+mod offers;
+mod places;
+mod table;
+mod terms;
+
+pub use facts::Facts;
+pub use node::Node;
+pub use places::Place;
+pub use table::Table;
