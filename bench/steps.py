@@ -20,9 +20,10 @@ def steps_of(crate):
     """Each function's name, and the megabytes of its steps."""
     for folder, _, files in os.walk(os.path.join(CRATES, crate, "out", "incremental")):
         for name in files:
-            match = re.match(r"Rattle-\w+-proofs\.(.*)\.Lts\.oantt$", name)
+            # A function that calls itself through others stands in the module of its cycle: CYCLE.Lts-FUNCTION.
+            match = re.match(r"Rattle-\w+-proofs\.(.*)\.Lts(-[\w-]+)?\.oantt$", name)
             if match:
-                yield match[1], os.stat(os.path.join(folder, name)).st_size / 1e6
+                yield match[1] + (match[2] or "").replace("-", "::", 1), os.stat(os.path.join(folder, name)).st_size / 1e6
 
 
 def main():
