@@ -1,0 +1,65 @@
+use denote.Param.{param}
+use denote.Param.Send.{IsSync, sendable}
+use Rattle.std.proofs.Crossing.{crosses}
+use Rattle.std.specs.contracts.alloc.Global as Global
+use Rattle.shared_rows.specs.contracts.held.Gate as Gate
+use Rattle.shared.proofs.Crosses.{session_send, shared_sync}
+use Rattle.shared_rows.proofs.callers.run_all.Goals as goal
+
+pub map_vec-requires-sync-F : goal.map_vec-requires-sync-F
+map_vec-requires-sync-F g c κs within =
+    let session = session_send (param 0 g.row.D) g.D.Disk (
+      search sendable,
+      (
+        record { owned = c.crosses.ensures.owned; leaving = λ k x w. search sendable },
+        (
+          record { owned = c.crosses-2.ensures.owned; leaving = λ k x w. search sendable },
+          (
+            search sendable,
+            (
+              record { owned = c.crosses-3.ensures.owned; leaving = λ k x w. search sendable },
+              tt,
+            ),
+          ),
+        ),
+      ),
+    ) in
+    let shared = shared_sync (param 0 g.row.D) (param 1 g.row.N) g.N.Naming g.N.Ledger _ g.D.Disk (
+      record { owned = session.owned; leaving = session.leaving },
+      (
+        record { owned = c.crosses-4.ensures.owned; leaving = λ k x w. search sendable },
+        (
+          record { owned = c.crosses-5.ensures.owned; leaving = λ k x w. search sendable },
+          (
+            record { owned = c.crosses-6.ensures.owned; leaving = λ k x w. search sendable },
+            (
+              record { owned = c.crosses-7.ensures.owned; leaving = λ k x w. search sendable },
+              (
+                record { owned = c.crosses-8.ensures.owned; leaving = λ k x w. search sendable },
+                (
+                  record { owned = c.crosses-9.ensures.owned; leaving = λ k x w. search sendable },
+                  (
+                    search sendable,
+                    (
+                      search sendable,
+                      tt,
+                    ),
+                  ),
+                ),
+              ),
+            ),
+          ),
+        ),
+      ),
+    ) in
+    let heap : IsSync Global.the_row = search (sendable, crosses) depth 20 in
+    let gate : IsSync Gate.the_row = search (sendable, crosses) depth 20 in
+    record {
+      shared = λ x b o κ. (
+        (
+          ((λ q. tt), c.type_bounds.sync-R.shared _ _ _ _),
+          (((λ q. tt), heap.shared _ _ _ κ), (((λ q. tt), gate.shared _ b o _), (((λ q. tt), shared.shared _ _ _ _), tt))),
+        ),
+        λ q. tt,
+      );
+    }

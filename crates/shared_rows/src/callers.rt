@@ -1,0 +1,156 @@
+//! Callers, each on a thread of its own.
+
+ghost use Rattle.std.specs.Thread.{IsSend};
+
+use crate::held::Gate;
+use alphabet::{Event, Report};
+use board::{Front, Naming, Publisher, Source, Spine};
+use disk::Disk;
+use history::LegalHistory;
+use journal::Journal;
+use session::{Entry, Failed, SeatNumber};
+use shared::{Receipt, Share, Shared};
+use std::alloc::Global;
+use std::process::Abort;
+use std::sync::{Wait, ledger};
+use std::thread::{Threads, map_vec};
+use std::time::Clock;
+
+/// What a caller does.
+#[derive(Clone, Copy)]
+pub(crate) enum Task {
+    /// It reports tick so many times.
+    Report(usize),
+    /// It looks at the status while a sync is held, and then lets that go.
+    Look,
+}
+
+/// A place, and what is done at it.
+#[derive(Drop)]
+pub(crate) struct Caller<N: Naming> {
+    pub(crate) share: Share<N, Global>,
+    pub(crate) task: Task,
+}
+
+/// What a caller was answered.
+#[derive(Drop)]
+pub(crate) struct Answers {
+    seat: SeatNumber,
+    /// The receipts of its reports, in their order.
+    receipts: Vec<Receipt, Global>,
+    /// How many reports the status had.
+    pub(crate) seen: Option<u64>,
+}
+
+impl Answers {
+    /// Whether the history has these as the answers to all reports of the seat, in their order.
+    pub(crate) fn are_in(&self, history: &[Entry]) -> bool {
+        let mut left = self.receipts.as_slice();
+        for (index, entry) in history.iter().enumerate() {
+            if entry.seat == self.seat {
+                match left {
+                    [first, rest @ ..] if is_of(first, index, entry) => left = rest,
+                    _ => return false,
+                }
+            }
+        }
+        left.is_empty()
+    }
+}
+
+// Whether the receipt is the answer to the report of this entry, which has so many before it.
+fn is_of(receipt: &Receipt, index: usize, entry: &Entry) -> bool {
+    receipt.place.checked_sub(1) == Some(index as u64) && receipt.verdict == entry.verdict
+}
+
+// Reports tick so many times.
+fn ticks<D: Disk, N: Naming, R: Wait + Abort>(
+    rt: &R,
+    alloc: Global,
+    shared: &Shared<D, Global, N>,
+    share: Share<N, Global>,
+    times: usize,
+) -> (Share<N, Global>, Vec<Receipt, Global>) {
+    let mut receipts = Vec::new(alloc);
+    let mut seat = shared.again(share);
+    for _ in 0..times {
+        if let Ok(receipt) = seat.report(rt, Report::Event(Event::TICK)) {
+            receipts.push(receipt).expect(rt, "a list grows");
+        }
+    }
+    (seat.end(), receipts)
+}
+
+// Looks while a sync is held. Sees nothing where none is.
+fn look_meanwhile<D: Disk, N: Naming, C: Clock>(
+    clock: &C,
+    gate: &Gate,
+    shared: &Shared<D, Global, N>,
+    share: Share<N, Global>,
+) -> (Share<N, Global>, Option<u64>) {
+    if !gate.is_held(clock) {
+        return (share, None);
+    }
+    let mut seat = shared.again(share);
+    let status = seat.status();
+    gate.let_go();
+    (seat.end(), Some(status.summary.judged))
+}
+
+fn run<D: Disk, N: Naming, R: Wait + Abort + Clock>(
+    rt: &R,
+    alloc: Global,
+    gate: &Gate,
+    shared: &Shared<D, Global, N>,
+    caller: Caller<N>,
+) -> (Share<N, Global>, Answers) {
+    let Caller { share, task } = caller;
+    let seat = share.number();
+    let (share, receipts, seen) = match task {
+        Task::Report(times) => {
+            let (share, receipts) = ticks(rt, alloc, shared, share, times);
+            (share, receipts, None)
+        }
+        Task::Look => {
+            let (share, seen) = look_meanwhile(rt, gate, shared, share);
+            (share, Vec::new(alloc), seen)
+        }
+    };
+    let answers = Answers {
+        seat,
+        receipts,
+        seen,
+    };
+    (share, answers)
+}
+
+// That a type may go to another thread.
+fn crosses<T: Send>()
+    ensures { IsSend T.row }
+{}
+
+/// Runs each caller on a thread of its own, in the order of the list where no thread can be made.
+pub(crate) fn run_all<
+    D: Disk + Send,
+    N: Naming + Send + Sync,
+    R: Threads + Wait + Abort + Clock + Sync,
+>(
+    rt: &R,
+    alloc: Global,
+    gate: &Gate,
+    shared: &Shared<D, Global, N>,
+    callers: Vec<Caller<N>, Global>,
+) -> Vec<(Share<N, Global>, Answers), Global> {
+    // The parts of what lies under the lock: the proof that the whole may go to another thread asks for each.
+    crosses::<LegalHistory<Global>>();
+    crosses::<Journal<D>>();
+    crosses::<Option<Failed>>();
+    crosses::<Spine<N>>();
+    crosses::<Front<N>>();
+    crosses::<Publisher<N, Global>>();
+    crosses::<Source<N, Global>>();
+    crosses::<ledger::Book<N>>();
+    crosses::<ledger::Share<N>>();
+    let each = |caller: Caller<N>| run(rt, alloc, gate, shared, caller);
+    map_vec(rt, callers, &each).expect(rt, "a list is made")
+}
