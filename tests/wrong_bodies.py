@@ -42,7 +42,7 @@ def rlib(crate):
 def is_newer(crate):
     """Whether a file of the crate is newer than its library, which then may be that of another text."""
     files = [it for part in PARTS for it in glob.glob("%s/crates/%s/%s/**" % (ROOT, crate, part), recursive=True)]
-    return any(os.path.getmtime(it) > os.path.getmtime(rlib(crate)) for it in files)
+    return any(os.path.isfile(it) and os.path.getmtime(it) > os.path.getmtime(rlib(crate)) for it in files)
 
 
 def check(crate, crates, function, folder):
