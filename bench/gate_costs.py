@@ -32,9 +32,9 @@ def words_of(number):
 
 
 def check_of(number):
-    """The crate that a process checks and whether it is one of a wrong body; None for another process."""
+    """The crate that a process checks or builds and whether it is one of a wrong body; None for another process."""
     words = words_of(number)
-    if "--crate-name" not in words[:-1] or "check" not in words:
+    if "--crate-name" not in words[:-1] or os.path.basename(words[0]) != "rattle":
         return None
     crate = words[words.index("--crate-name") + 1]
     return crate, "rt-edit-" in os.readlink("/proc/%s/cwd" % number)
