@@ -2,8 +2,9 @@
 ghost use Rattle.std.specs.Prelude.{◌≡◌, ◌≢◌, ◌<◌, ◌↔◌, ◌⊎◌, suc, IfOk, IfErr, IsErrOf, Err, List, ℕ};
 ghost use Rattle.alphabet.specs.Channels.{event_count};
 ghost use Rattle.session.specs.Told.{IsSame, IsFor, greatest};
-ghost use Rattle.wire.specs.Replies.{LineReplies};
+ghost use Rattle.wire.specs.Replies.{LineReplies, noted};
 ghost use Rattle.wire.specs.Talks.{Serves};
+ghost use Rattle.wire.specs.declared.answers.Tally.{Tally};
 ghost use Rattle.one_seat.specs.Faults.{told_as};
 ghost use Rattle.one_seat.specs.Seats.{Reports, Statuses, Nexts, channels_of, seat_of, session_of};
 
@@ -13,7 +14,7 @@ use disk::Disk;
 use session::{SeatNumber, Session};
 use std::alloc::Allocator;
 use std::sync::Wait;
-use wire::{End, Fault, Judge, Receipt, Sink, Source, Status, Summary, WireError};
+use wire::{End, Fault, Judge, Receipt, Sink, Source, Status, Summary, Tally, WireError};
 
 /// A session of which no other seat reports.
 #[derive(Drop)]
@@ -119,8 +120,8 @@ impl<D: Disk, A: Allocator + Copy + Drop> OneSeat<D, A> {
         reader: &mut R,
         writer: &mut W,
     ) -> Result<End, WireError>
-        ensures serves { Serves (LineReplies (Reports D.state) Statuses Nexts (channels_of self.old))
-            self.old self.new (R.left reader.old) (R.left reader.new) (W.contents writer.old) (W.contents writer.new) result }
+        ensures serves { (none : Tally) × (tally : Tally) × Serves (LineReplies (Reports D.state) Statuses Nexts (channels_of self.old))
+            (noted self.old none) (noted self.new tally) (R.left reader.old) (R.left reader.new) (W.contents writer.old) (W.contents writer.new) result }
         ensures handed_on { W.has_handed_on writer.old → result ≢ Err WireError.Write → W.has_handed_on writer.new }
         ensures reader_failed { IsErrOf result WireError.Read → R.failures reader.old < R.failures reader.new }
         ensures writer_failed { IsErrOf result WireError.Write → W.failures writer.old < W.failures writer.new }
@@ -128,6 +129,7 @@ impl<D: Disk, A: Allocator + Copy + Drop> OneSeat<D, A> {
         let Ok(alphabet) = copy_of(alloc, self.session.spec().alphabet()) else {
             return Err(WireError::Memory);
         };
-        wire::serve(rt, alloc, reader, writer, self, &alphabet)
+        let mut tally = Tally::new();
+        wire::serve(rt, alloc, reader, writer, self, &alphabet, &mut tally)
     }
 }

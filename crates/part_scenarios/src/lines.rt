@@ -146,6 +146,27 @@ fn plain<T: Wait>(
     out.push_str(if refused { " refused" } else { " no refusal" })
 }
 
+/// What there was among the answers.
+fn tallied<T: Wait>(
+    rt: &T,
+    alphabet: &Alphabet<Global>,
+    alloc: Global,
+    lines: &[u8],
+    out: &mut String,
+) -> Result<(), AllocError>
+    requires { event_count alphabet.now ≡ 2 }
+{
+    let mut reader = Plain::new(lines);
+    let mut writer = Plain::new(Vec::new(alloc));
+    let tally = talk(rt, alloc, &mut reader, &mut writer, alphabet).tally;
+    out.push_str("rejected")?;
+    put_answer(out, tally.rejected)?;
+    out.push_str(" misuse")?;
+    put_answer(out, tally.misuse)?;
+    out.push_str(" limit")?;
+    put_answer(out, tally.limit)
+}
+
 /// The request for memory with this number is refused.
 fn refusing<T: Wait>(
     rt: &T,
@@ -197,6 +218,7 @@ fn play_text<T: Wait>(
     match kind {
         "waiting" => waiting(rt, alphabet, alloc, &lines, out),
         "gathering" => gathering(rt, alphabet, alloc, &lines, out),
+        "tally" => tallied(rt, alphabet, alloc, &lines, out),
         _ => plain(rt, alphabet, alloc, &lines, out),
     }
 }
@@ -261,7 +283,7 @@ pub(crate) fn play<T: Wait>(
 ) -> Result<bool, AllocError> {
     if !matches!(
         kind,
-        "pieces" | "waiting" | "gathering" | "plain" | "refusing"
+        "pieces" | "waiting" | "gathering" | "plain" | "tally" | "refusing"
     ) {
         return Ok(false);
     }

@@ -8,7 +8,7 @@ ghost use Rattle.wire.specs.declared.engine.WireError.{WireError};
 use alphabet::{Alphabet, Event, EventSet, Report};
 use std::alloc::{Allocator, Global};
 use std::sync::Wait;
-use wire::{End, Fault, Judge, Receipt, Sink, Source, Status, Summary, WireError, serve};
+use wire::{End, Fault, Judge, Receipt, Sink, Source, Status, Summary, Tally, WireError, serve};
 
 /// A judge of `P = a -> d.2 -> P`, which answers a fault at its tenth report.
 #[derive(Drop)]
@@ -86,11 +86,12 @@ impl Judge for Turns {
     }
 }
 
-/// What a connection came to: how it ended, and how many entries the judge has.
+/// What a connection came to: how it ended, how many entries the judge has, and what there was among the answers.
 #[derive(Clone, Copy, Drop)]
 pub(crate) struct Outcome {
     pub end: Result<End, WireError>,
     pub judged: u64,
+    pub tally: Tally,
 }
 
 /// Serves a connection to a judge of its own.
@@ -105,9 +106,11 @@ pub(crate) fn talk<T: Wait, R: Source, W: Sink, B: Allocator + Clone + Drop>(
     ensures handed_on { W.has_handed_on writer.old → result.end ≢ Err WireError.Write → W.has_handed_on writer.new }
 {
     let mut judge = Turns::new();
-    let end = serve(rt, alloc, reader, writer, &mut judge, alphabet);
+    let mut tally = Tally::new();
+    let end = serve(rt, alloc, reader, writer, &mut judge, alphabet, &mut tally);
     Outcome {
         end,
         judged: judge.summary.judged,
+        tally,
     }
 }

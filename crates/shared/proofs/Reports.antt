@@ -1,17 +1,17 @@
 -- What holds of a report of one seat holds of one that has seen and done the same.
-use Rattle.std.proofs.Common.{◌≡◌, ℕ, Bool, true, false, Result, Ok, Err, IfOk, IfErr, List, [], ◌∷◌, ◌++◌, ap, ◌∙◌, subst}
-use Rattle.std.specs.Prelude.{MatchBool}
+use Rattle.std.proofs.Common.{◌≡◌, ℕ, Bool, true, false, Result, Ok, Err, IfOk, IfErr, List, [], ◌∷◌, ◌++◌, ap, sym, ◌∙◌, subst}
+use Rattle.std.specs.Prelude.{MatchBool, ◌||◌}
 use Rattle.alphabet.specs.declared.events.Report.{Report}
 use Rattle.term.specs.Proc.{Proc}
 use Rattle.history.specs.declared.entry.Entry.{Entry}
 use Rattle.history.specs.Entries.{calls}
 use Rattle.history.specs.Legal.{Legal}
 use Rattle.history.specs.Beginnings.{StartsWith}
-use Rattle.history.proofs.Beginnings.{begins_self}
+use Rattle.history.proofs.Beginnings.{begins_self, begins_trans, begins_push}
 use Rattle.session.specs.declared.fault.Fault.{Fault}
 use Rattle.session.specs.declared.fault.Fault.TheVariants.{Memory}
 use Rattle.shared.specs.Told.{SeatTold}
-use Rattle.shared.specs.Faults.{Answers}
+use Rattle.shared.specs.Faults.{Answers, closes}
 use Rattle.shared.specs.Seats.{IsEntryOf, Answered, Refused}
 
 pub match_map : {P Q R S : Type 0} (b : Bool) → (P → R) → (Q → S) → MatchBool b P Q → MatchBool b R S
@@ -26,38 +26,58 @@ pub if_err : {A E : Type 0} (P Q : E → Type 0) (o : Result A E) → ((e : E) �
 if_err P Q (Ok a) f h = tt
 if_err P Q (Err e) f h = f e h
 
--- both have the same number, and have seen and done the same
-pub record IsAlike (old now : SeatTold) : Type 0 where
+-- the second has the same number and own reports, and has seen no less
+pub record IsLater (old now : SeatTold) : Type 0 where
   pub seat : now.seat ≡ old.seat
-  pub seen : now.seen ≡ old.seen
+  pub seen : StartsWith now.seen old.seen
   pub mine : now.mine ≡ old.mine
+  pub closed : now.closed ≡ old.closed
 
-pub answered_from : (B : ℕ → Proc) (old now new : SeatTold) (r : Report) (v : Bool) (p : ℕ) → IsAlike old now → Answered B now new r v p → Answered B old new r v p
-answered_from B old now new r v p like a = record {
-  legal = a.legal;
-  begins = subst (λ (l : List Entry). StartsWith new.seen l) like.seen a.begins;
-  before = a.before;
-  entry = a.entry;
-  is_of = subst (λ (k : ℕ). IsEntryOf a.entry k r v) like.seat a.is_of;
-  ends = a.ends;
-  stands = a.stands;
-  mine = a.mine ∙ ap (λ (l : List Entry). l ++ a.entry ∷ []) like.mine;
-  own = subst (λ (k : ℕ). calls new.seen k ≡ new.mine) like.seat a.own;
+pub later_same : (old now : SeatTold) → now.seat ≡ old.seat → now.seen ≡ old.seen → now.mine ≡ old.mine → now.closed ≡ old.closed → IsLater old now
+later_same old now seat seen mine closed = record {
+  seat = seat;
+  seen = subst (λ (l : List Entry). StartsWith now.seen l) seen (begins_self now.seen);
+  mine = mine;
+  closed = closed;
 }
 
-pub refused_from : (B : ℕ → Proc) (old now new : SeatTold) (r : Report) (f : Fault) → IsAlike old now → Refused B now new r f → Refused B old new r f
-refused_from B old now new r f like a = record {
+pub answered_later : (B : ℕ → Proc) (old now new : SeatTold) (r : Report) (v : Bool) (p : ℕ) → IsLater old now → Answered B now new r v p → Answered B old new r v p
+answered_later B old now new r v p later a = record {
   legal = a.legal;
-  begins = subst (λ (l : List Entry). StartsWith new.seen l) like.seen a.begins;
-  same = a.same ∙ like.mine;
-  why = subst (λ (k : ℕ). Answers B new.seen k old.mine r f) like.seat (subst (λ (l : List Entry). Answers B new.seen now.seat l r f) like.mine a.why);
+  before = a.before;
+  begins = begins_trans old.seen now.seen a.before later.seen a.begins;
+  entry = a.entry;
+  is_of = subst (λ (k : ℕ). IsEntryOf a.entry k r v) later.seat a.is_of;
+  ends = a.ends;
+  stands = a.stands;
+  mine = a.mine ∙ ap (λ (l : List Entry). l ++ a.entry ∷ []) later.mine;
+  own = subst (λ (k : ℕ). calls new.seen k ≡ new.mine) later.seat a.own;
+  seat = a.seat ∙ later.seat;
+  closed = a.closed ∙ later.closed;
+}
+
+pub refused_later : (B : ℕ → Proc) (old now new : SeatTold) (r : Report) (f : Fault) → IsLater old now → Refused B now new r f → Refused B old new r f
+refused_later B old now new r f later a = record {
+  legal = a.legal;
+  begins = begins_trans old.seen now.seen new.seen later.seen a.begins;
+  same = a.same ∙ later.mine;
+  why = subst (λ (k : ℕ). Answers B new.seen k old.mine r f) later.seat (subst (λ (l : List Entry). Answers B new.seen now.seat l r f) later.mine a.why);
+  seat = a.seat ∙ later.seat;
+  closed = a.closed ∙ ap (λ (b : Bool). closes f || b) later.closed;
 }
 
 -- memory was refused before the lock was taken
-pub refused_early : (B : ℕ → Proc) (old now : SeatTold) (r : Report) → IsAlike old now → Legal B now.seen → Refused B old now r Memory
-refused_early B old now r like legal = record {
+pub refused_early : (B : ℕ → Proc) (old now : SeatTold) (r : Report) → IsLater old now → Legal B now.seen → Refused B old now r Memory
+refused_early B old now r later legal = record {
   legal = legal;
-  begins = subst (λ (l : List Entry). StartsWith now.seen l) like.seen (begins_self now.seen);
-  same = like.mine;
+  begins = later.seen;
+  same = later.mine;
   why = tt;
+  seat = later.seat;
+  closed = later.closed;
 }
+
+-- a history with an entry more begins with what the history before it begins with
+pub answered_begins : (B : ℕ → Proc) (old new : SeatTold) (r : Report) (v : Bool) (p : ℕ) → Answered B old new r v p → StartsWith new.seen old.seen
+answered_begins B old new r v p a =
+    subst (λ (l : List Entry). StartsWith l old.seen) (sym a.ends) (begins_trans old.seen a.before (a.before ++ a.entry ∷ []) a.begins (begins_push a.before a.entry))

@@ -1,5 +1,5 @@
 -- What is known of a seat's report, and of all seats at the end.
-use Rattle.std.specs.Prelude.{◌≡◌, ℕ, List, [], ◌∷◌, ◌++◌, length, Bool, true, not, ◌&&◌, ◌==◌}
+use Rattle.std.specs.Prelude.{◌≡◌, ℕ, List, [], ◌∷◌, ◌++◌, length, Bool, true, not, ◌&&◌, ◌||◌, ◌==◌}
 use Rattle.std.specs.List.{sum_by}
 use Rattle.alphabet.specs.declared.events.Report.{Report}
 use Rattle.term.specs.Proc.{Proc}
@@ -9,7 +9,7 @@ use Rattle.history.specs.Legal.{Legal}
 use Rattle.history.specs.Beginnings.{StartsWith}
 use Rattle.session.specs.declared.fault.Fault.{Fault}
 use Rattle.shared.specs.Told.{SeatTold}
-use Rattle.shared.specs.Faults.{Answers}
+use Rattle.shared.specs.Faults.{Answers, closes}
 
 -- the entry is this seat's, of this report and verdict
 pub record IsEntryOf (e : Entry) (seat : ℕ) (report : Report) (verdict : Bool) : Type 0 where
@@ -18,25 +18,30 @@ pub record IsEntryOf (e : Entry) (seat : ℕ) (report : Report) (verdict : Bool)
   pub verdict_is : e.verdict ≡ verdict
 
 -- A receipt, of the bodies, the seat before and after, the report, the verdict and the place. What the seat has seen is a legal history
--- that begins with what it had seen and ends with this report's entry; the place is its length; the entry is one more of the seat's own,
--- which are then all that it has in that history.
+-- that ends with this report's entry, and that before the entry begins with what it had seen; the place is its length; the entry is one
+-- more of the seat's own, which are then all that it has in that history.
 pub record Answered (B : ℕ → Proc) (old new : SeatTold) (report : Report) (verdict : Bool) (place : ℕ) : Type 0 where
   pub legal : Legal B new.seen
-  pub begins : StartsWith new.seen old.seen
   pub before : List Entry
+  pub begins : StartsWith before old.seen
   pub entry : Entry
   pub is_of : IsEntryOf entry old.seat report verdict
   pub ends : new.seen ≡ before ++ entry ∷ []
   pub stands : place ≡ length new.seen
   pub mine : new.mine ≡ old.mine ++ entry ∷ []
   pub own : calls new.seen old.seat ≡ new.mine
+  pub seat : new.seat ≡ old.seat
+  pub closed : new.closed ≡ old.closed
 
--- A fault. What the seat has seen is a legal history that begins with what it had seen; its own reports stay.
+-- A fault. What the seat has seen is a legal history that begins with what it had seen; its own reports stay. It knows the session to be
+-- closed where this fault is one that closes, or one before was.
 pub record Refused (B : ℕ → Proc) (old new : SeatTold) (report : Report) (f : Fault) : Type 0 where
   pub legal : Legal B new.seen
   pub begins : StartsWith new.seen old.seen
   pub same : new.mine ≡ old.mine
   pub why : Answers B new.seen old.seat old.mine report f
+  pub seat : new.seat ≡ old.seat
+  pub closed : new.closed ≡ (closes f || old.closed)
 
 -- of the opening, the whole list and a seat: the whole begins with what the seat has seen, and the seat's calls in it with its own
 pub record IsWithin (o all : List Entry) (p : SeatTold) : Type 0 where

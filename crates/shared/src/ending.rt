@@ -1,6 +1,6 @@
 //! How a shared session ends.
 
-ghost use Rattle.std.specs.Prelude.{◌≡◌, ◌≤◌, ◌<◌, ◌+◌, ◌++◌, ◌∷◌, [], length, true, ℕ, List, IfSome};
+ghost use Rattle.std.specs.Prelude.{◌≡◌, ◌≤◌, ◌<◌, ◌+◌, ◌++◌, ◌∷◌, [], suc, length, true, ℕ, List, IfSome, IsSome};
 ghost use Rattle.term.specs.Proc.{bodies_of};
 ghost use Rattle.history.specs.Legal.{Legal};
 ghost use Rattle.session.specs.Told.{IsFor};
@@ -18,14 +18,22 @@ use std::alloc::Allocator;
 use std::sync::{Wait, ledger};
 
 impl<D: Disk, A: Allocator + Copy, N: Naming> Ended<D, A, N> {
-    /// The session, and how many reports were answered with a receipt. `None` where these aren't the shares of all seats.
-    pub fn finish(self, shares: Vec<Share<N, A>, A>) -> (Session<D, A>, Option<u64>)
+    /// The session, and how many reports were answered with a receipt: `None` where the shares aren't as many as the seats given, or
+    /// two have one seat number.
+    pub fn finish<R: Wait>(
+        self,
+        rt: &R,
+        shares: Vec<Share<N, A>, A>,
+    ) -> (Session<D, A>, Option<u64>)
         requires { N.all ≡ N.parts }
         ensures session { (result.0.spec ≡ N.spec) × StartsWith result.0.history N.opening × Legal (bodies_of N.spec.bodies) result.0.history }
         ensures kept { (script : List ℕ) × (root : List ℕ) × IsFor D.state script root result.0 }
         ensures counted { IfSome result.1 (λ n. (length result.0.history ≡ length N.opening + n) × (n ≡ receipts shares.items)) }
         ensures told { IfSome result.1 (λ n. AllTold result.0.history shares.items) }
         ensures crash { IfSome result.1 (λ n. AllLeft D.state result.0 shares.items) }
+
+        // The ledger has a part more than there are places at least. So where the shares have all other parts, they are all.
+        ensures whole { suc (length shares.items) ≡ N.all → apart shares.items ≡ true → IsSome result.1 }
     {
         let Self {
             session,
@@ -36,10 +44,16 @@ impl<D: Disk, A: Allocator + Copy, N: Naming> Ended<D, A, N> {
         } = self;
         let _ = session.history();
         let all = shares.as_slice();
-        if all.len() as u64 != given || !are_apart(all) || !are_within(&front, all) {
+        let count = all.len() as u64;
+        let alone = are_apart(all);
+        await_within(rt, &front, all);
+        gather(&mut rest, shares);
+        if count != given {
             return (session, None);
         }
-        gather(&mut rest, shares);
+        if !alone {
+            return (session, None);
+        }
         book.audit(&mut rest);
         (session, Some(front.len()))
     }
@@ -61,9 +75,12 @@ impl<D: Disk, A: Allocator + Copy, N: Naming> Shared<D, A, N> {
         ensures counted { IfSome result.1 (λ n. (length result.0.history ≡ length N.opening + n) × (n ≡ receipts shares.items)) }
         ensures told { IfSome result.1 (λ n. AllTold result.0.history shares.items) }
         ensures crash { IfSome result.1 (λ n. AllLeft D.state result.0 shares.items) }
+
+        // The ledger has a part more than there are places at least. So where the shares have all other parts, they are all.
+        ensures whole { suc (length shares.items) ≡ N.all → apart shares.items ≡ true → IsSome result.1 }
     {
         let Shared { locked } = self;
-        close(rt, locked.into_inner()).finish(shares)
+        close(rt, locked.into_inner()).finish(rt, shares)
     }
 }
 
@@ -98,9 +115,23 @@ fn are_within<N: Naming, A: Allocator>(all: &Front<N>, shares: &[Share<N, A>]) -
     }
 }
 
-// Puts all parts of the ledger together.
+// Looks until each has seen no more than the whole list. No seat has seen more than that, so the first look ends it.
+fn await_within<N: Naming, A: Allocator, R: Wait>(rt: &R, all: &Front<N>, shares: &[Share<N, A>])
+    ensures { AllWithin N.opening all.now shares.now }
+{
+    for _ in rt.forever() {
+        if are_within(all, shares) {
+            return;
+        }
+    }
+    unreachable!()
+}
+
+// Puts all parts of the ledger together. It has no more than all.
 fn gather<N: Naming, A: Allocator>(rest: &mut ledger::Share<N>, shares: Vec<Share<N, A>, A>)
+    requires { rest.old.parts ≤ N.parts }
     ensures parts { rest.new.parts ≡ rest.old.parts + length shares.items }
+    ensures bound { rest.new.parts ≤ N.parts }
     ensures amount { rest.new.amount ≡ rest.old.amount + receipts shares.items }
 {
     let mut shares = shares;

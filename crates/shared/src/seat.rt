@@ -1,6 +1,6 @@
 //! A shared session, and the seats at it.
 
-ghost use Rattle.std.specs.Prelude.{◌≡◌, ◌↔◌, ◌≤◌, ◌<◌, ◌++◌, ◌∷◌, [], length, IsTrue, IfOk, IfErr};
+ghost use Rattle.std.specs.Prelude.{◌≡◌, ◌↔◌, ◌≤◌, ◌<◌, ◌++◌, ◌∷◌, [], length, false, IsTrue, IfOk, IfErr};
 ghost use Rattle.alphabet.specs.declared.events.Event.{Event};
 ghost use Rattle.alphabet.specs.EventSets.{member};
 ghost use Rattle.term.specs.Meaning.{Trace};
@@ -70,7 +70,7 @@ impl<D: Disk, A: Allocator + Copy, N: Naming> Shared<D, A, N> {
     ///
     /// The faults are asked for in this order: `Closed`, `Seats`, `Reader`. After `Reader` a seat number is used up.
     pub fn seat<R: Wait>(&self, rt: &R, alloc: A) -> Result<Seat<'_, D, A, N>, SeatFault>
-        ensures seat { IfOk result (λ s. (s.share.mine ≡ []) × StartsWith s.share.seen N.opening) }
+        ensures seat { IfOk result (λ s. (s.share.mine ≡ []) × (s.share.closed ≡ false) × StartsWith s.share.seen N.opening) }
     {
         let mut locked = self.locked.lock(rt);
         let given = locked.seat();

@@ -1,6 +1,6 @@
 //! What a seat knows and has done.
 
-ghost use Rattle.std.specs.Prelude.{◌≡◌, ◌↔◌, ◌≤◌, ◌<◌, ◌+◌, ◌++◌, ◌∷◌, [], length, true, ℕ, IsTrue, MatchBool, IfOk, IfErr, OnOk, OnErr};
+ghost use Rattle.std.specs.Prelude.{◌≡◌, ◌↔◌, ◌≤◌, ◌<◌, ◌+◌, ◌++◌, ◌∷◌, [], length, true, false, ℕ, IsTrue, MatchBool, IfOk, IfErr, OnOk, OnErr};
 ghost use Rattle.alphabet.specs.declared.events.Event.{Event};
 ghost use Rattle.alphabet.specs.EventSets.{member};
 ghost use Rattle.term.specs.Meaning.{Trace};
@@ -97,7 +97,7 @@ impl<N: Naming, A: Allocator> Share<N, A> {
         requires summary { summary ≡ summary_of (N.opening ++ front) }
         requires fresh { calls (N.opening ++ front) number ≡ [] }
         requires part { (part.parts ≡ 1) × (part.amount ≡ 0) }
-        ensures { (result.mine ≡ []) × (result.seen ≡ N.opening ++ front) × (result.seat ≡ number) }
+        ensures { (result.mine ≡ []) × (result.seen ≡ N.opening ++ front) × (result.seat ≡ number) × (result.closed ≡ false) }
     {
         Share {
             number,
@@ -236,7 +236,7 @@ impl<N: Naming, A: Allocator + Copy> Share<N, A> {
                 Ok(Receipt { verdict, place })
             }
             Err(fault) => {
-                self.closed = self.closed | is_closing(&fault);
+                self.closed = is_closing(&fault) | self.closed;
                 Err(fault)
             }
         }

@@ -1,7 +1,8 @@
-//! What a judge answers.
-ghost use Rattle.std.specs.Prelude.{◌≡◌, ◌≤◌, length};
-ghost use Rattle.wire.specs.Replies.{fault_code, fault_word, fault_text};
+//! What is answered: by a judge, and to a line.
+ghost use Rattle.std.specs.Prelude.{◌≡◌, ◌≤◌, length, false};
+ghost use Rattle.wire.specs.Replies.{fault_code, fault_word, fault_text, tallied};
 
+use alphabet::EventSet;
 use std::fmt;
 
 /// The answer to a report that was judged: whether it was accepted, and the place of its entry in the history.
@@ -120,3 +121,60 @@ impl fmt::Display for Fault {
 }
 
 impl std::error::Error for Fault {}
+
+/// What a line was answered with.
+#[derive(Clone, Copy, Debug)]
+pub enum Answer {
+    /// The report was judged.
+    Judged(Receipt),
+    /// The report wasn't judged, or there was no memory for the names of the events of `N`.
+    Fault(Fault),
+    /// The answer to `S`.
+    Status(Status),
+    /// The answer to `N`: the events that may come next.
+    Next(EventSet),
+    /// The answer to `Q`.
+    Bye,
+    /// The line is no command.
+    UnknownCommand,
+    /// The line names no event of the alphabet.
+    UnknownEvent,
+}
+
+/// What there was among the answers so far.
+#[derive(Clone, Copy, Debug, PartialEq, Eq)]
+pub struct Tally {
+    /// A report was judged and rejected.
+    pub rejected: bool,
+    /// A line was no command, or named no event of the alphabet.
+    pub misuse: bool,
+    /// A line was answered with a fault.
+    pub limit: bool,
+}
+
+impl Tally {
+    /// Of no answers.
+    pub fn new() -> Tally
+        ensures { result ≡ record { rejected = false; misuse = false; limit = false } }
+    {
+        Tally {
+            rejected: false,
+            misuse: false,
+            limit: false,
+        }
+    }
+
+    /// With one answer more.
+    pub fn after(self, answer: &Answer) -> Tally
+        ensures { result ≡ tallied self answer.now }
+    {
+        let mut tally = self;
+        match answer {
+            Answer::Judged(receipt) if !receipt.verdict => tally.rejected = true,
+            Answer::Fault(_) => tally.limit = true,
+            Answer::UnknownCommand | Answer::UnknownEvent => tally.misuse = true,
+            _ => {}
+        }
+        tally
+    }
+}

@@ -3,10 +3,10 @@ ghost use Rattle.std.specs.Prelude.{◌≡◌, ◌≢◌, ◌+◌, ◌<◌, ◌�
 ghost use Rattle.std.specs.Io.KnownBytes.{Appends};
 ghost use Rattle.alphabet.specs.Channels.{event_count};
 ghost use Rattle.wire.specs.Requests.{Lacks};
-ghost use Rattle.wire.specs.Replies.{LineReplies, fault_text};
+ghost use Rattle.wire.specs.Replies.{LineReplies, noted, fault_text};
 ghost use Rattle.wire.specs.Talks.{Hears, Serves, IsShort};
 
-use crate::answers::Fault;
+use crate::answers::{Fault, Tally};
 use crate::ends::{Sink, SinkFault, Source};
 use crate::judging::Judge;
 use crate::lines::cut;
@@ -108,24 +108,32 @@ fn cut_off<W: Sink>(writer: &mut W) -> Result<Option<End>, WireError>
     }
 }
 
-// Makes the reply to the line whose last piece this is. The answer is whether the line is a Q.
+// Makes the reply to the line whose last piece this is. The result is whether the line is a Q.
 fn answer_line<J: Judge, A: Allocator, B: Allocator>(
     piece: &[u8],
     desk: &mut Desk<B>,
     judge: &mut J,
     alphabet: &Alphabet<A>,
+    tally: &mut Tally,
 ) -> bool
     requires fits { length desk.old.begun.items + length piece.now ≤ 4096 }
     requires events { J.event_count judge.old ≡ event_count alphabet.now }
     ensures said { LineReplies J.reports J.statuses J.nexts alphabet.now
-        judge.old (desk.old.begun.items ++ piece.now) judge.new desk.new.reply.items }
+        (noted judge.old tally.old) (desk.old.begun.items ++ piece.now) (noted judge.new tally.new) desk.new.reply.items }
     ensures events { J.event_count judge.new ≡ J.event_count judge.old }
     ensures begun { desk.new.begun.items ≡ [] }
     ensures quit { result ≡ true → desk.old.begun.items ++ piece.now ≡ codes "Q" }
     ensures other { result ≡ false → desk.old.begun.items ++ piece.now ≢ codes "Q" }
 {
     if desk.begun.is_empty() {
-        return answer(judge, alphabet, piece, &mut desk.offered, &mut desk.reply);
+        return answer(
+            judge,
+            alphabet,
+            piece,
+            &mut desk.offered,
+            &mut desk.reply,
+            tally,
+        );
     }
     add(&mut desk.begun, piece);
     let quit = answer(
@@ -134,6 +142,7 @@ fn answer_line<J: Judge, A: Allocator, B: Allocator>(
         &desk.begun,
         &mut desk.offered,
         &mut desk.reply,
+        tally,
     );
     desk.begun.clear();
     quit
@@ -146,12 +155,13 @@ fn hear_line<W: Sink, J: Judge, A: Allocator, B: Allocator>(
     writer: &mut W,
     judge: &mut J,
     alphabet: &Alphabet<A>,
+    tally: &mut Tally,
 ) -> Result<Option<End>, WireError>
     requires begun { IsShort desk.old.begun.items }
     requires plain { Lacks 10 piece.now }
     requires events { J.event_count judge.old ≡ event_count alphabet.now }
     ensures hears { Hears (LineReplies J.reports J.statuses J.nexts alphabet.now)
-        judge.old judge.new (W.contents writer.old) (W.contents writer.new)
+        (noted judge.old tally.old) (noted judge.new tally.new) (W.contents writer.old) (W.contents writer.new)
         (desk.old.begun.items ++ (piece.now ++ 10 ∷ [])) desk.new.begun.items result }
     ensures handed_on { OnOk result (W.has_handed_on writer.new) }
     ensures events { J.event_count judge.new ≡ J.event_count judge.old }
@@ -161,7 +171,7 @@ fn hear_line<W: Sink, J: Judge, A: Allocator, B: Allocator>(
     if piece.len() > LINE - desk.begun.len() {
         return cut_off(writer);
     }
-    let quit = answer_line(piece, desk, judge, alphabet);
+    let quit = answer_line(piece, desk, judge, alphabet, tally);
     match send(writer, desk.reply.as_slice()) {
         Ok(()) if quit => Ok(Some(End::Quit)),
         Ok(()) => Ok(None),
@@ -190,11 +200,12 @@ fn feed<W: Sink, J: Judge, A: Allocator, B: Allocator>(
     writer: &mut W,
     judge: &mut J,
     alphabet: &Alphabet<A>,
+    tally: &mut Tally,
 ) -> Result<Option<End>, WireError>
     requires begun { IsShort desk.old.begun.items }
     requires events { J.event_count judge.old ≡ event_count alphabet.now }
     ensures hears { Hears (LineReplies J.reports J.statuses J.nexts alphabet.now)
-        judge.old judge.new (W.contents writer.old) (W.contents writer.new)
+        (noted judge.old tally.old) (noted judge.new tally.new) (W.contents writer.old) (W.contents writer.new)
         (desk.old.begun.items ++ bytes.now) desk.new.begun.items result }
     ensures handed_on { W.has_handed_on writer.old → OnOk result (W.has_handed_on writer.new) }
     ensures events { J.event_count judge.new ≡ J.event_count judge.old }
@@ -203,7 +214,7 @@ fn feed<W: Sink, J: Judge, A: Allocator, B: Allocator>(
 {
     let mut rest = bytes;
     while let Some((line, others)) = cut(rest, b'\n') {
-        match hear_line(line, desk, writer, judge, alphabet) {
+        match hear_line(line, desk, writer, judge, alphabet, tally) {
             Ok(None) => {}
             Ok(Some(end)) => return Ok(Some(end)),
             Err(fault) => return Err(fault),
@@ -221,7 +232,8 @@ fn feed<W: Sink, J: Judge, A: Allocator, B: Allocator>(
 /// alphabet that is handed in. Room for a begun line and for every reply but that of `N` is made first, and `Memory` comes
 /// then alone; an `N` for which there is no memory is answered so. Each reply is one write where the writer takes it whole,
 /// and is flushed: where nothing waited in the writer before, no reply waits there afterwards, save where a write or a flush
-/// failed. Cost: each byte is looked at once to find the line's end; a line that lies whole in one read isn't copied.
+/// failed. Each line's answer is tallied, also where the write of its reply failed; a line that is too long has no answer.
+/// Cost: each byte is looked at once to find the line's end; a line that lies whole in one read isn't copied.
 pub fn serve<T: Wait, R: Source, W: Sink, J: Judge, A: Allocator, B: Allocator + Clone + Drop>(
     rt: &T,
     alloc: B,
@@ -229,10 +241,12 @@ pub fn serve<T: Wait, R: Source, W: Sink, J: Judge, A: Allocator, B: Allocator +
     writer: &mut W,
     judge: &mut J,
     alphabet: &Alphabet<A>,
+    tally: &mut Tally,
 ) -> Result<End, WireError>
     requires { J.event_count judge.old ≡ event_count alphabet.now }
     ensures serves { Serves (LineReplies J.reports J.statuses J.nexts alphabet.now)
-        judge.old judge.new (R.left reader.old) (R.left reader.new) (W.contents writer.old) (W.contents writer.new) result }
+        (noted judge.old tally.old) (noted judge.new tally.new)
+        (R.left reader.old) (R.left reader.new) (W.contents writer.old) (W.contents writer.new) result }
     ensures handed_on { W.has_handed_on writer.old → result ≢ Err WireError.Write → W.has_handed_on writer.new }
     ensures events { J.event_count judge.new ≡ J.event_count judge.old }
     ensures reader_failed { IsErrOf result WireError.Read → R.failures reader.old < R.failures reader.new }
@@ -249,7 +263,7 @@ pub fn serve<T: Wait, R: Source, W: Sink, J: Judge, A: Allocator, B: Allocator +
         if count == 0 {
             return Ok(End::Input);
         }
-        match feed(&block[..count], &mut desk, writer, judge, alphabet) {
+        match feed(&block[..count], &mut desk, writer, judge, alphabet, tally) {
             Ok(None) => {}
             Ok(Some(end)) => return Ok(end),
             Err(fault) => return Err(fault),

@@ -1,11 +1,11 @@
 //! The text of each reply.
-ghost use Rattle.std.specs.Prelude.{◌≡◌, ◌≢◌, ◌+◌, ◌≤◌, ◌++◌, [], true, false, length, vec_len, vec_capacity, decimal, codes, OnOk};
-ghost use Rattle.alphabet.specs.EventSets.{members};
+ghost use Rattle.std.specs.Prelude.{◌≡◌, ◌≢◌, ◌+◌, ◌≤◌, ◌++◌, [], true, false, length, vec_len, vec_capacity, decimal, codes, OnOk, OnErr};
+ghost use Rattle.alphabet.specs.EventSets.{Set, members};
 ghost use Rattle.alphabet.specs.Channels.{event_count};
-ghost use Rattle.wire.specs.Requests.{IsSetBelow};
-ghost use Rattle.wire.specs.Replies.{receipt_text, status_text, offer_text, next_text, LineReplies};
+ghost use Rattle.wire.specs.Requests.{IsSetBelow, IsRequestBelow};
+ghost use Rattle.wire.specs.Replies.{receipt_text, status_text, offer_text, next_text, answer_text, IsAnswerBelow, Answers, LineReplies, noted};
 
-use crate::answers::{Fault, Receipt, Status};
+use crate::answers::{Answer, Fault, Receipt, Status, Tally};
 use crate::judging::Judge;
 use crate::requests::{Request, read_request};
 use alphabet::{Alphabet, EventSet};
@@ -106,44 +106,77 @@ fn offer<A: Allocator, B: Allocator>(
     reply.extend_from_slice(b"\n")
 }
 
-/// Lets the judge answer the line, and makes the reply's text. The answer is whether the line is a Q.
+// Makes the text of an answer, for which there may be no memory where it is that to `N`.
+fn put_answer<A: Allocator, B: Allocator>(
+    alphabet: &Alphabet<A>,
+    answer: &Answer,
+    offered: &mut Vec<u8, B>,
+    reply: &mut Vec<u8, B>,
+) -> Result<(), AllocError>
+    requires below { IsAnswerBelow (event_count alphabet.now) answer.now }
+    requires room { 128 ≤ vec_capacity reply.old }
+    ensures text { OnOk result (reply.new.items ≡ answer_text alphabet.now answer.now) }
+    ensures next { OnErr result ((set : Set) × (answer.now ≡ Answer.Next set)) }
+    ensures room { 128 ≤ vec_capacity reply.new }
+{
+    reply.clear();
+    match answer {
+        Answer::Judged(receipt) => add_receipt(reply, *receipt),
+        Answer::Fault(fault) => add(reply, fault.reply()),
+        Answer::Status(status) => add_status(reply, *status),
+        Answer::Next(set) => return offer(alphabet, *set, offered, reply),
+        Answer::Bye => add(reply, b"BYE\n"),
+        Answer::UnknownCommand => add(reply, b"ERR 10 command\n"),
+        Answer::UnknownEvent => add(reply, b"ERR 11 event\n"),
+    }
+    Ok(())
+}
+
+// Lets the judge answer the request.
+fn ask<J: Judge>(judge: &mut J, request: &Request) -> Answer
+    requires below { IsRequestBelow (J.event_count judge.old) request.now }
+    ensures answered { Answers J.reports J.statuses J.nexts judge.old request.now judge.new result }
+    ensures below { IsAnswerBelow (J.event_count judge.old) result }
+    ensures events { J.event_count judge.new ≡ J.event_count judge.old }
+{
+    match request {
+        Request::Judge(report) => match judge.report(*report) {
+            Ok(receipt) => Answer::Judged(receipt),
+            Err(fault) => Answer::Fault(fault),
+        },
+        Request::Status => Answer::Status(judge.status()),
+        Request::Next => Answer::Next(judge.next()),
+        Request::Quit => Answer::Bye,
+        Request::UnknownCommand => Answer::UnknownCommand,
+        Request::UnknownEvent => Answer::UnknownEvent,
+    }
+}
+
+/// Lets the judge answer the line, makes the answer's text, and tallies it. The result is whether the line is a Q.
 pub(crate) fn answer<J: Judge, A: Allocator, B: Allocator>(
     judge: &mut J,
     alphabet: &Alphabet<A>,
     line: &[u8],
     offered: &mut Vec<u8, B>,
     reply: &mut Vec<u8, B>,
+    tally: &mut Tally,
 ) -> bool
     requires room { 128 ≤ vec_capacity reply.old }
     requires events { J.event_count judge.old ≡ event_count alphabet.now }
     ensures said { LineReplies J.reports J.statuses J.nexts alphabet.now
-        judge.old line.now judge.new reply.new.items }
+        (noted judge.old tally.old) line.now (noted judge.new tally.new) reply.new.items }
     ensures events { J.event_count judge.new ≡ J.event_count judge.old }
     ensures quit { result ≡ true → line.now ≡ codes "Q" }
     ensures other { result ≡ false → line.now ≢ codes "Q" }
     ensures room { 128 ≤ vec_capacity reply.new }
 {
     let request = read_request(alphabet, line);
-    reply.clear();
-    match request {
-        Request::Judge(report) => match judge.report(report) {
-            Ok(receipt) => add_receipt(reply, receipt),
-            Err(fault) => add(reply, fault.reply()),
-        },
-        Request::Status => add_status(reply, judge.status()),
-        Request::Next => {
-            let set = judge.next();
-            if offer(alphabet, set, offered, reply).is_err() {
-                reply.clear();
-                add(reply, Fault::Memory.reply());
-            }
-        }
-        Request::Quit => {
-            add(reply, b"BYE\n");
-            return true;
-        }
-        Request::UnknownCommand => add(reply, b"ERR 10 command\n"),
-        Request::UnknownEvent => add(reply, b"ERR 11 event\n"),
+    let mut answer = ask(judge, &request);
+    if put_answer(alphabet, &answer, offered, reply).is_err() {
+        answer = Answer::Fault(Fault::Memory);
+        reply.clear();
+        add(reply, Fault::Memory.reply());
     }
-    false
+    *tally = tally.after(&answer);
+    matches!(request, Request::Quit)
 }

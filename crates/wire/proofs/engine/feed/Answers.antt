@@ -1,18 +1,18 @@
 -- A block is heard line by line, and its rest stays begun.
-use Rattle.std.proofs.Common.{◌≢◌, ◌∙◌, ◌+◌, ◌<◌, ◌++◌, [], ◌∷◌, length, subst, append_assoc, Ok, Err, Some, None}
+use Rattle.std.proofs.Common.{◌≢◌, ◌∙◌, ◌<◌, ◌++◌, [], ◌∷◌, length, subst, append_assoc, Ok, Err, Some, None}
 use Rattle.std.proofs.lemmas.List.{append-nil, length-append}
 use Rattle.wire.specs.Requests.{Lacks}
 use Rattle.wire.specs.Talks.{Open, Hears}
-use Rattle.wire.specs.Replies.{LineReplies}
+use Rattle.wire.specs.Replies.{LineReplies, noted}
 use Rattle.wire.proofs.TalkLemmas.{all_append, open_then, hears_then, hears_out, hears_long, block_goes, block_whole, block_ends}
 use Rattle.wire.proofs.engine.feed.Goals as goal
 
 pub loop-line-preserved : goal.loop-line-preserved
 loop-line-preserved g c =
     let Says = LineReplies g.J.Judge.reports g.J.Judge.statuses g.J.Judge.nexts c.args.alphabet.now in
-    let j = c.args.judge.now in
-    let i = c.loop-line.judge in
-    let k = c.hear_line.new.judge in
+    let j = noted c.args.judge.now c.args.tally.now in
+    let i = noted c.loop-line.judge c.loop-line.tally in
+    let k = noted c.hear_line.new.judge c.hear_line.new.tally in
     let old = g.W.Sink.contents c.args.writer.now in
     let mid = g.W.Sink.contents c.loop-line.writer in
     let new = g.W.Sink.contents c.hear_line.new.writer in
@@ -38,9 +38,9 @@ loop-line-preserved g c =
 pub returns-in-Ok-Some-clause-hears : goal.returns-in-Ok-Some-clause-hears
 returns-in-Ok-Some-clause-hears g c =
     let Says = LineReplies g.J.Judge.reports g.J.Judge.statuses g.J.Judge.nexts c.args.alphabet.now in
-    let j = c.args.judge.now in
-    let i = c.loop-line.judge in
-    let k = c.hear_line.new.judge in
+    let j = noted c.args.judge.now c.args.tally.now in
+    let i = noted c.loop-line.judge c.loop-line.tally in
+    let k = noted c.hear_line.new.judge c.hear_line.new.tally in
     let old = g.W.Sink.contents c.args.writer.now in
     let mid = g.W.Sink.contents c.loop-line.writer in
     let new = g.W.Sink.contents c.hear_line.new.writer in
@@ -59,9 +59,9 @@ returns-in-Ok-Some-clause-hears g c =
 pub returns-in-Err-clause-hears : goal.returns-in-Err-clause-hears
 returns-in-Err-clause-hears g c =
     let Says = LineReplies g.J.Judge.reports g.J.Judge.statuses g.J.Judge.nexts c.args.alphabet.now in
-    let j = c.args.judge.now in
-    let i = c.loop-line.judge in
-    let k = c.hear_line.new.judge in
+    let j = noted c.args.judge.now c.args.tally.now in
+    let i = noted c.loop-line.judge c.loop-line.tally in
+    let k = noted c.hear_line.new.judge c.hear_line.new.tally in
     let old = g.W.Sink.contents c.args.writer.now in
     let mid = g.W.Sink.contents c.loop-line.writer in
     let new = g.W.Sink.contents c.hear_line.new.writer in
@@ -79,8 +79,8 @@ returns-in-Err-clause-hears g c =
 pub returns-else-keep-clause-hears : goal.returns-else-keep-clause-hears
 returns-else-keep-clause-hears g c =
     let Says = LineReplies g.J.Judge.reports g.J.Judge.statuses g.J.Judge.nexts c.args.alphabet.now in
-    let j = c.args.judge.now in
-    let i = c.loop-line.judge in
+    let j = noted c.args.judge.now c.args.tally.now in
+    let i = noted c.loop-line.judge c.loop-line.tally in
     let old = g.W.Sink.contents c.args.writer.now in
     let mid = g.W.Sink.contents c.loop-line.writer in
     let new = g.W.Sink.contents c.cut_off.new.writer in

@@ -1,6 +1,5 @@
 use Rattle.std.proofs.Common.{◌≡◌, ◌++◌, List, ℕ, length}
-use Rattle.alphabet.specs.Channels.{event_count}
-use Rattle.wire.specs.Replies.{LineReplies}
+use Rattle.wire.specs.Replies.{LineReplies, noted}
 use Rattle.wire.specs.Talks.{Open, IsShort}
 use Rattle.wire.proofs.engine.feed.Given as goal
 
@@ -10,7 +9,7 @@ invariant-loop-line g l = record {
   front : List ℕ;
   block : l.bytes ≡ front ++ l.rest;
   talk : Open (LineReplies g.J.Judge.reports g.J.Judge.statuses g.J.Judge.nexts l.alphabet)
-      l.fn.judge l.judge (g.W.Sink.contents l.fn.writer) (g.W.Sink.contents l.writer)
+      (noted l.fn.judge l.fn.tally) (noted l.judge l.tally) (g.W.Sink.contents l.fn.writer) (g.W.Sink.contents l.writer)
       (l.fn.desk.begun.items ++ front) l.desk.begun.items;
   events : g.J.Judge.event_count l.judge ≡ g.J.Judge.event_count l.fn.judge;
   begun : IsShort l.desk.begun.items;

@@ -3,7 +3,7 @@ use Rattle.std.proofs.Common.{◌≡◌, ◌≢◌, ◌+◌, ◌<◌, ◌≤◌,
 use Rattle.std.proofs.lemmas.List.{length-append}
 use Rattle.wire.specs.Requests.{Lacks}
 use Rattle.wire.specs.Talks.{Open, HasQuit, IsCutOff, Hears}
-use Rattle.wire.specs.Replies.{LineReplies}
+use Rattle.wire.specs.Replies.{LineReplies, noted}
 use Rattle.wire.proofs.KnownLemmas.{appends_same}
 use Rattle.wire.proofs.TalkLemmas.{all_append, all_short, open_line, has_quit, cut_line, hears_long}
 use Rattle.wire.proofs.engine.hear_line.Goals as goal
@@ -11,7 +11,7 @@ use Rattle.wire.proofs.engine.hear_line.Goals as goal
 pub returns-then-piece-len-clause-hears : goal.returns-then-piece-len-clause-hears
 returns-then-piece-len-clause-hears g c =
     let Says = LineReplies g.J.Judge.reports g.J.Judge.statuses g.J.Judge.nexts c.args.alphabet.now in
-    let j = c.args.judge.now in
+    let j = noted c.args.judge.now c.args.tally.now in
     let old = g.W.Sink.contents c.args.writer.now in
     let new = g.W.Sink.contents c.cut_off.new.writer in
     let begun = c.args.desk.now.begun.items in
@@ -24,8 +24,8 @@ returns-then-piece-len-clause-hears g c =
 pub returns-in-Ok-clause-hears : goal.returns-in-Ok-clause-hears
 returns-in-Ok-clause-hears g c =
     let Says = LineReplies g.J.Judge.reports g.J.Judge.statuses g.J.Judge.nexts c.args.alphabet.now in
-    let j = c.args.judge.now in
-    let k = c.answer_line-quit.new.judge in
+    let j = noted c.args.judge.now c.args.tally.now in
+    let k = noted c.answer_line-quit.new.judge c.answer_line-quit.new.tally in
     let old = g.W.Sink.contents c.args.writer.now in
     let new = g.W.Sink.contents c.send.new.writer in
     let begun = c.args.desk.now.begun.items in
@@ -39,8 +39,8 @@ returns-in-Ok-clause-hears g c =
 pub returns-in-Ok-2-clause-hears : goal.returns-in-Ok-2-clause-hears
 returns-in-Ok-2-clause-hears g c =
     let Says = LineReplies g.J.Judge.reports g.J.Judge.statuses g.J.Judge.nexts c.args.alphabet.now in
-    let j = c.args.judge.now in
-    let k = c.answer_line-quit.new.judge in
+    let j = noted c.args.judge.now c.args.tally.now in
+    let k = noted c.answer_line-quit.new.judge c.answer_line-quit.new.tally in
     let old = g.W.Sink.contents c.args.writer.now in
     let new = g.W.Sink.contents c.send.new.writer in
     let begun = c.args.desk.now.begun.items in
@@ -57,8 +57,8 @@ returns-in-Ok-2-clause-hears g c =
 pub returns-in-Err-clause-hears : goal.returns-in-Err-clause-hears
 returns-in-Err-clause-hears g c =
     let Says = LineReplies g.J.Judge.reports g.J.Judge.statuses g.J.Judge.nexts c.args.alphabet.now in
-    let j = c.args.judge.now in
-    let k = c.answer_line-quit.new.judge in
+    let j = noted c.args.judge.now c.args.tally.now in
+    let k = noted c.answer_line-quit.new.judge c.answer_line-quit.new.tally in
     let old = g.W.Sink.contents c.args.writer.now in
     let new = g.W.Sink.contents c.send.new.writer in
     let begun = c.args.desk.now.begun.items in

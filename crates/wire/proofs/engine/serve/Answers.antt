@@ -1,6 +1,6 @@
-use Rattle.std.proofs.Common.{◌∙◌, ◌+◌, ◌-◌, ◌++◌, take, Ok, Err, Some, None}
+use Rattle.std.proofs.Common.{◌∙◌, ◌++◌, take, Ok, Err, Some, None}
 use Rattle.wire.specs.Talks.{Hears}
-use Rattle.wire.specs.Replies.{LineReplies}
+use Rattle.wire.specs.Replies.{LineReplies, noted}
 use Rattle.wire.proofs.KnownLemmas.{consumes_more}
 use Rattle.wire.proofs.TalkLemmas.{open_then, hears_then, serves_end, serves_err}
 use Rattle.wire.proofs.engine.serve.Goals as goal
@@ -8,9 +8,9 @@ use Rattle.wire.proofs.engine.serve.Goals as goal
 pub pieces-preserved : goal.pieces-preserved
 pieces-preserved g c =
     let Says = LineReplies g.J.Judge.reports g.J.Judge.statuses g.J.Judge.nexts c.args.alphabet.now in
-    let j = c.args.judge.now in
-    let i = c.pieces.judge in
-    let k = c.feed.new.judge in
+    let j = noted c.args.judge.now c.args.tally.now in
+    let i = noted c.pieces.judge c.pieces.tally in
+    let k = noted c.feed.new.judge c.feed.new.tally in
     let left = g.R.Source.left c.args.reader.now in
     let front = g.R.Source.left c.pieces.reader in
     let rest = g.R.Source.left c.read.new.self in
@@ -37,9 +37,9 @@ pieces-preserved g c =
 pub returns-in-Ok-Some-clause-serves : goal.returns-in-Ok-Some-clause-serves
 returns-in-Ok-Some-clause-serves g c =
     let Says = LineReplies g.J.Judge.reports g.J.Judge.statuses g.J.Judge.nexts c.args.alphabet.now in
-    let j = c.args.judge.now in
-    let i = c.pieces.judge in
-    let k = c.feed.new.judge in
+    let j = noted c.args.judge.now c.args.tally.now in
+    let i = noted c.pieces.judge c.pieces.tally in
+    let k = noted c.feed.new.judge c.feed.new.tally in
     let left = g.R.Source.left c.args.reader.now in
     let front = g.R.Source.left c.pieces.reader in
     let rest = g.R.Source.left c.read.new.self in
@@ -60,9 +60,9 @@ returns-in-Ok-Some-clause-serves g c =
 pub returns-in-Err-clause-serves : goal.returns-in-Err-clause-serves
 returns-in-Err-clause-serves g c =
     let Says = LineReplies g.J.Judge.reports g.J.Judge.statuses g.J.Judge.nexts c.args.alphabet.now in
-    let j = c.args.judge.now in
-    let i = c.pieces.judge in
-    let k = c.feed.new.judge in
+    let j = noted c.args.judge.now c.args.tally.now in
+    let i = noted c.pieces.judge c.pieces.tally in
+    let k = noted c.feed.new.judge c.feed.new.tally in
     let left = g.R.Source.left c.args.reader.now in
     let front = g.R.Source.left c.pieces.reader in
     let rest = g.R.Source.left c.read.new.self in

@@ -7,9 +7,23 @@ use Rattle.shared.proofs.Sums.{told_all}
 use Rattle.shared.proofs.Leaving.{all_left}
 use Rattle.shared.proofs.locked.Ended.finish.Goals as goal
 
-pub returns-then-all-given-clause-session : goal.returns-then-all-given-clause-session
-returns-then-all-given-clause-session g c =
+pub returns-then-count-given-clause-session : goal.returns-then-count-given-clause-session
+returns-then-count-given-clause-session g c =
     let i = c.self.invariant in (i.0, (c.self.inside.front, i.1), kept_legal _ _ _ i.0 c.history.ensures.judged)
+
+pub returns-then-count-given-clause-whole : goal.returns-then-count-given-clause-whole
+returns-then-count-given-clause-whole g c all alone =
+    let i = c.self.invariant in
+    absurd (c.if-count-given.true (omega (arith, c.gather.ensures.parts, c.gather.ensures.bound, i.3, i.5, c.requires, all, ap length c.as_slice-all.ensures.value)))
+
+pub returns-then-not-alone-clause-session : goal.returns-then-not-alone-clause-session
+returns-then-not-alone-clause-session g c =
+    let i = c.self.invariant in (i.0, (c.self.inside.front, i.1), kept_legal _ _ _ i.0 c.history.ensures.judged)
+
+pub returns-then-not-alone-clause-whole : goal.returns-then-not-alone-clause-whole
+returns-then-not-alone-clause-whole g c all alone =
+    let same : c.are_apart-alone.result ≡ true = c.are_apart-alone.ensures ∙ ap apart c.as_slice-all.ensures.value ∙ alone in
+    absurd (cc)
 
 pub returns-clause-session : goal.returns-clause-session
 returns-clause-session g c =
@@ -21,9 +35,9 @@ returns-clause-counted g c =
     let o = g.N.Naming.opening in
     let all : List Entry = c.self.inside.front in
     let ps = c.args.shares.items in
-    let within : AllWithin o all ps = subst (λ (l : List SeatTold). AllWithin o all l) c.as_slice-all.ensures.value (c.are_within.ensures c.if-not-are_within.false) in
-    let alone : apart ps ≡ true = ap apart (sym c.as_slice-all.ensures.value) ∙ sym c.are_apart.ensures ∙ c.if-not-are_apart.false in
-    let parts : c.gather.new.rest.parts ≡ g.N.Ledger.parts = omega (arith, c.gather.ensures.parts, i.3, c.requires, c.if-all-given.false, ap length c.as_slice-all.ensures.value) in
+    let within : AllWithin o all ps = subst (λ (l : List SeatTold). AllWithin o all l) c.as_slice-all.ensures.value c.await_within.ensures in
+    let alone : apart ps ≡ true = ap apart (sym c.as_slice-all.ensures.value) ∙ sym c.are_apart-alone.ensures ∙ c.if-not-alone.false in
+    let parts : c.gather.new.rest.parts ≡ g.N.Ledger.parts = omega (arith, c.gather.ensures.parts, i.3, c.requires, c.if-count-given.false, ap length c.as_slice-all.ensures.value) in
     let count : receipts ps ≡ length all = omega (arith, c.gather.ensures.amount, c.audit.ensures.whole parts, i.2, i.4) in
     (omega (arith, ap length i.1, length-append o all, c.len.ensures.length), c.len.ensures.length ∙ sym count)
 
@@ -33,9 +47,9 @@ returns-clause-told g c =
     let o = g.N.Naming.opening in
     let all : List Entry = c.self.inside.front in
     let ps = c.args.shares.items in
-    let within : AllWithin o all ps = subst (λ (l : List SeatTold). AllWithin o all l) c.as_slice-all.ensures.value (c.are_within.ensures c.if-not-are_within.false) in
-    let alone : apart ps ≡ true = ap apart (sym c.as_slice-all.ensures.value) ∙ sym c.are_apart.ensures ∙ c.if-not-are_apart.false in
-    let parts : c.gather.new.rest.parts ≡ g.N.Ledger.parts = omega (arith, c.gather.ensures.parts, i.3, c.requires, c.if-all-given.false, ap length c.as_slice-all.ensures.value) in
+    let within : AllWithin o all ps = subst (λ (l : List SeatTold). AllWithin o all l) c.as_slice-all.ensures.value c.await_within.ensures in
+    let alone : apart ps ≡ true = ap apart (sym c.as_slice-all.ensures.value) ∙ sym c.are_apart-alone.ensures ∙ c.if-not-alone.false in
+    let parts : c.gather.new.rest.parts ≡ g.N.Ledger.parts = omega (arith, c.gather.ensures.parts, i.3, c.requires, c.if-count-given.false, ap length c.as_slice-all.ensures.value) in
     let count : receipts ps ≡ length all = omega (arith, c.gather.ensures.amount, c.audit.ensures.whole parts, i.2, i.4) in
     subst (λ (h : List Entry). AllTold h ps) (sym i.1) (told_all o all ps within alone count)
 
@@ -45,9 +59,9 @@ returns-clause-crash g c =
     let o = g.N.Naming.opening in
     let all : List Entry = c.self.inside.front in
     let ps = c.args.shares.items in
-    let within : AllWithin o all ps = subst (λ (l : List SeatTold). AllWithin o all l) c.as_slice-all.ensures.value (c.are_within.ensures c.if-not-are_within.false) in
-    let alone : apart ps ≡ true = ap apart (sym c.as_slice-all.ensures.value) ∙ sym c.are_apart.ensures ∙ c.if-not-are_apart.false in
-    let parts : c.gather.new.rest.parts ≡ g.N.Ledger.parts = omega (arith, c.gather.ensures.parts, i.3, c.requires, c.if-all-given.false, ap length c.as_slice-all.ensures.value) in
+    let within : AllWithin o all ps = subst (λ (l : List SeatTold). AllWithin o all l) c.as_slice-all.ensures.value c.await_within.ensures in
+    let alone : apart ps ≡ true = ap apart (sym c.as_slice-all.ensures.value) ∙ sym c.are_apart-alone.ensures ∙ c.if-not-alone.false in
+    let parts : c.gather.new.rest.parts ≡ g.N.Ledger.parts = omega (arith, c.gather.ensures.parts, i.3, c.requires, c.if-count-given.false, ap length c.as_slice-all.ensures.value) in
     let count : receipts ps ≡ length all = omega (arith, c.gather.ensures.amount, c.audit.ensures.whole parts, i.2, i.4) in
     let kept = c.history.ensures.kept in
     let told : AllTold c.self.inside.session.history ps = subst (λ (h : List Entry). AllTold h ps) (sym i.1) (told_all o all ps within alone count) in

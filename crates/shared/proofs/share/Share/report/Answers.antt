@@ -1,7 +1,8 @@
 use Rattle.std.proofs.Common.{◌≡◌, ℕ, ◌+◌, ◌++◌, ◌∷◌, [], List, length, refl, sym, ap, ◌∙◌, subst, arith, append_assoc, length-append}
-use Rattle.std.specs.Prelude.{vec_capacity}
+use Rattle.std.specs.Prelude.{vec_capacity, ◌||◌}
 use Rattle.std.proofs.lemmas.List.{append-nil}
 use Rattle.history.specs.Beginnings.{StartsWith}
+use Rattle.history.proofs.Beginnings.{begins_self}
 use Rattle.term.specs.Proc.{bodies_of}
 use Rattle.history.specs.declared.entry.Entry.{Entry}
 use Rattle.shared.specs.Told.{SeatTold}
@@ -43,14 +44,16 @@ returns-in-Ok-clause-answered g c =
     } in
     subst (λ (old : SeatTold). Answered B old now c.args.report.now e.verdict c.report-result.new.summary.judged) c.self.view_is (record {
       legal = c.len-legal.ensures.legal;
-      begins = (e ∷ [], ends);
       before = o ++ front;
+      begins = begins_self (o ++ front);
       entry = e;
       is_of = record { seat_is = r.entry.seat_is; report_is = r.entry.report_is; verdict_is = refl };
       ends = ends;
       stands = ap (λ s. s.judged) r.seen.2;
       mine = items;
       own = t.0;
+      seat = refl;
+      closed = refl;
     })
 
 pub returns-in-Err-clause-refused : goal.returns-in-Err-clause-refused
@@ -72,4 +75,6 @@ returns-in-Err-clause-refused g c =
       begins = subst (λ (l : List Entry). StartsWith (o ++ now) l) (ap (λ (t : SeatTold). t.seen) c.self.view_is) from;
       same = ap (λ (t : SeatTold). t.mine) c.self.view_is;
       why = subst (λ (t : SeatTold). Answers B (o ++ now) t.seat t.mine c.args.report.now f) c.self.view_is told;
+      seat = ap (λ (t : SeatTold). t.seat) c.self.view_is;
+      closed = λ i. c.is_closing.ensures i || ap (λ (t : SeatTold). t.closed) c.self.view_is i;
     }
