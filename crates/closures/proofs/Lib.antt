@@ -1,0 +1,3 @@
+pub mod Putting
+pub mod Lying
+pub mod Levels

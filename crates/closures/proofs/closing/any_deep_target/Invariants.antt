@@ -1,0 +1,13 @@
+use Rattle.std.proofs.Common.{◌≡◌, take}
+use Rattle.term.specs.Limits.{HasDeep}
+use Rattle.term.specs.Proc.{bodies_of}
+use Rattle.step.specs.declared.targets.Label.TheVariants as label
+use Rattle.nodes.specs.Looks.{look}
+use Rattle.after.specs.Closing.{TargetOf}
+use Rattle.closures.proofs.closing.any_deep_target.Given as goal
+
+abbrev pub invariant-loop-number : goal.invariant-loop-number
+invariant-loop-number g l = record {
+  same : l.all ≡ l.fn.all;
+  none : HasDeep (TargetOf (bodies_of l.fn.all.bodies) (look l.fn.all.table.processes (take l.number-index l.numbers)) label.Tau) → ⊥;
+}

@@ -1,0 +1,17 @@
+use Rattle.std.proofs.Common.{◌≤◌, length, take}
+use Rattle.term.specs.Limits.{most_states}
+use Rattle.term.specs.Proc.{bodies_of}
+use Rattle.step.specs.declared.targets.Label.TheVariants as label
+use Rattle.targets.specs.Cuts.{CutOf}
+use Rattle.nodes.specs.Looks.{look, AllBelow}
+use Rattle.transitions.specs.Numbered.{KeepsNumbers}
+use Rattle.after.specs.Closing.{TargetOf}
+use Rattle.closures.proofs.closing.first_level.Given as goal
+
+abbrev pub invariant-loop-number : goal.invariant-loop-number
+invariant-loop-number g l = record {
+  kept : KeepsNumbers l.fn.all l.all;
+  here : AllBelow (length l.all.table.processes) l.first.items;
+  cut : CutOf (TargetOf (bodies_of l.spec.bodies) (look l.fn.all.table.processes (take l.number-index l.numbers)) (label.Event l.event)) most_states (look l.all.table.processes l.first.items);
+  few : length (look l.all.table.processes l.first.items) ≤ most_states;
+}

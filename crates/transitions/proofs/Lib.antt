@@ -1,0 +1,4 @@
+pub mod Keeping
+pub mod Remembering
+pub mod Asking
+pub mod Unfolding

@@ -1,0 +1,76 @@
+-- Processes by number, with a specification's bodies among them, and what is remembered of their steps.
+use Rattle.std.specs.Prelude.{◌≡◌, ℕ, ◌+◌, ◌*◌, ◌<◌, ◌≤◌, List, length, nat_eq, Some}
+use Rattle.std.specs.Coded.{Coded, code_by, coded×, coded_list}
+use Rattle.std.specs.Map.{lookup}
+use Rattle.std.specs.declared.vec.Vec.{Vec}
+use Rattle.std.proofs.Common.{refl}
+use Rattle.alphabet.specs.declared.events.Event.TheVariants.{Tick as tick, Of as ev}
+use Rattle.term.specs.Codes.{proc_code}
+use Rattle.term.specs.Proc.{Proc, bodies_of}
+use Rattle.term.specs.Limits.{most_states}
+use Rattle.step.specs.declared.targets.Label.{Label}
+use Rattle.step.specs.declared.targets.Label.TheVariants as label
+use Rattle.step.specs.HiddenSets.{SetsBelow}
+use Rattle.step.specs.Labels.{Step}
+use Rattle.nodes.specs.Shapes.{at}
+use Rattle.nodes.specs.Tables.{Tabled, tabled_code, HasGrown}
+use Rattle.nodes.specs.Looks.{look, AllBelow, IsCutIn}
+use Rattle.transitions.specs.Unfolding.{AreUnfolded}
+
+-- What contracts see: the processes by number, and the bodies.
+pub record Numbered : Type 0 where
+  pub table : Tabled
+  pub bodies : List Proc
+
+abbrev pub numbered_code : Coded Numbered
+numbered_code = code_by (Tabled × List Proc) (coded× tabled_code (coded_list proc_code)) (λ s. (s.table, s.bodies)) (λ p. record { table = p.0; bodies = p.1 }) (λ _. refl)
+
+-- The bodies have these numbers in the table.
+abbrev pub numbered : Tabled → List ℕ → Numbered
+numbered t ns = record { table = t; bodies = look t.processes ns }
+
+-- There are only more numbers: each keeps what it is of, and the bodies stay.
+pub record KeepsNumbers (old new : Numbered) : Type 0 where
+  pub table : HasGrown old.table new.table
+  pub bodies : new.bodies ≡ old.bodies
+
+-- The numbers of what the process with this number becomes by a step with this label, none twice: of all of it, or of
+-- more than a set of states may have.
+abbrev pub AreTargets : Numbered → ℕ → Label → List ℕ → Type 0
+AreTargets s n l ns = IsCutIn s.table (Step (bodies_of s.bodies) (at s.table.processes n) l) most_states ns
+
+-- All events that the process with this number hides are among the 256 that there can be.
+abbrev pub HidesEvents : Numbered → ℕ → Type 0
+HidesEvents s n = SetsBelow 256 (at s.table.processes n)
+
+-- A number for each label.
+abbrev pub label_code : Label → ℕ
+label_code label.Tau = 257
+label_code (label.Event tick) = 256
+label_code (label.Event (ev a)) = a
+
+-- The label's event is one of the 256 that there can be.
+abbrev pub IsSmall : Label → Type 0
+IsSmall label.Tau = Unit {0}
+IsSmall (label.Event tick) = Unit {0}
+IsSmall (label.Event (ev a)) = a < 256
+
+-- A number for a process's number and a label.
+abbrev pub key : ℕ → Label → ℕ
+key n l = n * 512 + label_code l
+
+-- What is remembered of a process's number and a label.
+pub record IsRemembered (s : Numbered) (n : ℕ) (l : Label) (ns : List ℕ) : Type 0 where
+  pub within : n < length s.table.processes
+  pub targets : AreTargets s n l ns
+
+-- All that is remembered is so.
+abbrev pub AllRemembered : {A : Type 0} → Numbered → List (ℕ × Vec ℕ A) → Type 0
+AllRemembered {A} s es = (n : ℕ) (l : Label) (v : Vec ℕ A) → IsSmall l → lookup (nat_eq (key n l)) es ≡ Some v → IsRemembered s n l v.items
+
+-- What always holds: the bodies' numbers are in the table, what is remembered is so, and so are the depths.
+pub record IsSound {A : Type 0} (t : Tabled) (ns : List ℕ) (es : List (ℕ × Vec ℕ A)) (ds : List ℕ) : Type 0 where
+  pub here : AllBelow (length t.processes) ns
+  pub remembered : AllRemembered (numbered t ns) es
+  pub few : length ds ≤ length t.processes
+  pub depths : AreUnfolded (bodies_of (look t.processes ns)) t.processes ds

@@ -1,0 +1,10 @@
+//! What processes become by steps, by number: found from what their parts become, and remembered.
+#![tactic(auto)]
+
+mod depths;
+mod events;
+mod keys;
+mod transitions;
+mod walk;
+
+pub use transitions::{MOST_STATES, Transitions};
