@@ -10,48 +10,21 @@ import argparse
 import concurrent.futures
 import json
 import os
+import signal
 import socket
 import subprocess
 import sys
 import tempfile
 
+sys.dont_write_bytecode = True
+
+import serve_cases  # noqa: E402
+from contents import bounded, lines, octets, shown  # noqa: E402
+
 HERE = os.path.dirname(os.path.abspath(__file__))
 PROGRAM = os.path.join(os.path.dirname(HERE), "crates", "cspwatch", "out", "cspwatch")
 EXAMPLES = os.path.join(os.path.dirname(HERE), "examples")
 SECONDS = 120
-
-# Runs a program whose files can't grow past a size: a write beyond it fails, and no signal comes.
-BOUNDED = """
-import os, resource, signal, sys
-signal.signal(signal.SIGXFSZ, signal.SIG_IGN)
-resource.setrlimit(resource.RLIMIT_FSIZE, (int(sys.argv[1]), int(sys.argv[1])))
-os.execv(sys.argv[2], sys.argv[2:])
-"""
-
-
-def numbered(text, first, last):
-    """A line for each number. The first %d in the text is the number, the next one the number after it, and so on."""
-    places = text.count("%d")
-    return "\n".join(text % tuple(range(number, number + places)) for number in range(first, last + 1))
-
-
-def octets(content):
-    """The bytes of a content, whose forms are in tests/README.md."""
-    if isinstance(content, str):
-        return content.encode("latin-1")
-    if isinstance(content, dict):
-        return octets(numbered(content["lines"], content["from"], content["to"]))
-    if len(content) == 2 and isinstance(content[1], int):
-        return octets(content[0]) * content[1]
-    return b"".join(octets(part) for part in content)
-
-
-def lines(contents):
-    return b"".join(octets(content) + b"\n" for content in contents)
-
-
-def shown(data):
-    return repr(data if len(data) <= 300 else data[:300] + b"..")
 
 
 def text_of(path):
@@ -123,7 +96,7 @@ def run(case, program, folder):
         written(os.path.join(folder, "p.csp"), case["script"])
     command = [program] + words(case)
     if "output_bytes" in case:
-        command = [sys.executable, "-c", BOUNDED, str(case["output_bytes"])] + command
+        command = bounded(case["output_bytes"], command)
     ends = {**input_of(case), **output_of(case)}
     try:
         done = subprocess.run(command, cwd=folder, timeout=SECONDS, stderr=subprocess.PIPE, **ends)
@@ -143,6 +116,8 @@ def run(case, program, folder):
 
 
 def problems_of(case, program):
+    if "runs" in case:
+        return serve_cases.problems_of(case, program)
     with tempfile.TemporaryDirectory(prefix="case-") as folder:
         try:
             out, err, status, after = run(case, program, folder)
@@ -177,6 +152,8 @@ def main():
     parser.add_argument("--only", default="", help="only the cases whose name has this text")
     parser.add_argument("files", nargs="*")
     options = parser.parse_args()
+    # What runs in the background may be begun with this signal ignored, and would hand that on to the programs.
+    signal.signal(signal.SIGINT, signal.default_int_handler)
     program = os.path.abspath(options.program)
     if not os.access(program, os.X_OK):
         print("%s: there is no such program; `rt ci` builds it" % program)

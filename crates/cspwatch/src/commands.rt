@@ -1,7 +1,10 @@
 //! The command line.
+use crate::addresses::address_of;
+use clap::error::ErrorKind;
 use clap::{Arg, ArgAction, ArgMatches, Command, Error};
 use std::alloc::{AllocError, Global};
 use std::convert::AsStr;
+use std::net::SocketAddrV4;
 
 /// The version of the program, as `--version` prints it.
 const VERSION: &str = "0.1.0";
@@ -15,7 +18,25 @@ pub(crate) enum Wish<'a> {
     Print { spec: &'a str, process: &'a str },
     /// To judge the records of the journal in the file anew.
     Replay { journal: &'a str },
+    /// To judge the reports of connections by the process of the script in the file `spec`, with the journal in its file.
+    Serve(Service<'a>),
 }
+
+/// What is served, and where.
+#[derive(Clone, Copy, Debug, PartialEq, Eq)]
+pub(crate) struct Service<'a> {
+    pub(crate) spec: &'a str,
+    pub(crate) process: &'a str,
+    pub(crate) journal: &'a str,
+    /// The address as the word has it, and as it is read.
+    pub(crate) listen: &'a str,
+    pub(crate) address: SocketAddrV4,
+    /// How many connections are served.
+    pub(crate) connections: u8,
+}
+
+// How a fault of the address is reported.
+const BAD_ADDRESS: &str = "ADDR is 127.x.y.z:port, in decimals without leading zeros";
 
 fn word<'a>(alloc: Global, id: &'a str, help: &'a str) -> Arg<'a> {
     Arg::new(alloc, id)
@@ -61,6 +82,27 @@ fn replay_command<'a>(alloc: Global) -> Result<Command<'a>, AllocError> {
         .arg(word(alloc, "JOURNAL", "The file of the journal"))
 }
 
+fn serve_command<'a>(alloc: Global) -> Result<Command<'a>, AllocError> {
+    let listen = word(
+        alloc,
+        "ADDR",
+        "Where to listen, as 127.0.0.1:7000; port 0 for any",
+    )
+    .long("listen");
+    let connections = word(alloc, "N", "How many connections are served, 1 to 64")
+        .long("connections")
+        .value_parser(clap::value_parser!(u8).range(1..=64));
+    on_process(
+        alloc,
+        "serve",
+        "Judges the reports of connections, and keeps them in a journal",
+        "The process of the script to judge by",
+    )?
+    .arg(word(alloc, "JOURNAL", "The file of the journal"))?
+    .arg(listen)?
+    .arg(connections)
+}
+
 fn with_check<'a>(alloc: Global, command: Command<'a>) -> Result<Command<'a>, AllocError> {
     command.subcommand(check_command(alloc)?)
 }
@@ -73,12 +115,40 @@ fn with_replay<'a>(alloc: Global, command: Command<'a>) -> Result<Command<'a>, A
     command.subcommand(replay_command(alloc)?)
 }
 
+fn with_serve<'a>(alloc: Global, command: Command<'a>) -> Result<Command<'a>, AllocError> {
+    command.subcommand(serve_command(alloc)?)
+}
+
 fn command<'a>(alloc: Global) -> Result<Command<'a>, AllocError> {
     let command = Command::new(alloc, "cspwatch")
         .version(VERSION)
         .about("Judges reports of running components against a CSP specification")
         .subcommand_required(true);
-    with_replay(alloc, with_print(alloc, with_check(alloc, command)?)?)
+    let command = with_serve(alloc, with_check(alloc, command)?)?;
+    with_replay(alloc, with_print(alloc, command)?)
+}
+
+// What is served at this address.
+fn service_of<'a>(matches: &ArgMatches<'a>, address: SocketAddrV4) -> Option<Service<'a>> {
+    Some(Service {
+        spec: matches.get_str("SPEC")?,
+        process: matches.get_str("PROCESS")?,
+        journal: matches.get_str("JOURNAL")?,
+        listen: matches.get_str("ADDR")?,
+        address,
+        connections: matches.get_one::<u8>("N")?,
+    })
+}
+
+// The wish to serve, or the fault of use of its address.
+fn serve_wish<'a>(alloc: Global, matches: &ArgMatches<'a>) -> Result<Option<Wish<'a>>, Error> {
+    let Some(listen) = matches.get_str("ADDR") else {
+        return Ok(None);
+    };
+    match address_of(alloc, listen)? {
+        Some(address) => Ok(service_of(matches, address).map(Wish::Serve)),
+        None => Err(serve_command(alloc)?.error(ErrorKind::ValueValidation, BAD_ADDRESS)?),
+    }
 }
 
 fn wish_of<'a>(matches: &ArgMatches<'a>) -> Option<Wish<'a>> {
@@ -103,5 +173,8 @@ pub(crate) fn read_words<'a, S: AsStr>(
     words: &'a [S],
 ) -> Result<Option<Wish<'a>>, Error> {
     let matches = command(alloc)?.try_get_matches_from(words)?;
-    Ok(wish_of(&matches))
+    match matches.subcommand() {
+        Some(("serve", inner)) => serve_wish(alloc, inner),
+        _ => Ok(wish_of(&matches)),
+    }
 }

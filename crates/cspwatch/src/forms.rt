@@ -1,30 +1,20 @@
 //! `cspwatch print`: the printed form of what a script denotes.
 
-use crate::scripts::spec_of;
-use crate::telling::{DONE, FILE_FAILED, LIMIT, tell_fault};
-use std::alloc::Global;
+use crate::scripts::text_of;
+use crate::telling::{FILE_FAILED, LIMIT, tell_fault, tell_script};
+use program::{Exit, PrintError};
 use std::io::Write;
 use std::rt::Files;
-use term::Spec;
 
-// The printed form, or the status of the want of memory that was told.
-fn printed<E: Write>(
-    alloc: Global,
-    name: &str,
-    spec: &Spec<Global>,
+/// Writes the text, and answers this exit status, or that of the output that failed.
+pub(crate) fn write<O: Write, E: Write>(
+    text: &[u8],
+    exit: Exit,
+    output: &mut O,
     errors: &mut E,
-) -> Result<Vec<u8>, u8> {
-    let mut text = Vec::new(alloc);
-    match script::print(spec, &mut text) {
-        Ok(()) => Ok(text),
-        Err(_) => Err(tell_fault(errors, name, "40 memory", LIMIT)),
-    }
-}
-
-// Writes the text, and answers the exit status.
-fn write<O: Write, E: Write>(text: &[u8], output: &mut O, errors: &mut E) -> u8 {
+) -> u8 {
     if output.write_all(text).is_ok() && output.flush().is_ok() {
-        DONE
+        exit.code()
     } else {
         tell_fault(errors, "-", "cannot write", FILE_FAILED)
     }
@@ -38,12 +28,13 @@ pub(crate) fn print<R: Files + AllocGlobal, O: Write, E: Write>(
     output: &mut O,
     errors: &mut E,
 ) -> u8 {
-    let text = match spec_of(rt, name, process.as_bytes(), errors) {
-        Ok(spec) => printed(rt.alloc(), name, &spec, errors),
-        Err(status) => Err(status),
+    let script = match text_of(rt, name, errors) {
+        Ok(script) => script,
+        Err(status) => return status,
     };
-    match text {
-        Ok(text) => write(&text, output, errors),
-        Err(status) => status,
+    match program::print(rt.alloc(), &script, process.as_bytes()) {
+        Ok(text) => write(&text, Exit::Done, output, errors),
+        Err(PrintError::Script(fault)) => tell_script(errors, name, &fault),
+        Err(PrintError::Memory) => tell_fault(errors, name, "40 memory", LIMIT),
     }
 }

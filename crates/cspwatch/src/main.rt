@@ -1,12 +1,14 @@
 //! Judges reports of running components against a CSP specification.
 #![tactic(auto)]
 
+mod addresses;
 mod checking;
 mod commands;
 mod forms;
 mod replaying;
 mod running;
 mod scripts;
+mod server;
 mod telling;
 mod words;
 

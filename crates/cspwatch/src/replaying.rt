@@ -1,72 +1,16 @@
 //! `cspwatch replay`: the history that a journal holds, judged anew.
-ghost use Rattle.std.specs.Prelude.{◌≡◌};
 
-use crate::telling::{BAD_JOURNAL, DONE, FILE_FAILED, LIMIT, REJECTED, tell_fault};
+use crate::forms::write;
+use crate::telling::{FILE_FAILED, tell_fault, tell_journal};
 use disk::Disk;
 use file_disk::FileDisk;
-use session::{Session, SessionError};
 use std::alloc::Global;
 use std::fs::OpenOptions;
 use std::io::Write;
 use std::os::unix::fs::FileExt;
 use std::rt::Files;
-use tokens::ScriptErrorKind;
 
-/// The status of a journal that gives no session.
-fn status_of(error: SessionError) -> u8 {
-    match error {
-        SessionError::Device => FILE_FAILED,
-        SessionError::Depth | SessionError::States | SessionError::History | SessionError::Memory =>
-            LIMIT,
-        SessionError::Script(fault) => match fault.kind {
-            ScriptErrorKind::Memory => LIMIT,
-            _ => BAD_JOURNAL,
-        },
-        SessionError::BadHeader
-        | SessionError::Truncated
-        | SessionError::BadRecord(_)
-        | SessionError::OtherVerdict(_) => BAD_JOURNAL,
-    }
-}
-
-/// Writes the summary of the session, as the line protocol does, and answers whether that was done.
-fn is_written<D: Disk, O: Write>(session: &Session<D, Global>, output: &mut O) -> bool {
-    let summary = session.summary();
-    let end = if session.is_closed() {
-        "closed"
-    } else {
-        "open"
-    };
-    let told = writeln!(
-        output,
-        "S {} {} {} {} {end}",
-        summary.judged, summary.events, summary.refusals, summary.rejected
-    );
-    told.is_ok() && output.flush().is_ok()
-}
-
-/// Tells the summary of the session, and answers whether all reports were accepted.
-fn tell_summary<D: Disk, O: Write, E: Write>(
-    session: &Session<D, Global>,
-    output: &mut O,
-    errors: &mut E,
-) -> u8 {
-    if !is_written(session, output) {
-        tell_fault(errors, "-", "cannot write", FILE_FAILED)
-    } else if session.summary().rejected > 0 {
-        REJECTED
-    } else {
-        DONE
-    }
-}
-
-/// Tells why the journal gives no session, and answers the status.
-fn tell_refusal<E: Write>(errors: &mut E, name: &str, error: SessionError) -> u8 {
-    let _ = writeln!(errors, "{name}: {error}");
-    status_of(error)
-}
-
-/// Judges the records of the journal on the disk anew, tells their summary, and answers the exit status.
+/// Judges the records of the journal on the disk anew, writes their summary, and answers the exit status.
 fn replay_disk<D: Disk + Drop, O: Write, E: Write>(
     alloc: Global,
     name: &str,
@@ -74,13 +18,13 @@ fn replay_disk<D: Disk + Drop, O: Write, E: Write>(
     output: &mut O,
     errors: &mut E,
 ) -> u8 {
-    match Session::replay(alloc, disk) {
-        Ok((session, _)) => tell_summary(&session, output, errors),
-        Err((error, _)) => tell_refusal(errors, name, error),
+    match program::replay(alloc, disk) {
+        Ok(replayed) => write(&replayed.line, replayed.exit, output, errors),
+        Err(error) => tell_journal(errors, name, error),
     }
 }
 
-/// Judges the records of the journal in the file anew, tells their summary, and answers the exit status. What stands past
+/// Judges the records of the journal in the file anew, writes their summary, and answers the exit status. What stands past
 /// the first closed gate is cut off.
 pub(crate) fn replay<R: Files + AllocGlobal, O: Write, E: Write>(
     rt: &R,

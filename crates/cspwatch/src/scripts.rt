@@ -56,16 +56,3 @@ pub(crate) fn spec_told<E: Write>(
         Err(fault) => Err(tell_script(errors, name, &fault)),
     }
 }
-
-/// The specification that the script in the file denotes for this process, or the status of the fault that was told.
-pub(crate) fn spec_of<R: Files + AllocGlobal, E: Write>(
-    rt: &R,
-    name: &str,
-    process: &[u8],
-    errors: &mut E,
-) -> Result<Spec<Global>, u8> {
-    match text_of(rt, name, errors) {
-        Ok(text) => spec_told(rt.alloc(), name, &text, process, errors),
-        Err(status) => Err(status),
-    }
-}

@@ -3,9 +3,13 @@ ghost use Rattle.std.specs.Prelude.{◌≡◌};
 
 use clap::Error;
 use clap::error::ErrorKind;
-use session::SessionError;
+use disk::Disk;
+use program::Exit;
+use serving::OpenError;
+use session::{Session, SessionError};
+use std::alloc::Global;
 use std::io::Write;
-use tokens::{ScriptError, ScriptErrorKind};
+use tokens::ScriptError;
 
 /// All is done.
 pub(crate) const DONE: u8 = 0;
@@ -15,9 +19,6 @@ pub(crate) const REJECTED: u8 = 1;
 
 /// The words, or a line, ask for nothing that there is.
 pub(crate) const BAD_USE: u8 = 2;
-
-/// The script was refused.
-pub(crate) const BAD_SCRIPT: u8 = 3;
 
 /// The journal gives no session.
 pub(crate) const BAD_JOURNAL: u8 = 4;
@@ -39,10 +40,7 @@ pub(crate) fn tell_fault<E: Write>(errors: &mut E, name: &str, fault: &str, stat
 /// Tells why the script is refused.
 pub(crate) fn tell_script<E: Write>(errors: &mut E, name: &str, fault: &ScriptError) -> u8 {
     let _ = writeln!(errors, "{name}:{fault}");
-    match fault.kind {
-        ScriptErrorKind::Memory => LIMIT,
-        _ => BAD_SCRIPT,
-    }
+    Exit::of_script(fault).code()
 }
 
 /// Tells which limit the specification's opening meets, or that memory is wanting.
@@ -65,4 +63,49 @@ pub(crate) fn tell_error<O: Write, E: Write>(error: &Error, output: &mut O, erro
     } else {
         DONE
     }
+}
+
+/// Tells why the journal gives no session, and answers the status.
+pub(crate) fn tell_journal<E: Write>(errors: &mut E, name: &str, error: SessionError) -> u8 {
+    let _ = writeln!(errors, "{name}: {error}");
+    Exit::of_journal(&error).code()
+}
+
+/// Tells why there is no session of the script on the journal, and answers the status.
+pub(crate) fn tell_open<E: Write>(
+    errors: &mut E,
+    spec: &str,
+    journal: &str,
+    error: OpenError,
+) -> u8 {
+    match error {
+        OpenError::Begin(SessionError::Script(fault)) => tell_script(errors, spec, &fault),
+        OpenError::Begin(SessionError::Device) => {
+            tell_journal(errors, journal, SessionError::Device)
+        }
+        OpenError::Begin(error) => tell_opening(errors, spec, error),
+        OpenError::Replay(error) => tell_journal(errors, journal, error),
+        OpenError::OtherSpecification => {
+            tell_fault(errors, journal, "54 specification", BAD_JOURNAL)
+        }
+    }
+}
+
+/// Writes the summary of the session, as the line protocol does, and answers whether that was done.
+pub(crate) fn write_summary<D: Disk, O: Write>(
+    session: &Session<D, Global>,
+    output: &mut O,
+) -> bool {
+    let summary = session.summary();
+    let end = if session.is_closed() {
+        "closed"
+    } else {
+        "open"
+    };
+    let told = writeln!(
+        output,
+        "S {} {} {} {} {end}",
+        summary.judged, summary.events, summary.refusals, summary.rejected
+    );
+    told.is_ok() && output.flush().is_ok()
 }

@@ -1,0 +1,7 @@
+use Rattle.program.proofs.checking.check.Given as goal
+
+abbrev pub ghosts-hear_alone-N-Naming : goal.ghosts-hear_alone-N-Naming
+ghosts-hear_alone-N-Naming g a = record { spec = a.session.spec; opening = a.session.history; book = a.opened.seen.book; all = a.blank.parts }
+
+abbrev pub ghosts-hear_alone-N-Ledger : goal.ghosts-hear_alone-N-Ledger
+ghosts-hear_alone-N-Ledger g a = record { name = a.blank.name; parts = a.blank.parts }

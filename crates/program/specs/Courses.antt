@@ -1,0 +1,87 @@
+-- What the definition answers to one who reports alone.
+use Rattle.std.specs.Prelude.{◌≡◌, ◌↔◌, ℕ, ◌||◌, List, [], ◌∷◌, ◌++◌, length, Bool, true, false, IsTrue, Result, Ok, Err}
+use Rattle.alphabet.specs.declared.events.Event.{Event}
+use Rattle.alphabet.specs.declared.events.Report.{Report}
+use Rattle.alphabet.specs.EventSets.{Set, member}
+use Rattle.term.specs.Proc.{Proc, root}
+use Rattle.term.specs.Meaning.{Trace}
+use Rattle.term.specs.Verdict.{Verdict}
+use Rattle.after.specs.declared.fault.AfterFault.TheVariants as limit
+use Rattle.monitor.specs.Monitors.{Stops}
+use Rattle.history.specs.declared.entry.Entry.{Entry}
+use Rattle.history.specs.declared.entry.Summary.{Summary}
+use Rattle.history.specs.Entries.{events, summary_of}
+use Rattle.wire.specs.declared.answers.Receipt.{Receipt}
+use Rattle.wire.specs.declared.answers.Status.{Status}
+use Rattle.wire.specs.declared.answers.Fault.{Fault}
+use Rattle.wire.specs.declared.answers.Fault.TheVariants.{Depth, States, Seats, History, Turn, Behind, Reader, Journal, Closed, Memory}
+
+-- The history so far, and whether a report was answered with a fault that closes the session.
+pub record Course : Type 0 where
+  pub history : List Entry
+  pub closed : Bool
+
+-- nothing was reported yet
+abbrev pub begun : Course
+begun = record { history = []; closed = false }
+
+-- The report was judged: the verdict is that of the definition after the accepted events, and an entry of the report with this
+-- verdict is the last of the history. The place is its length.
+pub record Adds (B : ℕ → Proc) (old : Course) (report : Report) (receipt : Receipt) (new : Course) : Type 0 where
+  pub verdict : IsTrue receipt.verdict ↔ Verdict B (events old.history) report
+  pub entry : Entry
+  pub report_is : entry.report ≡ report
+  pub verdict_is : entry.verdict ≡ receipt.verdict
+  pub appended : new.history ≡ old.history ++ entry ∷ []
+  pub place : receipt.place ≡ length new.history
+  pub same : new.closed ≡ old.closed
+
+-- Why a report isn't judged: 20 and 21 where judging it after the accepted events meets that limit, 23 where the history has
+-- 1,000,000 entries; 22, 24, 25 and 26 never. Of 30, 31 and 40 it says nothing.
+abbrev pub IsWhy : (ℕ → Proc) → List Entry → Report → Fault → Type 0
+IsWhy B h report Depth = Stops B (events h) report limit.Depth
+IsWhy B h report States = Stops B (events h) report limit.States
+IsWhy B h report History = length h ≡ 1000000
+IsWhy B h report Journal = Unit {0}
+IsWhy B h report Closed = Unit {0}
+IsWhy B h report Memory = Unit {0}
+IsWhy B h report Seats = ⊥
+IsWhy B h report Turn = ⊥
+IsWhy B h report Behind = ⊥
+IsWhy B h report Reader = ⊥
+
+-- the faults that close the session, or that only a closed one has: 30 and 31
+abbrev pub closes : Fault → Bool
+closes Journal = true
+closes Closed = true
+closes _ = false
+
+-- the report wasn't judged, and the history stays
+pub record Leaves (B : ℕ → Proc) (old : Course) (report : Report) (fault : Fault) (new : Course) : Type 0 where
+  pub why : IsWhy B old.history report fault
+  pub same : new.history ≡ old.history
+  pub closed : new.closed ≡ (closes fault || old.closed)
+
+-- a report, and its answer
+abbrev pub Reports : (ℕ → Proc) → Course → Report → Result Receipt Fault → Course → Type 0
+Reports B old report (Ok receipt) new = Adds B old report receipt new
+Reports B old report (Err fault) new = Leaves B old report fault new
+
+-- four counts, and whether the session is closed
+abbrev pub status_by : Summary → Bool → Status
+status_by counts closed = record {
+  summary = record { judged = counts.judged; events = counts.events; refusals = counts.refusals; rejected = counts.rejected };
+  closed = closed;
+}
+
+-- those of a history
+abbrev pub status_of : List Entry → Bool → Status
+status_of h closed = status_by (summary_of h) closed
+
+-- `S` is answered with the counts of the history, which stays
+abbrev pub Statuses : Course → Status → Course → Type 0
+Statuses old status new = (new ≡ old) × (status ≡ status_of old.history old.closed)
+
+-- `N` is answered with exactly the events that go on from the accepted ones, tick among them; the history stays
+abbrev pub Nexts : (ℕ → Proc) → Course → Set → Course → Type 0
+Nexts B old set new = (new ≡ old) × ((x : Event) → IsTrue (member set x) ↔ Trace B root (events old.history ++ x ∷ []))

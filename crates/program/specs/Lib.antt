@@ -1,0 +1,4 @@
+pub mod Courses
+pub mod Exits
+pub mod Conversations
+pub mod Prints

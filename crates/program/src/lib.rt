@@ -1,0 +1,17 @@
+//! What the commands do, over any reader, writer and disk. Each call's contract is the promise of its command.
+//!
+//! `check` judges the lines of a reader by what a script denotes, `replay` judges a journal's records anew, and `print` prints what a
+//! script denotes. An `Exit` is the program's exit status.
+#![tactic(auto)]
+
+mod checking;
+mod exit;
+mod forms;
+mod replaying;
+mod summaries;
+
+pub use checking::{Checked, check};
+pub use exit::Exit;
+pub use forms::{PrintError, print};
+pub use replaying::{Replayed, replay};
+pub use summaries::summary_line;

@@ -1,0 +1,42 @@
+//! The line of a history's counts.
+
+ghost use Rattle.std.specs.Prelude.{◌≡◌, ◌++◌, decimal, OnOk, IfOk};
+ghost use Rattle.wire.specs.Replies.{status_text};
+ghost use Rattle.program.specs.Courses.{status_by};
+
+use itoa::Buffer;
+use session::Summary;
+use std::alloc::{AllocError, Allocator};
+
+// Appends a number in decimal.
+fn add_number<A: Allocator>(line: &mut Vec<u8, A>, number: u64) -> Result<(), AllocError>
+    ensures { OnOk result (line.new.items ≡ line.old.items ++ decimal number) }
+{
+    let mut buffer = Buffer::new();
+    line.extend_from_slice(buffer.format(number).as_bytes())
+}
+
+/// The line with these counts, as `S` is answered: of a session that is closed, or of one that is open.
+pub fn summary_line<A: Allocator>(
+    alloc: A,
+    summary: Summary,
+    closed: bool,
+) -> Result<Vec<u8, A>, AllocError>
+    ensures { IfOk result (λ line. line.items ≡ status_text (status_by summary closed)) }
+{
+    let mut line = Vec::new(alloc);
+    line.extend_from_slice(b"S ")?;
+    add_number(&mut line, summary.judged)?;
+    line.extend_from_slice(b" ")?;
+    add_number(&mut line, summary.events)?;
+    line.extend_from_slice(b" ")?;
+    add_number(&mut line, summary.refusals)?;
+    line.extend_from_slice(b" ")?;
+    add_number(&mut line, summary.rejected)?;
+    if closed {
+        line.extend_from_slice(b" closed\n")?;
+    } else {
+        line.extend_from_slice(b" open\n")?;
+    }
+    Ok(line)
+}

@@ -1,0 +1,45 @@
+-- What is answered to a seat, and how that moves what it knows and has done.
+use Rattle.std.specs.Prelude.{◌≡◌, ◌↔◌, ℕ, List, [], ◌∷◌, ◌++◌, length, IsTrue, Result, Ok, Err}
+use Rattle.alphabet.specs.declared.events.Event.{Event}
+use Rattle.alphabet.specs.declared.events.Report.{Report}
+use Rattle.alphabet.specs.EventSets.{Set, member}
+use Rattle.term.specs.Proc.{Proc, root}
+use Rattle.term.specs.Meaning.{Trace}
+use Rattle.history.specs.Entries.{events, summary_of}
+use Rattle.history.specs.Legal.{Legal}
+use Rattle.history.specs.Beginnings.{StartsWith}
+use Rattle.session.specs.declared.fault.Fault.{Fault as SessionFault}
+use Rattle.shared.specs.Told.{SeatTold}
+use Rattle.shared.specs.Seats.{Answered, Refused}
+use Rattle.wire.specs.declared.answers.Receipt.{Receipt}
+use Rattle.wire.specs.declared.answers.Status.{Status}
+use Rattle.wire.specs.declared.answers.Fault.{Fault}
+use Rattle.seats.specs.Faults.{told_as}
+
+-- A receipt is of the report's own entry, which ends what the seat has then seen: a legal history that begins with what it had seen.
+-- A fault leaves the seat's own reports as they were, and says why.
+abbrev pub Reports : (ℕ → Proc) → SeatTold → Report → Result Receipt Fault → SeatTold → Type 0
+Reports B old report (Ok receipt) new = Answered B old new report receipt.verdict receipt.place
+Reports B old report (Err fault) new = (f : SessionFault) × (fault ≡ told_as f) × Refused B old new report f
+
+-- The seat has seen a legal history that begins with what it had seen, and has reported nothing.
+pub record HasLooked (B : ℕ → Proc) (old new : SeatTold) : Type 0 where
+  pub legal : Legal B new.seen
+  pub begins : StartsWith new.seen old.seen
+  pub seat : new.seat ≡ old.seat
+  pub mine : new.mine ≡ old.mine
+  pub closed : new.closed ≡ old.closed
+
+-- the counts are those of what is then seen
+pub record Statuses (B : ℕ → Proc) (old : SeatTold) (status : Status) (new : SeatTold) : Type 0 where
+  pub looked : HasLooked B old new
+  pub judged : status.summary.judged ≡ length new.seen
+  pub events_are : status.summary.events ≡ (summary_of new.seen).events
+  pub refusals : status.summary.refusals ≡ (summary_of new.seen).refusals
+  pub rejected : status.summary.rejected ≡ (summary_of new.seen).rejected
+  pub closed : status.closed ≡ old.closed
+
+-- the set has exactly the events that go on from what is then seen, tick among them
+pub record Nexts (B : ℕ → Proc) (old : SeatTold) (set : Set) (new : SeatTold) : Type 0 where
+  pub looked : HasLooked B old new
+  pub are : (x : Event) → IsTrue (member set x) ↔ Trace B root (events new.seen ++ x ∷ [])

@@ -1,0 +1,109 @@
+//! A seat as a judge.
+ghost use Rattle.std.specs.Prelude.{◌≡◌, ◌≢◌, ◌<◌, Err, IsErrOf};
+ghost use Rattle.alphabet.specs.Channels.{event_count};
+ghost use Rattle.term.specs.Proc.{bodies_of};
+ghost use Rattle.wire.specs.Replies.{LineReplies, noted};
+ghost use Rattle.wire.specs.Talks.{Serves};
+ghost use Rattle.seats.specs.Judges.{Reports, Statuses, Nexts};
+
+use crate::faults::told;
+use alphabet::{Alphabet, EventSet, Report};
+use board::{Board, Naming};
+use disk::Disk;
+use left_right::Absorb;
+use session::{Entry, Summary};
+use shared::{Seat, Share};
+use std::alloc::Allocator;
+use std::sync::Wait;
+use wire::{End, Fault, Judge, Receipt, Sink, Source, Status, Tally, WireError};
+
+/// A seat, and the right to wait for the lock. It isn't `Drop`: end it by `end`.
+pub struct SeatJudge<'a, D: Disk, A: Allocator, N: Naming, R: Wait>
+where
+    Board<N, A>: Absorb<Entry, State = Summary>,
+{
+    pub seat: Seat<'a, D, A, N>,
+    rt: &'a R,
+}
+
+impl<'a, D: Disk, A: Allocator + Copy, N: Naming, R: Wait> SeatJudge<'a, D, A, N, R> {
+    /// The judge of this seat.
+    pub fn new(rt: &'a R, seat: Seat<'a, D, A, N>) -> SeatJudge<'a, D, A, N, R>
+        ensures { result.seat.share ≡ seat.entry.share }
+    {
+        SeatJudge { seat, rt }
+    }
+
+    /// Ends the seat. Its share has what it knows and has done.
+    pub fn end(self) -> Share<N, A>
+        ensures { result ≡ self.entry.seat.share }
+    {
+        let Self { seat, rt: _ } = self;
+        seat.end()
+    }
+}
+
+impl<D: Disk, A: Allocator + Copy, N: Naming, R: Wait> Judge for SeatJudge<'_, D, A, N, R> {
+    ghost use Rattle.alphabet.specs.Channels.{event_count};
+    ghost use Rattle.term.specs.Proc.{bodies_of};
+    ghost use Rattle.seats.specs.Judges.{Reports, Statuses, Nexts};
+
+    ghost event_count = { λ _. event_count N.spec.alphabet };
+
+    ghost reports = { λ j report answer k. Reports (bodies_of N.spec.bodies) j.seat.share report answer k.seat.share };
+
+    ghost statuses = { λ j status k. Statuses (bodies_of N.spec.bodies) j.seat.share status k.seat.share };
+
+    ghost nexts = { λ j set k. Nexts (bodies_of N.spec.bodies) j.seat.share set k.seat.share };
+
+    fn report(&mut self, report: Report) -> Result<Receipt, Fault> {
+        match self.seat.report(self.rt, report) {
+            Ok(receipt) => Ok(Receipt {
+                verdict: receipt.verdict,
+                place: receipt.place,
+            }),
+            Err(fault) => Err(told(fault)),
+        }
+    }
+
+    fn status(&mut self) -> Status {
+        let status = self.seat.status();
+        Status {
+            summary: wire::Summary {
+                judged: status.summary.judged,
+                events: status.summary.events,
+                refusals: status.summary.refusals,
+                rejected: status.summary.rejected,
+            },
+            closed: status.closed,
+        }
+    }
+
+    fn next(&mut self) -> EventSet {
+        self.seat.next(self.rt)
+    }
+}
+
+impl<D: Disk, A: Allocator + Copy + Drop, N: Naming, R: Wait> SeatJudge<'_, D, A, N, R> {
+    /// Answers the lines of the reader by lines to the writer, as `wire::serve` does, each report as the next one of this seat.
+    /// The alphabet's events are those of the session's specification.
+    pub fn serve<T: Source, W: Sink, B: Allocator>(
+        &mut self,
+        alloc: A,
+        reader: &mut T,
+        writer: &mut W,
+        alphabet: &Alphabet<B>,
+        tally: &mut Tally,
+    ) -> Result<End, WireError>
+        requires { event_count N.spec.alphabet ≡ event_count alphabet.now }
+        ensures serves { Serves (LineReplies (Reports (bodies_of N.spec.bodies)) (Statuses (bodies_of N.spec.bodies)) (Nexts (bodies_of N.spec.bodies)) alphabet.now)
+            (noted self.old.seat.share tally.old) (noted self.new.seat.share tally.new)
+            (T.left reader.old) (T.left reader.new) (W.contents writer.old) (W.contents writer.new) result }
+        ensures handed_on { W.has_handed_on writer.old → result ≢ Err WireError.Write → W.has_handed_on writer.new }
+        ensures reader_failed { IsErrOf result WireError.Read → T.failures reader.old < T.failures reader.new }
+        ensures writer_failed { IsErrOf result WireError.Write → W.failures writer.old < W.failures writer.new }
+    {
+        let rt = self.rt;
+        wire::serve(rt, alloc, reader, writer, self, alphabet, tally)
+    }
+}

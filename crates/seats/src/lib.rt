@@ -1,0 +1,13 @@
+//! A seat at a shared session, as a judge of the line protocol.
+//!
+//! `SeatJudge` answers the lines of one connection by one seat. Each `OK n` or `NO n` that it writes is the verdict and the place
+//! of that line's own entry, in a legal history that begins with all that the seat had seen.
+#![tactic(auto)]
+
+mod copying;
+mod faults;
+mod judge;
+
+pub use copying::copy_of;
+pub use faults::refusal_of;
+pub use judge::SeatJudge;

@@ -1,0 +1,40 @@
+"""What the cases' programs share: the bytes of a content, and a bound on files."""
+import sys
+
+# Runs a program whose files can't grow past a size: a write beyond it fails, and no signal comes.
+BOUNDED = """
+import os, resource, signal, sys
+signal.signal(signal.SIGXFSZ, signal.SIG_IGN)
+resource.setrlimit(resource.RLIMIT_FSIZE, (int(sys.argv[1]), int(sys.argv[1])))
+os.execv(sys.argv[2], sys.argv[2:])
+"""
+
+
+def bounded(size, command):
+    """The command, with this bound on its files."""
+    return [sys.executable, "-c", BOUNDED, str(size)] + command
+
+
+def numbered(text, first, last):
+    """A line for each number. The first %d in the text is the number, the next one the number after it, and so on."""
+    places = text.count("%d")
+    return "\n".join(text % tuple(range(number, number + places)) for number in range(first, last + 1))
+
+
+def octets(content):
+    """The bytes of a content, whose forms are in tests/README.md."""
+    if isinstance(content, str):
+        return content.encode("latin-1")
+    if isinstance(content, dict):
+        return octets(numbered(content["lines"], content["from"], content["to"]))
+    if len(content) == 2 and isinstance(content[1], int):
+        return octets(content[0]) * content[1]
+    return b"".join(octets(part) for part in content)
+
+
+def lines(contents):
+    return b"".join(octets(content) + b"\n" for content in contents)
+
+
+def shown(data):
+    return repr(data if len(data) <= 300 else data[:300] + b"..")
