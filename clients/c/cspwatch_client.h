@@ -1,0 +1,124 @@
+/* A client of cspwatch in C99 over POSIX sockets: reports events and refusals of a running system, and reads the
+ * verdicts. Compile cspwatch_client.c with your program; nothing else is needed.
+ *
+ *     cspwatch_client *client;
+ *     struct cspwatch_verdict verdict;
+ *     if (cspwatch_connect("127.0.0.1", "4050", 5000, &client) != CSPWATCH_ANSWERED) ..
+ *     if (cspwatch_event(client, "approach", &verdict) == CSPWATCH_ANSWERED && !verdict.accepted) ..
+ *     cspwatch_close(client);
+ *
+ * A client is one connection, for one thread at a time. Components that run side by side each take a client of their
+ * own: the server judges the reports of one client in their order, after what all clients have reported before.
+ */
+#ifndef CSPWATCH_CLIENT_H
+#define CSPWATCH_CLIENT_H
+
+#include <stddef.h>
+#include <stdint.h>
+
+#ifdef __cplusplus
+extern "C" {
+#endif
+
+/* The most bytes that a line may have before its LF. */
+#define CSPWATCH_LINE_LIMIT 4096
+
+/* The most bytes of a fault's word that are kept. */
+#define CSPWATCH_WORD_LIMIT 31
+
+/* How a call ended. Each but CSPWATCH_ANSWERED leaves what the call was to fill in as it was. */
+enum cspwatch_result {
+    /* The server has answered. */
+    CSPWATCH_ANSWERED = 0,
+    /* The server answered `ERR code word` (cspwatch_last_fault has them): what was asked was not answered, and a report
+     * was not judged. The connection goes on, save after CSPWATCH_FAULT_LINE, CSPWATCH_FAULT_SEATS and
+     * CSPWATCH_FAULT_READER, and where a new connection is refused. */
+    CSPWATCH_FAULT,
+    /* No whole reply came: the connection ended or failed, or the time was over. Whether the report was judged is not
+     * known. From now on each call ends so. */
+    CSPWATCH_NO_REPLY,
+    /* The reply is none of the protocol. From now on each call ends by CSPWATCH_NO_REPLY. */
+    CSPWATCH_BAD_REPLY,
+    /* A name has an LF, or in a refusal a blank, or the line would be longer than CSPWATCH_LINE_LIMIT. Nothing was
+     * sent. */
+    CSPWATCH_BAD_NAME,
+    /* Out of memory. Whether a report was judged is not known. From now on each call ends by CSPWATCH_NO_REPLY. */
+    CSPWATCH_OUT_OF_MEMORY,
+    /* There is no connection; errno may say why. cspwatch_connect alone ends so. */
+    CSPWATCH_NOT_CONNECTED
+};
+
+/* The codes of faults. A later server may have more. */
+enum {
+    CSPWATCH_FAULT_COMMAND = 10,
+    CSPWATCH_FAULT_EVENT = 11,
+    CSPWATCH_FAULT_LINE = 12,
+    CSPWATCH_FAULT_DEPTH = 20,
+    CSPWATCH_FAULT_STATES = 21,
+    CSPWATCH_FAULT_SEATS = 22,
+    CSPWATCH_FAULT_HISTORY = 23,
+    CSPWATCH_FAULT_TURN = 24,
+    CSPWATCH_FAULT_BEHIND = 25,
+    CSPWATCH_FAULT_READER = 26,
+    CSPWATCH_FAULT_JOURNAL = 30,
+    CSPWATCH_FAULT_CLOSED = 31,
+    CSPWATCH_FAULT_MEMORY = 40
+};
+
+/* The answer to a report that was judged. */
+struct cspwatch_verdict {
+    int accepted;   /* 1 where the specification allows what was reported, else 0 */
+    uint64_t place; /* the place of the report in the history of all clients, counted from 1 */
+};
+
+/* How many reports were judged so far, and how. */
+struct cspwatch_counts {
+    uint64_t judged;   /* all reports that were judged */
+    uint64_t events;   /* the accepted events */
+    uint64_t refusals; /* the accepted refusals */
+    uint64_t rejected; /* the rejected reports, of both kinds */
+    int closed;        /* 1 where the session takes no more reports, else 0 */
+};
+
+/* A fault that the server has answered. */
+struct cspwatch_fault {
+    int code;
+    char word[CSPWATCH_WORD_LIMIT + 1];
+};
+
+typedef struct cspwatch_client cspwatch_client;
+
+/* Connects to the server at the host and the port, and fills in the client.
+ *
+ * timeout -- how many milliseconds each write and each read may take; 0 for ever.
+ *
+ * It ends by CSPWATCH_ANSWERED, CSPWATCH_NOT_CONNECTED or CSPWATCH_OUT_OF_MEMORY. A server without a free seat takes the
+ * connection, and answers the first call by a fault. */
+enum cspwatch_result cspwatch_connect(const char *host, const char *port, unsigned timeout, cspwatch_client **client);
+
+/* Reports that the event happened. `_tick` is termination. */
+enum cspwatch_result cspwatch_event(cspwatch_client *client, const char *name, struct cspwatch_verdict *verdict);
+
+/* Reports that the system refuses all of these events now; there may be none. A repeated name counts once. */
+enum cspwatch_result cspwatch_refusal(cspwatch_client *client, const char *const *names, size_t count,
+                                      struct cspwatch_verdict *verdict);
+
+/* How many reports of all clients were judged so far, and how. All reports that this client was answered are counted; a
+ * report that another one was answered just now may not be. */
+enum cspwatch_result cspwatch_status(cspwatch_client *client, struct cspwatch_counts *counts);
+
+/* The events that may come next, in the order of the script's channels, `_tick` last. The names belong to the client, and
+ * stay until its next call. */
+enum cspwatch_result cspwatch_next(cspwatch_client *client, const char *const **names, size_t *count);
+
+/* The fault of the last call that ended by CSPWATCH_FAULT. */
+struct cspwatch_fault cspwatch_last_fault(const cspwatch_client *client);
+
+/* Takes leave of the server (`Q`), closes the connection and frees the client. The client may be NULL. */
+void cspwatch_close(cspwatch_client *client);
+
+#ifdef __cplusplus
+}
+#endif
+
+#endif

@@ -1,0 +1,124 @@
+/* Plays calls of the client that stand on standard input, a line each, and prints what came of each:
+ *
+ *     event NAME, refusal NAME NAME .., status, next
+ *
+ * In a name `\n` is an LF and `\s` a blank. tests/test_client.py drives it.
+ */
+#include "../cspwatch_client.h"
+
+#include <inttypes.h>
+#include <stdio.h>
+#include <stdlib.h>
+#include <string.h>
+
+#define LONGEST 10000
+
+static const char *const RESULTS[] = {"answered", "fault",         "no reply",     "bad reply",
+                                      "bad name", "out of memory", "not connected"};
+
+/* Replaces `\n` and `\s` in the text. */
+static void unescape(char *text) {
+    char *to = text;
+    for (; *text != '\0'; text++)
+        if (*text == '\\' && text[1] != '\0')
+            *to++ = *++text == 'n' ? '\n' : ' ';
+        else
+            *to++ = *text;
+    *to = '\0';
+}
+
+static void print_result(const cspwatch_client *client, enum cspwatch_result result) {
+    struct cspwatch_fault fault = cspwatch_last_fault(client);
+    if (result == CSPWATCH_FAULT)
+        printf("fault %d %s\n", fault.code, fault.word);
+    else
+        printf("%s\n", RESULTS[result]);
+}
+
+static void print_verdict(const cspwatch_client *client, enum cspwatch_result result, struct cspwatch_verdict verdict) {
+    if (result == CSPWATCH_ANSWERED)
+        printf("%s %" PRIu64 "\n", verdict.accepted ? "accepted" : "rejected", verdict.place);
+    else
+        print_result(client, result);
+}
+
+static void event(cspwatch_client *client, char *name) {
+    struct cspwatch_verdict verdict = {0, 0};
+    enum cspwatch_result result;
+    unescape(name);
+    result = cspwatch_event(client, name, &verdict);
+    print_verdict(client, result, verdict);
+}
+
+static void refusal(cspwatch_client *client, char *text) {
+    const char *names[LONGEST];
+    struct cspwatch_verdict verdict = {0, 0};
+    enum cspwatch_result result;
+    char *name = *text == ' ' ? text + 1 : NULL;
+    size_t count = 0;
+    while (name != NULL) {
+        char *end = strchr(name, ' ');
+        if (end != NULL)
+            *end = '\0';
+        unescape(name);
+        names[count++] = name;
+        name = end == NULL ? NULL : end + 1;
+    }
+    result = cspwatch_refusal(client, names, count, &verdict);
+    print_verdict(client, result, verdict);
+}
+
+static void status(cspwatch_client *client) {
+    struct cspwatch_counts counts = {0, 0, 0, 0, 0};
+    enum cspwatch_result result = cspwatch_status(client, &counts);
+    if (result != CSPWATCH_ANSWERED) {
+        print_result(client, result);
+        return;
+    }
+    printf("%" PRIu64 " %" PRIu64 " %" PRIu64 " %" PRIu64 " %s\n", counts.judged, counts.events, counts.refusals,
+           counts.rejected, counts.closed ? "closed" : "open");
+}
+
+static void next(cspwatch_client *client) {
+    const char *const *names = NULL;
+    size_t at, count = 0;
+    enum cspwatch_result result = cspwatch_next(client, &names, &count);
+    if (result != CSPWATCH_ANSWERED) {
+        print_result(client, result);
+        return;
+    }
+    printf("next");
+    for (at = 0; at < count; at++)
+        printf(" %s", names[at]);
+    printf("\n");
+}
+
+int main(int count, char **words) {
+    static char line[LONGEST];
+    cspwatch_client *client = NULL;
+    enum cspwatch_result result;
+    if (count != 4)
+        return 2;
+    result = cspwatch_connect(words[1], words[2], (unsigned)atoi(words[3]), &client);
+    if (result != CSPWATCH_ANSWERED) {
+        printf("%s\n", RESULTS[result]);
+        return 0;
+    }
+    while (fgets(line, sizeof line - 1, stdin) != NULL) {
+        line[strcspn(line, "\n")] = '\0';
+        if (strncmp(line, "event ", 6) == 0)
+            event(client, line + 6);
+        else if (strncmp(line, "refusal", 7) == 0)
+            refusal(client, line + 7);
+        else if (strcmp(line, "status") == 0)
+            status(client);
+        else if (strcmp(line, "next") == 0)
+            next(client);
+        else
+            return 2;
+        fflush(stdout);
+    }
+    cspwatch_close(client);
+    cspwatch_close(NULL);
+    return 0;
+}

@@ -1,0 +1,29 @@
+"""A client of cspwatch: reports events and refusals of a running system, and reads the verdicts.
+
+    from cspwatch_client import Client
+
+    with Client("127.0.0.1:4050") as client:
+        assert client.event("approach")
+        assert client.event("gate.down")
+        print(client.next())
+
+`docs/PROTOCOL.md` of the project describes the lines that are sent and the replies to them.
+"""
+from .client import Client
+from .replies import BadReply, CspwatchError, Fault, FaultCode, NoReply, Status, Verdict
+from .running import Checker, Outcome, Server, StartFailed
+
+__all__ = [
+    "BadReply",
+    "Checker",
+    "Client",
+    "CspwatchError",
+    "Fault",
+    "FaultCode",
+    "NoReply",
+    "Outcome",
+    "Server",
+    "StartFailed",
+    "Status",
+    "Verdict",
+]

@@ -1,0 +1,182 @@
+"""The client: one connection, which is one seat of the session."""
+from __future__ import annotations
+
+import socket
+from types import TracebackType
+from typing import BinaryIO, Callable, Iterable, Optional, Tuple, Type, TypeVar, Union
+
+from .replies import BadReply, NoReply, Status, Verdict, next_of, raise_fault, status_of, verdict_of
+
+LINE_LIMIT = 4096
+"""The most bytes that a line may have before its LF."""
+
+Address = Union[str, Tuple[str, int]]
+Answer = TypeVar("Answer")
+
+
+class Client:
+    """A connection to a server of cspwatch.
+
+    A client is for one thread at a time. Components that run side by side each take a client of their own: the
+    server judges the reports of one client in their order, after what all clients have reported before.
+
+    Each call sends one line and waits for its reply. It raises `Fault` where the server answers that it can't judge
+    or answer, `NoReply` where no whole reply comes, `BadReply` where the reply is none of the protocol, and
+    `ValueError` where a name can't be sent; nothing is sent then.
+
+    As a context manager the client closes itself at the end of the block.
+    """
+
+    def __init__(self, address: Address, timeout: Optional[float] = None) -> None:
+        """Connects to the server.
+
+        address -- `"HOST:PORT"`, or a pair of host and port.
+        timeout -- how many seconds the connection, and then each write and each read, may take; None for ever.
+
+        An `OSError` is raised where there is no connection. A server without a free seat takes the connection, and
+        answers the first call by a `Fault`.
+        """
+        connection = socket.create_connection(split_address(address), timeout=timeout)
+        connection.setsockopt(socket.IPPROTO_TCP, socket.TCP_NODELAY, 1)
+        self._begin(connection.makefile("rb"), connection.makefile("wb"), connection)
+
+    @classmethod
+    def over(cls, reader: BinaryIO, writer: BinaryIO) -> Client:
+        """A client over two open files: it reads the replies from one, and writes the lines to the other."""
+        client = cls.__new__(cls)
+        client._begin(reader, writer, None)
+        return client
+
+    def _begin(self, reader: BinaryIO, writer: BinaryIO, connection: Optional[socket.socket]) -> None:
+        self._reader = reader
+        self._writer = writer
+        self._connection = connection
+        self._closed = False
+
+    def event(self, name: str) -> Verdict:
+        """Reports that the event happened. `_tick` is termination."""
+        return self._answer(line_of_event(name), verdict_of)
+
+    def refusal(self, names: Iterable[str] = ()) -> Verdict:
+        """Reports that the system refuses all of these events now. A repeated name counts once."""
+        return self._answer(line_of_refusal(names), verdict_of)
+
+    def status(self) -> Status:
+        """How many reports of all clients were judged so far, and how.
+
+        All reports that this client was answered are counted; a report that another one was answered just now may
+        not be.
+        """
+        return self._answer(b"S", status_of)
+
+    def next(self) -> Tuple[str, ...]:
+        """The events that may come next, in the order of the script's channels, `_tick` last."""
+        return self._answer(b"N", next_of)
+
+    def close(self) -> None:
+        """Takes leave of the server (`Q`) and closes the connection. A second call does nothing."""
+        if self._closed:
+            return
+        try:
+            self._exchange(b"Q")
+        except NoReply:
+            pass
+        finally:
+            self._drop()
+
+    @property
+    def closed(self) -> bool:
+        """Whether the client is closed, by `close` or by a call that raised `NoReply` or `BadReply`."""
+        return self._closed
+
+    def __enter__(self) -> Client:
+        return self
+
+    def __exit__(
+        self,
+        kind: Optional[Type[BaseException]],
+        error: Optional[BaseException],
+        trace: Optional[TracebackType],
+    ) -> None:
+        self.close()
+
+    def _answer(self, line: bytes, read: Callable[[bytes], Answer]) -> Answer:
+        reply = self._exchange(line)
+        raise_fault(reply)
+        try:
+            return read(reply)
+        except BadReply:
+            self._drop()
+            raise
+
+    # Sends a line, and answers its reply without the LF. Whatever is raised closes the client: a reply that came
+    # late would be taken for that to the next line.
+    def _exchange(self, line: bytes) -> bytes:
+        if self._closed:
+            raise NoReply("the client is closed")
+        try:
+            failure = self._send(line)
+            reply = self._reader.readline()
+        except OSError as error:
+            self._drop()
+            raise NoReply(str(error) or "the connection failed") from error
+        except BaseException:
+            self._drop()
+            raise
+        if not reply.endswith(b"\n"):
+            self._drop()
+            raise NoReply("the connection has ended") from failure
+        return reply[:-1]
+
+    # A server without a free seat sends its reason and closes at once, so the reason is read also after a failed write.
+    def _send(self, line: bytes) -> Optional[OSError]:
+        try:
+            self._writer.write(line + b"\n")
+            self._writer.flush()
+        except OSError as error:
+            return error
+        return None
+
+    def _drop(self) -> None:
+        self._closed = True
+        for end in (self._writer, self._reader, self._connection):
+            try:
+                if end is not None:
+                    end.close()
+            except OSError:
+                pass
+
+
+def split_address(address: Address) -> Tuple[str, int]:
+    """The host and the port of an address such as `"127.0.0.1:4050"`, or of a pair of them."""
+    if not isinstance(address, str):
+        return address
+    host, _, port = address.rpartition(":")
+    if not (host and port.isascii() and port.isdigit()):
+        raise ValueError("an address is HOST:PORT, not %r" % address)
+    return host, int(port)
+
+
+def line_of_event(name: str) -> bytes:
+    """The line that reports the event."""
+    return checked_line(b"E " + name.encode("utf-8"))
+
+
+def line_of_refusal(names: Iterable[str]) -> bytes:
+    """The line that reports the refusal of these events."""
+    if isinstance(names, str):
+        raise ValueError("a refusal takes a list of names, such as [%r]" % names)
+    encoded = [name.encode("utf-8") for name in names]
+    for name in encoded:
+        if b" " in name:
+            raise ValueError("a name of a refusal has no blank in it: %r" % name)
+    return checked_line(b" ".join([b"R"] + encoded))
+
+
+def checked_line(line: bytes) -> bytes:
+    """The line, or a `ValueError` where it would be more than one line, or too long."""
+    if b"\n" in line:
+        raise ValueError("a name has no line end in it: %r" % line)
+    if len(line) > LINE_LIMIT:
+        raise ValueError("the line would have %d bytes; a line has at most %d" % (len(line), LINE_LIMIT))
+    return line

@@ -1,0 +1,215 @@
+"""The client against the program: CSPWATCH in the environment names it, else it is the one that this folder's project built.
+
+Without a program these tests are skipped, and those of a server where the program has no command `serve`.
+"""
+import doctest
+import os
+import re
+import subprocess
+import sys
+import tempfile
+import threading
+import unittest
+
+HERE = os.path.dirname(os.path.abspath(__file__))
+sys.path[:0] = [os.path.dirname(HERE), os.path.dirname(os.path.dirname(HERE))]
+
+from cspwatch_client import Checker, Client, Fault, FaultCode, Server, StartFailed, Status, Verdict  # noqa: E402
+from stand_in import SECONDS, CheckServer, has_serve, program  # noqa: E402
+
+PROGRAM = program()
+SERVES = PROGRAM is not None and has_serve(PROGRAM)
+
+
+class WithScript(unittest.TestCase):
+    """A test with a folder of its own, in which the file `p.csp` has a script."""
+
+    script = "channel a, b, c\nP = a -> b -> P\nQ = STOP\n"
+
+    def setUp(self):
+        folder = tempfile.TemporaryDirectory(prefix="client-")
+        self.addCleanup(folder.cleanup)
+        self.folder = folder.name
+        self.spec = self.file("p.csp", self.script)
+        self.journal = os.path.join(self.folder, "journal")
+
+    def file(self, name, text):
+        path = os.path.join(self.folder, name)
+        with open(path, "w", encoding="ascii") as file:
+            file.write(text)
+        return path
+
+    def session(self, client):
+        """The session of the line protocol's page, by calls."""
+        self.assertEqual(client.next(), ("a",))
+        self.assertEqual(client.event("a"), Verdict(True, 1))
+        self.assertEqual(client.event("a"), Verdict(False, 2))
+        self.assertEqual(client.refusal(["a"]), Verdict(True, 3))
+        self.assertEqual(client.refusal(["a", "b"]), Verdict(False, 4))
+        with self.assertRaises(Fault) as caught:
+            client.event("d")
+        self.assertEqual(caught.exception.code, FaultCode.EVENT)
+        self.assertEqual(client.event("b"), Verdict(True, 5))
+        self.assertEqual(client.status(), Status(5, 2, 1, 2, closed=False))
+
+
+@unittest.skipUnless(PROGRAM, "there is no program")
+class Checks(WithScript):
+    def test_session(self):
+        checker = Checker(self.spec, "P", program=PROGRAM)
+        self.session(checker.client)
+        outcome = checker.close()
+        self.assertEqual((outcome.exit_status, outcome.errors), (1, ""))
+
+    def test_block(self):
+        with Checker(self.spec, "P", program=PROGRAM) as client:
+            self.assertTrue(client.event("a"))
+            self.assertEqual(client.next(), ("b",))
+        self.assertTrue(client.closed)
+
+    def test_nothing_may_come(self):
+        with Checker(self.spec, "Q", program=PROGRAM) as client:
+            self.assertEqual(client.next(), ())
+            self.assertTrue(client.refusal(["a", "b", "c", "_tick"]))
+            self.assertFalse(client.event("_tick"))
+
+    def test_a_refused_script(self):
+        with self.assertRaises(StartFailed) as caught:
+            Checker(self.file("bad.csp", "channel a\nP = a -> X\n"), "P", program=PROGRAM)
+        self.assertEqual(caught.exception.outcome.exit_status, 3)
+        self.assertTrue(str(caught.exception).endswith("bad.csp:2: 4 unknown"))
+
+    def test_the_session_of_the_readme(self):
+        with open(os.path.join(os.path.dirname(HERE), "README.md"), encoding="utf-8") as file:
+            session = re.search(r"```python\n(>>> .*?)```", file.read(), re.DOTALL)[1]
+        with CheckServer(PROGRAM, self.spec, "P", 1) as server:
+            session = session.replace("127.0.0.1:4050", server.address)
+            test = doctest.DocTestParser().get_doctest(session, {}, "README.md", None, 0)
+            runner = doctest.DocTestRunner(optionflags=doctest.ELLIPSIS)
+            runner.run(test)
+        self.assertEqual((runner.failures, runner.tries), (0, 9))
+
+    def test_over_a_socket(self):
+        server = CheckServer(PROGRAM, self.spec, "P", 2)
+        with server:
+            for _ in range(2):
+                with Client(server.address, timeout=SECONDS) as client:
+                    self.session(client)
+        self.assertEqual(server.statuses, [1, 1])
+
+
+@unittest.skipUnless(SERVES, "there is no program, or it has no command `serve`")
+class Serves(WithScript):
+    def server(self, process="P", connections=1, spec=None):
+        return Server(spec or self.spec, process, self.journal, connections, program=PROGRAM)
+
+    def replay(self):
+        done = subprocess.run([PROGRAM, "replay", self.journal], stdout=subprocess.PIPE, timeout=SECONDS)
+        return done.stdout.decode("ascii"), done.returncode
+
+    def test_session(self):
+        server = self.server()
+        with server.client(SECONDS) as client:
+            self.session(client)
+        outcome = server.wait(SECONDS)
+        self.assertEqual((outcome.exit_status, outcome.errors), (1, ""))
+        self.assertEqual(outcome.summary, Status(5, 2, 1, 2, closed=False))
+        self.assertEqual(self.replay(), ("S 5 2 1 2 open\n", 1))
+
+    def test_two_clients_and_a_later_run(self):
+        server = self.server(connections=2)
+        with server.client(SECONDS) as first:
+            self.assertEqual(first.event("a"), Verdict(True, 1))
+            with server.client(SECONDS) as second:
+                self.assertEqual(second.event("b"), Verdict(True, 2))
+                self.assertIn(first.status(), (Status(1, 1, 0, 0, False), Status(2, 2, 0, 0, False)))
+        outcome = server.wait(SECONDS)
+        self.assertEqual((outcome.exit_status, outcome.summary), (0, Status(2, 2, 0, 0, closed=False)))
+        later = self.server()
+        with later.client(SECONDS) as client:
+            self.assertEqual(client.event("a"), Verdict(True, 3))
+        self.assertEqual(later.wait(SECONDS).summary, Status(3, 3, 0, 0, closed=False))
+        self.assertEqual(self.replay(), ("S 3 3 0 0 open\n", 0))
+
+    def test_clients_side_by_side(self):
+        spec = self.file("run.csp", "channel a, b\nP = a -> P [] b -> P\n")
+        places = []
+
+        def report(client):
+            with client:
+                places.append([client.event("a").place for _ in range(25)])
+
+        server = self.server(spec=spec, connections=8)
+        threads = [threading.Thread(target=report, args=[server.client(SECONDS)]) for _ in range(8)]
+        for thread in threads:
+            thread.start()
+        for thread in threads:
+            thread.join(SECONDS)
+        self.assertEqual(server.wait(SECONDS).summary, Status(200, 200, 0, 0, closed=False))
+        self.assertEqual(sorted(sum(places, [])), list(range(1, 201)))
+        for own in places:
+            self.assertEqual(own, sorted(own))
+
+    def test_block(self):
+        with self.server(connections=2) as server:
+            for _ in range(2):
+                with server.client(SECONDS) as client:
+                    self.assertTrue(client.refusal(["b", "c"]))
+        self.assertEqual(self.replay()[0], "S 2 0 2 0 open\n")
+
+    def test_a_block_that_connects_too_seldom(self):
+        with self.server(connections=64) as server:
+            with server.client(SECONDS) as client:
+                self.assertTrue(client.event("a"))
+        self.assertEqual(self.replay(), ("S 1 1 0 0 open\n", 0))
+
+    def test_servers_that_do_not_start(self):
+        with self.assertRaises(StartFailed) as caught:
+            self.server(process="R1")
+        self.assertEqual(caught.exception.outcome.exit_status, 3)
+        self.assertTrue(str(caught.exception).endswith("p.csp:1: 12 process"))
+        with self.assertRaises(StartFailed) as caught:
+            self.server(connections=65)
+        self.assertEqual(caught.exception.outcome.exit_status, 2)
+        with self.server() as server, server.client(SECONDS) as client:
+            client.event("a")
+        with self.assertRaises(StartFailed) as caught:
+            self.server(process="Q")
+        self.assertEqual(caught.exception.outcome.exit_status, 4)
+        self.assertTrue(str(caught.exception).endswith("54 specification"))
+
+
+@unittest.skipUnless(PROGRAM, "there is no program")
+class Example(WithScript):
+    """The tests of `examples`, with what its fixtures would give them."""
+
+    def setUp(self):
+        super().setUp()
+        folder = os.path.join(os.path.dirname(HERE), "examples")
+        self.turnstile = os.path.join(folder, "turnstile.csp")
+        sys.path.insert(0, folder)
+        self.addCleanup(sys.path.remove, folder)
+        import test_turnstile
+
+        self.tests = test_turnstile
+
+    def test_one_client(self):
+        for test in (self.tests.test_a_coin_lets_one_person_in, self.tests.test_a_locked_turnstile_refuses_a_push):
+            with Checker(self.turnstile, "SYSTEM", program=PROGRAM) as client:
+                test(client)
+
+    def test_a_mistake_is_reported(self):
+        with Checker(self.turnstile, "SYSTEM", program=PROGRAM) as client:
+            turnstile = self.tests.Turnstile(self.tests.reporter(client))
+            turnstile.unlocked = True
+            with self.assertRaisesRegex(AssertionError, "push may not happen here; next: coin"):
+                turnstile.push()
+
+    @unittest.skipUnless(SERVES, "the program has no command `serve`")
+    def test_two_clients(self):
+        with Server(self.turnstile, "SYSTEM", self.journal, connections=2, program=PROGRAM) as server:
+            self.tests.test_two_components(server)
+
+
+if __name__ == "__main__":
+    unittest.main()

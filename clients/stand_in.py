@@ -1,0 +1,117 @@
+"""Servers for the clients' tests: one that plays a written conversation, and one that hands a connection to `check`.
+
+Neither judges anything: the first sends what the test has written down, the second is the program itself.
+"""
+import os
+import socket
+import subprocess
+import threading
+import time
+
+HERE = os.path.dirname(os.path.abspath(__file__))
+ROOT = os.path.dirname(HERE)
+
+HOLD = object()
+"""As the last step of a conversation: the connection stays open until the client ends it."""
+
+RESET = object()
+"""As the last step of a conversation: the connection is cut, not ended."""
+
+SECONDS = 20
+"""The longest that a test waits for anything."""
+
+
+def program():
+    """The program to test with: that of the variable CSPWATCH, else the built one; None where there is none."""
+    path = os.environ.get("CSPWATCH") or os.path.join(ROOT, "crates", "cspwatch", "out", "cspwatch")
+    return os.path.abspath(path) if os.access(path, os.X_OK) else None
+
+
+def has_serve(path):
+    """Whether the program has the command `serve`."""
+    told = subprocess.run([path, "serve", "--help"], stdout=subprocess.PIPE, stderr=subprocess.DEVNULL, timeout=SECONDS)
+    return told.returncode == 0 and b"--connections" in told.stdout
+
+
+class Listener:
+    """A port on which a thread takes connections, one after the other."""
+
+    def __init__(self):
+        self.socket = socket.create_server(("127.0.0.1", 0))
+        self.socket.settimeout(SECONDS)
+        self.address = "127.0.0.1:%d" % self.socket.getsockname()[1]
+        self.thread = threading.Thread(target=self.run, daemon=True)
+
+    def __enter__(self):
+        self.thread.start()
+        return self
+
+    def __exit__(self, *_):
+        self.thread.join(SECONDS)
+        self.socket.close()
+
+
+class StandIn(Listener):
+    """Plays a conversation on each connection: a list of pairs of a line and the reply to it.
+
+    The line is what the client has to send, without its LF; where it is None nothing is waited for. The reply is
+    bytes, sent as they stand, or a list of pieces that are sent one by one. After the last pair the connection is
+    ended. What came from the clients is in `lines`, and a line that wasn't expected in `troubles`.
+    """
+
+    def __init__(self, *conversations):
+        super().__init__()
+        self.conversations = conversations
+        self.lines = []
+        self.troubles = []
+
+    def run(self):
+        for conversation in self.conversations:
+            try:
+                link, _ = self.socket.accept()
+            except OSError:
+                self.troubles.append("no connection came")
+                return
+            with link:
+                link.settimeout(SECONDS)
+                try:
+                    self.play(link, conversation)
+                except OSError as error:
+                    self.troubles.append(str(error))
+
+    def play(self, link, conversation):
+        reader = link.makefile("rb")
+        for step in conversation:
+            if step is HOLD:
+                self.lines += [line.rstrip(b"\n") for line in reader]
+                return
+            if step is RESET:
+                link.setsockopt(socket.SOL_SOCKET, socket.SO_LINGER, b"\1\0\0\0\0\0\0\0")
+                reader.close()
+                return
+            wanted, reply = step
+            if wanted is not None:
+                line = reader.readline()
+                self.lines.append(line.rstrip(b"\n"))
+                if line != wanted + b"\n":
+                    self.troubles.append("%r came, %r was wanted" % (line, wanted))
+            for piece in [reply] if isinstance(reply, bytes) else reply:
+                link.sendall(piece)
+                time.sleep(0.01)
+
+
+class CheckServer(Listener):
+    """Hands each of some connections to a run of `check` of its own."""
+
+    def __init__(self, path, spec, process, connections):
+        super().__init__()
+        self.words = [path, "check", spec, process]
+        self.connections = connections
+        self.statuses = []
+
+    def run(self):
+        for _ in range(self.connections):
+            link, _ = self.socket.accept()
+            with link:
+                done = subprocess.run(self.words, stdin=link.fileno(), stdout=link.fileno(), timeout=SECONDS)
+            self.statuses.append(done.returncode)

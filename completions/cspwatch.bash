@@ -1,0 +1,74 @@
+# Completion for bash. Source this file, or copy it as `cspwatch` to the folder of bash's completions.
+_cspwatch() {
+    local current previous command place word index
+    current=${COMP_WORDS[COMP_CWORD]}
+    previous=${COMP_WORDS[COMP_CWORD-1]}
+    COMPREPLY=()
+
+    # The command, and how many of its words stand before the cursor.
+    command=
+    place=0
+    for ((index = 1; index < COMP_CWORD; index++)); do
+        word=${COMP_WORDS[index]}
+        case $word in
+            --listen | --connections) index=$((index + 1)) ;;
+            -*) ;;
+            *) if [[ -z $command ]]; then command=$word; else place=$((place + 1)); fi ;;
+        esac
+    done
+
+    if [[ -z $command ]]; then
+        COMPREPLY=($(compgen -W "check serve replay print help --help -h --version -V" -- "$current"))
+        return
+    fi
+    if [[ $command == help ]]; then
+        COMPREPLY=($(compgen -W "check serve replay print help" -- "$current"))
+        return
+    fi
+    case $previous in
+        --listen)
+            COMPREPLY=($(compgen -W "127.0.0.1:" -- "$current"))
+            return
+            ;;
+        --connections) return ;;
+    esac
+    if [[ $current == -* ]]; then
+        case $command in
+            serve) COMPREPLY=($(compgen -W "--listen --connections --help -h" -- "$current")) ;;
+            *) COMPREPLY=($(compgen -W "--help -h" -- "$current")) ;;
+        esac
+        return
+    fi
+    case $command:$place in
+        check:0 | serve:0 | print:0 | replay:0 | serve:2)
+            compopt -o filenames 2>/dev/null
+            mapfile -t COMPREPLY < <(compgen -f -- "$current")
+            ;;
+        check:1 | serve:1 | print:1)
+            # The names that the script defines.
+            word=$(_cspwatch_script)
+            COMPREPLY=($(compgen -W "$(sed -n "s/^[[:space:]]*\([A-Za-z][A-Za-z0-9_]*'*\)[[:space:]]*=.*/\1/p" "$word" 2>/dev/null)" -- "$current"))
+            ;;
+    esac
+}
+
+# The file of the script: the first word of the command.
+_cspwatch_script() {
+    local index word command=
+    for ((index = 1; index < COMP_CWORD; index++)); do
+        word=${COMP_WORDS[index]}
+        case $word in
+            --listen | --connections) index=$((index + 1)) ;;
+            -*) ;;
+            *)
+                if [[ -n $command ]]; then
+                    printf '%s\n' "$word"
+                    return
+                fi
+                command=$word
+                ;;
+        esac
+    done
+}
+
+complete -F _cspwatch cspwatch

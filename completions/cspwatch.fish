@@ -1,0 +1,40 @@
+# Completion for fish. Copy this file to ~/.config/fish/completions.
+set -l commands check serve replay print help
+
+# How many words of the command stand before the cursor, without options and what follows them.
+function __cspwatch_place
+    set -l words (commandline -opc)
+    set -l count 0
+    set -l skip 0
+    for word in $words[2..-1]
+        if test $skip = 1
+            set skip 0
+        else if string match -q -- '--listen' $word; or string match -q -- '--connections' $word
+            set skip 1
+        else if not string match -q -- '-*' $word
+            set count (math $count + 1)
+        end
+    end
+    echo $count
+end
+
+# The names that the script, which is the first word after the command, defines.
+function __cspwatch_processes
+    set -l words (commandline -opc)
+    test (count $words) -ge 3; and sed -n "s/^[[:space:]]*\([A-Za-z][A-Za-z0-9_]*'*\)[[:space:]]*=.*/\1/p" $words[3] 2>/dev/null
+end
+
+complete -c cspwatch -f
+complete -c cspwatch -s h -l help -d 'print help'
+complete -c cspwatch -n "not __fish_seen_subcommand_from $commands" -s V -l version -d 'print the version'
+complete -c cspwatch -n "not __fish_seen_subcommand_from $commands" -a check -d 'judge the reports on standard input'
+complete -c cspwatch -n "not __fish_seen_subcommand_from $commands" -a serve -d 'judge the reports of connections as one history'
+complete -c cspwatch -n "not __fish_seen_subcommand_from $commands" -a replay -d 'judge the records of a journal again'
+complete -c cspwatch -n "not __fish_seen_subcommand_from $commands" -a print -d 'print what a process means'
+complete -c cspwatch -n "not __fish_seen_subcommand_from $commands" -a help -d 'print help'
+complete -c cspwatch -n "__fish_seen_subcommand_from help" -a "$commands"
+complete -c cspwatch -n "__fish_seen_subcommand_from serve" -l listen -x -a '127.0.0.1:0' -d 'the address to listen on'
+complete -c cspwatch -n "__fish_seen_subcommand_from serve" -l connections -x -d 'how many connections are taken'
+complete -c cspwatch -n "__fish_seen_subcommand_from check serve print replay; and test (__cspwatch_place) = 1" -F
+complete -c cspwatch -n "__fish_seen_subcommand_from check serve print; and test (__cspwatch_place) = 2" -a '(__cspwatch_processes)' -d process
+complete -c cspwatch -n "__fish_seen_subcommand_from serve; and test (__cspwatch_place) = 3" -F

@@ -1,0 +1,193 @@
+#!/usr/bin/env python3
+"""Makes a release of the built program, or compares the built program with the last release.
+
+    dist/make_release.py [--program FILE] [--build]    writes dist/RELEASE and dist/SHA256SUMS, and copies the program to dist/out
+    dist/make_release.py --compare [--program FILE]    says whether the program is the released one, byte for byte
+
+Without --program the program is crates/cspwatch/out/cspwatch, which `rt` builds; with --build it is built first. A release is
+made from a state that is committed. A program that differs from the released one passes where a source of it has changed
+since. The last line of a comparison is `N passed, M failed`.
+"""
+import argparse
+import hashlib
+import os
+import platform
+import re
+import shutil
+import subprocess
+import sys
+
+HERE = os.path.dirname(os.path.abspath(__file__))
+ROOT = os.path.dirname(HERE)
+PROGRAM = os.path.join(ROOT, "crates", "cspwatch", "out", "cspwatch")
+RELEASE = os.path.join(HERE, "RELEASE")
+SUMS = os.path.join(HERE, "SHA256SUMS")
+COPIES = os.path.join(HERE, "out")
+BUILD = [(["rt", "all", "check", "--jobs", "4"], ROOT), (["rt", "run", "--", "--version"], os.path.join(ROOT, "crates", "cspwatch"))]
+
+C_LIBRARY = re.compile(r"(linux-vdso|linux-gate|libc|libm|libpthread|libdl|ld-linux[\w-]*)\.so(\.\d+)*")
+"""What a program that needs the C library alone is linked to."""
+
+
+class Refused(Exception):
+    """Why there is no release."""
+
+
+def output(words, folder=ROOT):
+    """What the command prints, without the last line's end."""
+    return subprocess.run(words, cwd=folder, stdout=subprocess.PIPE, check=True).stdout.decode("utf-8").rstrip("\n")
+
+
+def digest(path):
+    with open(path, "rb") as file:
+        return hashlib.sha256(file.read()).hexdigest()
+
+
+def version_of(program):
+    """The number that `--version` prints."""
+    found = re.fullmatch(r"\S+ (\d+\.\d+\.\d+)", output([program, "--version"]))
+    if found is None:
+        raise Refused("%s --version prints no version" % program)
+    return found[1]
+
+
+def needs(program):
+    """The shared libraries that the program is linked to, by name."""
+    listed = subprocess.run(["ldd", program], stdout=subprocess.PIPE, stderr=subprocess.STDOUT).stdout.decode("utf-8")
+    if "statically linked" in listed or "not a dynamic executable" in listed:
+        return []
+    return sorted(os.path.basename(line.split()[0]) for line in listed.splitlines() if line.strip())
+
+
+def oldest_c_library(program):
+    """The oldest version of the GNU C library that has what the program asks for; None where that isn't known."""
+    if shutil.which("objdump") is None or not needs(program):
+        return None
+    found = re.findall(r"GLIBC_(\d+(?:\.\d+)+)", output(["objdump", "-T", program]))
+    return max(found, key=lambda text: [int(part) for part in text.split(".")], default=None)
+
+
+def kit():
+    """The kit that proves and builds, as it names itself."""
+    return output(["rt", "version"]).splitlines()[0] if shutil.which("rt") else "unknown"
+
+
+def commit():
+    """The commit of this state, which has to be committed as a whole, the files of the release excepted."""
+    changed = output(["git", "status", "--porcelain", "--", ".", ":!dist/RELEASE", ":!dist/SHA256SUMS"])
+    if changed:
+        raise Refused("these files are not committed:\n%s" % changed)
+    return output(["git", "rev-parse", "HEAD"])
+
+
+def facts_of(program):
+    """What a release says of the program, in order."""
+    version = version_of(program)
+    libraries = needs(program)
+    more = [name for name in libraries if C_LIBRARY.fullmatch(name) is None]
+    if more:
+        raise Refused("the program needs more than the C library: %s" % ", ".join(more))
+    return [
+        ("name", "cspwatch-%s-%s-%s" % (version, platform.machine(), platform.system().lower())),
+        ("version", version),
+        ("commit", commit()),
+        ("kit", kit()),
+        ("bytes", str(os.path.getsize(program))),
+        ("sha256", digest(program)),
+        ("needs", " ".join(libraries) or "nothing"),
+        ("oldest glibc", oldest_c_library(program) or "unknown"),
+    ]
+
+
+def make(program):
+    """Writes the files of the release."""
+    facts = facts_of(program)
+    name, total = dict(facts)["name"], dict(facts)["sha256"]
+    os.makedirs(COPIES, exist_ok=True)
+    shutil.copy(program, os.path.join(COPIES, name))
+    with open(RELEASE, "w", encoding="utf-8") as file:
+        file.writelines("%s: %s\n" % fact for fact in facts)
+    with open(SUMS, "w", encoding="utf-8") as file:
+        file.write("%s  %s\n" % (total, name))
+    print(open(RELEASE, encoding="utf-8").read(), end="")
+    print("the program is in dist/out/%s" % name)
+
+
+def released():
+    """What the last release says, by name; None where there is none."""
+    if not os.path.exists(RELEASE):
+        return None
+    with open(RELEASE, encoding="utf-8") as file:
+        return dict(line.rstrip("\n").split(": ", 1) for line in file)
+
+
+def sources():
+    """The folders of the crates that the program is made of, with the list of all crates."""
+    with open(os.path.join(ROOT, "crates.txt"), encoding="utf-8") as file:
+        lines = [line.split("#", 1)[0].partition(":") for line in file]
+    named = {head.split()[0]: rest.split() for head, colon, rest in lines if colon}
+    found, todo = set(), ["cspwatch"]
+    while todo:
+        crate = todo.pop()
+        if crate in named and crate not in found:
+            found.add(crate)
+            todo += named[crate]
+    return ["crates/%s/%s" % (crate, part) for crate in sorted(found) for part in ("src", "specs", "proofs")]
+
+
+def compare(program):
+    """Prints what the comparison with the last release gives; answers whether it passes."""
+    release = released()
+    if release is None:
+        print("there is no release to compare with")
+        print("0 passed, 0 failed")
+        return True
+    here = digest(program) if os.path.exists(program) else None
+    if here == release["sha256"]:
+        print("the built program is that of release %s, byte for byte" % release["version"])
+        print("1 passed, 0 failed")
+        return True
+    changed = subprocess.run(["git", "diff", "--quiet", release["commit"], "--"] + sources(), cwd=ROOT).returncode
+    if here is not None and changed == 1:
+        print("the built program is another than that of release %s: its sources have changed since" % release["version"])
+        print("1 passed, 0 failed")
+        return True
+    if here is None:
+        print("%s: there is no such program" % program)
+    elif changed == 0 and kit() != release["kit"]:
+        print("the built program is another than that of release %s, which was built by another kit: %s" % (release["version"], release["kit"]))
+        print("1 passed, 0 failed")
+        return True
+    elif changed == 0:
+        print("the built program is NOT that of release %s, though its sources are the same" % release["version"])
+    else:
+        print("the commit of release %s, %s, is not in this repository" % (release["version"], release["commit"]))
+    print("0 passed, 1 failed")
+    return False
+
+
+def main():
+    parser = argparse.ArgumentParser(description=__doc__.split("\n")[0])
+    parser.add_argument("--program", default=PROGRAM)
+    parser.add_argument("--build", action="store_true", help="prove and build the program first")
+    parser.add_argument("--compare", action="store_true", help="compare the program with the last release")
+    options = parser.parse_args()
+    program = os.path.abspath(options.program)
+    if options.build:
+        for words, folder in BUILD:
+            subprocess.run(words, cwd=folder, check=True)
+    if options.compare:
+        return 0 if compare(program) else 1
+    if not os.access(program, os.X_OK):
+        print("%s: there is no such program" % program, file=sys.stderr)
+        return 1
+    try:
+        make(program)
+    except Refused as reason:
+        print("there is no release: %s" % reason, file=sys.stderr)
+        return 1
+    return 0
+
+
+if __name__ == "__main__":
+    sys.exit(main())
