@@ -1,0 +1,83 @@
+// Clients of a server of the line protocol, and how long it takes to answer them.
+// rustc --edition 2024 -O serve_load.rs; serve_load ADDRESS CONNECTIONS LINES ahead|turns
+// Each connection has a thread. With `ahead` all its lines are sent while the replies are read, with `turns` each line once the reply to the one
+// before was read. It prints the nanoseconds from the first line to the last reply.
+use std::io::{self, BufRead, BufReader, Read, Write};
+use std::net::TcpStream;
+use std::sync::Barrier;
+use std::thread;
+use std::time::Instant;
+
+const LINE: &[u8] = b"E a\n";
+
+fn ahead(mut link: &TcpStream, lines: usize) -> io::Result<()> {
+    thread::scope(|scope| {
+        let sender = scope.spawn(move || {
+            let block = LINE.repeat(1000);
+            let mut left = lines * LINE.len();
+            while left > 0 {
+                let now = left.min(block.len());
+                (&mut &*link).write_all(&block[..now])?;
+                left -= now;
+            }
+            io::Result::Ok(())
+        });
+        let mut bytes = vec![0; 1 << 16];
+        let mut answered = 0;
+        while answered < lines {
+            let got = link.read(&mut bytes)?;
+            if got == 0 {
+                return Err(io::ErrorKind::UnexpectedEof.into());
+            }
+            answered += bytes[..got].iter().filter(|byte| **byte == b'\n').count();
+        }
+        sender.join().unwrap()
+    })
+}
+
+fn turns(mut link: &TcpStream, lines: usize) -> io::Result<()> {
+    let mut source = BufReader::new(link.try_clone()?);
+    let mut reply = Vec::new();
+    for _ in 0..lines {
+        link.write_all(LINE)?;
+        reply.clear();
+        if source.read_until(b'\n', &mut reply)? == 0 {
+            return Err(io::ErrorKind::UnexpectedEof.into());
+        }
+    }
+    Ok(())
+}
+
+fn main() -> io::Result<()> {
+    let words: Vec<String> = std::env::args().collect();
+    let [_, address, connections, lines, how] = &words[..] else {
+        panic!("serve_load ADDRESS CONNECTIONS LINES ahead|turns");
+    };
+    let (connections, lines) = (connections.parse::<usize>().unwrap(), lines.parse::<usize>().unwrap());
+    let links = (0..connections).map(|_| TcpStream::connect(address)).collect::<io::Result<Vec<_>>>()?;
+    let barrier = Barrier::new(connections + 1);
+    let nanos = thread::scope(|scope| {
+        let all: Vec<_> = links
+            .iter()
+            .map(|link| {
+                let (barrier, ahead_of) = (&barrier, how == "ahead");
+                scope.spawn(move || {
+                    link.set_nodelay(true)?;
+                    barrier.wait();
+                    if ahead_of { ahead(link, lines) } else { turns(link, lines) }
+                })
+            })
+            .collect();
+        barrier.wait();
+        let start = Instant::now();
+        for one in all {
+            one.join().unwrap()?;
+        }
+        io::Result::Ok(start.elapsed().as_nanos())
+    })?;
+    for mut link in links {
+        link.write_all(b"Q\n")?;
+    }
+    println!("{nanos}");
+    Ok(())
+}

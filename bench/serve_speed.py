@@ -1,0 +1,103 @@
+#!/usr/bin/env python3
+"""Lines a second through `cspwatch serve`, against a plain Rust server of the same protocol, and on a disk against the bare loop.
+
+    serve_speed.py [--program FILE] [--turns 15] [--disk DIR]
+
+The journal is a file in memory (/dev/shm). Each line is the report of an event that is accepted; the process has two states. Program and
+peer run in turn, and which one goes first changes with each turn. A ratio is the peer's time over the program's, of the medians and as the
+median of the pairs; above 1 the program is faster. In the last measurement the journal is in DIR (the project's folder, if not said), and
+the peer is a loop that writes a record, syncs, writes its gate, and syncs.
+"""
+import argparse
+import os
+import statistics
+import subprocess
+import sys
+import tempfile
+
+HERE = os.path.dirname(os.path.abspath(__file__))
+PROGRAM = os.path.join(os.path.dirname(HERE), "crates", "cspwatch", "out", "cspwatch")
+SCRIPT = "channel a\nP = a -> Q\nQ = a -> P\n"
+# Connections, lines of each, and how they are sent.
+MEASURED = [(1, 200_000, "ahead"), (64, 4_000, "ahead"), (1, 20_000, "turns"), (64, 1_000, "turns")]
+ON_DISK = 100
+
+
+def built(folder):
+    """The three plain programs."""
+    made = {}
+    for name in ("serve_peer", "serve_load", "disk_loop"):
+        made[name] = os.path.join(folder, name)
+        subprocess.run(["rustc", "--edition", "2024", "-O", "-o", made[name], os.path.join(HERE, name + ".rs")], check=True)
+    return made
+
+
+def served(words, load, folder, connections, lines, how):
+    """The seconds by the clock that all replies took, and the processor seconds of the server's whole run."""
+    server = subprocess.Popen(words, cwd=folder, stdout=subprocess.PIPE)
+    address = server.stdout.readline().split()[1].decode()
+    done = subprocess.run([load, address, str(connections), str(lines), how], check=True, capture_output=True)
+    last = server.stdout.read().decode()
+    _, status, used = os.wait4(server.pid, 0)
+    server.returncode = os.waitstatus_to_exitcode(status)
+    judged = connections * lines
+    if last != "S %d %d 0 0 open\n" % (judged, judged) or server.returncode != 0:
+        sys.exit("%s ended with %r, status %d" % (words, last, server.returncode))
+    return int(done.stdout) / 1e9, used.ru_utime + used.ru_stime
+
+
+def looped(loop, folder, records):
+    done = subprocess.run([loop, os.path.join(folder, "loop"), str(records)], check=True, capture_output=True)
+    return int(done.stdout) / 1e9, 0.0
+
+
+def in_turn(turns, ours, theirs):
+    """The times of both, run in turn."""
+    times = ([], [])
+    for turn in range(turns):
+        for place in (0, 1) if turn % 2 else (1, 0):
+            times[place].append((ours, theirs)[place]())
+    return times
+
+
+def row(what, count, times, peer):
+    for place, of in enumerate(("clock", "processor")):
+        mine, plain = ([pair[place] for pair in it] for it in times)
+        if not all(plain):
+            continue
+        print("%-34s by the %-9s program %8.0f a second, %s %8.0f, ratio of the medians %.2f, of the shortest %.2f, median of the pairs %.2f" % (
+            what, of, count / statistics.median(mine), peer, count / statistics.median(plain),
+            statistics.median(plain) / statistics.median(mine), min(plain) / min(mine),
+            statistics.median(b / a for a, b in zip(mine, plain))), flush=True)
+
+
+def main():
+    parser = argparse.ArgumentParser(description=__doc__.split("\n")[0])
+    parser.add_argument("--program", default=PROGRAM)
+    parser.add_argument("--turns", type=int, default=15)
+    parser.add_argument("--disk", default=os.path.dirname(HERE))
+    options = parser.parse_args()
+    program = os.path.abspath(options.program)
+
+    def ours(folder, *load):
+        if os.path.exists(os.path.join(folder, "j")):
+            os.remove(os.path.join(folder, "j"))
+        words = [program, "serve", "p.csp", "P", "j", "--listen", "127.0.0.1:0", "--connections", str(load[0])]
+        return served(words, made["serve_load"], folder, *load)
+
+    def theirs(folder, *load):
+        return served([made["serve_peer"], "j", str(load[0])], made["serve_load"], folder, *load)
+
+    with tempfile.TemporaryDirectory(dir="/dev/shm") as folder, tempfile.TemporaryDirectory(dir=options.disk) as disk:
+        made = built(folder)
+        for place in (folder, disk):
+            with open(os.path.join(place, "p.csp"), "w", encoding="utf-8") as file:
+                file.write(SCRIPT)
+        for load in MEASURED:
+            times = in_turn(options.turns, lambda: ours(folder, *load), lambda: theirs(folder, *load))
+            row("%d connections, %d lines each, %s:" % load, load[0] * load[1], times, "plain Rust")
+        times = in_turn(4 * options.turns, lambda: ours(disk, 1, ON_DISK, "ahead"), lambda: looped(made["disk_loop"], disk, ON_DISK))
+        row("on a disk, 1 connection, %d lines:" % ON_DISK, ON_DISK, times, "the bare loop")
+
+
+main()
