@@ -1,8 +1,9 @@
-//! A disk on a real file: it is read and written by place.
+//! A disk on a real file beside one in memory: each call has to answer the same on both, and to leave the same bytes.
 
-use disk::Disk;
+use disk::{Disk, DiskFault};
 use file_disk::FileDisk;
-use std::alloc::AllocError;
+use memory_disks::MemoryDisk;
+use std::alloc::{AllocError, Global};
 use std::fs::{self, OpenOptions};
 use std::io;
 use std::os::unix::fs::FileExt;
@@ -11,67 +12,128 @@ use std::rt::Files;
 /// The file, in the folder that the program is run in.
 const NAME: &str = "file";
 
-/// Appends how many of five bytes are read from this place on, and all five after that.
+/// The most bytes that a call reads.
+const ROOM: usize = 16;
+
+/// Appends what comes of a call that answers nothing more.
+fn put_done(done: Result<(), DiskFault>, out: &mut String) -> Result<(), AllocError> {
+    out.push_str(if done.is_ok() { "done" } else { "failed" })
+}
+
+/// Appends the length of the file.
+fn put_length<D: Disk>(disk: &mut D, out: &mut String) -> Result<(), AllocError> {
+    match disk.len() {
+        Ok(length) => write!(out, "{length}"),
+        Err(DiskFault) => out.push_str("failed"),
+    }
+}
+
+/// Appends how many bytes are read from this place on, and what the buffer, of dots before, has after that.
 fn put_read<D: Disk>(disk: &mut D, at: usize, out: &mut String) -> Result<(), AllocError> {
-    let mut buf = *b".....";
-    let count = disk.read_at(at, &mut buf).unwrap_or(usize::MAX);
-    let text = str::from_utf8(&buf).unwrap_or("no text");
-    write!(out, ", read {count} {text}")
+    let mut buf = [b'.'; ROOM];
+    match disk.read_at(at, &mut buf) {
+        Ok(count) => write!(out, "{count} {}", str::from_utf8(&buf).unwrap_or("no text")),
+        Err(DiskFault) => out.push_str("failed"),
+    }
 }
 
-/// Appends what comes of a write across the end of ten bytes, and of a cut.
-fn put_written<D: Disk>(disk: &mut D, out: &mut String) -> Result<(), AllocError> {
-    let before = disk.len().unwrap_or(usize::MAX);
-    let is_written = disk.write_at(8, b"abc").is_ok();
-    let between = disk.len().unwrap_or(usize::MAX);
-    let is_cut = disk.cut(10).is_ok() && disk.sync().is_ok();
-    write!(
-        out,
-        "length {before}, written {is_written}, length {between}, cut {is_cut}"
-    )
+/// Appends what comes of the call on the disk.
+fn put_answer<D: Disk>(disk: &mut D, call: &str, out: &mut String) -> Result<(), AllocError> {
+    let (kind, rest) = call.split_once(' ').unwrap_or((call, ""));
+    let (at, text) = rest.split_once(' ').unwrap_or((rest, ""));
+    let at = at.parse::<usize>().unwrap_or(0);
+    match kind {
+        "length" => put_length(disk, out),
+        "read" => put_read(disk, at, out),
+        "write" => put_done(disk.write_at(at, text.as_bytes()), out),
+        "cut" => put_done(disk.cut(at), out),
+        "sync" => put_done(disk.sync(), out),
+        _ => out.push_str("no such call"),
+    }
 }
 
-/// Appends what comes of calls on a disk of ten bytes.
-fn put_calls<D: Disk>(disk: &mut D, out: &mut String) -> Result<(), AllocError> {
-    put_written(disk, out)?;
-    put_read(disk, 7, out)?;
-    put_read(disk, 20, out)?;
-    let is_written = disk.write_at(usize::MAX, b"x").is_ok();
-    write!(out, ", written past the longest file {is_written}")
+/// Appends what comes of the call on the first disk, and where another answer comes on the second, that one too.
+fn put_both<D: Disk, M: Disk>(
+    first: &mut D,
+    second: &mut M,
+    call: &str,
+    out: &mut String,
+    other: &mut String,
+) -> Result<(), AllocError> {
+    let begin = out.len();
+    put_answer(first, call, out)?;
+    other.clear();
+    put_answer(second, call, other)?;
+    if out.as_str().get(begin..) != Some(other.as_str()) {
+        write!(out, " (in memory {other})")?;
+    }
+    Ok(())
+}
+
+/// Appends what is wrong with the file, where it hasn't these bytes.
+fn put_difference<R: Files + AllocGlobal>(
+    rt: &R,
+    bytes: &[u8],
+    out: &mut String,
+) -> Result<(), AllocError> {
+    match fs::read_to_string(rt, NAME) {
+        Ok(text) if text.as_bytes() == bytes => Ok(()),
+        Ok(text) => write!(out, " (the file is {text})"),
+        Err(_) => out.push_str(" (the file is no text)"),
+    }
+}
+
+/// Appends what comes of each call, on both disks, and where the file then has other bytes than the disk in memory.
+fn put_calls<R: Files + AllocGlobal, D: Disk>(
+    rt: &R,
+    calls: &str,
+    disk: &mut D,
+    in_memory: &mut MemoryDisk<Global>,
+    out: &mut String,
+    other: &mut String,
+) -> Result<(), AllocError> {
+    for call in calls.split("; ") {
+        put_both(disk, in_memory, call, out, other)?;
+        put_difference(rt, in_memory.bytes(), out)?;
+        out.push_str("; ")?;
+    }
+    Ok(())
 }
 
 /// Writes the file, and opens it for reading and writing.
-fn opened<R: Files>(rt: &R) -> io::Result<R::File> {
-    fs::write(rt, NAME, b"0123456789".as_slice())?;
+fn opened<R: Files>(rt: &R, text: &str) -> io::Result<R::File> {
+    fs::write(rt, NAME, text.as_bytes())?;
     OpenOptions::new().read(true).write(true).open(rt, NAME)
 }
 
-/// Appends what comes of calls on a disk on the file.
-fn put_disk<R: Files>(rt: &R, out: &mut String) -> Result<(), AllocError>
+/// Appends what comes of the calls on a disk on a file of this text, and on one in memory, and the bytes at the end.
+fn put_disks<R: Files + AllocGlobal>(
+    rt: &R,
+    alloc: Global,
+    text: &str,
+    calls: &str,
+    out: &mut String,
+) -> Result<(), AllocError>
 where
     R::File: FileExt,
 {
-    match opened(rt) {
-        Ok(file) => {
-            let mut disk = FileDisk::new(file);
-            put_calls(&mut disk, out)
-        }
-        Err(_) => out.push_str("no file"),
-    }
+    let mut bytes = Vec::new(alloc);
+    bytes.extend_from_slice(text.as_bytes())?;
+    let Ok(file) = opened(rt, text) else {
+        return out.push_str("no file");
+    };
+    let (mut disk, mut in_memory) = (FileDisk::new(file), MemoryDisk::new(bytes));
+    let mut other = String::new(alloc);
+    let done = put_calls(rt, calls, &mut disk, &mut in_memory, out, &mut other);
+    done.and_then(|()| out.push_str(str::from_utf8(in_memory.bytes()).unwrap_or("no text")))
 }
 
-/// Appends the bytes of the file.
-fn put_file<R: Files + AllocGlobal>(rt: &R, out: &mut String) -> Result<(), AllocError> {
-    match fs::read_to_string(rt, NAME) {
-        Ok(text) => write!(out, ", file {text}"),
-        Err(_) => out.push_str(", no text"),
-    }
-}
-
-/// Appends what comes of the row `file`, if it is that one: of calls on a disk on a file, which is removed after them.
+/// Appends what comes of the row `file`, if it is that one. The file is removed after it.
 pub(crate) fn play<R: Files + AllocGlobal>(
     rt: &R,
+    alloc: Global,
     kind: &str,
+    rest: &str,
     out: &mut String,
 ) -> Result<bool, AllocError>
 where
@@ -80,7 +142,8 @@ where
     if kind != "file" {
         return Ok(false);
     }
-    let done = put_disk(rt, out).and_then(|()| put_file(rt, out));
+    let (text, calls) = rest.split_once(" # ").unwrap_or((rest, ""));
+    let done = put_disks(rt, alloc, text, calls, out);
     let _ = fs::remove_file(rt, NAME);
     done.map(|()| true)
 }

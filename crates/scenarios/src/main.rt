@@ -18,7 +18,7 @@
 //! | `copied FILE` | the journal in the file: its header and its records, and the file of a journal of the same |
 //! | `seat NUMBER` | the seat with this number, and the one after it |
 //! | `fault_text session NAME`, `fault_text journal NAME` | a fault's number and word, and its text |
-//! | `file` | a disk on a real file: how many bytes there are, were written and were read, and the file at the end |
+//! | `file TEXT # CALLS` | a disk on a real file of this text, and one in memory: what each call answers, where the two differ in an answer or in their bytes, and the bytes at the end |
 //! | `memory ROW` | a `session`, a `journal` or `read ROOT SCRIPT` with each request for memory refused in turn: the full answers, and what came in their place that may not |
 #![tactic(auto)]
 

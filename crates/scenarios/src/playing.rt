@@ -20,7 +20,7 @@ where
     Ok(
         sessions::play(rt, alloc, kind, rest, out)?
             || faults::play(kind, rest, out)?
-            || files::play(rt, kind, out)?,
+            || files::play(rt, alloc, kind, rest, out)?,
     )
 }
 
