@@ -1,3 +1,5 @@
+-- To believe.
 pub mod Belonging
-pub mod Closing
 pub mod Faults
+-- Steps of the program.
+pub mod Closing

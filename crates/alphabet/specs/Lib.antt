@@ -1,10 +1,12 @@
+-- To believe.
 pub mod AlphabetErrors
-pub mod Elements
 pub mod Events
 pub mod EventSets
 pub mod Names
-pub mod Naming
 pub mod Channels
 pub mod EventParts
 pub mod Stored
 pub mod Tables
+-- Steps of the program.
+pub mod Elements
+pub mod Naming

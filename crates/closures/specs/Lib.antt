@@ -1,1 +1,2 @@
+-- Steps of the program.
 pub mod Targets

@@ -1,2 +1,3 @@
+-- Steps of the program.
 pub mod Passing
 pub mod Sigma

@@ -1,8 +1,10 @@
+-- To believe.
 pub mod Stored
 pub mod View
 pub mod Steps
 pub mod Entering
-pub mod Standing
 pub mod Naming
 pub mod Processes
 pub mod Told
+-- Steps of the program.
+pub mod Standing

@@ -1,3 +1,4 @@
+-- To believe.
 pub mod State
 pub mod Calls
 pub mod Runs

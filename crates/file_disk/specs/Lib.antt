@@ -1,1 +1,2 @@
+-- To believe.
 pub mod Files

@@ -1,5 +1,7 @@
+-- To believe.
 pub mod Entries
 pub mod Legal
 pub mod Chronicle
-pub mod Counts
 pub mod Beginnings
+-- Steps of the program.
+pub mod Counts

@@ -1,3 +1,4 @@
+-- To believe.
 pub mod Shown
 pub mod Replay
 pub mod Remains

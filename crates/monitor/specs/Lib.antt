@@ -1,2 +1,3 @@
+-- To believe.
 pub mod Monitors
 pub mod TraceAfter

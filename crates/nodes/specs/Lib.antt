@@ -1,5 +1,7 @@
-pub mod SameNodes
+-- To believe.
 pub mod Shapes
 pub mod Known
 pub mod Tables
 pub mod Looks
+-- Steps of the program.
+pub mod SameNodes

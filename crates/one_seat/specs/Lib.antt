@@ -1,4 +1,6 @@
+-- To believe.
 pub mod Lines
 pub mod Through
-pub mod Faults
 pub mod Seats
+-- Steps of the program.
+pub mod Faults

@@ -1,9 +1,11 @@
+-- To believe.
 pub mod Events
 pub mod Bodies
 pub mod Phrases
 pub mod Denotes
 pub mod Making
 pub mod View
+-- Steps of the program.
 pub mod Forms
 pub mod Shapes
 pub mod EventForms

@@ -1,3 +1,5 @@
+-- To believe.
 pub mod Names
 pub mod Printed
+-- Steps of the program.
 pub mod View

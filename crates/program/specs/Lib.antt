@@ -1,3 +1,4 @@
+-- To believe.
 pub mod Courses
 pub mod Exits
 pub mod Conversations

@@ -1,4 +1,6 @@
+-- To believe.
 pub mod Reading
+-- Steps of the program.
 pub mod Tables
 pub mod Fields
 pub mod Coding

@@ -1,2 +1,4 @@
+-- To believe.
 pub mod Held
+-- Steps of the program.
 pub mod Crossing

@@ -1,3 +1,4 @@
+-- To believe.
 pub mod Records
 pub mod Told
 pub mod Faults

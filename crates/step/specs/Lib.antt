@@ -1,7 +1,9 @@
-pub mod Targets
+-- To believe.
 pub mod Around
-pub mod HiddenSets
 pub mod Labels
 pub mod Offers
 pub mod Resting
 pub mod Faults
+-- Steps of the program.
+pub mod Targets
+pub mod HiddenSets

@@ -1,6 +1,8 @@
+-- To believe.
 pub mod Operators
 pub mod Rules
 pub mod Grammar
 pub mod Script
-pub mod Parsing
 pub mod View
+-- Steps of the program.
+pub mod Parsing

@@ -1,3 +1,5 @@
+-- To believe.
 pub mod Cuts
 pub mod Among
+-- Steps of the program.
 pub mod Asking

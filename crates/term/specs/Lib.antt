@@ -1,3 +1,4 @@
+-- To believe.
 pub mod Events
 pub mod Traces
 pub mod Proc
@@ -5,9 +6,10 @@ pub mod Meaning
 pub mod Steps
 pub mod Verdict
 pub mod Sizes
-pub mod Same
-pub mod SameLaws
 pub mod Limits
-pub mod Codes
 pub mod Specs
 pub mod Examples
+-- Steps of the program.
+pub mod Same
+pub mod SameLaws
+pub mod Codes

@@ -1,6 +1,8 @@
+-- To believe.
 pub mod ErrorKind
 pub mod Spelling
 pub mod Lexeme
 pub mod Text
+-- Steps of the program.
 pub mod Scanning
 pub mod Found

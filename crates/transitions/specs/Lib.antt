@@ -1,2 +1,4 @@
+-- To believe.
 pub mod Numbered
+-- Steps of the program.
 pub mod Unfolding

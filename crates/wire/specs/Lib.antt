@@ -1,3 +1,4 @@
+-- To believe.
 pub mod Ends
 pub mod Requests
 pub mod Replies
