@@ -226,6 +226,8 @@ impl From<JournalError> for SessionError {
 }
 
 impl From<ScriptError> for SessionError {
+    ghost use Rattle.session.specs.declared.fault.SessionError.{SessionError};
+
     ghost from_gives = { λ fault result. result ≡ SessionError.Script fault };
 
     fn from(fault: ScriptError) -> SessionError {
