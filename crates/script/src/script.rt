@@ -1,14 +1,14 @@
 //! A script as phrases look at it.
 ghost use Rattle.std.specs.Prelude.{◌≡◌, ℕ, List, Some};
 ghost use Rattle.alphabet.specs.EventSets.{has};
-ghost use Rattle.phrases.specs.Events.{set_of};
+ghost use Rattle.event_phrases.specs.Events.{set_of};
 ghost use Rattle.script.specs.Tables.{said};
 
 use crate::names::Names;
 use crate::table::Table;
 use alphabet::EventSet;
 use declarations::{fault_of_beginning, fault_of_channel, fault_of_name, fault_of_phrase};
-use phrases::{Facts, Row, Set, Wanted};
+use event_phrases::{Facts, Row, Set, Wanted};
 use std::alloc::Allocator;
 use syntax::Tree;
 use tokens::ScriptError;

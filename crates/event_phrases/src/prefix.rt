@@ -1,0 +1,181 @@
+//! Events held against the fields of a prefix.
+ghost use Rattle.std.specs.Prelude.{◌≡◌, ◌++◌, ◌∷◌, [], IfOk, Some, map};
+ghost use Rattle.std.specs.Option.{option_map};
+ghost use Rattle.syntax.specs.Parsing.{syntaxes};
+ghost use Rattle.syntax.specs.View.{shape, shapes};
+ghost use Rattle.values.specs.Tables.{input};
+ghost use Rattle.values.specs.Values.{is_among};
+ghost use Rattle.values.specs.View.{Gives, value as value_of, values};
+ghost use Rattle.event_phrases.specs.EventForms.{event_fits, fits_by, within};
+ghost use Rattle.event_phrases.specs.Fitting.{fits_field, fitting as fitting_of};
+ghost use Rattle.event_phrases.specs.Shapes.{plain_field};
+ghost use Rattle.event_phrases.specs.View.{listed, row};
+
+use crate::beginning::is_one_of;
+use crate::facts::{Facts, Set, Wanted};
+use crate::forms::{FieldPhrase, field};
+use crate::place::{Place, copies, fault, wanted_worth};
+use crate::row::{Row, is_equal};
+use std::alloc::{AllocError, Allocator};
+use syntax::Tree;
+use tokens::{ScriptError, ScriptErrorKind};
+use values::{Input, Value, Values, the_set, the_value};
+
+/// A prefix: the channel of its event, the fields with the sets of their values, and the process behind it.
+#[derive(Drop)]
+pub struct Prefix<'a, A: Allocator> {
+    pub channel: &'a [u8],
+    pub fields: &'a [Tree<A>],
+    pub sets: &'a [Set<A>],
+    pub then: &'a Tree<A>,
+    /// The line of the event phrase.
+    pub line: u32,
+}
+
+/// The inputs, and one more behind them.
+fn with_input<A: Allocator + Copy>(
+    alloc: A,
+    inputs: Vec<Input<A>, A>,
+    name: &[u8],
+    value: &Value<A>,
+) -> Result<Vec<Input<A>, A>, AllocError>
+    ensures { IfOk result (λ v. map input v.items ≡ map input inputs.items ++ (name.now, value_of value.now) ∷ []) }
+{
+    let mut inputs = inputs;
+    inputs.push(Input {
+        name: Vec::from_slice(alloc, name)?,
+        value: value.clone()?,
+    })?;
+    Ok(inputs)
+}
+
+/// Whether the value is one of the set.
+fn has_value<A: Allocator>(set: &Values<A>, value: &Value<A>) -> bool
+    ensures { result ≡ is_among (value_of value.now) (values set.now) }
+{
+    set.contains(value)
+}
+
+/// The inputs behind a field, if the event's value fits it; the field's values are this set.
+#[tactic(auto, unfolding(crate::specs::EventForms::fits_by, crate::specs::Fitting::against, crate::specs::Fitting::against_input, crate::specs::Fitting::against_part), using(crate::proofs::Places::behind_input))]
+fn fits_phrase<A: Allocator + Copy, F: Facts<A>>(
+    alloc: A,
+    facts: &F,
+    inputs: Vec<Input<A>, A>,
+    phrase: FieldPhrase<'_, A>,
+    set: &Set<A>,
+    value: &Value<A>,
+    line: u32,
+) -> Result<Option<Vec<Input<A>, A>>, ScriptError>
+    ensures { Gives (option_map (λ v. within (F.scope facts.now) (map input v.items))) result (fits_by (plain_field phrase.entry) (listed set.now.items) (value_of value.now) (within (F.scope facts.now) (map input inputs.items))) }
+{
+    match phrase {
+        FieldPhrase::Given(phrase) => {
+            let found = wanted_worth(alloc, facts, &inputs, phrase, Wanted::Value)?;
+            let wanted = the_value(found, phrase.line())?;
+            if !is_one_of(&wanted, set) {
+                return Err(fault(phrase.line(), ScriptErrorKind::OutOfRange));
+            }
+            if is_equal(&wanted, value) {
+                Ok(Some(inputs))
+            } else {
+                Ok(None)
+            }
+        }
+        FieldPhrase::Input(name) => {
+            if facts.is_constant(name) {
+                return Err(fault(line, ScriptErrorKind::Unsupported));
+            }
+            Ok(Some(with_input(alloc, inputs, name, value)?))
+        }
+        FieldPhrase::InputFrom(name, phrase) => {
+            if facts.is_constant(name) {
+                return Err(fault(line, ScriptErrorKind::Unsupported));
+            }
+            let found = wanted_worth(alloc, facts, &inputs, phrase, Wanted::Values)?;
+            let part = the_set(found, phrase.line())?;
+            if has_value(&part, value) {
+                Ok(Some(with_input(alloc, inputs, name, value)?))
+            } else {
+                Ok(None)
+            }
+        }
+    }
+}
+
+/// The same of the field as it is written. A fault has the line of the phrase that is at fault.
+#[tactic(auto, using(crate::proofs::Places::field_fits, crate::proofs::Places::no_field))]
+fn fits<A: Allocator + Copy, F: Facts<A>>(
+    alloc: A,
+    facts: &F,
+    inputs: Vec<Input<A>, A>,
+    tree: &Tree<A>,
+    set: &Set<A>,
+    value: &Value<A>,
+) -> Result<Option<Vec<Input<A>, A>>, ScriptError>
+    ensures { Gives (option_map (λ v. within (F.scope facts.now) (map input v.items))) result (fits_field (shape tree.now) (listed set.now.items) (value_of value.now) (within (F.scope facts.now) (map input inputs.items))) }
+{
+    match field(tree) {
+        Some(phrase) => fits_phrase(alloc, facts, inputs, phrase, set, value, tree.line()),
+        None => Err(fault(tree.line(), ScriptErrorKind::Expected)),
+    }
+}
+
+/// The inputs behind the fields, if the event's values fit them, from left to right.
+#[tactic(auto, unfolding(crate::specs::Fitting::fitting))]
+pub(crate) fn fitting<A: Allocator + Copy, F: Facts<A>>(
+    alloc: A,
+    facts: &F,
+    inputs: Vec<Input<A>, A>,
+    fields: &[Tree<A>],
+    sets: &[Set<A>],
+    values: &[Value<A>],
+    line: u32,
+) -> Result<Option<Vec<Input<A>, A>>, ScriptError>
+    ensures { Gives (option_map (λ v. within (F.scope facts.now) (map input v.items))) result (fitting_of (syntaxes (shapes fields.now)) (map (λ v. listed v.items) sets.now) (listed values.now) (within (F.scope facts.now) (map input inputs.items))) }
+{
+    match fields {
+        [] => match sets {
+            [] => match values {
+                [] => Ok(Some(inputs)),
+                [_, ..] => Err(fault(line, ScriptErrorKind::WrongFields)),
+            },
+            [_, ..] => Err(fault(line, ScriptErrorKind::WrongFields)),
+        },
+        [field, fields @ ..] => match sets {
+            [] => Err(fault(line, ScriptErrorKind::WrongFields)),
+            [set, sets @ ..] => match values {
+                [] => Err(fault(line, ScriptErrorKind::WrongFields)),
+                [value, values @ ..] => match fits(alloc, facts, inputs, field, set, value)? {
+                    Some(inputs) => fitting(alloc, facts, inputs, fields, sets, values, line),
+                    None => Ok(None),
+                },
+            },
+        },
+    }
+}
+
+/// The inputs behind a prefix, if the event fits it.
+#[tactic(auto, unfolding(crate::specs::EventForms::event_fits))]
+pub fn inputs_behind<A: Allocator + Copy, F: Facts<A>>(
+    alloc: A,
+    place: &Place<'_, A, F>,
+    prefix: &Prefix<'_, A>,
+    event: &Row<A>,
+) -> Result<Option<Vec<Input<A>, A>>, ScriptError>
+    ensures { Gives (option_map (λ v. within (F.scope place.now.facts.now) (map input v.items))) result (event_fits prefix.now.channel.now (syntaxes (shapes prefix.now.fields.now)) (map (λ v. listed v.items) prefix.now.sets.now) (within (F.scope place.now.facts.now) (map input place.now.inputs.items)) (row event.now)) }
+{
+    if prefix.channel != event.channel.as_slice() {
+        return Ok(None);
+    }
+    let inputs = copies(alloc, &place.inputs)?;
+    fitting(
+        alloc,
+        place.facts,
+        inputs,
+        prefix.fields,
+        prefix.sets,
+        &event.values,
+        prefix.line,
+    )
+}
