@@ -15,7 +15,7 @@ use Rattle.denotation.proofs.Keys.{keys_append}
 use Rattle.denotation.proofs.Told.{stays, same_depth, same_nodes}
 use Rattle.denotation.proofs.Made.{split, room_enough, room_less, body_is}
 use Rattle.event_phrases.proofs.Options.{some_is}
-use Rattle.event_phrases.proofs.Places.{take_whole}
+use Rattle.event_phrases.proofs.Scopes.{take_whole}
 use Rattle.denotation.proofs.Reached.{get_or_view, get_front, keys_grow, met_front, one_reached}
 
 -- ---- one body

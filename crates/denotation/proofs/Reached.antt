@@ -6,7 +6,7 @@ use Rattle.denotation.specs.Bodies.{Key, Body, stop, names}
 use Rattle.event_phrases.specs.Scopes.{Scope}
 use Rattle.denotation.specs.Denotes.{body_of, has_key, with_key, with_keys, met, Reached}
 use Rattle.event_phrases.proofs.Options.{some_is}
-use Rattle.event_phrases.proofs.Places.{take_whole}
+use Rattle.event_phrases.proofs.Scopes.{take_whole}
 
 -- ---- lists
 

@@ -6,7 +6,7 @@ ghost use Rattle.denotation.specs.Making.{Gathered};
 
 use crate::maker::body;
 use crate::work::Work;
-use event_phrases::Facts;
+use event_phrases::GlobalScope;
 use indexmap::IndexSet;
 use std::alloc::Allocator;
 use term::Term;
@@ -21,15 +21,15 @@ const NODE_LIMIT: usize = 65_536;
 /// `NoSuchProcess` where the script has no such process, `TooDeep` where a body is deeper than 200 and `TooLarge` where all
 /// have more than 65,536 nodes, these two with the line of the definition's name, and the fault of the first phrase that
 /// denotes nothing. Each body is made once; a reference costs one look-up by its hash.
-pub fn gathered<A: Allocator + Copy, F: Facts<A>>(
+pub fn gathered<A: Allocator + Copy, G: GlobalScope<A>>(
     alloc: A,
-    facts: &F,
+    global: &G,
     root: &[u8],
 ) -> Result<Vec<Term<A>, A>, ScriptError>
     // What is given are the bodies of what is reached.
-    ensures found { IfOk result (λ v. Gathered (F.scope facts.now) (root.now, []) (map proc v.items)) }
+    ensures found { IfOk result (λ v. Gathered (G.scope global.now) (root.now, []) (map proc v.items)) }
     // These are given, unless memory runs out, and no others are bodies of what is reached.
-    ensures only { (ps : List Proc) → Gathered (F.scope facts.now) (root.now, []) ps → Gives (λ v. map proc v.items) result (Some ps) }
+    ensures only { (ps : List Proc) → Gathered (G.scope global.now) (root.now, []) ps → Gives (λ v. map proc v.items) result (Some ps) }
 {
     let mut met = IndexSet::new(alloc);
     let _first = met.insert(Vec::from_slice(alloc, root)?)?;
@@ -40,7 +40,7 @@ pub fn gathered<A: Allocator + Copy, F: Facts<A>>(
     let mut terms = Vec::new(alloc);
     while terms.len() < work.met.len() {
         let name = Vec::from_slice(alloc, &work.met[terms.len()])?;
-        let (term, next) = body(alloc, facts, &name, work)?;
+        let (term, next) = body(alloc, global, &name, work)?;
         work = next;
         terms.push(term)?;
     }

@@ -13,13 +13,13 @@ ghost use Rattle.event_phrases.specs.EventForms.{within};
 ghost use Rattle.denotation.specs.Parts.{make_renamed_by};
 ghost use Rattle.event_phrases.specs.Events.{pairs_of as pairs_of_all};
 ghost use Rattle.denotation.specs.Making.{join_of, make_above, make_alphabetised, make_one, make_renamed};
-ghost use Rattle.event_phrases.specs.Scopes.{Scope};
+ghost use Rattle.event_phrases.specs.Scopes.{Scope as ScopeOf};
 ghost use Rattle.denotation.specs.View.{count};
 
 use crate::forms::Join;
 use crate::work::{Work, spent};
 use alphabet::{Event, EventSet};
-use event_phrases::{Facts, Place, ordered, pairs_of};
+use event_phrases::{GlobalScope, Scope, ordered, pairs_of};
 use std::alloc::{AllocError, Allocator};
 use syntax::Tree;
 use term::Term;
@@ -133,18 +133,18 @@ pub(crate) fn renamed<A: Allocator + Copy>(
 }
 
 /// The term renamed by the pairs that these phrases give.
-pub(crate) fn renamed_by<A: Allocator + Copy, F: Facts<A>>(
+pub(crate) fn renamed_by<A: Allocator + Copy, G: GlobalScope<A>>(
     alloc: A,
-    place: &Place<'_, A, F>,
+    scope: &Scope<'_, A, G>,
     pairs: &[Tree<A>],
     term: Term<A>,
     work: Work<A>,
 ) -> Result<(Term<A>, Work<A>), ScriptError>
-    ensures { Gives (λ x. (proc x.0, count x.1)) result (make_renamed_by (F.scope place.now.facts.now).channels (pairs_of_all (F.scope place.now.facts.now).channels (within (F.scope place.now.facts.now) (map input place.now.inputs.items)).known (syntaxes (shapes pairs.now))) (proc term, count work)) }
+    ensures { Gives (λ x. (proc x.0, count x.1)) result (make_renamed_by (G.scope scope.now.global.now).channels (pairs_of_all (G.scope scope.now.global.now).channels (within (G.scope scope.now.global.now) (map input scope.now.inputs.items)).known (syntaxes (shapes pairs.now))) (proc term, count work)) }
 {
-    let pairs = pairs_of(alloc, place, pairs)?;
-    let events = place.facts.events().len();
-    renamed(alloc, events, &pairs, term, work, place.line)
+    let pairs = pairs_of(alloc, scope, pairs)?;
+    let events = scope.global.events().len();
+    renamed(alloc, events, &pairs, term, work, scope.line)
 }
 
 /// `P [ A || B ] Q` of the terms of P and Q, where Sigma is this.
@@ -155,7 +155,7 @@ pub(crate) fn alphabetised<A: Allocator + Copy>(
     sets: (EventSet, EventSet),
     terms: (Term<A>, Term<A>),
 ) -> Result<Term<A>, AllocError>
-    ensures { (s : Scope) → ((x : EventOf) → member sigma x ≡ is_numbered_below (event_count s.channels) x) → IfOk result (λ t. proc t ≡ make_alphabetised s (has sets.0) (has sets.1) (proc terms.0) (proc terms.1)) }
+    ensures { (s : ScopeOf) → ((x : EventOf) → member sigma x ≡ is_numbered_below (event_count s.channels) x) → IfOk result (λ t. proc t ≡ make_alphabetised s (has sets.0) (has sets.1) (proc terms.0) (proc terms.1)) }
 {
     let left_out = sigma.minus(sets.0);
     let right_out = sigma.minus(sets.1);
@@ -172,16 +172,16 @@ pub(crate) fn alphabetised<A: Allocator + Copy>(
 }
 
 /// The same of these sets, where there is room for its nodes.
-pub(crate) fn alphabetised_within<A: Allocator + Copy, F: Facts<A>>(
+pub(crate) fn alphabetised_within<A: Allocator + Copy, G: GlobalScope<A>>(
     alloc: A,
-    place: &Place<'_, A, F>,
+    scope: &Scope<'_, A, G>,
     sets: (EventSet, EventSet),
     terms: (Term<A>, Term<A>),
     work: Work<A>,
 ) -> Result<(Term<A>, Work<A>), ScriptError>
-    ensures { Gives (λ x. (proc x.0, count x.1)) result (make_above 5 (make_alphabetised (F.scope place.now.facts.now) (has sets.0) (has sets.1)) (proc terms.0, count work) (proc terms.1, count work)) }
+    ensures { Gives (λ x. (proc x.0, count x.1)) result (make_above 5 (make_alphabetised (G.scope scope.now.global.now) (has sets.0) (has sets.1)) (proc terms.0, count work) (proc terms.1, count work)) }
 {
-    let work = spent(work, 5, place.line)?;
-    let term = alphabetised(alloc, place.facts.sigma(), sets, terms)?;
+    let work = spent(work, 5, scope.line)?;
+    let term = alphabetised(alloc, scope.global.sigma(), sets, terms)?;
     Ok((term, work))
 }

@@ -7,7 +7,7 @@ ghost use Rattle.denotation.specs.View.{count};
 
 use crate::making::process;
 use crate::work::Work;
-use event_phrases::{Facts, Place, fault};
+use event_phrases::{GlobalScope, Scope, fault};
 use std::alloc::Allocator;
 use term::Term;
 use tokens::{ScriptError, ScriptErrorKind};
@@ -31,27 +31,27 @@ fn unless_deep<A: Allocator>(
 
 /// The term made of the body of the definition with this name: `NoSuchProcess` where there is no such process, `TooDeep`
 /// with the line of the definition's name where it is deeper than 200.
-pub(crate) fn body<A: Allocator + Copy, F: Facts<A>>(
+pub(crate) fn body<A: Allocator + Copy, G: GlobalScope<A>>(
     alloc: A,
-    facts: &F,
+    global: &G,
     name: &[u8],
     work: Work<A>,
 ) -> Result<(Term<A>, Work<A>), ScriptError>
-    ensures { Gives (λ x. (proc x.0, count x.1)) result (make_body (F.scope facts.now) (name.now, []) (count work)) }
+    ensures { Gives (λ x. (proc x.0, count x.1)) result (make_body (G.scope global.now) (name.now, []) (count work)) }
 {
-    if !facts.is_process(name) {
+    if !global.is_process(name) {
         return Err(fault(1, ScriptErrorKind::NoSuchProcess));
     }
-    match facts.definition(name) {
+    match global.definition(name) {
         None => Err(fault(1, ScriptErrorKind::NoSuchProcess)),
         Some(tree) => {
-            let line = facts.line(name);
-            let place = Place {
-                facts,
+            let line = global.line(name);
+            let scope = Scope {
+                global,
                 inputs: Vec::new(alloc),
                 line,
             };
-            let made = process(alloc, &place, tree, work)?;
+            let made = process(alloc, &scope, tree, work)?;
             unless_deep(made, line)
         }
     }

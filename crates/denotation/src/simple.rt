@@ -6,11 +6,11 @@ ghost use Rattle.values.specs.View.{Gives};
 ghost use Rattle.event_phrases.specs.EventForms.{within};
 ghost use Rattle.denotation.specs.Forms.{called as called_by, skips, stops};
 ghost use Rattle.denotation.specs.Making.{make_phrase};
-ghost use Rattle.event_phrases.specs.Scopes.{Scope};
+ghost use Rattle.event_phrases.specs.Scopes.{Scope as ScopeOf};
 ghost use Rattle.denotation.specs.View.{count};
 
 use crate::work::{Work, refer, spent};
-use event_phrases::{Facts, Place, fault};
+use event_phrases::{GlobalScope, Scope, fault};
 use std::alloc::Allocator;
 use term::Term;
 use tokens::{ScriptError, ScriptErrorKind};
@@ -21,7 +21,7 @@ pub(crate) fn stop<A: Allocator>(
     work: Work<A>,
     line: u32,
 ) -> Result<(Term<A>, Work<A>), ScriptError>
-    ensures { (s : Scope) → Gives (λ x. (proc x.0, count x.1)) result (make_phrase stops s (count work)) }
+    ensures { (s : ScopeOf) → Gives (λ x. (proc x.0, count x.1)) result (make_phrase stops s (count work)) }
 {
     let work = spent(work, 1, line)?;
     Ok((Term::Stop, work))
@@ -33,28 +33,28 @@ pub(crate) fn skip<A: Allocator>(
     work: Work<A>,
     line: u32,
 ) -> Result<(Term<A>, Work<A>), ScriptError>
-    ensures { (s : Scope) → Gives (λ x. (proc x.0, count x.1)) result (make_phrase skips s (count work)) }
+    ensures { (s : ScopeOf) → Gives (λ x. (proc x.0, count x.1)) result (make_phrase skips s (count work)) }
 {
     let work = spent(work, 1, line)?;
     Ok((Term::Skip, work))
 }
 
 /// The definition with this name, on this line.
-#[tactic(auto, unfolding(crate::specs::Making::make_phrase), using(event_phrases::proofs::Places::hidden, event_phrases::proofs::Places::seen))]
-pub(crate) fn called<A: Allocator + Copy, F: Facts<A>>(
+#[tactic(auto, unfolding(crate::specs::Making::make_phrase), using(event_phrases::proofs::Scopes::hidden, event_phrases::proofs::Scopes::seen))]
+pub(crate) fn called<A: Allocator + Copy, G: GlobalScope<A>>(
     alloc: A,
-    place: &Place<'_, A, F>,
+    scope: &Scope<'_, A, G>,
     name: &[u8],
     line: u32,
     work: Work<A>,
 ) -> Result<(Term<A>, Work<A>), ScriptError>
-    ensures { Gives (λ x. (proc x.0, count x.1)) result (make_phrase (called_by name.now) (within (F.scope place.now.facts.now) (map input place.now.inputs.items)) (count work)) }
+    ensures { Gives (λ x. (proc x.0, count x.1)) result (make_phrase (called_by name.now) (within (G.scope scope.now.global.now) (map input scope.now.inputs.items)) (count work)) }
 {
-    if place.is_value(name) {
+    if scope.is_value(name) {
         return Err(fault(line, ScriptErrorKind::Expected));
     }
-    if !place.facts.is_process(name) {
-        return Err(place.facts.fault(name, line));
+    if !scope.global.is_process(name) {
+        return Err(scope.global.fault(name, line));
     }
-    refer(Vec::from_slice(alloc, name)?, work, place.line)
+    refer(Vec::from_slice(alloc, name)?, work, scope.line)
 }

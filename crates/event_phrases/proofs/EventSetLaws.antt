@@ -24,7 +24,7 @@ use Rattle.values.specs.Tables.{names_value}
 use Rattle.event_phrases.specs.EventForms.{is_in_both, combine, gives_by, set_by, outside}
 use Rattle.event_phrases.specs.Forms.{SetPhrase, set_inside, set_called, nothing, everything, several, combined, tall, sets_tall, set_phrase_of}
 use Rattle.event_phrases.proofs.EventLaws.{event_set_is}
-use Rattle.event_phrases.proofs.Places.{hidden, seen}
+use Rattle.event_phrases.proofs.Scopes.{hidden, seen}
 use Rattle.event_phrases.specs.View.{row}
 use Rattle.event_phrases.proofs.EventNumbers.{drop_item, drop_none, none_below}
 use Rattle.event_phrases.proofs.SetsBelow.{below_same, inside_is, is_in, member_is, is_below, has_is}

@@ -7,5 +7,5 @@ pub mod EventNumbers
 pub mod EventSetLaws
 pub mod TwoSets
 pub mod Images
-pub mod Places
+pub mod Scopes
 pub mod Renamings

@@ -10,10 +10,10 @@ ghost use Rattle.event_phrases.specs.Events.{beginning as beginning_in, field_va
 ghost use Rattle.event_phrases.specs.Shapes.{plain_field};
 ghost use Rattle.event_phrases.specs.View.{beginning as beginning_of, listed};
 
-use crate::facts::{Facts, Set, Wanted};
 use crate::forms::{FieldPhrase, event_parts, field, in_brackets};
-use crate::place::{Place, fault, told, worth};
+use crate::global_scope::{GlobalScope, Set, Wanted};
 use crate::row::Row;
+use crate::scope::{Scope, fault, told, worth};
 use std::alloc::Allocator;
 use syntax::Tree;
 use tokens::{ScriptError, ScriptErrorKind};
@@ -28,17 +28,17 @@ pub(crate) fn is_one_of<A: Allocator>(value: &Value<A>, set: &[Value<A>]) -> boo
 
 /// The value that a field of this form gives.
 #[tactic(auto, unfolding(crate::specs::EventForms::given_value))]
-fn given_by<A: Allocator + Copy, F: Facts<A>>(
+fn given_by<A: Allocator + Copy, G: GlobalScope<A>>(
     alloc: A,
-    place: &Place<'_, A, F>,
+    scope: &Scope<'_, A, G>,
     phrase: FieldPhrase<'_, A>,
     line: u32,
 ) -> Result<Value<A>, ScriptError>
-    ensures { Gives value_of result (given_value (within (F.scope place.now.facts.now) (map input place.now.inputs.items)).known (plain_field phrase.entry)) }
+    ensures { Gives value_of result (given_value (within (G.scope scope.now.global.now) (map input scope.now.inputs.items)).known (plain_field phrase.entry)) }
 {
     match phrase {
         FieldPhrase::Given(tree) => {
-            let found = worth(alloc, place.facts, &place.inputs, tree)?;
+            let found = worth(alloc, scope.global, &scope.inputs, tree)?;
             the_value(found, tree.line())
         }
         FieldPhrase::Input(_) => Err(fault(line, ScriptErrorKind::Expected)),
@@ -48,79 +48,79 @@ fn given_by<A: Allocator + Copy, F: Facts<A>>(
 
 /// The value that a field gives.
 #[tactic(auto, using(crate::proofs::EventLaws::value_so, crate::proofs::EventLaws::no_value))]
-fn given<A: Allocator + Copy, F: Facts<A>>(
+fn given<A: Allocator + Copy, G: GlobalScope<A>>(
     alloc: A,
-    place: &Place<'_, A, F>,
+    scope: &Scope<'_, A, G>,
     tree: &Tree<A>,
 ) -> Result<Value<A>, ScriptError>
-    ensures { Gives value_of result (field_value (within (F.scope place.now.facts.now) (map input place.now.inputs.items)).known (shape tree.now)) }
+    ensures { Gives value_of result (field_value (within (G.scope scope.now.global.now) (map input scope.now.inputs.items)).known (shape tree.now)) }
 {
     match field(tree) {
-        Some(phrase) => given_by(alloc, place, phrase, tree.line()),
+        Some(phrase) => given_by(alloc, scope, phrase, tree.line()),
         None => Err(fault(tree.line(), ScriptErrorKind::Expected)),
     }
 }
 
 /// The values before, and behind them those that the fields give, each of which is one of its field's.
-#[tactic(auto, unfolding(crate::specs::EventForms::within_by), using(crate::proofs::Places::not_within))]
-fn more_values<A: Allocator + Copy, F: Facts<A>>(
+#[tactic(auto, unfolding(crate::specs::EventForms::within_by), using(crate::proofs::Scopes::not_within))]
+fn more_values<A: Allocator + Copy, G: GlobalScope<A>>(
     alloc: A,
-    place: &Place<'_, A, F>,
+    scope: &Scope<'_, A, G>,
     fields: &[Tree<A>],
     sets: &[Set<A>],
     before: Vec<Value<A>, A>,
     line: u32,
 ) -> Result<Vec<Value<A>, A>, ScriptError>
-    ensures { Gives (λ v. listed v.items) result (values_behind (listed before.items) (within_by (within (F.scope place.now.facts.now) (map input place.now.inputs.items)).known (shapes fields.now) (map (λ v. listed v.items) sets.now))) }
+    ensures { Gives (λ v. listed v.items) result (values_behind (listed before.items) (within_by (within (G.scope scope.now.global.now) (map input scope.now.inputs.items)).known (shapes fields.now) (map (λ v. listed v.items) sets.now))) }
 {
     match fields {
         [] => Ok(before),
         [field, fields @ ..] => match sets {
             [] => Err(fault(line, ScriptErrorKind::WrongFields)),
             [set, sets @ ..] => {
-                let value = given(alloc, place, field)?;
+                let value = given(alloc, scope, field)?;
                 if !is_one_of(&value, set) {
                     return Err(fault(field.line(), ScriptErrorKind::OutOfRange));
                 }
                 let mut values = before;
                 values.push(value)?;
-                more_values(alloc, place, fields, sets, values, line)
+                more_values(alloc, scope, fields, sets, values, line)
             }
         },
     }
 }
 
 /// The values that the fields give, each of which is one of its field's.
-#[tactic(auto, using(crate::proofs::EventLaws::too_many, crate::proofs::Places::from_none))]
-fn values_of<A: Allocator + Copy, F: Facts<A>>(
+#[tactic(auto, using(crate::proofs::EventLaws::too_many, crate::proofs::Scopes::from_none))]
+fn values_of<A: Allocator + Copy, G: GlobalScope<A>>(
     alloc: A,
-    place: &Place<'_, A, F>,
+    scope: &Scope<'_, A, G>,
     fields: &[Tree<A>],
     sets: &[Set<A>],
     line: u32,
 ) -> Result<Vec<Value<A>, A>, ScriptError>
-    ensures { Gives (λ v. listed v.items) result (within_by (within (F.scope place.now.facts.now) (map input place.now.inputs.items)).known (shapes fields.now) (map (λ v. listed v.items) sets.now)) }
+    ensures { Gives (λ v. listed v.items) result (within_by (within (G.scope scope.now.global.now) (map input scope.now.inputs.items)).known (shapes fields.now) (map (λ v. listed v.items) sets.now)) }
 {
     if fields.len() > sets.len() {
         return Err(fault(line, ScriptErrorKind::WrongFields));
     }
-    more_values(alloc, place, fields, sets, Vec::new(alloc), line)
+    more_values(alloc, scope, fields, sets, Vec::new(alloc), line)
 }
 
 /// The channel and the first values that an event phrase without inputs gives. Its fault isn't the one that is told.
-pub(crate) fn beginning<A: Allocator + Copy, F: Facts<A>>(
+pub(crate) fn beginning<A: Allocator + Copy, G: GlobalScope<A>>(
     alloc: A,
-    place: &Place<'_, A, F>,
+    scope: &Scope<'_, A, G>,
     tree: &Tree<A>,
 ) -> Result<Row<A>, ScriptError>
-    ensures { Gives (λ r. beginning_of r) result (beginning_in (F.scope place.now.facts.now).channels (within (F.scope place.now.facts.now) (map input place.now.inputs.items)).known (shape tree.now)) }
+    ensures { Gives (λ r. beginning_of r) result (beginning_in (G.scope scope.now.global.now).channels (within (G.scope scope.now.global.now) (map input scope.now.inputs.items)).known (shape tree.now)) }
 {
     match event_parts(tree) {
         None => Err(fault(tree.line(), ScriptErrorKind::Expected)),
-        Some((channel, fields)) => match place.fields(channel) {
+        Some((channel, fields)) => match scope.fields(channel) {
             None => Err(fault(tree.line(), ScriptErrorKind::Expected)),
             Some(sets) => {
-                let values = values_of(alloc, place, fields, sets, tree.line())?;
+                let values = values_of(alloc, scope, fields, sets, tree.line())?;
                 Ok(Row {
                     channel: Vec::from_slice(alloc, channel)?,
                     values,
@@ -132,17 +132,17 @@ pub(crate) fn beginning<A: Allocator + Copy, F: Facts<A>>(
 
 /// The same, and the fault where it gives none: of the event where its name is no channel's, one of its fields is an input or
 /// it has too many (`WrongFields`), and of a field whose value is none of its set (`OutOfRange`).
-#[tactic(auto, using(crate::proofs::Places::fails_too))]
-pub(crate) fn wanted_beginning<A: Allocator + Copy, F: Facts<A>>(
+#[tactic(auto, using(crate::proofs::Scopes::fails_too))]
+pub(crate) fn wanted_beginning<A: Allocator + Copy, G: GlobalScope<A>>(
     alloc: A,
-    place: &Place<'_, A, F>,
+    scope: &Scope<'_, A, G>,
     tree: &Tree<A>,
 ) -> Result<Row<A>, ScriptError>
-    ensures { Gives (λ r. beginning_of r) result (beginning_in (F.scope place.now.facts.now).channels (within (F.scope place.now.facts.now) (map input place.now.inputs.items)).known (shape tree.now)) }
+    ensures { Gives (λ r. beginning_of r) result (beginning_in (G.scope scope.now.global.now).channels (within (G.scope scope.now.global.now) (map input scope.now.inputs.items)).known (shape tree.now)) }
 {
-    match beginning(alloc, place, tree) {
+    match beginning(alloc, scope, tree) {
         Ok(row) => Ok(row),
-        Err(error) => Err(told(place.facts, &place.inputs, tree, Wanted::Beginning, error)),
+        Err(error) => Err(told(scope.global, &scope.inputs, tree, Wanted::Beginning, error)),
     }
 }
 
@@ -157,23 +157,23 @@ fn unbracketed<A: Allocator>(tree: &Tree<A>) -> &Tree<A>
 }
 
 /// The event that a phrase without inputs gives, with all its fields. Its fault isn't the one that is told.
-pub(crate) fn whole_event<A: Allocator + Copy, F: Facts<A>>(
+pub(crate) fn whole_event<A: Allocator + Copy, G: GlobalScope<A>>(
     alloc: A,
-    place: &Place<'_, A, F>,
+    scope: &Scope<'_, A, G>,
     tree: &Tree<A>,
 ) -> Result<Row<A>, ScriptError>
-    ensures { Gives (λ r. beginning_of r) result (whole_event_in (F.scope place.now.facts.now).channels (within (F.scope place.now.facts.now) (map input place.now.inputs.items)).known (shape tree.now)) }
+    ensures { Gives (λ r. beginning_of r) result (whole_event_in (G.scope scope.now.global.now).channels (within (G.scope scope.now.global.now) (map input scope.now.inputs.items)).known (shape tree.now)) }
 {
     let inner = unbracketed(tree);
     match event_parts(inner) {
         None => Err(fault(tree.line(), ScriptErrorKind::Expected)),
-        Some((channel, fields)) => match place.fields(channel) {
+        Some((channel, fields)) => match scope.fields(channel) {
             None => Err(fault(inner.line(), ScriptErrorKind::Expected)),
             Some(sets) => {
                 if fields.len() != sets.len() {
                     return Err(fault(inner.line(), ScriptErrorKind::WrongFields));
                 }
-                let values = values_of(alloc, place, fields, sets, inner.line())?;
+                let values = values_of(alloc, scope, fields, sets, inner.line())?;
                 Ok(Row {
                     channel: Vec::from_slice(alloc, channel)?,
                     values,

@@ -4,19 +4,19 @@
 
 mod beginning;
 mod events;
-mod facts;
 pub mod forms;
+mod global_scope;
 mod pairs;
-mod place;
 mod prefix;
 mod renaming;
 mod row;
+mod scope;
 mod sets;
 
-pub use facts::{Facts, Set, Wanted};
+pub use global_scope::{GlobalScope, Set, Wanted};
 pub use pairs::ordered;
-pub use place::{Place, fault};
 pub use prefix::{Prefix, inputs_behind};
 pub use renaming::pairs_of;
 pub use row::Row;
+pub use scope::{Scope, fault};
 pub use sets::{set_of_events, two_sets, wanted_events};

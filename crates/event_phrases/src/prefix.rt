@@ -12,10 +12,10 @@ ghost use Rattle.event_phrases.specs.Shapes.{plain_field};
 ghost use Rattle.event_phrases.specs.View.{listed, row};
 
 use crate::beginning::is_one_of;
-use crate::facts::{Facts, Set, Wanted};
 use crate::forms::{FieldPhrase, field};
-use crate::place::{Place, copies, fault, wanted_worth};
+use crate::global_scope::{GlobalScope, Set, Wanted};
 use crate::row::{Row, is_equal};
+use crate::scope::{Scope, copies, fault, wanted_worth};
 use std::alloc::{AllocError, Allocator};
 use syntax::Tree;
 use tokens::{ScriptError, ScriptErrorKind};
@@ -57,21 +57,21 @@ fn has_value<A: Allocator>(set: &Values<A>, value: &Value<A>) -> bool
 }
 
 /// The inputs behind a field, if the event's value fits it; the field's values are this set.
-#[tactic(auto, unfolding(crate::specs::EventForms::fits_by, crate::specs::Fitting::against, crate::specs::Fitting::against_input, crate::specs::Fitting::against_part), using(crate::proofs::Places::behind_input))]
-fn fits_phrase<A: Allocator + Copy, F: Facts<A>>(
+#[tactic(auto, unfolding(crate::specs::EventForms::fits_by, crate::specs::Fitting::against, crate::specs::Fitting::against_input, crate::specs::Fitting::against_part), using(crate::proofs::Scopes::behind_input))]
+fn fits_phrase<A: Allocator + Copy, G: GlobalScope<A>>(
     alloc: A,
-    facts: &F,
+    global: &G,
     inputs: Vec<Input<A>, A>,
     phrase: FieldPhrase<'_, A>,
     set: &Set<A>,
     value: &Value<A>,
     line: u32,
 ) -> Result<Option<Vec<Input<A>, A>>, ScriptError>
-    ensures { Gives (option_map (λ v. within (F.scope facts.now) (map input v.items))) result (fits_by (plain_field phrase.entry) (listed set.now.items) (value_of value.now) (within (F.scope facts.now) (map input inputs.items))) }
+    ensures { Gives (option_map (λ v. within (G.scope global.now) (map input v.items))) result (fits_by (plain_field phrase.entry) (listed set.now.items) (value_of value.now) (within (G.scope global.now) (map input inputs.items))) }
 {
     match phrase {
         FieldPhrase::Given(phrase) => {
-            let found = wanted_worth(alloc, facts, &inputs, phrase, Wanted::Value)?;
+            let found = wanted_worth(alloc, global, &inputs, phrase, Wanted::Value)?;
             let wanted = the_value(found, phrase.line())?;
             if !is_one_of(&wanted, set) {
                 return Err(fault(phrase.line(), ScriptErrorKind::OutOfRange));
@@ -83,16 +83,16 @@ fn fits_phrase<A: Allocator + Copy, F: Facts<A>>(
             }
         }
         FieldPhrase::Input(name) => {
-            if facts.is_constant(name) {
+            if global.is_constant(name) {
                 return Err(fault(line, ScriptErrorKind::Unsupported));
             }
             Ok(Some(with_input(alloc, inputs, name, value)?))
         }
         FieldPhrase::InputFrom(name, phrase) => {
-            if facts.is_constant(name) {
+            if global.is_constant(name) {
                 return Err(fault(line, ScriptErrorKind::Unsupported));
             }
-            let found = wanted_worth(alloc, facts, &inputs, phrase, Wanted::Values)?;
+            let found = wanted_worth(alloc, global, &inputs, phrase, Wanted::Values)?;
             let part = the_set(found, phrase.line())?;
             if has_value(&part, value) {
                 Ok(Some(with_input(alloc, inputs, name, value)?))
@@ -104,35 +104,35 @@ fn fits_phrase<A: Allocator + Copy, F: Facts<A>>(
 }
 
 /// The same of the field as it is written. A fault has the line of the phrase that is at fault.
-#[tactic(auto, using(crate::proofs::Places::field_fits, crate::proofs::Places::no_field))]
-fn fits<A: Allocator + Copy, F: Facts<A>>(
+#[tactic(auto, using(crate::proofs::Scopes::field_fits, crate::proofs::Scopes::no_field))]
+fn fits<A: Allocator + Copy, G: GlobalScope<A>>(
     alloc: A,
-    facts: &F,
+    global: &G,
     inputs: Vec<Input<A>, A>,
     tree: &Tree<A>,
     set: &Set<A>,
     value: &Value<A>,
 ) -> Result<Option<Vec<Input<A>, A>>, ScriptError>
-    ensures { Gives (option_map (λ v. within (F.scope facts.now) (map input v.items))) result (fits_field (shape tree.now) (listed set.now.items) (value_of value.now) (within (F.scope facts.now) (map input inputs.items))) }
+    ensures { Gives (option_map (λ v. within (G.scope global.now) (map input v.items))) result (fits_field (shape tree.now) (listed set.now.items) (value_of value.now) (within (G.scope global.now) (map input inputs.items))) }
 {
     match field(tree) {
-        Some(phrase) => fits_phrase(alloc, facts, inputs, phrase, set, value, tree.line()),
+        Some(phrase) => fits_phrase(alloc, global, inputs, phrase, set, value, tree.line()),
         None => Err(fault(tree.line(), ScriptErrorKind::Expected)),
     }
 }
 
 /// The inputs behind the fields, if the event's values fit them, from left to right.
 #[tactic(auto, unfolding(crate::specs::Fitting::fitting))]
-pub(crate) fn fitting<A: Allocator + Copy, F: Facts<A>>(
+pub(crate) fn fitting<A: Allocator + Copy, G: GlobalScope<A>>(
     alloc: A,
-    facts: &F,
+    global: &G,
     inputs: Vec<Input<A>, A>,
     fields: &[Tree<A>],
     sets: &[Set<A>],
     values: &[Value<A>],
     line: u32,
 ) -> Result<Option<Vec<Input<A>, A>>, ScriptError>
-    ensures { Gives (option_map (λ v. within (F.scope facts.now) (map input v.items))) result (fitting_of (syntaxes (shapes fields.now)) (map (λ v. listed v.items) sets.now) (listed values.now) (within (F.scope facts.now) (map input inputs.items))) }
+    ensures { Gives (option_map (λ v. within (G.scope global.now) (map input v.items))) result (fitting_of (syntaxes (shapes fields.now)) (map (λ v. listed v.items) sets.now) (listed values.now) (within (G.scope global.now) (map input inputs.items))) }
 {
     match fields {
         [] => match sets {
@@ -146,8 +146,8 @@ pub(crate) fn fitting<A: Allocator + Copy, F: Facts<A>>(
             [] => Err(fault(line, ScriptErrorKind::WrongFields)),
             [set, sets @ ..] => match values {
                 [] => Err(fault(line, ScriptErrorKind::WrongFields)),
-                [value, values @ ..] => match fits(alloc, facts, inputs, field, set, value)? {
-                    Some(inputs) => fitting(alloc, facts, inputs, fields, sets, values, line),
+                [value, values @ ..] => match fits(alloc, global, inputs, field, set, value)? {
+                    Some(inputs) => fitting(alloc, global, inputs, fields, sets, values, line),
                     None => Ok(None),
                 },
             },
@@ -157,21 +157,21 @@ pub(crate) fn fitting<A: Allocator + Copy, F: Facts<A>>(
 
 /// The inputs behind a prefix, if the event fits it.
 #[tactic(auto, unfolding(crate::specs::EventForms::event_fits))]
-pub fn inputs_behind<A: Allocator + Copy, F: Facts<A>>(
+pub fn inputs_behind<A: Allocator + Copy, G: GlobalScope<A>>(
     alloc: A,
-    place: &Place<'_, A, F>,
+    scope: &Scope<'_, A, G>,
     prefix: &Prefix<'_, A>,
     event: &Row<A>,
 ) -> Result<Option<Vec<Input<A>, A>>, ScriptError>
-    ensures { Gives (option_map (λ v. within (F.scope place.now.facts.now) (map input v.items))) result (event_fits prefix.now.channel.now (syntaxes (shapes prefix.now.fields.now)) (map (λ v. listed v.items) prefix.now.sets.now) (within (F.scope place.now.facts.now) (map input place.now.inputs.items)) (row event.now)) }
+    ensures { Gives (option_map (λ v. within (G.scope scope.now.global.now) (map input v.items))) result (event_fits prefix.now.channel.now (syntaxes (shapes prefix.now.fields.now)) (map (λ v. listed v.items) prefix.now.sets.now) (within (G.scope scope.now.global.now) (map input scope.now.inputs.items)) (row event.now)) }
 {
     if prefix.channel != event.channel.as_slice() {
         return Ok(None);
     }
-    let inputs = copies(alloc, &place.inputs)?;
+    let inputs = copies(alloc, &scope.inputs)?;
     fitting(
         alloc,
-        place.facts,
+        scope.global,
         inputs,
         prefix.fields,
         prefix.sets,

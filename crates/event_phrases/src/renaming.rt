@@ -11,10 +11,10 @@ ghost use Rattle.event_phrases.specs.View.{beginning as beginning_of, listed, ro
 
 use crate::beginning::wanted_beginning;
 use crate::events::number_of;
-use crate::facts::Facts;
 use crate::forms::sides;
-use crate::place::{Place, fault};
+use crate::global_scope::GlobalScope;
 use crate::row::{Row, begins_so};
+use crate::scope::{Scope, fault};
 use std::alloc::{AllocError, Allocator};
 use syntax::Tree;
 use tokens::{ScriptError, ScriptErrorKind};
@@ -90,22 +90,22 @@ fn pairs_from<A: Allocator + Copy>(
 }
 
 /// The pairs before, and behind them those of one `left <- right`.
-fn pairs_with<A: Allocator + Copy, F: Facts<A>>(
+fn pairs_with<A: Allocator + Copy, G: GlobalScope<A>>(
     alloc: A,
-    place: &Place<'_, A, F>,
+    scope: &Scope<'_, A, G>,
     tree: &Tree<A>,
     before: Vec<(u8, u8), A>,
 ) -> Result<Vec<(u8, u8), A>, ScriptError>
-    ensures { Gives (λ v. v.items) result (behind_pairs before.items (pair_of (F.scope place.now.facts.now).channels (within (F.scope place.now.facts.now) (map input place.now.inputs.items)).known (shape tree.now))) }
+    ensures { Gives (λ v. v.items) result (behind_pairs before.items (pair_of (G.scope scope.now.global.now).channels (within (G.scope scope.now.global.now) (map input scope.now.inputs.items)).known (shape tree.now))) }
 {
     match sides(tree) {
         None => Err(fault(tree.line(), ScriptErrorKind::Expected)),
         Some((left, right)) => {
-            let left = wanted_beginning(alloc, place, left)?;
-            let right = wanted_beginning(alloc, place, right)?;
+            let left = wanted_beginning(alloc, scope, left)?;
+            let right = wanted_beginning(alloc, scope, right)?;
             pairs_from(
                 alloc,
-                place.facts.events(),
+                scope.global.events(),
                 &left,
                 &right,
                 before,
@@ -117,16 +117,16 @@ fn pairs_with<A: Allocator + Copy, F: Facts<A>>(
 
 /// The pairs of a renaming, as they are written from left to right. A fault has the line of the phrase that is at fault; a
 /// pair that takes an event to none is `OutOfRange` at its left side.
-pub fn pairs_of<A: Allocator + Copy, F: Facts<A>>(
+pub fn pairs_of<A: Allocator + Copy, G: GlobalScope<A>>(
     alloc: A,
-    place: &Place<'_, A, F>,
+    scope: &Scope<'_, A, G>,
     trees: &[Tree<A>],
 ) -> Result<Vec<(u8, u8), A>, ScriptError>
-    ensures { Gives (λ v. v.items) result (pairs_of_all (F.scope place.now.facts.now).channels (within (F.scope place.now.facts.now) (map input place.now.inputs.items)).known (syntaxes (shapes trees.now))) }
+    ensures { Gives (λ v. v.items) result (pairs_of_all (G.scope scope.now.global.now).channels (within (G.scope scope.now.global.now) (map input scope.now.inputs.items)).known (syntaxes (shapes trees.now))) }
 {
     let mut pairs = Vec::new(alloc);
     for tree in trees {
-        pairs = pairs_with(alloc, place, tree, pairs)?;
+        pairs = pairs_with(alloc, scope, tree, pairs)?;
     }
     Ok(pairs)
 }

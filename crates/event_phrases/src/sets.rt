@@ -13,9 +13,9 @@ ghost use Rattle.event_phrases.specs.Shapes.{plain_set};
 
 use crate::beginning::{beginning, whole_event};
 use crate::events::beginning_so;
-use crate::facts::{Facts, Wanted};
 use crate::forms::{Combination, Extent, SetPhrase, set_phrase};
-use crate::place::{Place, fault, told};
+use crate::global_scope::{GlobalScope, Wanted};
+use crate::scope::{Scope, fault, told};
 use alphabet::EventSet;
 use std::alloc::Allocator;
 use syntax::Tree;
@@ -35,33 +35,33 @@ fn combined(combination: Combination, first: EventSet, second: EventSet) -> Even
 
 /// The events of one phrase in a set.
 #[tactic(auto, unfolding(crate::specs::EventForms::gives_by), using(crate::proofs::EventSetLaws::begun_set))]
-fn events_of<A: Allocator + Copy, F: Facts<A>>(
+fn events_of<A: Allocator + Copy, G: GlobalScope<A>>(
     alloc: A,
-    place: &Place<'_, A, F>,
+    scope: &Scope<'_, A, G>,
     extent: Extent,
     tree: &Tree<A>,
 ) -> Result<EventSet, ScriptError>
-    ensures { Gives (λ s. s) result (masked (F.scope place.now.facts.now).channels (gives_by (F.scope place.now.facts.now).channels (within (F.scope place.now.facts.now) (map input place.now.inputs.items)).known extent (shape tree.now))) }
+    ensures { Gives (λ s. s) result (masked (G.scope scope.now.global.now).channels (gives_by (G.scope scope.now.global.now).channels (within (G.scope scope.now.global.now) (map input scope.now.inputs.items)).known extent (shape tree.now))) }
 {
     let event = match extent {
-        Extent::Beginnings => beginning(alloc, place, tree)?,
-        Extent::Events => whole_event(alloc, place, tree)?,
+        Extent::Beginnings => beginning(alloc, scope, tree)?,
+        Extent::Events => whole_event(alloc, scope, tree)?,
     };
-    Ok(beginning_so(place.facts.events(), &event))
+    Ok(beginning_so(scope.global.events(), &event))
 }
 
 /// The events of the phrases in a set.
-fn several<A: Allocator + Copy, F: Facts<A>>(
+fn several<A: Allocator + Copy, G: GlobalScope<A>>(
     alloc: A,
-    place: &Place<'_, A, F>,
+    scope: &Scope<'_, A, G>,
     extent: Extent,
     trees: &[Tree<A>],
 ) -> Result<EventSet, ScriptError>
-    ensures { Gives (λ s. s) result (masked (F.scope place.now.facts.now).channels (together (gives_by (F.scope place.now.facts.now).channels (within (F.scope place.now.facts.now) (map input place.now.inputs.items)).known extent) (syntaxes (shapes trees.now)))) }
+    ensures { Gives (λ s. s) result (masked (G.scope scope.now.global.now).channels (together (gives_by (G.scope scope.now.global.now).channels (within (G.scope scope.now.global.now) (map input scope.now.inputs.items)).known extent) (syntaxes (shapes trees.now)))) }
 {
     let mut set = EventSet::empty();
     for tree in trees {
-        let more = events_of(alloc, place, extent, tree)?;
+        let more = events_of(alloc, scope, extent, tree)?;
         set = set.union(more);
     }
     Ok(set)
@@ -69,92 +69,92 @@ fn several<A: Allocator + Copy, F: Facts<A>>(
 
 /// The set of events that a phrase stands for. Its fault isn't the one that is told.
 #[cycle(sets)]
-fn event_set<A: Allocator + Copy, F: Facts<A>>(
+fn event_set<A: Allocator + Copy, G: GlobalScope<A>>(
     alloc: A,
-    place: &Place<'_, A, F>,
+    scope: &Scope<'_, A, G>,
     tree: &Tree<A>,
 ) -> Result<EventSet, ScriptError>
-    ensures { Gives (λ s. s) result (masked (F.scope place.now.facts.now).channels (event_set_in (F.scope place.now.facts.now).channels (within (F.scope place.now.facts.now) (map input place.now.inputs.items)).known (F.scope place.now.facts.now).sets (shape tree.now))) }
+    ensures { Gives (λ s. s) result (masked (G.scope scope.now.global.now).channels (event_set_in (G.scope scope.now.global.now).channels (within (G.scope scope.now.global.now) (map input scope.now.inputs.items)).known (G.scope scope.now.global.now).sets (shape tree.now))) }
 {
     match set_phrase(tree) {
-        Some(phrase) => set_of_phrase(alloc, place, phrase, tree.line()),
+        Some(phrase) => set_of_phrase(alloc, scope, phrase, tree.line()),
         None => Err(fault(tree.line(), ScriptErrorKind::Expected)),
     }
 }
 
 /// The same of a phrase by its form.
 #[cycle(sets)]
-fn set_of_phrase<A: Allocator + Copy, F: Facts<A>>(
+fn set_of_phrase<A: Allocator + Copy, G: GlobalScope<A>>(
     alloc: A,
-    place: &Place<'_, A, F>,
+    scope: &Scope<'_, A, G>,
     phrase: SetPhrase<'_, A>,
     line: u32,
 ) -> Result<EventSet, ScriptError>
-    ensures { Gives (λ s. s) result (masked (F.scope place.now.facts.now).channels (set_by (F.scope place.now.facts.now).channels (within (F.scope place.now.facts.now) (map input place.now.inputs.items)).known (F.scope place.now.facts.now).sets (plain_set phrase.entry))) }
+    ensures { Gives (λ s. s) result (masked (G.scope scope.now.global.now).channels (set_by (G.scope scope.now.global.now).channels (within (G.scope scope.now.global.now) (map input scope.now.inputs.items)).known (G.scope scope.now.global.now).sets (plain_set phrase.entry))) }
 {
     match phrase {
-        SetPhrase::Inside(inner) => event_set(alloc, place, inner),
+        SetPhrase::Inside(inner) => event_set(alloc, scope, inner),
         SetPhrase::Called(name) => {
-            if place.is_value(name) {
+            if scope.is_value(name) {
                 return Err(fault(line, ScriptErrorKind::Expected));
             }
-            match place.facts.set(name) {
+            match scope.global.set(name) {
                 Some(set) => Ok(set),
                 None => Err(fault(line, ScriptErrorKind::UnknownName)),
             }
         }
         SetPhrase::Nothing => Ok(EventSet::empty()),
-        SetPhrase::Everything => Ok(place.facts.sigma()),
-        SetPhrase::Several(extent, trees) => several(alloc, place, extent, trees),
+        SetPhrase::Everything => Ok(scope.global.sigma()),
+        SetPhrase::Several(extent, trees) => several(alloc, scope, extent, trees),
         SetPhrase::Combined(combination, first, second) => {
-            let first = event_set(alloc, place, first)?;
-            let second = event_set(alloc, place, second)?;
+            let first = event_set(alloc, scope, first)?;
+            let second = event_set(alloc, scope, second)?;
             Ok(combined(combination, first, second))
         }
     }
 }
 
 /// The set of events that a phrase stands for, and the fault where it stands for none.
-#[tactic(auto, using(crate::proofs::Places::fails_too))]
-pub fn wanted_events<A: Allocator + Copy, F: Facts<A>>(
+#[tactic(auto, using(crate::proofs::Scopes::fails_too))]
+pub fn wanted_events<A: Allocator + Copy, G: GlobalScope<A>>(
     alloc: A,
-    place: &Place<'_, A, F>,
+    scope: &Scope<'_, A, G>,
     tree: &Tree<A>,
 ) -> Result<EventSet, ScriptError>
-    ensures { Gives (λ s. s) result (masked (F.scope place.now.facts.now).channels (event_set_in (F.scope place.now.facts.now).channels (within (F.scope place.now.facts.now) (map input place.now.inputs.items)).known (F.scope place.now.facts.now).sets (shape tree.now))) }
+    ensures { Gives (λ s. s) result (masked (G.scope scope.now.global.now).channels (event_set_in (G.scope scope.now.global.now).channels (within (G.scope scope.now.global.now) (map input scope.now.inputs.items)).known (G.scope scope.now.global.now).sets (shape tree.now))) }
 {
-    match event_set(alloc, place, tree) {
+    match event_set(alloc, scope, tree) {
         Ok(set) => Ok(set),
-        Err(error) => Err(told(place.facts, &place.inputs, tree, Wanted::Events, error)),
+        Err(error) => Err(told(scope.global, &scope.inputs, tree, Wanted::Events, error)),
     }
 }
 
 /// The sets of events that two phrases stand for.
-pub fn two_sets<A: Allocator + Copy, F: Facts<A>>(
+pub fn two_sets<A: Allocator + Copy, G: GlobalScope<A>>(
     alloc: A,
-    place: &Place<'_, A, F>,
+    scope: &Scope<'_, A, G>,
     first: &Tree<A>,
     second: &Tree<A>,
 ) -> Result<(EventSet, EventSet), ScriptError>
-    ensures { Gives (λ p. p) result (two_masked (F.scope place.now.facts.now).channels (events_by (within (F.scope place.now.facts.now) (map input place.now.inputs.items)) (shape first.now)) (events_by (within (F.scope place.now.facts.now) (map input place.now.inputs.items)) (shape second.now))) }
+    ensures { Gives (λ p. p) result (two_masked (G.scope scope.now.global.now).channels (events_by (within (G.scope scope.now.global.now) (map input scope.now.inputs.items)) (shape first.now)) (events_by (within (G.scope scope.now.global.now) (map input scope.now.inputs.items)) (shape second.now))) }
 {
-    let first = wanted_events(alloc, place, first)?;
-    let second = wanted_events(alloc, place, second)?;
+    let first = wanted_events(alloc, scope, first)?;
+    let second = wanted_events(alloc, scope, second)?;
     Ok((first, second))
 }
 
 /// The set of events that a phrase stands for where no input stands before it. Its fault isn't the one that is told.
-pub fn set_of_events<A: Allocator + Copy, F: Facts<A>>(
+pub fn set_of_events<A: Allocator + Copy, G: GlobalScope<A>>(
     alloc: A,
-    facts: &F,
+    global: &G,
     tree: &Tree<A>,
 ) -> Result<EventSet, ScriptError>
-    ensures { Gives (λ s. s) result (masked (F.scope facts.now).channels (event_set_in (F.scope facts.now).channels (F.scope facts.now).known (F.scope facts.now).sets (shape tree.now))) }
+    ensures { Gives (λ s. s) result (masked (G.scope global.now).channels (event_set_in (G.scope global.now).channels (G.scope global.now).known (G.scope global.now).sets (shape tree.now))) }
 {
-    let place = Place {
-        facts,
+    let scope = Scope {
+        global,
         inputs: Vec::new(alloc),
         line: tree.line(),
     };
-    event_set(alloc, &place, tree)
+    event_set(alloc, &scope, tree)
 }

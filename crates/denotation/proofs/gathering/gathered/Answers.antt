@@ -14,11 +14,11 @@ pub loop-alloc-init : goal.loop-alloc-init
 loop-alloc-init g c =
     let h : map key c.insert.new.self.keys ≡ (c.args.root.now, []) ∷ [] = seen_root same c.insert.new.self.keys c.new-met.result.keys c.in_ok-from_slice.field-0 c.args.root.now c.in_ok-_first.ensures.keys c.new-met.ensures.empty c.in_ok-from_slice.ensures.items in
     let k : map proc c.new-terms.result.items ≡ [] = ap (map proc) c.new-terms.ensures.items in
-    rw h (rw k (start (g.F.Facts.scope c.args.facts.now) (c.args.root.now, [])))
+    rw h (rw k (start (g.G.GlobalScope.scope c.args.global.now) (c.args.root.now, [])))
 
 pub returns-in_err-term-clause-only : goal.returns-in_err-term-clause-only
 returns-in_err-term-clause-only g c = λ ps d.
-    let S = g.F.Facts.scope c.args.facts.now in
+    let S = g.G.GlobalScope.scope c.args.global.now in
     let made = map proc c.loop-alloc.terms.items in
     let keys = map key c.loop-alloc.work.met.keys in
     let n : c.len-in-loop-alloc-2.result ≡ length made = search (rules, length-map) in
@@ -34,11 +34,11 @@ returns-in_err-push-clause-only g c = λ ps d.
     rw (p.1, p.2) tt
 
 pub loop-alloc-smaller : goal.loop-alloc-smaller
-loop-alloc-smaller g c = body_less (g.F.Facts.scope c.args.facts.now) (c.deref-in-loop-alloc.result.now, []) (count c.loop-alloc.work) (proc c.in_ok-term.term, count c.in_ok-term.next) c.in_ok-term.ensures
+loop-alloc-smaller g c = body_less (g.G.GlobalScope.scope c.args.global.now) (c.deref-in-loop-alloc.result.now, []) (count c.loop-alloc.work) (proc c.in_ok-term.term, count c.in_ok-term.next) c.in_ok-term.ensures
 
 pub loop-alloc-preserved : goal.loop-alloc-preserved
 loop-alloc-preserved g c =
-    let S = g.F.Facts.scope c.args.facts.now in
+    let S = g.G.GlobalScope.scope c.args.global.now in
     let made = map proc c.loop-alloc.terms.items in
     let keys = map key c.loop-alloc.work.met.keys in
     let n : c.len-in-loop-alloc-2.result ≡ length made = search (rules, length-map) in
@@ -48,7 +48,7 @@ loop-alloc-preserved g c =
     rw new (one_more S (c.args.root.now, []) made keys c.loop-alloc.work.room c.loop-alloc.invariant (proc c.in_ok-term.term, count c.in_ok-term.next) (omega (arith, lt, length-map c.loop-alloc.work.met.keys key)) (at ∙ c.in_ok-term.ensures))
 
 pub returns-clause-found : goal.returns-clause-found
-returns-clause-found g c = finish (g.F.Facts.scope c.args.facts.now) (c.args.root.now, []) (map proc c.loop-alloc.terms.items) (map key c.loop-alloc.work.met.keys) c.loop-alloc.work.room c.loop-alloc.invariant (omega (arith, length-map c.loop-alloc.terms.items proc, length-map c.loop-alloc.work.met.keys key))
+returns-clause-found g c = finish (g.G.GlobalScope.scope c.args.global.now) (c.args.root.now, []) (map proc c.loop-alloc.terms.items) (map key c.loop-alloc.work.met.keys) c.loop-alloc.work.room c.loop-alloc.invariant (omega (arith, length-map c.loop-alloc.terms.items proc, length-map c.loop-alloc.work.met.keys key))
 
 pub returns-clause-only : goal.returns-clause-only
-returns-clause-only g c = λ ps d. ap (λ x. Some x) (unique (g.F.Facts.scope c.args.facts.now) (c.args.root.now, []) (map proc c.loop-alloc.terms.items) (map key c.loop-alloc.work.met.keys) c.loop-alloc.work.room c.loop-alloc.invariant (omega (arith, length-map c.loop-alloc.terms.items proc, length-map c.loop-alloc.work.met.keys key)) ps d)
+returns-clause-only g c = λ ps d. ap (λ x. Some x) (unique (g.G.GlobalScope.scope c.args.global.now) (c.args.root.now, []) (map proc c.loop-alloc.terms.items) (map key c.loop-alloc.work.met.keys) c.loop-alloc.work.room c.loop-alloc.invariant (omega (arith, length-map c.loop-alloc.terms.items proc, length-map c.loop-alloc.work.met.keys key)) ps d)

@@ -46,9 +46,9 @@ decreases-renaming_phrase g l = 6 * tall (shape l.tree.now) + 4
 
 abbrev pub invariant-branches-loop-number : goal.invariant-branches-loop-number
 invariant-branches-loop-number g l =
-    let s = within (g.F.Facts.scope l.place.facts.now) (map input l.place.inputs.items) in
+    let s = within (g.G.GlobalScope.scope l.scope.global.now) (map input l.scope.inputs.items) in
     let next = make (shape l.prefix.then.now) in
     let sets = map (λ v. listed v.items) l.prefix.sets.now in
     let fields = syntaxes (shapes l.prefix.fields.now) in
     branches_behind (map proc l.terms.items) (all_from next l.prefix.channel.now fields sets s l.number (map row (drop l.number l.events)) (count l.work))
-    ≡ all_from next l.prefix.channel.now fields sets s 0 (events (g.F.Facts.scope l.place.facts.now).channels) (count l.fn.work)
+    ≡ all_from next l.prefix.channel.now fields sets s 0 (events (g.G.GlobalScope.scope l.scope.global.now).channels) (count l.fn.work)

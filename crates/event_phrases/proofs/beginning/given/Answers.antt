@@ -9,5 +9,5 @@ use Rattle.event_phrases.proofs.beginning.given.Goals as goal
 
 pub returns-in-Some : goal.returns-in-Some
 returns-in-Some g c =
-    let known = (within (g.F.Facts.scope c.args.place.now.facts.now) (map input c.args.place.now.inputs.items)).known in
+    let known = (within (g.G.GlobalScope.scope c.args.scope.now.global.now) (map input c.args.scope.now.inputs.items)).known in
     subst (λ o. Gives value c.given_by.result o) (sym (value_so known (shape c.args.tree.now) (plain_field c.in-Some.phrase) (sym c.in-Some.ensures))) c.given_by.ensures

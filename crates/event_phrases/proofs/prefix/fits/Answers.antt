@@ -6,11 +6,11 @@ use Rattle.values.specs.View.{Gives, value}
 use Rattle.event_phrases.specs.EventForms.{within}
 use Rattle.event_phrases.specs.Shapes.{plain_field}
 use Rattle.event_phrases.specs.View.{listed}
-use Rattle.event_phrases.proofs.Places.{field_fits}
+use Rattle.event_phrases.proofs.Scopes.{field_fits}
 use Rattle.event_phrases.proofs.prefix.fits.Goals as goal
 
 pub returns-in-Some : goal.returns-in-Some
 returns-in-Some g c =
-    let s = g.F.Facts.scope c.args.facts.now in
+    let s = g.G.GlobalScope.scope c.args.global.now in
     subst (λ o. Gives (option_map (λ v. within s (map input v.items))) c.fits_phrase.result o)
     (sym (field_fits (shape c.args.tree.now) (plain_field c.in-Some.phrase) (listed c.args.set.now.items) (value c.args.value.now) (within s (map input c.args.inputs.items)) (sym c.in-Some.ensures))) c.fits_phrase.ensures

@@ -5,7 +5,7 @@ use Rattle.event_phrases.specs.Events.{number_in, pairs_from}
 use Rattle.event_phrases.specs.EventForms.{behind_pairs}
 use Rattle.event_phrases.specs.View.{beginning, listed, row}
 use Rattle.values.specs.View.{value}
-use Rattle.event_phrases.proofs.Places.{fails_none}
+use Rattle.event_phrases.proofs.Scopes.{fails_none}
 use Rattle.event_phrases.proofs.Renamings.{image_of, pairs_behind, pair_more, pair_less, no_image, pairs_end}
 use Rattle.event_phrases.proofs.renaming.pairs_from.Goals as goal
 use Rattle.event_phrases.proofs.renaming.pairs_from.Goals.{then-begins_so+in_ok-wanted+in-Some+in_ok-push-in-Some, else-begins_so}

@@ -9,6 +9,6 @@ use Rattle.event_phrases.proofs.renaming.pairs_of.Given as goal
 
 abbrev pub invariant-loop-tree : goal.invariant-loop-tree
 invariant-loop-tree g l =
-    let s = g.F.Facts.scope l.place.facts.now in
-    let known = (within s (map input l.place.inputs.items)).known in
+    let s = g.G.GlobalScope.scope l.scope.global.now in
+    let known = (within s (map input l.scope.inputs.items)).known in
     behind_pairs l.pairs.items (others s.channels known l.trees l.tree-index) ≡ pairs_of s.channels known (syntaxes (shapes l.trees))

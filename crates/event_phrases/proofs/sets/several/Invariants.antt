@@ -9,6 +9,6 @@ use Rattle.event_phrases.proofs.sets.several.Given as goal
 
 abbrev pub invariant-loop-tree : goal.invariant-loop-tree
 invariant-loop-tree g l =
-    let s = g.F.Facts.scope l.place.facts.now in
-    let gives = gives_by s.channels (within s (map input l.place.inputs.items)).known l.extent in
+    let s = g.G.GlobalScope.scope l.scope.global.now in
+    let gives = gives_by s.channels (within s (map input l.scope.inputs.items)).known l.extent in
     (with_set s.channels l.set (others s.channels gives l.trees l.tree-index) ≡ masked s.channels (together gives (syntaxes (shapes l.trees)))) × Lies s.channels l.set

@@ -1,4 +1,4 @@
-//! Where phrases stand.
+//! Scopes: where phrases stand.
 ghost use Rattle.std.specs.Prelude.{◌≡◌, IfOk, map};
 ghost use Rattle.std.specs.Option.{option_map};
 ghost use Rattle.syntax.specs.View.{shape};
@@ -10,16 +10,16 @@ ghost use Rattle.event_phrases.specs.EventForms.{within};
 ghost use Rattle.event_phrases.specs.Events.{channel_fields};
 ghost use Rattle.event_phrases.specs.View.{listed};
 
-use crate::facts::{Facts, Set, Wanted};
+use crate::global_scope::{GlobalScope, Set, Wanted};
 use std::alloc::{AllocError, Allocator};
 use syntax::Tree;
 use tokens::{ScriptError, ScriptErrorKind};
 use values::{Input, Worth, is_value, stands_for};
 
-/// Where a phrase stands: what is known of the script, and the inputs before the phrase.
+/// The scope of a phrase: what is known of the script, and the inputs before the phrase.
 #[derive(Drop)]
-pub struct Place<'a, A: Allocator, F: Facts<A>> {
-    pub facts: &'a F,
+pub struct Scope<'a, A: Allocator, G: GlobalScope<A>> {
+    pub global: &'a G,
     pub inputs: Vec<Input<A>, A>,
     /// The line of the name of the definition that the phrase stands in.
     pub line: u32,
@@ -50,20 +50,20 @@ pub(crate) fn copies<A: Allocator + Copy>(
 }
 
 /// What a phrase for a value or a set of values stands for behind these inputs.
-pub(crate) fn worth<A: Allocator + Copy, F: Facts<A>>(
+pub(crate) fn worth<A: Allocator + Copy, G: GlobalScope<A>>(
     alloc: A,
-    facts: &F,
+    global: &G,
     inputs: &[Input<A>],
     tree: &Tree<A>,
 ) -> Result<Worth<A>, ScriptError>
-    ensures { Gives worth_of result (worth_in (within (F.scope facts.now) (map input inputs.now)).known (shape tree.now)) }
+    ensures { Gives worth_of result (worth_in (within (G.scope global.now) (map input inputs.now)).known (shape tree.now)) }
 {
-    stands_for(&alloc, facts.known(), inputs, tree)
+    stands_for(&alloc, global.known(), inputs, tree)
 }
 
 /// The fault that is told of a phrase behind these inputs which isn't what is wanted for this error; want of memory stays.
-pub(crate) fn told<A: Allocator, F: Facts<A>>(
-    facts: &F,
+pub(crate) fn told<A: Allocator, G: GlobalScope<A>>(
+    global: &G,
     inputs: &[Input<A>],
     tree: &Tree<A>,
     wanted: Wanted,
@@ -73,49 +73,49 @@ pub(crate) fn told<A: Allocator, F: Facts<A>>(
 {
     match error.kind {
         ScriptErrorKind::Memory => error,
-        _ => facts.phrase_fault(inputs, tree, wanted),
+        _ => global.phrase_fault(inputs, tree, wanted),
     }
 }
 
 /// What a phrase stands for behind these inputs, where this is wanted of it; the fault where it stands for nothing.
-#[tactic(auto, using(crate::proofs::Places::fails_too))]
-pub(crate) fn wanted_worth<A: Allocator + Copy, F: Facts<A>>(
+#[tactic(auto, using(crate::proofs::Scopes::fails_too))]
+pub(crate) fn wanted_worth<A: Allocator + Copy, G: GlobalScope<A>>(
     alloc: A,
-    facts: &F,
+    global: &G,
     inputs: &[Input<A>],
     tree: &Tree<A>,
     wanted: Wanted,
 ) -> Result<Worth<A>, ScriptError>
-    ensures { Gives worth_of result (worth_in (within (F.scope facts.now) (map input inputs.now)).known (shape tree.now)) }
+    ensures { Gives worth_of result (worth_in (within (G.scope global.now) (map input inputs.now)).known (shape tree.now)) }
 {
-    match worth(alloc, facts, inputs, tree) {
+    match worth(alloc, global, inputs, tree) {
         Ok(worth) => Ok(worth),
-        Err(error) => Err(told(facts, inputs, tree, wanted, error)),
+        Err(error) => Err(told(global, inputs, tree, wanted, error)),
     }
 }
 
-impl<'a, A: Allocator + Copy, F: Facts<A>> Place<'a, A, F> {
+impl<'a, A: Allocator + Copy, G: GlobalScope<A>> Scope<'a, A, G> {
     /// Whether the name stands for one value, which hides its other uses.
     pub fn is_value(&self, name: &[u8]) -> bool
-        ensures { result ≡ names_value ((within (F.scope self.now.facts.now) (map input self.now.inputs.items)).known name.now) }
+        ensures { result ≡ names_value ((within (G.scope self.now.global.now) (map input self.now.inputs.items)).known name.now) }
     {
-        is_value(self.facts.known(), &self.inputs, name)
+        is_value(self.global.known(), &self.inputs, name)
     }
 
     /// The values of the fields of a channel whose name isn't hidden.
-    #[tactic(auto, using(crate::proofs::Places::hidden, crate::proofs::Places::seen))]
+    #[tactic(auto, using(crate::proofs::Scopes::hidden, crate::proofs::Scopes::seen))]
     pub fn fields(&self, channel: &[u8]) -> Option<&'a [Set<A>]>
-        ensures { option_map (λ f. map (λ v. listed v.items) f.now) result ≡ channel_fields (F.scope self.now.facts.now).channels (within (F.scope self.now.facts.now) (map input self.now.inputs.items)).known channel.now }
+        ensures { option_map (λ f. map (λ v. listed v.items) f.now) result ≡ channel_fields (G.scope self.now.global.now).channels (within (G.scope self.now.global.now) (map input self.now.inputs.items)).known channel.now }
     {
         if self.is_value(channel) {
             return None;
         }
-        self.facts.fields(channel)
+        self.global.fields(channel)
     }
 
     /// What is told of an event phrase whose name is no channel's.
     pub fn no_channel(&self, event: &Tree<A>) -> ScriptError {
-        self.facts
+        self.global
             .phrase_fault(&self.inputs, event, Wanted::Channel)
     }
 }

@@ -2,7 +2,7 @@ use Rattle.std.proofs.Common.{sym, ◌∙◌}
 use Rattle.script.specs.Tables.{said}
 use Rattle.script.proofs.Tables.{copied}
 use Rattle.script.proofs.Masks.{stored}
-use Rattle.script.proofs.script.ScriptFacts.set.Goals as goal
+use Rattle.script.proofs.script.ScriptGlobalScope.set.Goals as goal
 
 pub returns : goal.returns
 returns g c =

@@ -1,4 +1,4 @@
-//! What is known of a script.
+//! The scope of a whole script.
 ghost use Rattle.std.specs.Prelude.{◌≡◌, ◌≤◌, length, map, Some, MatchOption};
 ghost use Rattle.std.specs.Option.{option_map};
 ghost use Rattle.alphabet.specs.Channels.{events as events_of, event_count};
@@ -39,7 +39,7 @@ pub enum Wanted {
 }
 
 /// What is known of a script's names where no input stands before a phrase.
-pub trait Facts<A: Allocator>: Drop {
+pub trait GlobalScope<A: Allocator>: Drop {
     /// What is known.
     ghost scope: { Self → Scope };
 

@@ -1,4 +1,4 @@
--- Places behind inputs, values of fields, and fields of a prefix.
+-- Scopes behind inputs, values of fields, and fields of a prefix.
 use Rattle.std.proofs.Common.{◌≡◌, ℕ, zero, suc, ◌-◌, ◌<◌, ◌≤◌, List, [], ◌∷◌, ◌++◌, length, take, drop, get_or, true, false, cond, Option, Some, None, refl, sym, ap, ◌∙◌, arith, append-nil, append_assoc, subst}
 use Rattle.std.proofs.lemmas.List.{length-drop}
 use Rattle.alphabet.specs.Channels.{FieldValue, Values}
@@ -27,11 +27,11 @@ seen o x h = unless_is o x ∙ ap (λ b. cond b None x) h
 abbrev at_input : Scope → Known → Scope
 at_input s k = record s { known = k }
 
--- a place behind one more input
+-- a scope behind one more input
 pub behind_input : (s : Scope) (is js : List (Name × FieldValue)) (x : Name) (v : FieldValue) → js ≡ is ++ (x, v) ∷ [] → within s js ≡ with_input (within s is) x v
 behind_input s is js x v h = ap (within s) h ∙ ap (at_input s) (behind-more s.known is x v)
 
--- a place without inputs
+-- a scope without inputs
 pub no_inputs : (s : Scope) (is : List (Name × FieldValue)) → is ≡ [] → within s is ≡ s
 unfolding behind
 no_inputs s is h = ap (within s) h
