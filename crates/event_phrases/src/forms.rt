@@ -53,7 +53,7 @@ pub(crate) enum FieldPhrase<'a, A: Allocator> {
     InputFrom(&'a [u8], &'a Tree<A>),
 }
 
-/// The form and the parts of a node.
+/// The form and the parts of a node. A name and a number have none.
 #[tactic(auto, unfolding(crate::specs::Forms::node_of), using(crate::proofs::Shapes::node_parts))]
 pub fn node<A: Allocator>(tree: &Tree<A>) -> Option<(Form, &[Tree<A>])>
     ensures { option_map (λ n. (n.0, shapes n.1.now)) result ≡ node_of (shape tree.now) }
@@ -65,7 +65,7 @@ pub fn node<A: Allocator>(tree: &Tree<A>) -> Option<(Form, &[Tree<A>])>
     }
 }
 
-/// The name that this is.
+/// The name, where the phrase is one.
 #[tactic(auto, unfolding(crate::specs::Forms::name_of))]
 pub fn name<A: Allocator>(tree: &Tree<A>) -> Option<&[u8]>
     ensures { option_map (λ n. n.now) result ≡ name_of (shape tree.now) }
@@ -77,7 +77,7 @@ pub fn name<A: Allocator>(tree: &Tree<A>) -> Option<&[u8]>
     }
 }
 
-/// The first part and those behind it.
+/// The first part and those after it.
 #[tactic(auto, unfolding(crate::specs::Forms::first_of))]
 pub fn first<A: Allocator>(parts: &[Tree<A>]) -> Option<(&Tree<A>, &[Tree<A>])>
     ensures { option_map (λ p. (shape p.0.now, shapes p.1.now)) result ≡ first_of (shapes parts.now) }
@@ -88,7 +88,7 @@ pub fn first<A: Allocator>(parts: &[Tree<A>]) -> Option<(&Tree<A>, &[Tree<A>])>
     }
 }
 
-/// The only part.
+/// The only part, where there is one and no more.
 #[tactic(auto, unfolding(crate::specs::Forms::one_of, crate::specs::Forms::if_none))]
 pub fn one<A: Allocator>(parts: &[Tree<A>]) -> Option<&Tree<A>>
     ensures { option_map (λ t. shape t.now) result ≡ one_of (shapes parts.now) }
@@ -102,7 +102,7 @@ pub fn one<A: Allocator>(parts: &[Tree<A>]) -> Option<&Tree<A>>
     }
 }
 
-/// The two parts.
+/// The two parts, where there are as many.
 #[tactic(auto, unfolding(crate::specs::Forms::two_of))]
 pub fn two<A: Allocator>(parts: &[Tree<A>]) -> Option<(&Tree<A>, &Tree<A>)>
     ensures { option_map (λ p. (shape p.0.now, shape p.1.now)) result ≡ two_of (shapes parts.now) }
@@ -113,7 +113,7 @@ pub fn two<A: Allocator>(parts: &[Tree<A>]) -> Option<(&Tree<A>, &Tree<A>)>
     }
 }
 
-/// The three parts.
+/// The three parts, where there are as many.
 #[tactic(auto, unfolding(crate::specs::Forms::three_of))]
 pub fn three<A: Allocator>(parts: &[Tree<A>]) -> Option<(&Tree<A>, &Tree<A>, &Tree<A>)>
     ensures { option_map (λ p. (shape p.0.now, shape p.1.now, shape p.2.now)) result ≡ three_of (shapes parts.now) }
@@ -127,7 +127,7 @@ pub fn three<A: Allocator>(parts: &[Tree<A>]) -> Option<(&Tree<A>, &Tree<A>, &Tr
     }
 }
 
-/// The four parts.
+/// The four parts, where there are as many.
 #[tactic(auto, unfolding(crate::specs::Forms::four_of))]
 pub fn four<A: Allocator>(parts: &[Tree<A>]) -> Option<(&Tree<A>, &Tree<A>, &Tree<A>, &Tree<A>)>
     ensures { option_map (λ p. (shape p.0.now, shape p.1.now, shape p.2.now, shape p.3.now)) result ≡ four_of (shapes parts.now) }
@@ -189,7 +189,7 @@ pub(crate) fn set_phrase<A: Allocator>(tree: &Tree<A>) -> Option<SetPhrase<'_, A
     event_set_form(form, parts)
 }
 
-/// The channel's name and the fields of an event phrase.
+/// The channel's name and the fields of an event phrase, where the phrase is one.
 #[tactic(auto, unfolding(crate::specs::Forms::event_of, crate::specs::Forms::event_form))]
 pub fn event_parts<A: Allocator>(tree: &Tree<A>) -> Option<(&[u8], &[Tree<A>])>
     ensures { option_map (λ p. (p.0.now, shapes p.1.now)) result ≡ event_parts_of (shape tree.now) }

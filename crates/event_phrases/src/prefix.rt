@@ -21,12 +21,16 @@ use syntax::Tree;
 use tokens::{ScriptError, ScriptErrorKind};
 use values::{Input, Value, Values, the_set, the_value};
 
-/// A prefix: the channel of its event, the fields with the sets of their values, and the process behind it.
+/// A prefix: the channel of its event, the fields with the sets of their values, and the process after its arrow.
 #[derive(Drop)]
 pub struct Prefix<'a, A: Allocator> {
+    /// The channel's name.
     pub channel: &'a [u8],
+    /// The fields after it.
     pub fields: &'a [Tree<A>],
+    /// The values of each of the channel's fields.
     pub sets: &'a [Set<A>],
+    /// The process after the arrow.
     pub then: &'a Tree<A>,
     /// The line of the event phrase.
     pub line: u32,
@@ -155,7 +159,9 @@ pub(crate) fn fitting<A: Allocator + Copy, G: GlobalScope<A>>(
     }
 }
 
-/// The inputs behind a prefix, if the event fits it.
+/// The inputs after a prefix, where the event fits it, and `None` where it doesn't. A fault has the line of the phrase that is
+/// at fault: a field without a value, a value outside its field's set (`OutOfRange`), an input by a constant's name
+/// (`Unsupported`).
 #[tactic(auto, unfolding(crate::specs::EventForms::event_fits))]
 pub fn inputs_behind<A: Allocator + Copy, G: GlobalScope<A>>(
     alloc: A,

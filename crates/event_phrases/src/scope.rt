@@ -19,7 +19,9 @@ use values::{Input, Worth, is_value, stands_for};
 /// The scope of a phrase: what is known of the script, and the inputs before the phrase.
 #[derive(Drop)]
 pub struct Scope<'a, A: Allocator, G: GlobalScope<A>> {
+    /// What is known of the script's names.
     pub global: &'a G,
+    /// The inputs before the phrase, the last one last.
     pub inputs: Vec<Input<A>, A>,
     /// The line of the name of the definition that the phrase stands in.
     pub line: u32,
@@ -95,7 +97,7 @@ pub(crate) fn wanted_worth<A: Allocator + Copy, G: GlobalScope<A>>(
 }
 
 impl<'a, A: Allocator + Copy, G: GlobalScope<A>> Scope<'a, A, G> {
-    /// Whether the name stands for one value, which hides its other uses.
+    /// Whether the name is that of one value, which hides its other uses.
     pub fn is_value(&self, name: &[u8]) -> bool
         ensures { result ≡ names_value ((within (G.scope self.now.global.now) (map input self.now.inputs.items)).known name.now) }
     {
@@ -113,7 +115,7 @@ impl<'a, A: Allocator + Copy, G: GlobalScope<A>> Scope<'a, A, G> {
         self.global.fields(channel)
     }
 
-    /// What is told of an event phrase whose name is no channel's.
+    /// The fault of an event phrase whose name is no channel's.
     pub fn no_channel(&self, event: &Tree<A>) -> ScriptError {
         self.global
             .phrase_fault(&self.inputs, event, Wanted::Channel)
