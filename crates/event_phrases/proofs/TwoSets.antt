@@ -1,5 +1,5 @@
 -- Two sets of events, one after the other.
-use Rattle.std.proofs.Common.{◌≡◌, Option, Some, sym, subst, ◌∙◌}
+use Rattle.std.proofs.Common.{◌≡◌, List, Option, Some, sym, subst, ◌∙◌}
 use Rattle.alphabet.specs.Channels.{Channel}
 use Rattle.alphabet.specs.EventSets.{Set}
 use Rattle.tokens.specs.declared.error.ScriptErrorKind.{ScriptErrorKind}
