@@ -6,9 +6,10 @@ use Rattle.term.specs.Proc.{Proc}
 use Rattle.term.specs.Traces.{Pairs}
 use Rattle.values.specs.Values.{◌>>=◌}
 use Rattle.values.specs.Names.{is_process}
-use Rattle.phrases.specs.Events.{unless_value, pairs_of, set_of}
-use Rattle.phrases.specs.Bodies.{Body, prefix, ext, int, seq, par, hide, ren, intr, name}
-use Rattle.phrases.specs.Phrases.{Scope, events_by, renamed, denoted, denoted_form}
+use Rattle.event_phrases.specs.Events.{unless_value, pairs_of, set_of}
+use Rattle.denotation.specs.Bodies.{Body, prefix, ext, int, seq, par, hide, ren, intr, name}
+use Rattle.event_phrases.specs.Scopes.{Scope, events_by}
+use Rattle.denotation.specs.Phrases.{renamed, denoted, denoted_form}
 use Rattle.printing.specs.Printed.{reference}
 use Rattle.read_back.proofs.Trees.{phrases, pair_tree, set_tree, process_tree}
 use Rattle.read_back.proofs.Readable.{IsPrintedScope, IsRenaming, IsWritten, referred}

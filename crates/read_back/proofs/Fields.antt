@@ -20,7 +20,7 @@ use Rattle.values.specs.Worths.{one, many, Known, the_only, the_number, the_valu
 use Rattle.values.specs.Order.{value_total}
 use Rattle.values.specs.Names.{Entry, channel, datatype, constant_name}
 use Rattle.values.specs.Channels.{fields_of, with_channel, channels_of}
-use Rattle.phrases.specs.Phrases.{Scope}
+use Rattle.event_phrases.specs.Scopes.{Scope}
 use Rattle.printing.specs.Names.{Name, constants, primed, datatype_name, datatype_primes}
 use Rattle.printing.specs.Printed.{joined, gap, field_text, fields_text, channel_line, datatype_line, body_lines, printed}
 use Rattle.read_back.proofs.Trees.{phrases, member_tree, values_tree, typed_entries, channel_entry, body_entry, body_entries, printed_primes, printed_entries}

@@ -15,8 +15,8 @@ use Rattle.values.specs.Values.{◌>>=◌, Name, value_cmp, is_same, is_among, l
 use Rattle.values.specs.Worths.{Worth, one, worth, worths, formed, negated, the_only, the_number, the_value}
 use Rattle.values.specs.Order.{value_total}
 use Rattle.values.specs.Names.{same_name}
-use Rattle.phrases.specs.Events.{field_value, field_values, are_within}
-use Rattle.phrases.specs.Phrases.{Scope}
+use Rattle.event_phrases.specs.Events.{field_value, field_values, are_within}
+use Rattle.event_phrases.specs.Scopes.{Scope}
 use Rattle.read_back.proofs.Trees.{node, value_tree, dotted_trees}
 use Rattle.read_back.proofs.Readable.{IsGiven}
 

@@ -9,7 +9,7 @@ use Rattle.values.specs.Names.{Entry, declared, declared_by_all}
 use Rattle.declared_names.specs.Naming.{has_names, have_names}
 use Rattle.declarations.proofs.Meanings.{AreNamed, named}
 use Rattle.declared_names.proofs.TextNames.{texts_have_names}
-use Rattle.phrases.specs.Denotes.{Denotes}
+use Rattle.denotation.specs.Denotes.{Denotes}
 use Rattle.printing.specs.Names.{body_primes}
 use Rattle.printing.specs.Printed.{printed, reference}
 use Rattle.read_back.proofs.Trees.{script_tree}

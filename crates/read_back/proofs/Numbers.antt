@@ -7,10 +7,10 @@ use Rattle.std.specs.Cmp.Lexicographic.{pointwise, bytes_decides}
 use Rattle.alphabet.proofs.Lists.{and-left, and-right}
 use Rattle.values.specs.Values.{is_same}
 use Rattle.values.specs.Names.{same_name}
-use Rattle.phrases.specs.Bodies.{Key, same_key, Body, names}
-use Rattle.phrases.specs.Denotes.{place, has_key, with_key, with_keys, met}
-use Rattle.phrases.proofs.Keys.{key_same, has_with}
-use Rattle.phrases.proofs.Reached.{get_front, keys_grow}
+use Rattle.denotation.specs.Bodies.{Key, same_key, Body, names}
+use Rattle.denotation.specs.Denotes.{place, has_key, with_key, with_keys, met}
+use Rattle.denotation.proofs.Keys.{key_same, has_with}
+use Rattle.denotation.proofs.Reached.{get_front, keys_grow}
 use Rattle.read_back.proofs.Given.{all_same}
 
 -- ---- keys that are the same

@@ -7,8 +7,8 @@ use Rattle.alphabet.proofs.Lists.{In-at}
 use Rattle.term.specs.Specs.{PairsInSigma}
 use Rattle.term.specs.Traces.{Pairs}
 use Rattle.values.specs.Values.{◌>>=◌, Name}
-use Rattle.phrases.specs.Events.{Beginning, beginning, begins_so, number_in, pairs_from, pair_of, pairs_of}
-use Rattle.phrases.specs.Phrases.{Scope}
+use Rattle.event_phrases.specs.Events.{Beginning, beginning, begins_so, number_in, pairs_from, pair_of, pairs_of}
+use Rattle.event_phrases.specs.Scopes.{Scope}
 use Rattle.read_back.proofs.Trees.{phrases, tree_of_event, pair_tree}
 use Rattle.read_back.proofs.Readable.{IsPrintedScope}
 use Rattle.read_back.proofs.Prefixes.{is_row, row_itself, other_row, parts, at}

@@ -6,7 +6,7 @@ use Rattle.std.specs.Cmp.{nat_eq_equiv}
 use Rattle.alphabet.specs.Elements.{In, here, there}
 use Rattle.alphabet.proofs.Lists.{In-map, In-flat_map, In-under_map, In-get_or, and-left, and-right}
 use Rattle.term.specs.Traces.{Pairs}
-use Rattle.phrases.specs.Events.{is_pair_of, in_order}
+use Rattle.event_phrases.specs.Events.{is_pair_of, in_order}
 use Rattle.read_back.proofs.Readable.{IsRenaming}
 use Rattle.read_back.proofs.Ordered.{in_flat, in_range, range_in}
 

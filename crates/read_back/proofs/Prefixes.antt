@@ -12,9 +12,11 @@ use Rattle.alphabet.specs.declared.events.Event.TheVariants.{Of as ev}
 use Rattle.syntax.specs.Grammar.{Syntaxes}
 use Rattle.values.specs.Values.{◌>>=◌, Name, is_same}
 use Rattle.values.specs.Names.{same_name}
-use Rattle.phrases.specs.Events.{fields_named, channel_fields, unless_value}
-use Rattle.phrases.specs.Bodies.{Body, prefix, choice_of, choice_in}
-use Rattle.phrases.specs.Phrases.{Scope, against, fits_field, fitting, has_all, branches, prefixed, with_branch, then_fits}
+use Rattle.event_phrases.specs.Events.{fields_named, channel_fields, unless_value}
+use Rattle.denotation.specs.Bodies.{Body, prefix, choice_of, choice_in}
+use Rattle.event_phrases.specs.Fitting.{against, fits_field, fitting, has_all, then_fits}
+use Rattle.event_phrases.specs.Scopes.{Scope}
+use Rattle.denotation.specs.Phrases.{branches, prefixed, with_branch}
 use Rattle.read_back.proofs.Trees.{dotted_trees, tree_of_event, no_parts}
 use Rattle.read_back.proofs.Readable.{IsGiven, IsPrintedScope}
 use Rattle.read_back.proofs.Given.{all_same, all_themselves, name_itself, among-In, AreChosen, chosen, AllGiven, field_given}

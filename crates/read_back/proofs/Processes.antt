@@ -25,7 +25,7 @@ use Rattle.syntax.specs.declared.operator.Operator.TheVariants as operators
 use Rattle.syntax.specs.Grammar.{Syntax, flat, spell, spell_part, spell_signs}
 use Rattle.syntax.specs.Rules.{rule}
 use Rattle.syntax.specs.Operators.{opening, behind}
-use Rattle.phrases.proofs.Reached.{get_or_view}
+use Rattle.denotation.proofs.Reached.{get_or_view}
 use Rattle.printing.specs.Printed.{joined, set_text, shared_text, pair_text, reference, process_text}
 use Rattle.read_back.proofs.Trees.{node, phrases, event_tree, no_parts, tree_of_event, braced, set_tree, pair_tree, process_tree}
 use Rattle.read_back.proofs.Readable.{IsWritten}

@@ -11,11 +11,11 @@ use Rattle.std.specs.List.{flat_map}
 use Rattle.term.specs.Proc as procs
 use Rattle.term.specs.Proc.{Proc, bodies_of}
 use Rattle.values.specs.Names.{same_name}
-use Rattle.phrases.specs.Bodies.{Key, same_key, Body, stop, skip, prefix, ext, int, seq, par, hide, ren, intr, name, names, numbered}
-use Rattle.phrases.specs.Phrases.{Scope}
-use Rattle.phrases.specs.Denotes.{body_of, place, has_key, with_keys, met, Reached}
-use Rattle.phrases.proofs.Keys.{key_same}
-use Rattle.phrases.proofs.Reached.{get_or_view}
+use Rattle.denotation.specs.Bodies.{Key, same_key, Body, stop, skip, prefix, ext, int, seq, par, hide, ren, intr, name, names, numbered}
+use Rattle.event_phrases.specs.Scopes.{Scope}
+use Rattle.denotation.specs.Denotes.{body_of, place, has_key, with_keys, met, Reached}
+use Rattle.denotation.proofs.Keys.{key_same}
+use Rattle.denotation.proofs.Reached.{get_or_view}
 use Rattle.printing.specs.Names.{body_name}
 use Rattle.printing.specs.Printed.{reference}
 use Rattle.read_back.proofs.Readable.{referred}

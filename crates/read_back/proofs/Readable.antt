@@ -8,9 +8,9 @@ use Rattle.term.specs.Specs.{SetInSigma, PairsInSigma}
 use Rattle.term.specs.Traces.{Pairs}
 use Rattle.values.specs.Worths.{one}
 use Rattle.values.specs.Names.{is_process}
-use Rattle.phrases.specs.Events.{in_order}
-use Rattle.phrases.specs.Bodies.{Body, stop, skip, prefix, ext, int, seq, par, hide, ren, intr, name}
-use Rattle.phrases.specs.Phrases.{Scope}
+use Rattle.event_phrases.specs.Events.{in_order}
+use Rattle.denotation.specs.Bodies.{Body, stop, skip, prefix, ext, int, seq, par, hide, ren, intr, name}
+use Rattle.event_phrases.specs.Scopes.{Scope}
 use Rattle.printing.specs.Printed.{reference}
 
 -- the body with the names that print gives: those of definitions, with so many primes

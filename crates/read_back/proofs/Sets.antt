@@ -16,9 +16,9 @@ use Rattle.term.specs.Specs.{SetInSigma}
 use Rattle.syntax.specs.Grammar.{Syntax}
 use Rattle.values.specs.Values.{◌>>=◌, is_same}
 use Rattle.values.specs.Names.{same_name}
-use Rattle.phrases.specs.Events.{Events, no_events, either, field_values, are_within, begins, begins_so, beginning, beginning_so, channel_fields, at_number, whole_event, together, event_set, set_of}
-use Rattle.phrases.specs.Phrases.{Scope, events_by}
-use Rattle.phrases.proofs.SetsBelow.{is_in, is_below, lt_is}
+use Rattle.event_phrases.specs.Events.{Events, no_events, either, field_values, are_within, begins, begins_so, beginning, beginning_so, channel_fields, at_number, whole_event, together, event_set, set_of}
+use Rattle.event_phrases.specs.Scopes.{Scope, events_by}
+use Rattle.event_phrases.proofs.SetsBelow.{is_in, is_below, lt_is}
 use Rattle.read_back.proofs.Trees.{phrases, dotted_trees, tree_of_event, braced, set_tree}
 use Rattle.read_back.proofs.Readable.{IsPrintedScope}
 use Rattle.read_back.proofs.Given.{AreChosen, fields_given, within_sets}

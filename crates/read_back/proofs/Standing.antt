@@ -13,7 +13,7 @@ use Rattle.syntax.specs.Grammar.{Node, Syntaxes, NoSyntax, MoreSyntax}
 use Rattle.values.specs.Values.{◌>>=◌}
 use Rattle.values.specs.Worths.{Worth, one, many, Known, calculated, computed, two_numbers, formed, worth, worths}
 use Rattle.values.specs.Names.{Entry, Meaning, channel, datatype, constant_name, definition, meaning, worth_of, known_in, Stands, is_process_operator, is_process_form, is_process_by, is_process_meaning, is_process_in, is_process}
-use Rattle.phrases.specs.Events.{KnownEvents, EventsStand, unless_value, event_set, events_of, events_in}
+use Rattle.event_phrases.specs.Events.{KnownEvents, EventsStand, unless_value, event_set, events_of, events_in}
 use Rattle.printing.specs.Names.{Name, constants}
 use Rattle.printing.specs.Printed.{reference}
 use Rattle.read_back.proofs.Trees.{phrases, tree_of_event, set_tree, pair_tree, process_tree, printed_primes, printed_entries}

@@ -13,9 +13,9 @@ use Rattle.syntax.specs.Grammar.{Syntax, flat}
 use Rattle.syntax.specs.Script.{HasTree}
 use Rattle.values.specs.Names.{meaning}
 use Rattle.values.specs.Channels.{Declares}
-use Rattle.phrases.specs.Bodies.{numbered}
-use Rattle.phrases.specs.Phrases.{Scope}
-use Rattle.phrases.specs.Denotes.{body_by, body_of, place, nodes, Denotes}
+use Rattle.denotation.specs.Bodies.{numbered}
+use Rattle.event_phrases.specs.Scopes.{Scope}
+use Rattle.denotation.specs.Denotes.{body_by, body_of, place, nodes, Denotes}
 use Rattle.printing.specs.Names.{Name, constants}
 use Rattle.printing.specs.Printed.{reference, printed}
 use Rattle.read_back.proofs.Trees.{printed_primes, script_tree, printed_entries}

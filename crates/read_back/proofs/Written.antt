@@ -18,11 +18,13 @@ use Rattle.syntax.specs.Grammar.{Syntax, Called, Numeral, Node, Syntaxes, NoSynt
 use Rattle.values.specs.Values.{◌>>=◌, Name, is_among, is_same}
 use Rattle.values.specs.Worths.{Worth, one, many, Known, worth, the_set}
 use Rattle.values.specs.Names.{Meaning, channel, datatype, constant_name, definition, meaning, same_name, is_process}
-use Rattle.phrases.specs.Events.{Events, Beginning, unless_value, channel_fields, field_value, beginning, begins_so, number_in, pairs_from, pair_of, pairs_of, set_below, set_of, both}
-use Rattle.phrases.specs.Bodies.{Key, Body, stop, skip, prefix, ext, int, seq, par, hide, ren, intr, name, names, numbered, half, choice_in, choice_of}
-use Rattle.phrases.specs.Phrases.{Scope, Fitting, is_constant, with_input, against, against_input, against_part, fits_field, then_fits, fitting, has_all, with_branch, branches, prefixed, renamed, alphabetised, events_by, denoted, denoted_form}
-use Rattle.phrases.specs.Denotes.{body_by, body_of, place, Reached}
-use Rattle.phrases.proofs.SetsBelow.{member_is}
+use Rattle.event_phrases.specs.Events.{Events, Beginning, unless_value, channel_fields, field_value, beginning, begins_so, number_in, pairs_from, pair_of, pairs_of, set_below, set_of, both}
+use Rattle.denotation.specs.Bodies.{Key, Body, stop, skip, prefix, ext, int, seq, par, hide, ren, intr, name, names, numbered, half, choice_in, choice_of}
+use Rattle.event_phrases.specs.Fitting.{Fitting, against, against_input, against_part, fits_field, then_fits, fitting, has_all}
+use Rattle.event_phrases.specs.Scopes.{Scope, is_constant, with_input, events_by}
+use Rattle.denotation.specs.Phrases.{with_branch, branches, prefixed, renamed, alphabetised, denoted, denoted_form}
+use Rattle.denotation.specs.Denotes.{body_by, body_of, place, Reached}
+use Rattle.event_phrases.proofs.SetsBelow.{member_is}
 use Rattle.declared_names.proofs.Chains.{bind_some, some_same}
 use Rattle.read_back.proofs.Readable.{IsRenaming, IsWritten}
 use Rattle.read_back.proofs.Numbers.{at_place, AllHave, all_named, all_left, all_right}

@@ -6,7 +6,7 @@ ghost use Rattle.term.specs.Specs.{Specified};
 ghost use Rattle.syntax.specs.Grammar.{Syntax};
 ghost use Rattle.syntax.specs.Script.{HasTree};
 ghost use Rattle.values.specs.Values.{Name};
-ghost use Rattle.phrases.specs.Denotes.{Denotes};
+ghost use Rattle.denotation.specs.Denotes.{Denotes};
 ghost use Rattle.printing.specs.Names.{body_primes};
 ghost use Rattle.printing.specs.Printed.{printed, reference};
 

@@ -6,12 +6,12 @@ use Rattle.alphabet.specs.Channels.{event_count}
 use Rattle.term.specs.Proc.{Proc}
 use Rattle.term.specs.Specs.{LiesIn, IsClosed}
 use Rattle.values.specs.Names.{Meaning, channel, datatype, constant_name, definition, meaning, is_process}
-use Rattle.phrases.specs.Bodies.{Key, Body, stop, skip, prefix, ext, int, seq, par, hide, ren, intr, name, names, numbered, same_key}
-use Rattle.phrases.specs.Phrases.{Scope}
-use Rattle.phrases.specs.Denotes.{body_by, body_of, place, has_key, with_key, with_keys, met}
-use Rattle.phrases.specs.Making.{Gathered}
-use Rattle.phrases.proofs.Keys.{has_with}
-use Rattle.phrases.proofs.Reached.{keys_grow}
+use Rattle.denotation.specs.Bodies.{Key, Body, stop, skip, prefix, ext, int, seq, par, hide, ren, intr, name, names, numbered, same_key}
+use Rattle.event_phrases.specs.Scopes.{Scope}
+use Rattle.denotation.specs.Denotes.{body_by, body_of, place, has_key, with_key, with_keys, met}
+use Rattle.denotation.specs.Making.{Gathered}
+use Rattle.denotation.proofs.Keys.{has_with}
+use Rattle.denotation.proofs.Reached.{keys_grow}
 use Rattle.script.proofs.Inside.{BodyIn, Within, Each, all_of, denoted_in}
 
 -- ---- definitions that are met

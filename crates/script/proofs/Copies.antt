@@ -9,11 +9,11 @@ use Rattle.alphabet.specs.declared.events.Event.{Event}
 use Rattle.alphabet.specs.EventParts.{parts_of, parts_at}
 use Rattle.values.specs.declared.value.Value.{Value}
 use Rattle.values.specs.View.{value}
-use Rattle.phrases.specs.declared.row.Row.{Row}
-use Rattle.phrases.specs.View.{listed, row}
+use Rattle.event_phrases.specs.declared.row.Row.{Row}
+use Rattle.event_phrases.specs.View.{listed, row}
 use Rattle.values.specs.Values.{Name}
 use Rattle.values.specs.Names.{same_name}
-use Rattle.phrases.specs.Events.{fields_named}
+use Rattle.event_phrases.specs.Events.{fields_named}
 use Rattle.script.specs.declared.table.Table.{Table}
 use Rattle.script.specs.Tables.{said}
 use Rattle.script.proofs.Inside.{counted}

@@ -13,14 +13,14 @@ use Rattle.values.specs.Values.{Name}
 use Rattle.values.specs.Worths.{Known}
 use Rattle.values.specs.Names.{Entry, meaning, is_process}
 use Rattle.values.specs.Channels.{Declares}
-use Rattle.phrases.specs.Bodies.{Body, names}
-use Rattle.phrases.specs.Events.{KnownEvents, EventsStand}
-use Rattle.phrases.specs.Phrases.{Scope}
-use Rattle.phrases.specs.Denotes.{Denotes, body_by, body_of, met}
-use Rattle.phrases.specs.Making.{Gathered}
-use Rattle.phrases.proofs.Reached.{keys_grow}
-use Rattle.phrases.proofs.Unique.{one_declared, one_sets}
-use Rattle.phrases.proofs.Whole.{denotes_from}
+use Rattle.denotation.specs.Bodies.{Body, names}
+use Rattle.event_phrases.specs.Events.{KnownEvents, EventsStand}
+use Rattle.event_phrases.specs.Scopes.{Scope}
+use Rattle.denotation.specs.Denotes.{Denotes, body_by, body_of, met}
+use Rattle.denotation.specs.Making.{Gathered}
+use Rattle.denotation.proofs.Reached.{keys_grow}
+use Rattle.denotation.proofs.Unique.{one_declared, one_sets}
+use Rattle.denotation.proofs.Whole.{denotes_from}
 use Rattle.script.specs.Reading.{AreBodies, IsRead}
 use Rattle.script.proofs.Closed.{is_closed}
 

@@ -14,13 +14,15 @@ use Rattle.syntax.specs.Grammar.{Syntax, Called, Numeral, Node, Syntaxes, NoSynt
 use Rattle.values.specs.Values.{◌>>=◌, Name, is_among, is_same}
 use Rattle.values.specs.Worths.{Worth, one, many, worth, the_value, the_set}
 use Rattle.values.specs.Names.{meaning, same_name, is_process}
-use Rattle.phrases.specs.Events.{Events, unless_value, channel_fields, set_below, set_of, pairs_of, in_order, is_pair_of, both}
-use Rattle.phrases.specs.Bodies.{Key, Body, stop, skip, prefix, ext, int, seq, par, hide, ren, intr, name, half, choice_in, choice_of}
-use Rattle.phrases.specs.Forms.{FieldPhrase, given, input, input_from, field_of}
-use Rattle.phrases.specs.EventForms.{fits_by}
-use Rattle.phrases.specs.Phrases.{Scope, is_constant, against, against_input, against_part, Fitting, fits_field, fitting, then_fits, with_branch, branches, prefixed, has_all, renamed, alphabetised, events_by, denoted, denoted_form}
-use Rattle.phrases.proofs.EventLaws.{fits_is}
-use Rattle.phrases.proofs.SetsBelow.{is_in, member_is}
+use Rattle.event_phrases.specs.Events.{Events, unless_value, channel_fields, set_below, set_of, pairs_of, in_order, is_pair_of, both}
+use Rattle.denotation.specs.Bodies.{Key, Body, stop, skip, prefix, ext, int, seq, par, hide, ren, intr, name, half, choice_in, choice_of}
+use Rattle.event_phrases.specs.Forms.{FieldPhrase, given, input, input_from, field_of}
+use Rattle.event_phrases.specs.EventForms.{fits_by}
+use Rattle.event_phrases.specs.Fitting.{against, against_input, against_part, Fitting, fits_field, fitting, then_fits, has_all}
+use Rattle.event_phrases.specs.Scopes.{Scope, is_constant, events_by}
+use Rattle.denotation.specs.Phrases.{with_branch, branches, prefixed, renamed, alphabetised, denoted, denoted_form}
+use Rattle.event_phrases.proofs.EventLaws.{fits_is}
+use Rattle.event_phrases.proofs.SetsBelow.{is_in, member_is}
 
 -- all of the body but its names lies in Sigma, which has n events
 abbrev pub BodyIn : ℕ → Body → Type 0

@@ -13,8 +13,8 @@ use Rattle.values.specs.Values.{◌>>=◌, Name}
 use Rattle.values.specs.Worths.{Known}
 use Rattle.values.specs.Names.{Entry, Meaning, channel, datatype, constant_name, definition, same_name, meaning}
 use Rattle.syntax.specs.Grammar.{Syntax}
-use Rattle.phrases.specs.Events.{Events, event_set, events_of, events_in, EventsStand, set_of, masked}
-use Rattle.phrases.proofs.EventSetLaws.{masked_none}
+use Rattle.event_phrases.specs.Events.{Events, event_set, events_of, events_in, EventsStand, set_of, masked}
+use Rattle.event_phrases.proofs.EventSetLaws.{masked_none}
 use Rattle.script.specs.Standing.{KnownSets, events_by, next_events, AreReached, IsSettled, lacking, Learns, LearnsFirst, LearnsAll}
 use Rattle.script.proofs.Copies.{some_same}
 use Rattle.script.proofs.NamedSets.{sound_sets, sound_next, one_set, events_stand}

@@ -4,7 +4,7 @@ use Rattle.std.specs.Option.{option_map}
 use Rattle.alphabet.specs.Channels.{Channel}
 use Rattle.alphabet.specs.EventSets.{Set, has}
 use Rattle.values.specs.Values.{Name}
-use Rattle.phrases.specs.Events.{set_of, masked}
+use Rattle.event_phrases.specs.Events.{set_of, masked}
 use Rattle.script.specs.Standing.{KnownSets, events_by}
 
 abbrev some_set : Set → Option Set

@@ -8,9 +8,8 @@ use Rattle.syntax.specs.Grammar.{Syntax, Called, Node, Syntaxes, NoSyntax, MoreS
 use Rattle.values.specs.Values.{◌>>=◌, Name}
 use Rattle.values.specs.Worths.{Worth, one, many, Known}
 use Rattle.values.specs.Names.{Entry, Meaning, channel, datatype, constant_name, definition, meaning}
-use Rattle.phrases.specs.Events.{Events, KnownEvents, Beginning, unless_value, begins_so, at_number, beginning, beginning_so, whole_event, either, both, less, together, event_set, events_of, events_in, EventsStand, set_of}
-use Rattle.phrases.proofs.FormLaws.{below_same, inside_is}
-use Rattle.phrases.proofs.SetsBelow.{has_is, ge_is}
+use Rattle.event_phrases.specs.Events.{Events, KnownEvents, Beginning, unless_value, begins_so, at_number, beginning, beginning_so, whole_event, either, both, less, together, event_set, events_of, events_in, EventsStand, set_of}
+use Rattle.event_phrases.proofs.SetsBelow.{below_same, inside_is, has_is, ge_is}
 use Rattle.script.specs.Standing.{KnownSets, events_by, next_events, AreReached, IsSettled}
 use Rattle.script.proofs.Copies.{some_same}
 use Rattle.script.proofs.Inside.{counted}

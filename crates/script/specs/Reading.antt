@@ -8,9 +8,9 @@ use Rattle.syntax.specs.Script.{HasTree}
 use Rattle.values.specs.Values.{Name}
 use Rattle.values.specs.Worths.{Known}
 use Rattle.values.specs.Names.{Entry}
-use Rattle.phrases.specs.Events.{KnownEvents, EventsStand}
-use Rattle.phrases.specs.Denotes.{Denotes}
-use Rattle.phrases.specs.Making.{Gathered}
+use Rattle.event_phrases.specs.Events.{KnownEvents, EventsStand}
+use Rattle.denotation.specs.Denotes.{Denotes}
+use Rattle.denotation.specs.Making.{Gathered}
 
 -- These are the bodies of what is reached from the root, where a script declares this.
 pub record AreBodies (channels : List Channel) (known : Known) (entries : List Entry) (root : Name) (bodies : List Proc) : Type 0 where

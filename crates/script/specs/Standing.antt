@@ -6,7 +6,7 @@ use Rattle.alphabet.specs.EventSets.{Set, has}
 use Rattle.values.specs.Values.{◌>>=◌, Name}
 use Rattle.values.specs.Worths.{Known}
 use Rattle.values.specs.Names.{Entry, meaning}
-use Rattle.phrases.specs.Events.{Events, KnownEvents, events_of, events_in, set_of}
+use Rattle.event_phrases.specs.Events.{Events, KnownEvents, events_of, events_in, set_of}
 
 -- which set a name stands for
 abbrev pub KnownSets : Type 0

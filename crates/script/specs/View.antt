@@ -3,7 +3,7 @@ use Rattle.std.specs.Prelude.{ℕ, Bool}
 use Rattle.values.specs.Values.{Name}
 use Rattle.values.specs.Tables.{table}
 use Rattle.declared_names.specs.View.{entries}
-use Rattle.phrases.specs.Phrases.{Scope}
+use Rattle.event_phrases.specs.Scopes.{Scope}
 use Rattle.script.specs.declared.names.Names.{Names}
 use Rattle.script.specs.declared.script.Script.{Script}
 use Rattle.script.specs.Standing.{KnownSets, events_by, AreReached, Learns, LearnsFirst, LearnsAll}

@@ -3,14 +3,14 @@ ghost use Rattle.std.specs.Prelude.{◌≡◌, ℕ, List, IfOk, map};
 ghost use Rattle.std.specs.Option.{option_map};
 ghost use Rattle.alphabet.specs.Stored.{value_of as field_value_of, field_of};
 ghost use Rattle.values.specs.View.{value as value_of};
-ghost use Rattle.phrases.specs.Events.{fields_named};
-ghost use Rattle.phrases.specs.View.{listed};
+ghost use Rattle.event_phrases.specs.Events.{fields_named};
+ghost use Rattle.event_phrases.specs.View.{listed};
 ghost use Rattle.script.specs.Tables.{said};
 ghost use Rattle.script.specs.Fields.{field_lists};
 
 use crate::table::Table;
 use alphabet::{Alphabet, Field, Value as FieldValue};
-use phrases::Set;
+use event_phrases::Set;
 use std::alloc::{AllocError, Allocator};
 use values::Value;
 

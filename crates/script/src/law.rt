@@ -6,7 +6,7 @@ ghost use Rattle.values.specs.Values.{Name};
 ghost use Rattle.script.specs.Reading.{IsRead};
 
 use declared_names::trees_have_names;
-use phrases::one_specification;
+use denotation::one_specification;
 use syntax::one_tree;
 
 /// A text is read as one specification at most for a root.

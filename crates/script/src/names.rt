@@ -63,7 +63,7 @@ impl<'a, A: Allocator + Copy> Names<'a, A> {
     ghost use Rattle.syntax.specs.View.{shape};
     ghost use Rattle.values.specs.Names.{definition as defined_by, meaning};
     ghost use Rattle.declared_names.specs.View.{entries as entries_of};
-    ghost use Rattle.phrases.specs.Phrases.{is_constant as is_constant_meaning};
+    ghost use Rattle.event_phrases.specs.Scopes.{is_constant as is_constant_meaning};
 
     /// The body of the definition with this name.
     pub(crate) fn body(&self, name: &[u8]) -> Option<&'a Tree<A>>
@@ -79,7 +79,7 @@ impl<'a, A: Allocator + Copy> Names<'a, A> {
     }
 
     /// Whether the name is a constant's.
-    #[tactic(auto, unfolding(phrases::specs::Phrases::is_constant))]
+    #[tactic(auto, unfolding(event_phrases::specs::Scopes::is_constant))]
     pub(crate) fn is_constant(&self, name: &[u8]) -> bool
         ensures { result ≡ is_constant_meaning (meaning (entries_of self.now.entries) name.now) }
     {

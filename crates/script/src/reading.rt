@@ -1,6 +1,6 @@
 //! What a text is read as.
 ghost use Rattle.std.specs.Prelude.{◌≡◌, IfOk, IsTrue, List, MatchResult, Some, map};
-ghost use Rattle.phrases.specs.Denotes.{Denotes};
+ghost use Rattle.denotation.specs.Denotes.{Denotes};
 ghost use Rattle.syntax.specs.View.{shape};
 ghost use Rattle.term.specs.Proc.{Proc, proc};
 ghost use Rattle.term.specs.Specs.{Specified};
@@ -17,7 +17,7 @@ use crate::sigma::Sigma;
 use crate::standing::named_sets;
 use declarations::declare;
 use declared_names::trees_have_names;
-use phrases::gathered;
+use denotation::gathered;
 use std::alloc::Allocator;
 use syntax::{Tree, parse};
 use term::{Spec, Term};
@@ -67,7 +67,7 @@ fn denoted<A: Allocator + Copy>(
 ///
 /// The size is looked at first, then the tokens, then the grammar, as `syntax::parse` tells their faults; then the
 /// declarations, as `declarations::declare` tells theirs; then the root (`NoSuchProcess` on line 1); then the bodies of what is
-/// reached from it, as `phrases::gathered` tells theirs. What isn't reached has to fit the grammar, and no more. `Memory` is
+/// reached from it, as `denotation::gathered` tells theirs. What isn't reached has to fit the grammar, and no more. `Memory` is
 /// told on line 1. `docs/LANGUAGE.md` says which texts are scripts, and `docs/SEMANTICS.md` what they mean.
 ///
 /// Costs the text's length, a turn for each name and each use of one, a copy of each event's values, and a turn for each node

@@ -2,11 +2,11 @@
 ghost use Rattle.std.specs.Prelude.{◌≡◌, ◌≤◌, Some, IfOk, length, map};
 ghost use Rattle.alphabet.specs.Channels.{IsEvent, Parts, events as events_of};
 ghost use Rattle.alphabet.specs.EventParts.{parts_of};
-ghost use Rattle.phrases.specs.View.{listed, row};
+ghost use Rattle.event_phrases.specs.View.{listed, row};
 
 use crate::fields::copy_of;
 use alphabet::{Alphabet, Event};
-use phrases::Row;
+use event_phrases::Row;
 use std::alloc::{AllocError, Allocator};
 use values::Value;
 

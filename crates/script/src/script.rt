@@ -1,14 +1,14 @@
 //! A script as phrases look at it.
 ghost use Rattle.std.specs.Prelude.{◌≡◌, ℕ, List, Some};
 ghost use Rattle.alphabet.specs.EventSets.{has};
-ghost use Rattle.phrases.specs.Events.{set_of};
+ghost use Rattle.event_phrases.specs.Events.{set_of};
 ghost use Rattle.script.specs.Tables.{said};
 
 use crate::names::Names;
 use crate::table::Table;
 use alphabet::EventSet;
 use declarations::{fault_of_beginning, fault_of_channel, fault_of_name, fault_of_phrase};
-use phrases::{Facts, Row, Set, Wanted};
+use event_phrases::{GlobalScope, Row, Set, Wanted};
 use std::alloc::Allocator;
 use syntax::Tree;
 use tokens::ScriptError;
@@ -24,7 +24,7 @@ pub(crate) struct Script<'a, A: Allocator> {
     ghost lie: { (name : List ℕ) (set : ℕ) → said sets.now name ≡ Some set → set ≡ set_of names.now.sigma.alphabet (has set) },
 }
 
-impl<'a, A: Allocator + Copy> Facts<A> for Script<'a, A> {
+impl<'a, A: Allocator + Copy> GlobalScope<A> for Script<'a, A> {
     ghost use Rattle.script.specs.View.{scope as scope_of};
 
     ghost scope = { scope_of };

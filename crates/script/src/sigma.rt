@@ -2,8 +2,8 @@
 ghost use Rattle.std.specs.Prelude.{◌≡◌, ◌≤◌, ℕ, List, IfOk, length, map};
 ghost use Rattle.std.specs.Option.{option_map};
 ghost use Rattle.alphabet.specs.Channels.{events as events_of};
-ghost use Rattle.phrases.specs.Events.{fields_named};
-ghost use Rattle.phrases.specs.View.{row};
+ghost use Rattle.event_phrases.specs.Events.{fields_named};
+ghost use Rattle.event_phrases.specs.View.{row};
 ghost use Rattle.script.specs.Coding.{parts_prop, fields_prop};
 ghost use Rattle.script.specs.Fields.{field_lists};
 ghost use Rattle.script.specs.Tables.{said};
@@ -12,7 +12,7 @@ use crate::fields::fields_by_name;
 use crate::rows::rows_of;
 use crate::table::Table;
 use alphabet::Alphabet;
-use phrases::{Row, Set};
+use event_phrases::{Row, Set};
 use std::alloc::{AllocError, Allocator};
 
 /// The channels of a script, with their events and the values of their fields.

@@ -1,6 +1,6 @@
 //! Which sets of events names stand for.
 ghost use Rattle.std.specs.Prelude.{◌≡◌, IfOk, MatchResult};
-ghost use Rattle.phrases.specs.Events.{EventsStand, event_set, masked};
+ghost use Rattle.event_phrases.specs.Events.{EventsStand, event_set, masked};
 ghost use Rattle.tokens.specs.declared.error.ScriptErrorKind.TheVariants.{Memory};
 ghost use Rattle.syntax.specs.View.{shape};
 ghost use Rattle.values.specs.Tables.{table};
@@ -15,7 +15,7 @@ use crate::script::Script;
 use crate::table::Table;
 use alphabet::EventSet;
 use declared_names::places_by_use;
-use phrases::set_of_events;
+use event_phrases::set_of_events;
 use std::alloc::Allocator;
 use syntax::Tree;
 use tokens::{ScriptError, ScriptErrorKind};

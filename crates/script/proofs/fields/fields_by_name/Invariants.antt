@@ -1,6 +1,6 @@
 use Rattle.std.proofs.Common.{◌≡◌, ℕ, List, drop}
 use Rattle.std.specs.Option.{option_map}
-use Rattle.phrases.specs.Events.{fields_named}
+use Rattle.event_phrases.specs.Events.{fields_named}
 use Rattle.script.specs.Tables.{said}
 use Rattle.script.specs.Fields.{field_lists}
 use Rattle.script.proofs.fields.fields_by_name.Given as goal

@@ -1,6 +1,6 @@
 use Rattle.std.proofs.Common.{◌≡◌, map, take}
 use Rattle.alphabet.specs.Stored.{field_of}
-use Rattle.phrases.specs.View.{listed}
+use Rattle.event_phrases.specs.View.{listed}
 use Rattle.script.proofs.fields.sets_of.Given as goal
 
 abbrev pub invariant-loop-field : goal.invariant-loop-field

@@ -5,7 +5,7 @@ use Rattle.term.specs.Proc.{proc}
 use Rattle.values.specs.Channels.{Declares}
 use Rattle.values.specs.Tables.{table}
 use Rattle.declared_names.specs.View.{entries}
-use Rattle.phrases.proofs.Unique.{one_spec}
+use Rattle.denotation.proofs.Unique.{one_spec}
 use Rattle.script.proofs.Denoting.{bodies_closed, bodies_denote, denoted_bodies, declares_so, only_memory}
 use Rattle.script.proofs.reading.denoted.Goals as goal
 

@@ -1,6 +1,6 @@
 use Rattle.std.proofs.Common.{sym, subst}
 use Rattle.std.proofs.lemmas.Result.{err_from_is_err_and}
-use Rattle.phrases.specs.Denotes.{Denotes}
+use Rattle.denotation.specs.Denotes.{Denotes}
 use Rattle.script.proofs.reading.read.Goals as goal
 
 pub returns-in_err-tree-clause-only : goal.returns-in_err-tree-clause-only

@@ -1,6 +1,6 @@
 use Rattle.std.proofs.Common.{◌≡◌, map, take}
 use Rattle.alphabet.specs.Channels.{events}
-use Rattle.phrases.specs.View.{row}
+use Rattle.event_phrases.specs.View.{row}
 use Rattle.script.proofs.rows.rows_of.Given as goal
 
 abbrev pub invariant-loop-number : goal.invariant-loop-number

@@ -1,7 +1,7 @@
 use Rattle.std.proofs.Common.{◌≡◌, length, is_some, sym, ap, ◌∙◌, arith}
 use Rattle.alphabet.specs.EventParts.{parts_of, value_in}
 use Rattle.alphabet.specs.Stored.{value_of}
-use Rattle.phrases.specs.View.{listed}
+use Rattle.event_phrases.specs.View.{listed}
 use Rattle.script.proofs.Copies.{first_more, first_all}
 use Rattle.script.proofs.rows.values_of.Goals as goal
 

@@ -1,6 +1,6 @@
 use Rattle.std.proofs.Common.{◌-◌, length}
 use Rattle.alphabet.specs.EventParts.{parts_of}
-use Rattle.phrases.specs.View.{listed}
+use Rattle.event_phrases.specs.View.{listed}
 use Rattle.script.proofs.Copies.{AreFirst, value_count}
 use Rattle.script.proofs.rows.values_of.Given as goal
 

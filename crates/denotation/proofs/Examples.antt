@@ -1,0 +1,256 @@
+-- The definition at small scripts.
+use Rattle.std.proofs.Common.{◌≡◌, ℕ, List, [], ◌∷◌, Option, Some, None, refl}
+use Rattle.alphabet.specs.Channels.{Channel, names as event_names}
+use Rattle.syntax.specs.declared.operator.Operator.{Operator}
+use Rattle.syntax.specs.declared.operator.Operator.TheVariants as operators
+use Rattle.syntax.specs.declared.form.Form.{Form}
+use Rattle.syntax.specs.declared.form.Form.TheVariants as forms
+use Rattle.syntax.specs.Grammar.{Syntax, Called, Numeral, Node, Syntaxes, NoSyntax, MoreSyntax}
+use Rattle.values.specs.Values.{Name, limited, set_of, union, fitting_set, range, numbers_from, is_among, is_same}
+use Rattle.values.specs.Worths.{worth, worths, formed, computed, negated, calculated, set_with, range_with, union_with, intersection_with, difference_with, the_only, the_number, the_value, the_set, the_two, two_numbers, set_of_all, all_values, nothing_of}
+use Rattle.values.specs.Names.{Entry, declared, declared_by, declared_by_all, entries_of, listed_names, names_of, field_sets, meaning, known_in, worth_of, is_process_in, is_process_meaning, is_process_by, is_process_form, is_process_operator}
+use Rattle.values.specs.Channels.{channels_of, with_channel, fields_of}
+use Rattle.event_phrases.specs.Events.{fields_named, field_value, field_values, are_within, begins, beginning, begins_so, at_number, whole_event, together, event_set, events_in, set_below, number_in, pairs_from, pair_of, pairs_of, is_pair_of, in_order}
+use Rattle.denotation.specs.Bodies.{Key, stop, skip, prefix, ext, par, hide, ren, name, choice_in, choice_of}
+use Rattle.event_phrases.specs.Fitting.{against, against_input, against_part, fits_field, fitting, has_all}
+use Rattle.event_phrases.specs.Scopes.{Scope, is_constant}
+use Rattle.denotation.specs.Phrases.{branches, prefixed, renamed, denoted, denoted_form}
+use Rattle.denotation.specs.Denotes.{body_by, body_of}
+
+-- ---- how scripts are written here
+
+abbrev a : Name
+a = 97 ∷ []
+
+abbrev b : Name
+b = 98 ∷ []
+
+abbrev c : Name
+c = 99 ∷ []
+
+abbrev d : Name
+d = 100 ∷ []
+
+abbrev x : Name
+x = 120 ∷ []
+
+abbrev y : Name
+y = 121 ∷ []
+
+abbrev P : Name
+P = 80 ∷ []
+
+abbrev Q : Name
+Q = 81 ∷ []
+
+abbrev T : Name
+T = 84 ∷ []
+
+abbrev parts : List Syntax → Syntaxes
+parts [] = NoSyntax
+parts (t ∷ ts) = MoreSyntax t (parts ts)
+
+abbrev part_of : Form → List Syntax → Syntax
+part_of f ts = Node f (parts ts)
+
+abbrev named : Name → Syntax
+named n = part_of forms.Event (Called n ∷ [])
+
+abbrev event : Name → List Syntax → Syntax
+event n ts = part_of forms.Event (Called n ∷ ts)
+
+abbrev input : Name → Syntax
+input n = part_of forms.Input (Called n ∷ [])
+
+abbrev input_in : Name → Syntax → Syntax
+input_in n t = part_of forms.RestrictedInput (Called n ∷ t ∷ [])
+
+abbrev output : Syntax → Syntax
+output t = part_of forms.Output (t ∷ [])
+
+abbrev dot : Syntax → Syntax
+dot t = part_of forms.Dotted (t ∷ [])
+
+abbrev bracketed : Syntax → Syntax
+bracketed t = part_of forms.Brackets (t ∷ [])
+
+abbrev joined : Operator → List Syntax → Syntax
+joined op ts = part_of (forms.Operation op) ts
+
+abbrev then_does : Syntax → Syntax → Syntax
+then_does e t = joined operators.Prefix (e ∷ t ∷ [])
+
+abbrev pair : Syntax → Syntax → Syntax
+pair t u = part_of forms.Pair (t ∷ u ∷ [])
+
+abbrev set : List Syntax → Syntax
+set ts = part_of forms.Set ts
+
+abbrev upto : ℕ → Syntax
+upto n = part_of forms.Range (Numeral 0 ∷ Numeral n ∷ [])
+
+abbrev stops : Syntax
+stops = part_of forms.Stop []
+
+abbrev skips : Syntax
+skips = part_of forms.Skip []
+
+abbrev channel : Name → List Syntax → Syntax
+channel n [] = part_of forms.Channels (part_of forms.Names (Called n ∷ []) ∷ [])
+channel n (t ∷ ts) = part_of forms.ChannelsWithFields (part_of forms.Names (Called n ∷ []) ∷ part_of forms.FieldSets (t ∷ ts) ∷ [])
+
+abbrev is_defined : Name → Syntax → Syntax
+is_defined n t = part_of forms.Definition (Called n ∷ t ∷ [])
+
+abbrev entries_by : Option (List Entry) → List Entry
+entries_by None = []
+entries_by (Some es) = es
+
+abbrev channels_by : Option (List Channel) → List Channel
+channels_by None = []
+channels_by (Some cs) = cs
+
+-- where three steps are enough for all names
+abbrev scope_by : List Entry → List Channel → Scope
+scope_by es cs = record { entries = es; channels = cs; known = known_in es 3; sets = events_in cs (known_in es 3) es 3 }
+
+abbrev scope_in : List Entry → Scope
+scope_in es = scope_by es (channels_by (channels_of (known_in es 3) es))
+
+abbrev scope : List Syntax → Scope
+scope ts = scope_in (entries_by (declared (part_of forms.Script ts)))
+
+abbrev key : Name → Key
+key n = (n, [])
+
+-- ---- prefixes
+
+-- channel c : {0..1}, channel d : {0..2}, P = c?x -> d!(x+1) -> P
+abbrev increasing : Scope
+increasing = scope (channel c (upto 1 ∷ []) ∷ channel d (upto 2 ∷ []) ∷ is_defined P (then_does (event c (input x ∷ [])) (then_does (event d (output (bracketed (joined operators.Plus (named x ∷ Numeral 1 ∷ []))) ∷ [])) (named P))) ∷ [])
+
+increases : body_of increasing (key P) ≡ Some (ext (prefix 0 (prefix 3 (name (key P)))) (prefix 1 (prefix 4 (name (key P)))))
+unfolding declared declared_by declared_by_all entries_of listed_names names_of field_sets meaning known_in worth_of worth worths formed computed the_two two_numbers the_number the_only the_value the_set limited range numbers_from is_among is_same channels_of with_channel fields_of is_process_in is_process_meaning is_process_by is_process_form is_process_operator fields_named field_value is_constant against against_input fits_field fitting has_all branches prefixed denoted denoted_form body_by body_of choice_in choice_of negated calculated set_with range_with union_with intersection_with difference_with
+increases = refl
+
+-- datatype T = y | x, channel c : {0..1}.T, P = c.0?b -> SKIP
+abbrev typed : Scope
+typed = scope (part_of forms.Datatype (Called T ∷ part_of forms.Constants (Called y ∷ Called x ∷ []) ∷ []) ∷ channel c (upto 1 ∷ named T ∷ []) ∷ is_defined P (then_does (event c (dot (Numeral 0) ∷ input b ∷ [])) skips) ∷ [])
+
+types : body_of typed (key P) ≡ Some (ext (prefix 0 skip) (prefix 1 skip))
+unfolding declared declared_by declared_by_all entries_of listed_names names_of field_sets meaning known_in worth_of worth worths formed the_two two_numbers the_number the_only the_value the_set limited range numbers_from set_of union is_among is_same channels_of with_channel fields_of is_process_in is_process_meaning is_process_by is_process_form is_process_operator fields_named field_value is_constant against against_input fits_field fitting has_all branches prefixed denoted denoted_form body_by body_of choice_in choice_of negated calculated set_with range_with union_with intersection_with difference_with
+types = refl
+
+-- the same with P = c.0?x -> SKIP, an input with a constant's name
+abbrev hiding_constant : Scope
+hiding_constant = scope (part_of forms.Datatype (Called T ∷ part_of forms.Constants (Called y ∷ Called x ∷ []) ∷ []) ∷ channel c (upto 1 ∷ named T ∷ []) ∷ is_defined P (then_does (event c (dot (Numeral 0) ∷ input x ∷ [])) skips) ∷ [])
+
+no_constant : body_of hiding_constant (key P) ≡ None
+unfolding declared declared_by declared_by_all entries_of listed_names names_of field_sets meaning known_in worth_of worth worths formed the_two two_numbers the_number the_only the_value the_set limited range numbers_from set_of union is_among is_same channels_of with_channel fields_of is_process_in is_process_meaning is_process_by is_process_form is_process_operator fields_named field_value is_constant against against_input fits_field fitting has_all branches prefixed denoted denoted_form body_by body_of choice_in choice_of negated calculated set_with range_with union_with intersection_with difference_with
+no_constant = refl
+
+-- channel c : {0..2} and the body of P
+abbrev over_three : Syntax → Scope
+over_three t = scope (channel c (upto 2 ∷ []) ∷ is_defined P t ∷ [])
+
+-- c?x -> STOP: the larger half comes first
+three : body_of (over_three (then_does (event c (input x ∷ [])) stops)) (key P) ≡ Some (ext (ext (prefix 0 stop) (prefix 1 stop)) (prefix 2 stop))
+unfolding declared declared_by declared_by_all entries_of listed_names names_of field_sets meaning known_in worth_of worth worths formed the_two two_numbers the_number the_only the_set limited range numbers_from channels_of with_channel fields_of is_process_in is_process_meaning is_process_by is_process_form is_process_operator fields_named is_constant against_input fits_field fitting has_all branches prefixed denoted denoted_form body_by body_of choice_in choice_of negated calculated set_with range_with union_with intersection_with difference_with
+three = refl
+
+-- c?x:{2, 5} -> c.x -> STOP
+some : body_of (over_three (then_does (event c (input_in x (set (Numeral 2 ∷ Numeral 5 ∷ [])) ∷ [])) (then_does (event c (dot (named x) ∷ [])) stops))) (key P) ≡ Some (prefix 2 (prefix 2 stop))
+unfolding declared declared_by declared_by_all entries_of listed_names names_of field_sets meaning known_in worth_of worth worths formed the_two two_numbers the_number the_only the_value the_set set_of_all all_values limited fitting_set set_of union range numbers_from is_among is_same channels_of with_channel fields_of is_process_in is_process_meaning is_process_by is_process_form is_process_operator fields_named field_value is_constant against against_part fits_field fitting has_all branches prefixed denoted denoted_form body_by body_of choice_in choice_of negated calculated set_with range_with union_with intersection_with difference_with
+some = refl
+
+-- c?x:{} -> Q, where Q isn't declared
+none : body_of (over_three (then_does (event c (input_in x (part_of forms.EmptySet []) ∷ [])) (named Q))) (key P) ≡ Some stop
+unfolding declared declared_by declared_by_all entries_of listed_names names_of field_sets meaning known_in worth_of worth worths formed the_two two_numbers the_number the_only the_set nothing_of limited range numbers_from is_among is_same channels_of with_channel fields_of is_process_in is_process_meaning is_process_by is_process_form is_process_operator fields_named is_constant against_part fits_field fitting has_all branches prefixed denoted denoted_form body_by body_of choice_in choice_of negated calculated set_with range_with union_with intersection_with difference_with
+none = refl
+
+-- c.3 -> STOP
+outside : body_of (over_three (then_does (event c (dot (Numeral 3) ∷ [])) stops)) (key P) ≡ None
+unfolding declared declared_by declared_by_all entries_of listed_names names_of field_sets meaning known_in worth_of worth worths formed the_two two_numbers the_number the_only the_value the_set limited range numbers_from is_among is_same channels_of with_channel fields_of is_process_in is_process_meaning is_process_by is_process_form is_process_operator fields_named field_value against fits_field fitting has_all branches prefixed denoted denoted_form body_by body_of negated calculated set_with range_with union_with intersection_with difference_with
+outside = refl
+
+-- c -> STOP
+few : body_of (over_three (then_does (named c) stops)) (key P) ≡ None
+unfolding declared declared_by declared_by_all entries_of listed_names names_of field_sets meaning known_in worth_of worth worths formed the_two two_numbers the_number the_only the_set limited range numbers_from channels_of with_channel fields_of is_process_in is_process_meaning is_process_by is_process_form is_process_operator fields_named has_all prefixed denoted denoted_form body_by body_of negated calculated set_with range_with union_with intersection_with difference_with
+few = refl
+
+-- c?c -> c.0 -> STOP: the input hides the channel
+hidden : body_of (over_three (then_does (event c (input c ∷ [])) (then_does (event c (dot (Numeral 0) ∷ [])) stops))) (key P) ≡ None
+unfolding declared declared_by declared_by_all entries_of listed_names names_of field_sets meaning known_in worth_of worth worths formed the_two two_numbers the_number the_only the_value the_set limited range numbers_from channels_of with_channel fields_of is_process_in is_process_meaning is_process_by is_process_form is_process_operator fields_named is_constant against_input fits_field fitting has_all branches prefixed denoted denoted_form body_by body_of negated calculated set_with range_with union_with intersection_with difference_with
+hidden = refl
+
+-- channel c : {0..1}.{} and c?x?y -> STOP
+abbrev without_events : Scope
+without_events = scope (channel c (upto 1 ∷ part_of forms.EmptySet [] ∷ []) ∷ is_defined P (then_does (event c (input x ∷ input y ∷ [])) stops) ∷ [])
+
+no_event : body_of without_events (key P) ≡ Some stop
+unfolding declared declared_by declared_by_all entries_of listed_names names_of field_sets meaning known_in worth_of worth worths formed the_two two_numbers the_number the_only the_set nothing_of limited range numbers_from channels_of with_channel fields_of is_process_in is_process_meaning is_process_by is_process_form is_process_operator fields_named has_all branches prefixed denoted denoted_form body_by body_of choice_in choice_of negated calculated set_with range_with union_with intersection_with difference_with
+no_event = refl
+
+-- ---- processes of a, b and c
+
+abbrev plain : Syntax → Scope
+plain t = scope (channel a [] ∷ channel b [] ∷ channel c [] ∷ is_defined P t ∷ [])
+
+abbrev does : Name → Syntax → Syntax
+does n t = then_does (named n) t
+
+-- a -> b -> P
+loops : body_of (plain (does a (does b (named P)))) (key P) ≡ Some (prefix 0 (prefix 1 (name (key P))))
+unfolding declared declared_by declared_by_all entries_of listed_names names_of meaning known_in worth_of channels_of with_channel fields_of is_process_in is_process_meaning is_process_by is_process_form is_process_operator fields_named fitting has_all branches prefixed denoted denoted_form body_by body_of choice_in choice_of worth worths formed the_only negated calculated set_with range_with union_with intersection_with difference_with
+loops = refl
+
+-- a -> Q, where Q isn't declared
+unknown : body_of (plain (does a (named Q))) (key P) ≡ None
+unfolding declared declared_by declared_by_all entries_of listed_names names_of meaning known_in worth_of channels_of with_channel fields_of is_process_in is_process_meaning is_process_by is_process_form is_process_operator fields_named fitting has_all branches prefixed denoted denoted_form body_by body_of worth worths formed the_only negated calculated set_with range_with union_with intersection_with difference_with
+unknown = refl
+
+-- P = P
+itself : body_of (plain (named P)) (key P) ≡ Some (name (key P))
+unfolding declared declared_by declared_by_all entries_of listed_names names_of meaning known_in worth_of channels_of with_channel fields_of is_process_in is_process_meaning is_process_by denoted denoted_form body_by body_of worth worths formed the_only negated calculated set_with range_with union_with intersection_with difference_with
+itself = refl
+
+-- STOP [ {a, b} || {b, c} ] SKIP
+parallel : body_of (plain (joined operators.Alphabetised (stops ∷ set (named a ∷ named b ∷ []) ∷ set (named b ∷ named c ∷ []) ∷ skips ∷ []))) (key P) ≡ Some (par 4 (par 8 stop skip) (par 2 skip skip))
+unfolding event_names declared declared_by declared_by_all entries_of listed_names names_of meaning known_in worth_of channels_of with_channel fields_of is_process_in is_process_meaning is_process_by is_process_form is_process_operator fields_named field_values are_within begins beginning begins_so at_number whole_event together event_set set_below denoted denoted_form body_by body_of worth worths formed the_only negated calculated set_with range_with union_with intersection_with difference_with
+parallel = refl
+
+-- (a -> STOP)[[a <- b, a <- c]]
+renames : body_of (plain (joined operators.Renaming (bracketed (does a stops) ∷ pair (named a) (named c) ∷ pair (named a) (named b) ∷ []))) (key P) ≡ Some (ren ((0, 1) ∷ (0, 2) ∷ []) (prefix 0 stop))
+unfolding event_names declared declared_by declared_by_all entries_of listed_names names_of meaning known_in worth_of channels_of with_channel fields_of is_process_in is_process_meaning is_process_by is_process_form is_process_operator fields_named field_values are_within begins beginning begins_so number_in pairs_from pair_of pairs_of is_pair_of in_order renamed fitting has_all branches prefixed denoted denoted_form body_by body_of choice_in choice_of worth worths formed the_only negated calculated set_with range_with union_with intersection_with difference_with
+renames = refl
+
+-- (STOP) \ diff(Events, {| b |})
+hides : body_of (plain (joined operators.Hiding (stops ∷ part_of forms.Difference (part_of forms.Events [] ∷ part_of forms.Productions (named b ∷ []) ∷ []) ∷ []))) (key P) ≡ Some (hide 10 stop)
+unfolding event_names declared declared_by declared_by_all entries_of listed_names names_of meaning known_in worth_of channels_of with_channel fields_of is_process_in is_process_meaning is_process_by is_process_form is_process_operator fields_named field_values are_within begins beginning begins_so at_number together event_set set_below denoted denoted_form body_by body_of worth worths formed the_only negated calculated set_with range_with union_with intersection_with difference_with
+hides = refl
+
+-- STOP \ {1..0}: a set of values
+no_values : body_of (plain (joined operators.Hiding (stops ∷ part_of forms.Range (Numeral 1 ∷ Numeral 0 ∷ []) ∷ []))) (key P) ≡ None
+unfolding declared declared_by declared_by_all entries_of listed_names names_of meaning known_in worth_of channels_of with_channel fields_of is_process_in is_process_meaning is_process_by is_process_form is_process_operator event_set denoted denoted_form body_by body_of worth worths formed the_only negated calculated set_with range_with union_with intersection_with difference_with
+no_values = refl
+
+-- if true then STOP else STOP
+later : body_of (plain (part_of forms.If (part_of forms.True [] ∷ stops ∷ stops ∷ []))) (key P) ≡ None
+unfolding declared declared_by declared_by_all entries_of listed_names names_of meaning known_in worth_of channels_of with_channel fields_of is_process_in is_process_meaning is_process_by is_process_form is_process_operator body_of
+later = refl
+
+-- channel c, d : {0..1} and P = STOP[[ c <- d ]]
+abbrev moving : Scope
+moving = scope (channel c (upto 1 ∷ []) ∷ channel d (upto 1 ∷ []) ∷ is_defined P (joined operators.Renaming (stops ∷ pair (named c) (named d) ∷ [])) ∷ [])
+
+moves : body_of moving (key P) ≡ Some (ren ((0, 2) ∷ (1, 3) ∷ []) stop)
+unfolding event_names declared declared_by declared_by_all entries_of listed_names names_of field_sets meaning known_in worth_of channels_of with_channel fields_of is_process_in is_process_meaning is_process_by is_process_form is_process_operator fields_named field_values are_within begins beginning begins_so number_in pairs_from pair_of pairs_of is_pair_of in_order renamed denoted denoted_form body_by body_of worth worths formed the_two two_numbers the_number the_only the_set limited range numbers_from is_among is_same negated calculated set_with range_with union_with intersection_with difference_with
+moves = refl
+
+-- channel c : {0..1}, channel d and P = STOP[[ c <- d ]]: d.0 is no event
+abbrev nowhere : Scope
+nowhere = scope (channel c (upto 1 ∷ []) ∷ channel d [] ∷ is_defined P (joined operators.Renaming (stops ∷ pair (named c) (named d) ∷ [])) ∷ [])
+
+no_image : body_of nowhere (key P) ≡ None
+unfolding declared declared_by declared_by_all entries_of listed_names names_of field_sets meaning known_in worth_of channels_of with_channel fields_of is_process_in is_process_meaning is_process_by is_process_form is_process_operator fields_named field_values are_within begins beginning begins_so number_in pairs_from pair_of pairs_of denoted denoted_form body_by body_of worth worths formed the_two two_numbers the_number the_only the_set limited range numbers_from is_among is_same negated calculated set_with range_with union_with intersection_with difference_with
+no_image = refl

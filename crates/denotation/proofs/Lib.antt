@@ -1,0 +1,17 @@
+pub mod Examples
+pub mod Reached
+pub mod Unique
+pub mod Keys
+pub mod Told
+pub mod Made
+pub mod Progress
+pub mod Choices
+pub mod FirstPlaces
+pub mod Steps
+pub mod Prefixes
+pub mod Definitions
+pub mod Seen
+pub mod Whole
+pub mod Shapes
+pub mod FormLaws
+pub mod Turns

@@ -1,0 +1,237 @@
+-- Body by body through the definitions that are reached.
+use Rattle.std.proofs.Common.{◌≡◌, ℕ, zero, suc, ◌+◌, ◌-◌, ◌<◌, ◌≤◌, List, [], ◌∷◌, ◌++◌, length, take, map, get_or, Option, Some, None, refl, sym, ap, ap₂, subst, ◌∙◌, arith, append_assoc, append-nil, take-suc}
+use Rattle.std.specs.List.{All, flat_map}
+use Rattle.std.proofs.lemmas.List.{length-map, length-append, map-append}
+use Rattle.std.proofs.lemmas.List.Elements.{All-append, All-get_or}
+use Rattle.term.specs.Proc.{Proc}
+use Rattle.term.specs.Proc as procs
+use Rattle.term.specs.Sizes.{depth}
+use Rattle.values.specs.Values.{◌>>=◌}
+use Rattle.denotation.specs.Bodies.{Key, Body, stop, skip, prefix, ext, int, seq, par, hide, ren, intr, name, names, numbered}
+use Rattle.event_phrases.specs.Scopes.{Scope}
+use Rattle.denotation.specs.Denotes.{body_of, place, with_keys, met, nodes, Reached}
+use Rattle.denotation.specs.Making.{Count, Made, size_of, sizes_of, told, made, shallow, make_body, Gathered}
+use Rattle.denotation.proofs.Keys.{keys_append}
+use Rattle.denotation.proofs.Told.{stays, same_depth, same_nodes}
+use Rattle.denotation.proofs.Made.{split, room_enough, room_less, body_is}
+use Rattle.event_phrases.proofs.Options.{some_is}
+use Rattle.event_phrases.proofs.Scopes.{take_whole}
+use Rattle.denotation.proofs.Reached.{get_or_view, get_front, keys_grow, met_front, one_reached}
+
+-- ---- one body
+
+-- what was made is the body, with numbers given as it is met
+pub record Is (w : Count) (x : Made) (b : Body) : Type 0 where
+  pub numbers : x.0 ≡ told w.0 b
+  pub met : x.1.0 ≡ with_keys w.0 (names b)
+  pub room : x.1.1 + size_of b ≡ w.1
+  pub deep : depth x.0 ≤ 200
+
+no_some : {A : Type 0} {x : A} → None ≡ Some x → ⊥
+no_some h = cc
+
+shallow_enough : (x : Made) → depth x.0 ≤ 200 → shallow x ≡ Some x
+unfolding shallow
+shallow_enough x h = grind (arith, h)
+
+shallow_less : (x : Made) → 200 < depth x.0 → shallow x ≡ None
+unfolding shallow
+shallow_less x h = grind (arith, h)
+
+shallow_some : (y x : Made) → shallow y ≡ Some x → (y ≡ x) × (depth y.0 ≤ 200)
+shallow_some y x h = split _ (depth y.0) 200 (λ a. (some_is (sym (shallow_enough y a) ∙ h), a)) (λ a. absurd (no_some (sym (shallow_less y a) ∙ h)))
+
+pub sound_by : (w : Count) (o : Option Body) (x : Made) → (made w o >>= shallow) ≡ Some x → (b : Body) × (o ≡ Some b) × Is w x b
+unfolding made
+sound_by w None x h = absurd (no_some h)
+sound_by w (Some b) x h = split _ (size_of b) w.1 enough (λ a. absurd (no_some (sym (ap (λ o. (o >>= λ r. given r) >>= shallow) (room_less (size_of b) w.1 a)) ∙ h)))
+  where
+    given : ℕ → Option Made
+    given r = Some (told w.0 b, (with_keys w.0 (names b), r))
+
+    enough : size_of b ≤ w.1 → (c : Body) × (Some b ≡ Some c) × Is w x c
+    enough a =
+        let s = shallow_some (told w.0 b, (with_keys w.0 (names b), w.1 - size_of b)) x (sym (ap (λ o. (o >>= λ r. given r) >>= shallow) (room_enough (size_of b) w.1 a)) ∙ h) in
+        let z : w.1 - size_of b ≡ x.1.1 = ap (λ (x : Made). x.1.1) s.0 in
+        (b, refl, record { numbers = ap (λ (x : Made). x.0) (sym s.0); met = ap (λ (x : Made). x.1.0) (sym s.0); room = omega (arith, z, a); deep = subst (λ (x : Made). depth x.0 ≤ 200) s.0 s.1 })
+
+pub body_sound : (s : Scope) (k : Key) (w : Count) (x : Made) → make_body s k w ≡ Some x → (b : Body) × (body_of s k ≡ Some b) × Is w x b
+body_sound s k w x h = sound_by w (body_of s k) x (sym (body_is s k w) ∙ h)
+
+complete_by : (w : Count) (b : Body) → size_of b ≤ w.1 → depth (told w.0 b) ≤ 200 → (x : Made) × ((made w (Some b) >>= shallow) ≡ Some x)
+unfolding made
+complete_by w b h d =
+    let x : Made = (told w.0 b, (with_keys w.0 (names b), w.1 - size_of b)) in
+    (x, ap (λ o. (o >>= λ r. given r) >>= shallow) (room_enough (size_of b) w.1 h) ∙ shallow_enough x d)
+  where
+    given : ℕ → Option Made
+    given r = Some (told w.0 b, (with_keys w.0 (names b), r))
+
+pub body_complete : (s : Scope) (k : Key) (w : Count) (b : Body) → body_of s k ≡ Some b → size_of b ≤ w.1 → depth (told w.0 b) ≤ 200 → (x : Made) × (make_body s k w ≡ Some x)
+body_complete s k w b h l d =
+    let r = complete_by w b l d in
+    (r.0, body_is s k w ∙ ap (λ o. made w o >>= shallow) h ∙ r.1)
+
+-- ---- lists
+
+size_some : (b : Body) → 1 ≤ size_of b
+unfolding numbered
+size_some stop = omega arith
+size_some skip = omega arith
+size_some (prefix a p) = omega arith
+size_some (ext p q) = omega arith
+size_some (int p q) = omega arith
+size_some (seq p q) = omega arith
+size_some (par A p q) = omega arith
+size_some (hide A p) = omega arith
+size_some (ren R p) = omega arith
+size_some (intr p q) = omega arith
+size_some (name k) = omega arith
+
+pub body_less : (s : Scope) (k : Key) (w : Count) (x : Made) → make_body s k w ≡ Some x → x.1.1 < w.1
+body_less s k w x h = let (b, d, i) = body_sound s k w x h in omega (arith, i.room, size_some b)
+
+take_front : {A : Type 0} (xs ys : List A) (n : ℕ) → n ≤ length xs → take n (xs ++ ys) ≡ take n xs
+take_front xs ys zero h = refl
+take_front [] ys (suc n) h = absurd (omega (arith, h))
+take_front (x ∷ xs) ys (suc n) h = ap (λ zs. x ∷ zs) (take_front xs ys n (omega (arith, h)))
+
+names_push : (bs : List Body) (b : Body) → flat_map names (bs ++ b ∷ []) ≡ flat_map names bs ++ names b
+names_push [] b = append-nil (names b)
+names_push (c ∷ bs) b = ap (λ ns. names c ++ ns) (names_push bs b) ∙ sym (append_assoc (names c) (flat_map names bs) (names b))
+
+sizes_push : (bs : List Body) (b : Body) → sizes_of (bs ++ b ∷ []) ≡ sizes_of bs + size_of b
+unfolding nodes
+sizes_push [] b = omega arith
+sizes_push (c ∷ bs) b = omega (arith, sizes_push bs b)
+
+sizes_take : (n : ℕ) (bs : List Body) (d : Body) → n < length bs → sizes_of (take n bs) + size_of (get_or bs n d) ≤ sizes_of bs
+unfolding nodes
+sizes_take n [] d h = absurd (omega (arith, h))
+sizes_take zero (b ∷ bs) d h = omega arith
+sizes_take (suc n) (b ∷ bs) d h = omega (arith, sizes_take n bs d (omega (arith, h)))
+
+cases : (P : Type 0) (j n : ℕ) → j ≤ n → (j < n → P) → (j ≡ n → P) → P
+cases P zero zero h f g = g refl
+cases P zero (suc n) h f g = f (omega arith)
+cases P (suc j) zero h f g = absurd (omega (arith, h))
+cases P (suc j) (suc n) h f g = cases P j n (omega (arith, h)) (λ a. f (omega (arith, a))) (λ a. g (ap suc a))
+
+below_push : (root : Key) (bs : List Body) (b : Body) (keys : List Key) → keys ≡ met root bs → length bs < length keys → ((j : ℕ) → j < length bs → j < length (met root (take j bs))) → (j : ℕ) → j ≤ length bs → j < length (met root (take j (bs ++ b ∷ [])))
+below_push root bs b keys k h below j a =
+    let t : take j (bs ++ b ∷ []) ≡ take j bs = take_front bs (b ∷ []) j a in
+    let goal : j < length (met root (take j bs)) = cases (j < length (met root (take j bs))) j (length bs) a (below j)
+    (λ e. let w : take j bs ≡ bs = take_whole j bs (omega (arith, e)) in
+    let z : length keys ≡ length (met root (take j bs)) = ap length (k ∙ ap (met root) (sym w)) in omega (arith, e, h, z)) in
+    let z : length (met root (take j (bs ++ b ∷ []))) ≡ length (met root (take j bs)) = ap (λ xs. length (met root xs)) t in
+    omega (arith, goal, z)
+
+only_one : (p : Proc) → depth p ≤ 200 → (k : ℕ) (d : Proc) → k < 1 → depth (get_or (p ∷ []) k d) ≤ 200
+only_one p h zero d l = h
+only_one p h (suc k) d l = absurd (omega (arith, l))
+
+-- ---- the work on its way
+
+-- where these processes were made, these definitions met, and so many nodes may still be made
+pub record Progress (s : Scope) (root : Key) (ps : List Proc) (keys : List Key) (room : ℕ) : Type 0 where
+  pub bodies : List Body
+  pub numbers : (more : List Key) → ps ≡ map (numbered (place (with_keys keys more))) bodies
+  pub keyed : keys ≡ met root bodies
+  pub each : map (body_of s) (take (length bodies) keys) ≡ map Some bodies
+  pub low : length bodies ≤ length keys
+  pub left : room + sizes_of bodies ≡ 65536
+  pub deep : All (λ p. depth p ≤ 200) ps
+  pub below : (j : ℕ) → j < length bodies → j < length (met root (take j bodies))
+  -- they are the first of whatever is reached
+  pub only : (ks : List Key) (cs : List Body) → Reached s root ks cs → bodies ≡ take (length bodies) cs
+
+pub as_many : {s : Scope} {root : Key} {ps : List Proc} {keys : List Key} {room : ℕ} (p : Progress s root ps keys room) → length ps ≡ length p.bodies
+as_many p = ap length (p.numbers []) ∙ length-map p.bodies _
+
+pub start : (s : Scope) (root : Key) → Progress s root [] (root ∷ []) 65536
+unfolding met with_keys nodes
+start s root = record { bodies = []; numbers = λ more. refl; keyed = refl; each = refl; low = omega arith; left = omega arith; deep = λ k d h. absurd (omega (arith, h)); below = λ j h. absurd (omega (arith, h)); only = λ ks cs r. refl }
+
+module _ (s : Scope) (root : Key) (ps : List Proc) (keys : List Key) (room : ℕ) (p : Progress s root ps keys room) where
+  -- the next body of what is reached
+  next_of : length ps < length keys → (ks : List Key) (cs : List Body) → Reached s root ks cs → (length ps < length cs) × (body_of s (get_or keys (length ps) root) ≡ Some (get_or cs (length ps) stop))
+  next_of h ks cs r =
+      let n = length ps in
+      let m : n ≡ length p.bodies = as_many p in
+      let t : p.bodies ≡ take n cs = p.only ks cs r ∙ ap (λ i. take i cs) (sym m) in
+      let (rest, f) = met_front root n cs in
+      let k : ks ≡ keys ++ rest = sym r.first ∙ f ∙ ap (λ xs. xs ++ rest) (ap (met root) (sym t) ∙ sym p.keyed) in
+      let l : length ks ≡ length cs = sym (length-map ks (body_of s)) ∙ ap length r.each ∙ length-map cs _ in
+      let g : length ks ≡ length keys + length rest = ap length k ∙ length-append keys rest in
+      let a : n < length ks = omega (arith, g, h) in
+      let b : n < length cs = omega (arith, a, l) in
+      (b, ap (λ i. body_of s i) (sym (ap (λ xs. get_or xs n root) k ∙ get_front keys rest n root h)) ∙ sym (get_or_view (body_of s) ks n None root a) ∙ ap (λ xs. get_or xs n None) r.each ∙ get_or_view (λ x. Some x) cs n None stop b)
+
+  pub one_more : (x : Made) → length ps < length keys → make_body s (get_or keys (length ps) root) (keys, room) ≡ Some x → Progress s root (ps ++ x.0 ∷ []) x.1.0 x.1.1
+  unfolding met
+  one_more x h e =
+      let n = length ps in
+      let m : n ≡ length p.bodies = as_many p in
+      let (b, d, i) = body_sound s (get_or keys n root) (keys, room) x e in
+      let l : length (p.bodies ++ b ∷ []) ≡ suc n = length-append p.bodies (b ∷ []) ∙ omega (arith, m) in
+      let (rest, g) = keys_grow (names b) keys in
+      let grown : x.1.0 ≡ keys ++ rest = i.met ∙ g in
+      let longer : length x.1.0 ≡ length keys + length rest = ap length grown ∙ length-append keys rest in
+      let later : (more : List Key) → with_keys keys (names b ++ more) ≡ with_keys x.1.0 more = λ more. keys_append keys (names b) more ∙ ap (λ ks. with_keys ks more) (sym i.met) in
+      record {
+        bodies = p.bodies ++ b ∷ [];
+        numbers = λ more. ap₂ (λ ps q. ps ++ q ∷ []) (p.numbers (names b ++ more) ∙ ap (λ ks. map (numbered (place ks)) p.bodies) (later more)) (i.numbers ∙ sym (stays b keys more) ∙ ap (λ ks. numbered (place ks) b) (later more)) ∙ sym (map-append (numbered (place (with_keys x.1.0 more))) p.bodies (b ∷ []));
+        keyed = i.met ∙ ap (λ ks. with_keys ks (names b)) p.keyed ∙ sym (keys_append (root ∷ []) (flat_map names p.bodies) (names b)) ∙ ap (with_keys (root ∷ [])) (sym (names_push p.bodies b));
+        each = ap (λ i. map (body_of s) (take i x.1.0)) l ∙ ap (λ ks. map (body_of s) (take (suc n) ks)) grown
+            ∙ ap (map (body_of s)) (take_front keys rest (suc n) (omega (arith, h)) ∙ take-suc keys n root h)
+            ∙ map-append (body_of s) (take n keys) (get_or keys n root ∷ [])
+            ∙ ap₂ (λ xs y. xs ++ y ∷ []) (ap (λ i. map (body_of s) (take i keys)) m ∙ p.each) d
+            ∙ sym (map-append (λ x. Some x) p.bodies (b ∷ []));
+        low = omega (arith, l, longer, h);
+        left = omega (arith, p.left, i.room, sizes_push p.bodies b);
+        deep = All-append (λ p. depth p ≤ 200) ps (x.0 ∷ []) p.deep (only_one x.0 i.deep);
+        below = λ j a. below_push root p.bodies b keys p.keyed (omega (arith, h, m)) p.below j (omega (arith, a, l, m));
+        only = λ ks cs r.
+            let (a, c) = next_of h ks cs r in
+            let same : b ≡ get_or cs n stop = some_is (sym d ∙ c) in
+            ap₂ (λ ps q. ps ++ q ∷ []) (p.only ks cs r ∙ ap (λ i. take i cs) (sym m)) same ∙ sym (take-suc cs n stop a) ∙ ap (λ i. take i cs) (sym l);
+      }
+
+  -- where each definition that was met has its body, these are the bodies of what is reached
+  pub finish : length keys ≤ length ps → Gathered s root ps
+  unfolding with_keys
+  finish h =
+      let m = as_many p in
+      let z : nodes ps ≡ sizes_of p.bodies = ap nodes (p.numbers []) ∙ same_nodes (place keys) (λ k. 0) p.bodies in
+      record {
+        keys = keys;
+        bodies = p.bodies;
+        reached = record { each = ap (map (body_of s)) (sym (take_whole (length p.bodies) keys (omega (arith, h, m)))) ∙ p.each; first = sym p.keyed; below = λ i a. p.below i (omega (arith, a, h, m)) };
+        numbers = p.numbers [];
+        deep = p.deep;
+        large = omega (arith, p.left, z);
+      }
+
+  -- and no others are
+  pub unique : length keys ≤ length ps → (qs : List Proc) → Gathered s root qs → qs ≡ ps
+  unique h qs d =
+      let g = finish h in
+      let (ks, bs) = one_reached s root d.keys g.keys d.bodies g.bodies d.reached g.reached in
+      d.numbers ∙ ap₂ (λ ks bs. map (numbered (place ks)) bs) ks bs ∙ sym g.numbers
+
+  -- a body that isn't made is missing, or there is no room for it, or it is too deep
+  pub stuck : length ps < length keys → (qs : List Proc) → Gathered s root qs → make_body s (get_or keys (length ps) root) (keys, room) ≡ None → ⊥
+  stuck h qs d e =
+      let n = length ps in
+      let (a, c) = next_of h d.keys d.bodies d.reached in
+      let b = get_or d.bodies n stop in
+      let t : p.bodies ≡ take n d.bodies = p.only d.keys d.bodies d.reached ∙ ap (λ i. take i d.bodies) (sym (as_many p)) in
+      let z : sizes_of p.bodies ≡ sizes_of (take n d.bodies) = ap sizes_of t in
+      let all : nodes qs ≡ sizes_of d.bodies = ap nodes d.numbers ∙ same_nodes (place d.keys) (λ k. 0) d.bodies in
+      let k = sizes_take n d.bodies stop a in
+      let l : length qs ≡ length d.bodies = ap length d.numbers ∙ length-map d.bodies _ in
+      let deep : depth (get_or qs n procs.stop) ≤ 200 = All-get_or (λ p. depth p ≤ 200) qs n procs.stop (omega (arith, a, l)) d.deep in
+      let it : get_or qs n procs.stop ≡ numbered (place d.keys) b = ap (λ xs. get_or xs n procs.stop) d.numbers ∙ get_or_view (numbered (place d.keys)) d.bodies n procs.stop stop a in
+      let same : depth (get_or qs n procs.stop) ≡ depth (told keys b) = ap depth it ∙ same_depth (place d.keys) (place (with_keys keys (names b))) b in
+      let (x, f) = body_complete s (get_or keys n root) (keys, room) b c (omega (arith, z, all, k, d.large, p.left)) (omega (arith, deep, same)) in
+      no_some (sym e ∙ f)

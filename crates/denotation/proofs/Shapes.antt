@@ -1,0 +1,50 @@
+-- Phrases for processes by their forms: the processes in them are smaller.
+use Rattle.std.proofs.Common.{◌≡◌, ◌<◌, ◌≤◌, List, Option, Some, None, refl, sym, ap, ◌∙◌, arith}
+use Rattle.std.specs.Option.{option_map, IfSome}
+use Rattle.syntax.specs.declared.form.Form.{Form}
+use Rattle.syntax.specs.declared.form.Form.TheVariants as forms
+use Rattle.syntax.specs.declared.operator.Operator.{Operator}
+use Rattle.syntax.specs.declared.operator.Operator.TheVariants as operators
+use Rattle.syntax.specs.Grammar.{Syntax, Called, Numeral, Node}
+use Rattle.values.specs.Values.{◌>>=◌}
+use Rattle.event_phrases.specs.Forms.{part_list, node_of, tall, talls}
+use Rattle.denotation.specs.Forms.{Phrase, joined_phrase, operation_phrase, form_phrase, phrase_of, inner_tall}
+use Rattle.event_phrases.proofs.Shapes.{list_forth, node_with, sum_tall, by_one, by_two, by_three, by_four, by_first, by_none, by_name}
+
+operation_less : (op : Operator) (ts : List Syntax) (p : Phrase) → operation_phrase op ts ≡ Some p → inner_tall p ≤ sum_tall ts
+unfolding operation_phrase joined_phrase inner_tall
+operation_less operators.Prefix ts p h = by_two inner_tall ts _ p (λ q. omega arith) h
+operation_less operators.Sequence ts p h = by_two inner_tall ts _ p (λ q. omega arith) h
+operation_less operators.Interrupt ts p h = by_two inner_tall ts _ p (λ q. omega arith) h
+operation_less operators.ExternalChoice ts p h = by_two inner_tall ts _ p (λ q. omega arith) h
+operation_less operators.InternalChoice ts p h = by_two inner_tall ts _ p (λ q. omega arith) h
+operation_less operators.Interleaving ts p h = by_two inner_tall ts _ p (λ q. omega arith) h
+operation_less operators.Sharing ts p h = by_three inner_tall ts _ p (λ q. omega arith) h
+operation_less operators.Alphabetised ts p h = by_four inner_tall ts _ p (λ q. omega arith) h
+operation_less operators.Hiding ts p h = by_two inner_tall ts _ p (λ q. omega arith) h
+operation_less operators.Renaming ts p h = by_first inner_tall ts _ p (λ q. omega arith) h
+operation_less op ts p h = absurd cc
+
+form_less : (f : Form) (ts : List Syntax) (p : Phrase) → form_phrase f ts ≡ Some p → inner_tall p ≤ sum_tall ts
+unfolding form_phrase inner_tall
+form_less forms.Stop ts p h = by_none inner_tall ts _ p refl h
+form_less forms.Skip ts p h = by_none inner_tall ts _ p refl h
+form_less forms.Event ts p h = by_name inner_tall ts _ p (λ n. refl) h
+form_less forms.Brackets ts p h = by_one inner_tall ts _ p (λ t. refl) h
+form_less (forms.Operation op) ts p h = operation_less op ts p h
+form_less f ts p h = absurd cc
+
+-- the processes in a phrase are smaller than it
+less : (t : Syntax) (p : Phrase) → phrase_of t ≡ Some p → inner_tall p < tall t
+unfolding phrase_of node_of tall
+less (Called n) p h = absurd cc
+less (Numeral n) p h = absurd cc
+less (Node f ts) p h =
+    let k = form_less f (part_list ts) p h in
+    let e : sum_tall (part_list ts) ≡ talls ts = ap talls (list_forth ts) in
+    omega (arith, k, e)
+
+pub phrase_less : {X : Type 0} (view : X → Phrase) (o : Option X) (t : Syntax) (f : Form) (ts : List Syntax) → node_with f ts ≡ node_of t → option_map view o ≡ form_phrase f ts → IfSome o (λ x. inner_tall (view x) < tall t)
+unfolding phrase_of
+phrase_less view None t f ts n h = tt
+phrase_less view (Some x) t f ts n h = less t (view x) (ap (λ o. o >>= λ n. form_phrase n.0 n.1) (sym n) ∙ sym h)

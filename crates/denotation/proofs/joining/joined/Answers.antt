@@ -1,0 +1,11 @@
+use Rattle.std.proofs.Common.{sym, ap, ◌∙◌}
+use Rattle.term.specs.Proc.{proc, par}
+use Rattle.denotation.specs.Making.{join_of}
+use Rattle.event_phrases.proofs.EventSetLaws.{empty_is}
+use Rattle.denotation.proofs.joining.joined.Goals as goal
+
+pub returns-in-Interleaving : goal.returns-in-Interleaving
+unfolding join_of
+returns-in-Interleaving g c =
+    (λ i. par (empty_is c.empty.result c.empty.ensures i) (proc (c.in_ok-first.ensures.ok i)) (proc (c.in_ok-second.ensures.ok i)))
+    ∙ ap (λ j. join_of j (proc c.args.first) (proc c.args.second)) (sym c.in-Interleaving.is)

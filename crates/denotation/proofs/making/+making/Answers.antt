@@ -1,0 +1,392 @@
+use Rattle.std.proofs.Common.{rules, arith, ◌≡◌, ◌+◌, ◌*◌, ◌<◌, map, sym, ap, subst, ◌∙◌}
+use Rattle.std.specs.Option.{option_map}
+use Rattle.std.proofs.lemmas.List.{length-map}
+use Rattle.std.proofs.lemmas.Result.{err_from_is_err_and}
+use Rattle.alphabet.specs.Channels.{events}
+use Rattle.syntax.specs.Parsing.{syntaxes}
+use Rattle.syntax.specs.View.{shape, shapes}
+use Rattle.term.specs.Proc.{proc}
+use Rattle.values.specs.Tables.{input}
+use Rattle.values.specs.View.{Gives}
+use Rattle.event_phrases.specs.EventForms.{within}
+use Rattle.event_phrases.specs.Forms.{tall}
+use Rattle.denotation.specs.Forms.{inner_tall}
+use Rattle.denotation.specs.Making.{make, make_phrase, make_prefixed}
+use Rattle.denotation.specs.Shapes.{plain}
+use Rattle.event_phrases.specs.View.{listed, row}
+use Rattle.denotation.specs.View.{count}
+use Rattle.denotation.proofs.FormLaws.{made_so, not_made}
+use Rattle.event_phrases.proofs.Scopes.{fails_none}
+use Rattle.denotation.proofs.Prefixes.{same_length, none_if, no_event, no_channel, other_count, branches_fail, branches_made, some_fit, fitting_fails, no_fit, behind_fails, event_fails, event_made}
+use Rattle.denotation.proofs.Steps.{joined_first, joined_second, joined_so, sharing_first, sharing_set, sharing_second, sharing_so, alphabetised_first, alphabetised_sets, alphabetised_second, alphabetised_so, hiding_first, hiding_set, hiding_so, renaming_first, renaming_on}
+use Rattle.denotation.proofs.Turns.{all_from, first_turn, next_turn, last_turn, turn_fails, pushed, kept}
+use Rattle.denotation.proofs.making.+making.Goals as goal
+use Rattle.denotation.proofs.making.+making.Goals.{branches-in-Some+in_ok-push, branches-in_default}
+
+pub joined_phrases-process-requires : goal.joined_phrases-process-requires
+joined_phrases-process-requires g t c κs within =
+    let m : 6 * tall (shape c.args.first.now) < 6 * (tall (shape c.args.first.now) + tall (shape c.args.second.now)) + 4 = omega arith in
+    search (rules, m)
+
+pub joined_phrases-process-requires-2 : goal.joined_phrases-process-requires-2
+joined_phrases-process-requires-2 g t c κs within =
+    let m : 6 * tall (shape c.args.second.now) < 6 * (tall (shape c.args.first.now) + tall (shape c.args.second.now)) + 4 = omega arith in
+    search (rules, m)
+
+pub sharing_phrases-process-requires : goal.sharing_phrases-process-requires
+sharing_phrases-process-requires g t c κs within =
+    let m : 6 * tall (shape c.args.first.now) < 6 * (tall (shape c.args.first.now) + tall (shape c.args.second.now)) + 4 = omega arith in
+    search (rules, m)
+
+pub sharing_phrases-process-requires-2 : goal.sharing_phrases-process-requires-2
+sharing_phrases-process-requires-2 g t c κs within =
+    let m : 6 * tall (shape c.args.second.now) < 6 * (tall (shape c.args.first.now) + tall (shape c.args.second.now)) + 4 = omega arith in
+    search (rules, m)
+
+pub alphabetised_phrases-process-requires : goal.alphabetised_phrases-process-requires
+alphabetised_phrases-process-requires g t c κs within =
+    let m : 6 * tall (shape c.args.first.now) < 6 * (tall (shape c.args.first.now) + tall (shape c.args.second.now)) + 4 = omega arith in
+    search (rules, m)
+
+pub alphabetised_phrases-process-requires-2 : goal.alphabetised_phrases-process-requires-2
+alphabetised_phrases-process-requires-2 g t c κs within =
+    let m : 6 * tall (shape c.args.second.now) < 6 * (tall (shape c.args.first.now) + tall (shape c.args.second.now)) + 4 = omega arith in
+    search (rules, m)
+
+pub joined_phrases-returns-in_err-first : goal.joined_phrases-returns-in_err-first
+joined_phrases-returns-in_err-first g t c =
+    let s = within (g.G.GlobalScope.scope c.args.scope.now.global.now) (map input c.args.scope.now.inputs.items) in
+    let p = err_from_is_err_and c.from_residual.result c.from_residual.ensures.1 in
+    rw (p.1, p.2) (joined_first s (count c.args.work) (shape c.args.first.now) c.args.join (shape c.args.second.now) c.in_err-first.field-0.0.kind c.in_err-first.ensures)
+
+pub joined_phrases-returns-in_err-second : goal.joined_phrases-returns-in_err-second
+joined_phrases-returns-in_err-second g t c =
+    let s = within (g.G.GlobalScope.scope c.args.scope.now.global.now) (map input c.args.scope.now.inputs.items) in
+    let p = err_from_is_err_and c.from_residual-in_err-second.result c.from_residual-in_err-second.ensures.1 in
+    rw (p.1, p.2) (joined_second s (count c.args.work) (shape c.args.first.now) c.args.join (shape c.args.second.now) (proc c.in_ok-first.first, count c.in_ok-first.work) c.in_ok-first.ensures c.in_err-second.field-0.0.kind c.in_err-second.ensures)
+
+pub joined_phrases-returns : goal.joined_phrases-returns
+joined_phrases-returns g t c =
+    let s = within (g.G.GlobalScope.scope c.args.scope.now.global.now) (map input c.args.scope.now.inputs.items) in
+    subst (λ o. Gives (λ x. (proc x.0, count x.1)) c.joined_within.result o) (sym (joined_so s (count c.args.work) (shape c.args.first.now) c.args.join (shape c.args.second.now) (proc c.in_ok-first.first, count c.in_ok-first.work) c.in_ok-first.ensures (proc c.in_ok-second.second, count c.in_ok-second.work) c.in_ok-second.ensures)) c.joined_within.ensures
+
+pub sharing_phrases-returns-in_err-first : goal.sharing_phrases-returns-in_err-first
+sharing_phrases-returns-in_err-first g t c =
+    let s = within (g.G.GlobalScope.scope c.args.scope.now.global.now) (map input c.args.scope.now.inputs.items) in
+    let p = err_from_is_err_and c.from_residual.result c.from_residual.ensures.1 in
+    rw (p.1, p.2) (sharing_first s (count c.args.work) (shape c.args.first.now) (shape c.args.set.now) (shape c.args.second.now) c.in_err-first.field-0.0.kind c.in_err-first.ensures)
+
+pub sharing_phrases-returns-in_err-set : goal.sharing_phrases-returns-in_err-set
+sharing_phrases-returns-in_err-set g t c =
+    let s = within (g.G.GlobalScope.scope c.args.scope.now.global.now) (map input c.args.scope.now.inputs.items) in
+    let p = err_from_is_err_and c.from_residual-in_err-set.result c.from_residual-in_err-set.ensures.1 in
+    rw (p.1, p.2) (sharing_set s (count c.args.work) (shape c.args.first.now) (shape c.args.set.now) (shape c.args.second.now) (proc c.in_ok-first.first, count c.in_ok-first.work) c.in_ok-first.ensures c.in_err-set.field-0.0.kind c.in_err-set.ensures)
+
+pub sharing_phrases-returns-in_err-second : goal.sharing_phrases-returns-in_err-second
+sharing_phrases-returns-in_err-second g t c =
+    let s = within (g.G.GlobalScope.scope c.args.scope.now.global.now) (map input c.args.scope.now.inputs.items) in
+    let p = err_from_is_err_and c.from_residual-in_err-second.result c.from_residual-in_err-second.ensures.1 in
+    rw (p.1, p.2) (sharing_second s (count c.args.work) (shape c.args.first.now) (shape c.args.set.now) (shape c.args.second.now) (proc c.in_ok-first.first, count c.in_ok-first.work) c.in_ok-first.ensures c.in_ok-set.set c.in_ok-set.ensures c.in_err-second.field-0.0.kind c.in_err-second.ensures)
+
+pub sharing_phrases-returns : goal.sharing_phrases-returns
+sharing_phrases-returns g t c =
+    let s = within (g.G.GlobalScope.scope c.args.scope.now.global.now) (map input c.args.scope.now.inputs.items) in
+    subst (λ o. Gives (λ x. (proc x.0, count x.1)) c.shared.result o) (sym (sharing_so s (count c.args.work) (shape c.args.first.now) (shape c.args.set.now) (shape c.args.second.now) (proc c.in_ok-first.first, count c.in_ok-first.work) c.in_ok-first.ensures c.in_ok-set.set c.in_ok-set.ensures (proc c.in_ok-second.second, count c.in_ok-second.work) c.in_ok-second.ensures)) c.shared.ensures
+
+pub alphabetised_phrases-returns-in_err-first : goal.alphabetised_phrases-returns-in_err-first
+alphabetised_phrases-returns-in_err-first g t c =
+    let s = within (g.G.GlobalScope.scope c.args.scope.now.global.now) (map input c.args.scope.now.inputs.items) in
+    let p = err_from_is_err_and c.from_residual.result c.from_residual.ensures.1 in
+    rw (p.1, p.2) (alphabetised_first s (count c.args.work) (shape c.args.first.now) (shape c.args.sets.0.now) (shape c.args.sets.1.now) (shape c.args.second.now) c.in_err-first.field-0.0.kind c.in_err-first.ensures)
+
+pub alphabetised_phrases-returns-in_err-sets : goal.alphabetised_phrases-returns-in_err-sets
+alphabetised_phrases-returns-in_err-sets g t c =
+    let s = within (g.G.GlobalScope.scope c.args.scope.now.global.now) (map input c.args.scope.now.inputs.items) in
+    let p = err_from_is_err_and c.from_residual-in_err-sets.result c.from_residual-in_err-sets.ensures.1 in
+    rw (p.1, p.2) (alphabetised_sets s (count c.args.work) (shape c.args.first.now) (shape c.args.sets.0.now) (shape c.args.sets.1.now) (shape c.args.second.now) (proc c.in_ok-first.first, count c.in_ok-first.work) c.in_ok-first.ensures c.in_err-sets.field-0.0.kind c.in_err-sets.ensures)
+
+pub alphabetised_phrases-returns-in_err-second : goal.alphabetised_phrases-returns-in_err-second
+alphabetised_phrases-returns-in_err-second g t c =
+    let s = within (g.G.GlobalScope.scope c.args.scope.now.global.now) (map input c.args.scope.now.inputs.items) in
+    let p = err_from_is_err_and c.from_residual-in_err-second.result c.from_residual-in_err-second.ensures.1 in
+    rw (p.1, p.2) (alphabetised_second s (count c.args.work) (shape c.args.first.now) (shape c.args.sets.0.now) (shape c.args.sets.1.now) (shape c.args.second.now) (proc c.in_ok-first.first, count c.in_ok-first.work) c.in_ok-first.ensures c.in_ok-sets.sets c.in_ok-sets.ensures c.in_err-second.field-0.0.kind c.in_err-second.ensures)
+
+pub alphabetised_phrases-returns : goal.alphabetised_phrases-returns
+alphabetised_phrases-returns g t c =
+    let s = within (g.G.GlobalScope.scope c.args.scope.now.global.now) (map input c.args.scope.now.inputs.items) in
+    subst (λ o. Gives (λ x. (proc x.0, count x.1)) c.alphabetised_within.result o) (sym (alphabetised_so s (count c.args.work) (shape c.args.first.now) (shape c.args.sets.0.now) (shape c.args.sets.1.now) (shape c.args.second.now) (proc c.in_ok-first.first, count c.in_ok-first.work) c.in_ok-first.ensures c.in_ok-sets.sets c.in_ok-sets.ensures (proc c.in_ok-second.second, count c.in_ok-second.work) c.in_ok-second.ensures)) c.alphabetised_within.ensures
+
+pub hiding_phrase-process-requires : goal.hiding_phrase-process-requires
+hiding_phrase-process-requires g t c κs within =
+    let m : 6 * tall (shape c.args.tree.now) < 6 * tall (shape c.args.tree.now) + 4 = omega arith in
+    search (rules, m)
+
+pub renaming_phrase-process-requires : goal.renaming_phrase-process-requires
+renaming_phrase-process-requires g t c κs within =
+    let m : 6 * tall (shape c.args.tree.now) < 6 * tall (shape c.args.tree.now) + 4 = omega arith in
+    search (rules, m)
+
+pub hiding_phrase-returns-in_err-term : goal.hiding_phrase-returns-in_err-term
+hiding_phrase-returns-in_err-term g t c =
+    let s = within (g.G.GlobalScope.scope c.args.scope.now.global.now) (map input c.args.scope.now.inputs.items) in
+    let p = err_from_is_err_and c.from_residual.result c.from_residual.ensures.1 in
+    rw (p.1, p.2) (hiding_first s (count c.args.work) (shape c.args.tree.now) (shape c.args.set.now) c.in_err-term.field-0.0.kind c.in_err-term.ensures)
+
+pub hiding_phrase-returns-in_err-set : goal.hiding_phrase-returns-in_err-set
+hiding_phrase-returns-in_err-set g t c =
+    let s = within (g.G.GlobalScope.scope c.args.scope.now.global.now) (map input c.args.scope.now.inputs.items) in
+    let p = err_from_is_err_and c.from_residual-in_err-set.result c.from_residual-in_err-set.ensures.1 in
+    rw (p.1, p.2) (hiding_set s (count c.args.work) (shape c.args.tree.now) (shape c.args.set.now) (proc c.in_ok-term.term, count c.in_ok-term.work) c.in_ok-term.ensures c.in_err-set.field-0.0.kind c.in_err-set.ensures)
+
+pub hiding_phrase-returns : goal.hiding_phrase-returns
+hiding_phrase-returns g t c =
+    let s = within (g.G.GlobalScope.scope c.args.scope.now.global.now) (map input c.args.scope.now.inputs.items) in
+    subst (λ o. Gives (λ x. (proc x.0, count x.1)) c.hidden.result o) (sym (hiding_so s (count c.args.work) (shape c.args.tree.now) (shape c.args.set.now) (proc c.in_ok-term.term, count c.in_ok-term.work) c.in_ok-term.ensures c.in_ok-set.set c.in_ok-set.ensures)) c.hidden.ensures
+
+pub renaming_phrase-returns-in_err-term : goal.renaming_phrase-returns-in_err-term
+renaming_phrase-returns-in_err-term g t c =
+    let s = within (g.G.GlobalScope.scope c.args.scope.now.global.now) (map input c.args.scope.now.inputs.items) in
+    let p = err_from_is_err_and c.from_residual.result c.from_residual.ensures.1 in
+    rw (p.1, p.2) (renaming_first s (count c.args.work) (shape c.args.tree.now) (shapes c.args.pairs.now) c.in_err-term.field-0.0.kind c.in_err-term.ensures)
+
+pub renaming_phrase-returns : goal.renaming_phrase-returns
+renaming_phrase-returns g t c =
+    let s = within (g.G.GlobalScope.scope c.args.scope.now.global.now) (map input c.args.scope.now.inputs.items) in
+    subst (λ o. Gives (λ x. (proc x.0, count x.1)) c.renamed_by.result o) (sym (renaming_on s (count c.args.work) (shape c.args.tree.now) (shapes c.args.pairs.now) (proc c.in_ok-term.term, count c.in_ok-term.work) c.in_ok-term.ensures)) c.renamed_by.ensures
+
+pub made-process-requires : goal.made-process-requires
+unfolding inner_tall
+made-process-requires g t c κs within =
+    let e : inner_tall (plain c.args.phrase) ≡ tall (shape c.in-Inside.inner.now) = ap inner_tall (ap plain c.in-Inside.is) in
+    let m : 6 * tall (shape c.in-Inside.inner.now) < 6 * inner_tall (plain c.args.phrase) + 5 = omega (arith, e) in
+    search (rules, m)
+
+pub made-prefixed-requires : goal.made-prefixed-requires
+unfolding inner_tall
+made-prefixed-requires g t c κs within =
+    let e : inner_tall (plain c.args.phrase) ≡ tall (shape c.in-Prefix.then.now) = ap inner_tall (ap plain c.in-Prefix.is) in
+    let m : 6 * tall (shape c.in-Prefix.then.now) + 4 < 6 * inner_tall (plain c.args.phrase) + 5 = omega (arith, e) in
+    search (rules, m)
+
+pub made-joined_phrases-requires : goal.made-joined_phrases-requires
+unfolding inner_tall
+made-joined_phrases-requires g t c κs within =
+    let e : inner_tall (plain c.args.phrase) ≡ tall (shape c.in-Joined.first.now) + tall (shape c.in-Joined.second.now) = ap inner_tall (ap plain c.in-Joined.is) in
+    let m : 6 * (tall (shape c.in-Joined.first.now) + tall (shape c.in-Joined.second.now)) + 4 < 6 * inner_tall (plain c.args.phrase) + 5 = omega (arith, e) in
+    search (rules, m)
+
+pub made-sharing_phrases-requires : goal.made-sharing_phrases-requires
+unfolding inner_tall
+made-sharing_phrases-requires g t c κs within =
+    let e : inner_tall (plain c.args.phrase) ≡ tall (shape c.in-Sharing.first.now) + tall (shape c.in-Sharing.second.now) = ap inner_tall (ap plain c.in-Sharing.is) in
+    let m : 6 * (tall (shape c.in-Sharing.first.now) + tall (shape c.in-Sharing.second.now)) + 4 < 6 * inner_tall (plain c.args.phrase) + 5 = omega (arith, e) in
+    search (rules, m)
+
+pub made-alphabetised_phrases-requires : goal.made-alphabetised_phrases-requires
+unfolding inner_tall
+made-alphabetised_phrases-requires g t c κs within =
+    let e : inner_tall (plain c.args.phrase) ≡ tall (shape c.in-Alphabetised.first.now) + tall (shape c.in-Alphabetised.second.now) = ap inner_tall (ap plain c.in-Alphabetised.is) in
+    let m : 6 * (tall (shape c.in-Alphabetised.first.now) + tall (shape c.in-Alphabetised.second.now)) + 4 < 6 * inner_tall (plain c.args.phrase) + 5 = omega (arith, e) in
+    search (rules, m)
+
+pub made-hiding_phrase-requires : goal.made-hiding_phrase-requires
+unfolding inner_tall
+made-hiding_phrase-requires g t c κs within =
+    let e : inner_tall (plain c.args.phrase) ≡ tall (shape c.in-Hiding.process_tree.now) = ap inner_tall (ap plain c.in-Hiding.is) in
+    let m : 6 * tall (shape c.in-Hiding.process_tree.now) + 4 < 6 * inner_tall (plain c.args.phrase) + 5 = omega (arith, e) in
+    search (rules, m)
+
+pub made-renaming_phrase-requires : goal.made-renaming_phrase-requires
+unfolding inner_tall
+made-renaming_phrase-requires g t c κs within =
+    let e : inner_tall (plain c.args.phrase) ≡ tall (shape c.in-Renaming.process_tree.now) = ap inner_tall (ap plain c.in-Renaming.is) in
+    let m : 6 * tall (shape c.in-Renaming.process_tree.now) + 4 < 6 * inner_tall (plain c.args.phrase) + 5 = omega (arith, e) in
+    search (rules, m)
+
+pub made-returns-in-Stop : goal.made-returns-in-Stop
+made-returns-in-Stop g t c =
+    let s = within (g.G.GlobalScope.scope c.args.scope.now.global.now) (map input c.args.scope.now.inputs.items) in
+    subst (λ q. Gives (λ x. (proc x.0, count x.1)) c.stop.result (make_phrase q s (count c.args.work))) (sym (ap plain c.in-Stop.is)) (c.stop.ensures s)
+
+pub made-returns-in-Skip : goal.made-returns-in-Skip
+made-returns-in-Skip g t c =
+    let s = within (g.G.GlobalScope.scope c.args.scope.now.global.now) (map input c.args.scope.now.inputs.items) in
+    subst (λ q. Gives (λ x. (proc x.0, count x.1)) c.skip.result (make_phrase q s (count c.args.work))) (sym (ap plain c.in-Skip.is)) (c.skip.ensures s)
+
+pub made-returns-in-Called : goal.made-returns-in-Called
+made-returns-in-Called g t c =
+    let s = within (g.G.GlobalScope.scope c.args.scope.now.global.now) (map input c.args.scope.now.inputs.items) in
+    subst (λ q. Gives (λ x. (proc x.0, count x.1)) c.called.result (make_phrase q s (count c.args.work))) (sym (ap plain c.in-Called.is)) c.called.ensures
+
+pub made-returns-in-Inside : goal.made-returns-in-Inside
+unfolding make_phrase
+made-returns-in-Inside g t c =
+    let s = within (g.G.GlobalScope.scope c.args.scope.now.global.now) (map input c.args.scope.now.inputs.items) in
+    subst (λ o. Gives (λ x. (proc x.0, count x.1)) c.process.result o) (sym (ap (λ q. make_phrase q s (count c.args.work)) (ap plain c.in-Inside.is))) c.process.ensures
+
+pub made-returns-in-Prefix : goal.made-returns-in-Prefix
+unfolding make_phrase
+made-returns-in-Prefix g t c =
+    let s = within (g.G.GlobalScope.scope c.args.scope.now.global.now) (map input c.args.scope.now.inputs.items) in
+    subst (λ o. Gives (λ x. (proc x.0, count x.1)) c.prefixed.result o) (sym (ap (λ q. make_phrase q s (count c.args.work)) (ap plain c.in-Prefix.is))) c.prefixed.ensures
+
+pub made-returns-in-Joined : goal.made-returns-in-Joined
+made-returns-in-Joined g t c =
+    let s = within (g.G.GlobalScope.scope c.args.scope.now.global.now) (map input c.args.scope.now.inputs.items) in
+    subst (λ q. Gives (λ x. (proc x.0, count x.1)) c.joined_phrases.result (make_phrase q s (count c.args.work))) (sym (ap plain c.in-Joined.is)) c.joined_phrases.ensures
+
+pub made-returns-in-Sharing : goal.made-returns-in-Sharing
+made-returns-in-Sharing g t c =
+    let s = within (g.G.GlobalScope.scope c.args.scope.now.global.now) (map input c.args.scope.now.inputs.items) in
+    subst (λ q. Gives (λ x. (proc x.0, count x.1)) c.sharing_phrases.result (make_phrase q s (count c.args.work))) (sym (ap plain c.in-Sharing.is)) c.sharing_phrases.ensures
+
+pub made-returns-in-Alphabetised : goal.made-returns-in-Alphabetised
+made-returns-in-Alphabetised g t c =
+    let s = within (g.G.GlobalScope.scope c.args.scope.now.global.now) (map input c.args.scope.now.inputs.items) in
+    subst (λ q. Gives (λ x. (proc x.0, count x.1)) c.alphabetised_phrases.result (make_phrase q s (count c.args.work))) (sym (ap plain c.in-Alphabetised.is)) c.alphabetised_phrases.ensures
+
+pub made-returns-in-Hiding : goal.made-returns-in-Hiding
+made-returns-in-Hiding g t c =
+    let s = within (g.G.GlobalScope.scope c.args.scope.now.global.now) (map input c.args.scope.now.inputs.items) in
+    subst (λ q. Gives (λ x. (proc x.0, count x.1)) c.hiding_phrase.result (make_phrase q s (count c.args.work))) (sym (ap plain c.in-Hiding.is)) c.hiding_phrase.ensures
+
+pub made-returns-in-Renaming : goal.made-returns-in-Renaming
+made-returns-in-Renaming g t c =
+    let s = within (g.G.GlobalScope.scope c.args.scope.now.global.now) (map input c.args.scope.now.inputs.items) in
+    subst (λ q. Gives (λ x. (proc x.0, count x.1)) c.renaming_phrase.result (make_phrase q s (count c.args.work))) (sym (ap plain c.in-Renaming.is)) c.renaming_phrase.ensures
+
+pub process-made-requires : goal.process-made-requires
+process-made-requires g t c κs within =
+    let m : 6 * inner_tall (plain c.in-Some.phrase) + 5 < 6 * tall (shape c.args.tree.now) = omega (arith, c.in-Some.ensures.smaller) in
+    search (rules, m)
+
+pub process-returns-in-Some : goal.process-returns-in-Some
+process-returns-in-Some g t c =
+    let s = within (g.G.GlobalScope.scope c.args.scope.now.global.now) (map input c.args.scope.now.inputs.items) in
+    subst (λ o. Gives (λ x. (proc x.0, count x.1)) c.made.result o) (sym (made_so (shape c.args.tree.now) (plain c.in-Some.phrase) s (count c.args.work) (sym c.in-Some.ensures.shape))) c.made.ensures
+
+pub process-returns-in-Some-event_parts : goal.process-returns-in-Some-event_parts
+process-returns-in-Some-event_parts g t c =
+    let s = within (g.G.GlobalScope.scope c.args.scope.now.global.now) (map input c.args.scope.now.inputs.items) in
+    fails_none c.no_channel.result.kind (make (shape c.args.tree.now) s (count c.args.work)) (not_made (shape c.args.tree.now) s (count c.args.work) (sym c.in-None.ensures.shape))
+
+pub process-returns : goal.process-returns
+process-returns g t c =
+    let s = within (g.G.GlobalScope.scope c.args.scope.now.global.now) (map input c.args.scope.now.inputs.items) in
+    fails_none c.fault.result.kind (make (shape c.args.tree.now) s (count c.args.work)) (not_made (shape c.args.tree.now) s (count c.args.work) (sym c.in-None.ensures.shape))
+
+pub prefixed-returns-in-None : goal.prefixed-returns-in-None
+prefixed-returns-in-None g t c =
+    let s = within (g.G.GlobalScope.scope c.args.scope.now.global.now) (map input c.args.scope.now.inputs.items) in
+    fails_none c.fault.result.kind (make_prefixed s (shape c.args.event.now) (make (shape c.args.then.now)) (count c.args.work)) (no_event s (make (shape c.args.then.now)) (count c.args.work) (shape c.args.event.now) c.in-None.ensures)
+
+pub prefixed-returns-in-None-fields : goal.prefixed-returns-in-None-fields
+prefixed-returns-in-None-fields g t c =
+    let s = within (g.G.GlobalScope.scope c.args.scope.now.global.now) (map input c.args.scope.now.inputs.items) in
+    fails_none c.no_channel.result.kind (make_prefixed s (shape c.args.event.now) (make (shape c.args.then.now)) (count c.args.work)) (no_channel s (make (shape c.args.then.now)) (count c.args.work) (shape c.args.event.now) c.in-Some.channel.now (shapes c.in-Some.fields.now) c.in-Some.ensures c.in-None-fields.ensures)
+
+pub prefixed-returns-then-fields-sets : goal.prefixed-returns-then-fields-sets
+prefixed-returns-then-fields-sets g t c =
+    let s = within (g.G.GlobalScope.scope c.args.scope.now.global.now) (map input c.args.scope.now.inputs.items) in
+    fails_none c.fault-then-fields-sets.result.kind (make_prefixed s (shape c.args.event.now) (make (shape c.args.then.now)) (count c.args.work)) (other_count s (make (shape c.args.then.now)) (count c.args.work) (shape c.args.event.now) c.in-Some.channel.now (shapes c.in-Some.fields.now) c.in-Some.ensures (map (λ v. listed v.items) c.in-Some-fields.sets.now) c.in-Some-fields.ensures (λ e. c.if-fields-sets.true (omega (arith, e, length-map c.in-Some.fields.now (shape {A = g.row.A.Denot}), length-map c.in-Some-fields.sets.now (λ v. listed v.items)))))
+
+pub prefixed-branches-requires : goal.prefixed-branches-requires
+prefixed-branches-requires g t c κs within =
+    let m : 6 * tall (shape c.args.then.now) + 3 < 6 * tall (shape c.args.then.now) + 4 = omega arith in
+    search (rules, m)
+
+pub prefixed-returns-in_err-terms-in-Some-fields : goal.prefixed-returns-in_err-terms-in-Some-fields
+prefixed-returns-in_err-terms-in-Some-fields g t c =
+    let s = within (g.G.GlobalScope.scope c.args.scope.now.global.now) (map input c.args.scope.now.inputs.items) in
+    let p = err_from_is_err_and c.from_residual.result c.from_residual.ensures.1 in
+    rw (p.1, p.2) (branches_fail s (make (shape c.args.then.now)) (count c.args.work) (shape c.args.event.now) c.in-Some.channel.now (shapes c.in-Some.fields.now) c.in-Some.ensures (map (λ v. listed v.items) c.in-Some-fields.sets.now) c.in-Some-fields.ensures (same_length c.in-Some.fields.now shape c.in-Some-fields.sets.now (λ v. listed v.items) c.if-fields-sets.false) c.in_err-terms-in-Some-fields.field-0.0.kind c.in_err-terms-in-Some-fields.ensures)
+
+pub prefixed-returns-in_ok-terms-in-Some-fields : goal.prefixed-returns-in_ok-terms-in-Some-fields
+prefixed-returns-in_ok-terms-in-Some-fields g t c =
+    let s = within (g.G.GlobalScope.scope c.args.scope.now.global.now) (map input c.args.scope.now.inputs.items) in
+    subst (λ o. Gives (λ x. (proc x.0, count x.1)) c.chosen.result o) (sym (branches_made s (make (shape c.args.then.now)) (count c.args.work) (shape c.args.event.now) c.in-Some.channel.now (shapes c.in-Some.fields.now) c.in-Some.ensures (map (λ v. listed v.items) c.in-Some-fields.sets.now) c.in-Some-fields.ensures (same_length c.in-Some.fields.now shape c.in-Some-fields.sets.now (λ v. listed v.items) c.if-fields-sets.false) (map proc c.in_ok-terms-in-Some-fields.terms.items, count c.in_ok-terms-in-Some-fields.work) c.in_ok-terms-in-Some-fields.ensures)) c.chosen.ensures
+
+pub branch-returns-in_err-found : goal.branch-returns-in_err-found
+branch-returns-in_err-found g t c =
+    let s = within (g.G.GlobalScope.scope c.args.scope.now.global.now) (map input c.args.scope.now.inputs.items) in
+    let p = err_from_is_err_and c.from_residual.result c.from_residual.ensures.1 in
+    rw (p.1, p.2) (fitting_fails (make (shape c.args.prefix.now.then.now)) c.args.prefix.now.channel.now (syntaxes (shapes c.args.prefix.now.fields.now)) (map (λ v. listed v.items) c.args.prefix.now.sets.now) s c.args.number (row c.args.event.now) (count c.args.work) c.in_err-found.field-0.0.kind c.in_err-found.ensures)
+
+pub branch-returns-in-None : goal.branch-returns-in-None
+branch-returns-in-None g t c =
+    let s = within (g.G.GlobalScope.scope c.args.scope.now.global.now) (map input c.args.scope.now.inputs.items) in
+    no_fit (make (shape c.args.prefix.now.then.now)) c.args.prefix.now.channel.now (syntaxes (shapes c.args.prefix.now.fields.now)) (map (λ v. listed v.items) c.args.prefix.now.sets.now) s c.args.number (row c.args.event.now) (count c.args.work) (c.in_ok-found.ensures ∙ ap (λ o. some_fit (option_map (λ v. within (g.G.GlobalScope.scope c.args.scope.now.global.now) (map input v.items)) o)) c.in-None.is)
+
+pub branch-process-requires : goal.branch-process-requires
+branch-process-requires g t c κs within =
+    let m : 6 * tall (shape c.args.prefix.now.then.now) < 6 * tall (shape c.args.prefix.now.then.now) + 2 = omega arith in
+    search (rules, m)
+
+pub branch-returns-in_err-term-in-Some : goal.branch-returns-in_err-term-in-Some
+branch-returns-in_err-term-in-Some g t c =
+    let s = within (g.G.GlobalScope.scope c.args.scope.now.global.now) (map input c.args.scope.now.inputs.items) in
+    let p = err_from_is_err_and c.from_residual-in_err-term-in-Some.result c.from_residual-in_err-term-in-Some.ensures.1 in
+    rw (p.1, p.2) (behind_fails (make (shape c.args.prefix.now.then.now)) c.args.prefix.now.channel.now (syntaxes (shapes c.args.prefix.now.fields.now)) (map (λ v. listed v.items) c.args.prefix.now.sets.now) s c.args.number (row c.args.event.now) (count c.args.work) (within (g.G.GlobalScope.scope c.args.scope.now.global.now) (map input c.in-Some.inputs.items)) (c.in_ok-found.ensures ∙ ap (λ o. some_fit (option_map (λ v. within (g.G.GlobalScope.scope c.args.scope.now.global.now) (map input v.items)) o)) c.in-Some.is) c.in_err-term-in-Some.field-0.0.kind c.in_err-term-in-Some.ensures)
+
+pub branch-returns-in_err-term-in-Some-2 : goal.branch-returns-in_err-term-in-Some-2
+branch-returns-in_err-term-in-Some-2 g t c =
+    let s = within (g.G.GlobalScope.scope c.args.scope.now.global.now) (map input c.args.scope.now.inputs.items) in
+    let p = err_from_is_err_and c.from_residual-in_err-term-in-Some-2.result c.from_residual-in_err-term-in-Some-2.ensures.1 in
+    rw (p.1, p.2) (event_fails (make (shape c.args.prefix.now.then.now)) c.args.prefix.now.channel.now (syntaxes (shapes c.args.prefix.now.fields.now)) (map (λ v. listed v.items) c.args.prefix.now.sets.now) s c.args.number (row c.args.event.now) (count c.args.work) (within (g.G.GlobalScope.scope c.args.scope.now.global.now) (map input c.in-Some.inputs.items)) (c.in_ok-found.ensures ∙ ap (λ o. some_fit (option_map (λ v. within (g.G.GlobalScope.scope c.args.scope.now.global.now) (map input v.items)) o)) c.in-Some.is) (proc c.in_ok-term-in-Some.term, count c.in_ok-term-in-Some.work) c.in_ok-term-in-Some.ensures c.in_err-term-in-Some-2.field-0.0.kind c.in_err-term-in-Some-2.ensures)
+
+pub branch-behind_event-requires : goal.branch-behind_event-requires
+branch-behind_event-requires g t c =
+    c.requires
+
+pub branch-returns-in_ok-term-in-Some-2 : goal.branch-returns-in_ok-term-in-Some-2
+branch-returns-in_ok-term-in-Some-2 g t c =
+    let s = within (g.G.GlobalScope.scope c.args.scope.now.global.now) (map input c.args.scope.now.inputs.items) in
+    event_made (make (shape c.args.prefix.now.then.now)) c.args.prefix.now.channel.now (syntaxes (shapes c.args.prefix.now.fields.now)) (map (λ v. listed v.items) c.args.prefix.now.sets.now) s c.args.number (row c.args.event.now) (count c.args.work) (within (g.G.GlobalScope.scope c.args.scope.now.global.now) (map input c.in-Some.inputs.items)) (c.in_ok-found.ensures ∙ ap (λ o. some_fit (option_map (λ v. within (g.G.GlobalScope.scope c.args.scope.now.global.now) (map input v.items)) o)) c.in-Some.is) (proc c.in_ok-term-in-Some.term, count c.in_ok-term-in-Some.work) c.in_ok-term-in-Some.ensures (proc c.in_ok-term-in-Some-2.term, count c.in_ok-term-in-Some-2.work) c.in_ok-term-in-Some-2.ensures
+
+pub branches-loop-number-init : goal.branches-loop-number-init
+branches-loop-number-init g t c =
+    let s = within (g.G.GlobalScope.scope c.args.scope.now.global.now) (map input c.args.scope.now.inputs.items) in
+    first_turn (make (shape c.args.prefix.now.then.now)) c.args.prefix.now.channel.now (syntaxes (shapes c.args.prefix.now.fields.now)) (map (λ v. listed v.items) c.args.prefix.now.sets.now) s row c.events-events.result.now (events (g.G.GlobalScope.scope c.args.scope.now.global.now).channels) (count c.args.work) (map proc c.new-terms.result.items) c.events-events.ensures.rows (ap (map proc) c.new-terms.ensures.items)
+
+pub branches-offset_bounds-events-number : goal.branches-offset_bounds-events-number
+branches-offset_bounds-events-number g t c =
+    omega arith
+
+pub branches-bounds-events-number : goal.branches-bounds-events-number
+branches-bounds-events-number g t c =
+    omega arith
+
+pub branches-branch-alloc-requires : goal.branches-branch-alloc-requires
+branches-branch-alloc-requires g t c κs within =
+    let lt : c.loop-number.number < 256 = omega (arith, c.events-events.ensures.few) in
+    let m : 6 * tall (shape c.args.prefix.now.then.now) + 2 < 6 * tall (shape c.args.prefix.now.then.now) + 3 = omega arith in
+    search (rules, m, lt)
+
+pub branches-returns-in_err-term : goal.branches-returns-in_err-term
+branches-returns-in_err-term g t c =
+    let s = within (g.G.GlobalScope.scope c.args.scope.now.global.now) (map input c.args.scope.now.inputs.items) in
+    let p = err_from_is_err_and c.from_residual.result c.from_residual.ensures.1 in
+    rw (p.1, p.2) (turn_fails (make (shape c.args.prefix.now.then.now)) c.args.prefix.now.channel.now (syntaxes (shapes c.args.prefix.now.fields.now)) (map (λ v. listed v.items) c.args.prefix.now.sets.now) s row c.events-events.result.now c.in_err-term.field-0.0.kind c.loop-number.number c.index-events-number.result (count c.loop-number.work) (map proc c.loop-number.terms.items) (all_from (make (shape c.args.prefix.now.then.now)) c.args.prefix.now.channel.now (syntaxes (shapes c.args.prefix.now.fields.now)) (map (λ v. listed v.items) c.args.prefix.now.sets.now) s 0 (events (g.G.GlobalScope.scope c.args.scope.now.global.now).channels) (count c.args.work)) c.loop-number.invariant (omega arith) c.index-events-number.is c.in_err-term.ensures)
+
+pub branches-returns-in_err-push : goal.branches-returns-in_err-push
+branches-returns-in_err-push g t c =
+    let p = err_from_is_err_and c.from_residual-in_err-push.result c.from_residual-in_err-push.ensures.1 in
+    rw (p.1, p.2) tt
+
+pub branches-loop-number-smaller : goal.branches-loop-number-smaller
+branches-loop-number-smaller g t c =
+    omega arith
+
+pub branches-loop-number-preserved : goal.branches-loop-number-preserved
+branches-loop-number-preserved g t c =
+    let s = within (g.G.GlobalScope.scope c.args.scope.now.global.now) (map input c.args.scope.now.inputs.items) in
+    next_turn (make (shape c.args.prefix.now.then.now)) c.args.prefix.now.channel.now (syntaxes (shapes c.args.prefix.now.fields.now)) (map (λ v. listed v.items) c.args.prefix.now.sets.now) s row c.events-events.result.now c.loop-number.number c.index-events-number.result (count c.loop-number.work) (option_map proc c.in_ok-term.term, count c.in_ok-term.next) (map proc c.loop-number.terms.items) (map proc c.match-term.terms.items) (all_from (make (shape c.args.prefix.now.then.now)) c.args.prefix.now.channel.now (syntaxes (shapes c.args.prefix.now.fields.now)) (map (λ v. listed v.items) c.args.prefix.now.sets.now) s 0 (events (g.G.GlobalScope.scope c.args.scope.now.global.now).channels) (count c.args.work)) c.loop-number.invariant (omega arith) c.index-events-number.is c.in_ok-term.ensures
+    (elim c.match-term.branch [
+      | branches-in-Some+in_ok-push w ↦ pushed proc c.loop-number.terms.items c.match-term.terms.items c.in_ok-term.term w.in-Some.term w.in-Some.is (ap (λ v. v.items) w.terms-is ∙ w.in_ok-push.ensures.items)
+      | branches-in_default w ↦ kept proc c.loop-number.terms.items c.match-term.terms.items c.in_ok-term.term (none_if c.in_ok-term.term w.in_default.not-Some) (ap (λ v. v.items) w.terms-is)
+    ])
+
+pub branches-returns : goal.branches-returns
+branches-returns g t c =
+    let s = within (g.G.GlobalScope.scope c.args.scope.now.global.now) (map input c.args.scope.now.inputs.items) in
+    last_turn (make (shape c.args.prefix.now.then.now)) c.args.prefix.now.channel.now (syntaxes (shapes c.args.prefix.now.fields.now)) (map (λ v. listed v.items) c.args.prefix.now.sets.now) s row c.events-events.result.now c.loop-number.number (count c.loop-number.work) (map proc c.loop-number.terms.items) (all_from (make (shape c.args.prefix.now.then.now)) c.args.prefix.now.channel.now (syntaxes (shapes c.args.prefix.now.fields.now)) (map (λ v. listed v.items) c.args.prefix.now.sets.now) s 0 (events (g.G.GlobalScope.scope c.args.scope.now.global.now).channels) (count c.args.work)) c.loop-number.invariant (omega arith)

@@ -1,0 +1,54 @@
+use Rattle.std.proofs.Common.{◌≡◌, ◌+◌, ◌*◌, map, drop}
+use Rattle.alphabet.specs.Channels.{events}
+use Rattle.syntax.specs.Parsing.{syntaxes}
+use Rattle.syntax.specs.View.{shape, shapes}
+use Rattle.term.specs.Proc.{proc}
+use Rattle.values.specs.Tables.{input}
+use Rattle.event_phrases.specs.EventForms.{within}
+use Rattle.event_phrases.specs.Forms.{tall}
+use Rattle.denotation.specs.Forms.{inner_tall}
+use Rattle.denotation.specs.Making.{make, branches_behind}
+use Rattle.denotation.specs.Shapes.{plain}
+use Rattle.event_phrases.specs.View.{listed, row}
+use Rattle.denotation.specs.View.{count}
+use Rattle.denotation.proofs.Turns.{all_from}
+use Rattle.denotation.proofs.making.+making.Given as goal
+
+abbrev pub decreases-process : goal.decreases-process
+decreases-process g l = 6 * tall (shape l.tree.now)
+
+abbrev pub decreases-made : goal.decreases-made
+decreases-made g l = 6 * inner_tall (plain l.phrase) + 5
+
+abbrev pub decreases-prefixed : goal.decreases-prefixed
+decreases-prefixed g l = 6 * tall (shape l.then.now) + 4
+
+abbrev pub decreases-branches : goal.decreases-branches
+decreases-branches g l = 6 * tall (shape l.prefix.now.then.now) + 3
+
+abbrev pub decreases-branch : goal.decreases-branch
+decreases-branch g l = 6 * tall (shape l.prefix.now.then.now) + 2
+
+abbrev pub decreases-joined_phrases : goal.decreases-joined_phrases
+decreases-joined_phrases g l = 6 * (tall (shape l.first.now) + tall (shape l.second.now)) + 4
+
+abbrev pub decreases-sharing_phrases : goal.decreases-sharing_phrases
+decreases-sharing_phrases g l = 6 * (tall (shape l.first.now) + tall (shape l.second.now)) + 4
+
+abbrev pub decreases-alphabetised_phrases : goal.decreases-alphabetised_phrases
+decreases-alphabetised_phrases g l = 6 * (tall (shape l.first.now) + tall (shape l.second.now)) + 4
+
+abbrev pub decreases-hiding_phrase : goal.decreases-hiding_phrase
+decreases-hiding_phrase g l = 6 * tall (shape l.tree.now) + 4
+
+abbrev pub decreases-renaming_phrase : goal.decreases-renaming_phrase
+decreases-renaming_phrase g l = 6 * tall (shape l.tree.now) + 4
+
+abbrev pub invariant-branches-loop-number : goal.invariant-branches-loop-number
+invariant-branches-loop-number g l =
+    let s = within (g.G.GlobalScope.scope l.scope.global.now) (map input l.scope.inputs.items) in
+    let next = make (shape l.prefix.then.now) in
+    let sets = map (λ v. listed v.items) l.prefix.sets.now in
+    let fields = syntaxes (shapes l.prefix.fields.now) in
+    branches_behind (map proc l.terms.items) (all_from next l.prefix.channel.now fields sets s l.number (map row (drop l.number l.events)) (count l.work))
+    ≡ all_from next l.prefix.channel.now fields sets s 0 (events (g.G.GlobalScope.scope l.scope.global.now).channels) (count l.fn.work)

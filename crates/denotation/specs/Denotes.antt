@@ -1,0 +1,85 @@
+-- The specification that a script denotes for a root.
+use Rattle.std.specs.Prelude.{◌≡◌, ℕ, suc, ◌+◌, ◌<◌, ◌≤◌, List, [], ◌∷◌, ◌++◌, length, take, map, Bool, true, false, Option, Some, None, if◌then◌else◌}
+use Rattle.std.specs.List.{All, flat_map}
+use Rattle.term.specs.Proc.{Proc}
+use Rattle.term.specs.Sizes.{size, depth}
+use Rattle.term.specs.Specs.{Specified}
+use Rattle.syntax.specs.Grammar.{Syntax}
+use Rattle.values.specs.Values.{Name}
+use Rattle.values.specs.Worths.{Known}
+use Rattle.values.specs.Names.{Entry, Meaning, channel, datatype, constant_name, definition, meaning, is_process}
+use Rattle.values.specs.Channels.{Declares}
+use Rattle.event_phrases.specs.Events.{KnownEvents, EventsStand}
+use Rattle.denotation.specs.Bodies.{Key, same_key, Body, names, numbered}
+use Rattle.event_phrases.specs.Scopes.{Scope}
+use Rattle.denotation.specs.Phrases.{denoted}
+
+-- ---- the body of a definition
+
+unfoldable pub body_by : Scope → Option Meaning → Option Body
+body_by s None = None
+body_by s (Some (channel ts)) = None
+body_by s (Some (datatype ns)) = None
+body_by s (Some constant_name) = None
+body_by s (Some (definition t)) = denoted t s
+
+-- the body of a definition with these parameters
+unfoldable pub body_of : Scope → Key → Option Body
+body_of s (n, []) = if is_process s.entries n then body_by s (meaning s.entries n) else None
+body_of s (n, v ∷ vs) = None
+
+-- ---- numbers of definitions
+
+-- the first place of a definition
+unfoldable pub place : List Key → Key → ℕ
+place [] k = 0
+place (j ∷ js) k = if same_key j k then 0 else suc (place js k)
+
+unfoldable pub has_key : List Key → Key → Bool
+has_key [] k = false
+has_key (j ∷ js) k = if same_key j k then true else has_key js k
+
+-- the list, and behind it what isn't in it yet
+unfoldable pub with_key : List Key → Key → List Key
+with_key ks k = if has_key ks k then ks else ks ++ k ∷ []
+
+unfoldable pub with_keys : List Key → List Key → List Key
+with_keys ks [] = ks
+with_keys ks (n ∷ ns) = with_keys (with_key ks n) ns
+
+-- the definitions in the order of their first place, where the root is read and then these bodies
+unfoldable pub met : Key → List Body → List Key
+met root bodies = with_keys (root ∷ []) (flat_map names bodies)
+
+-- These are the definitions that are reached, by their numbers, and their bodies.
+pub record Reached (s : Scope) (root : Key) (keys : List Key) (bodies : List Body) : Type 0 where
+  -- each has a body
+  pub each : map (body_of s) keys ≡ map Some bodies
+  -- they are numbered by their first place
+  pub first : met root bodies ≡ keys
+  -- each but the root stands in a body of a smaller number
+  pub below : (i : ℕ) → i < length keys → i < length (met root (take i bodies))
+
+-- ---- the whole
+
+-- the nodes of all of them
+unfoldable pub nodes : List Proc → ℕ
+nodes [] = 0
+nodes (p ∷ ps) = size p + nodes ps
+
+-- The script with this tree denotes this specification for a root.
+pub record Denotes (t : Syntax) (root : Name) (spec : Specified) : Type 0 where
+  pub entries : List Entry
+  pub known : Known
+  pub sets : KnownEvents
+  -- what it declares, with at most 256 events
+  pub declares : Declares t entries known spec.alphabet
+  pub events : EventsStand spec.alphabet known entries sets
+  -- what is reached from the root
+  pub keys : List Key
+  pub bodies : List Body
+  pub reached : Reached (record { entries = entries; channels = spec.alphabet; known = known; sets = sets }) (root, []) keys bodies
+  pub numbers : spec.bodies ≡ map (numbered (place keys)) bodies
+  -- the limits of bodies
+  pub deep : All (λ p. depth p ≤ 200) spec.bodies
+  pub large : nodes spec.bodies ≤ 65536

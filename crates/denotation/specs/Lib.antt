@@ -1,0 +1,10 @@
+-- To believe.
+pub mod Bodies
+pub mod Phrases
+pub mod Denotes
+pub mod Making
+-- Steps of the program.
+pub mod View
+pub mod Forms
+pub mod Shapes
+pub mod Parts

@@ -1,0 +1,73 @@
+-- What phrases for processes denote.
+use Rattle.std.specs.Prelude.{ℕ, suc, List, [], ◌∷◌, not, ◌&&◌, Option, Some, None, if◌then◌else◌, nat_lt}
+use Rattle.alphabet.specs.Channels.{Values, Parts, events, event_count}
+use Rattle.alphabet.specs.EventSets.{Set}
+use Rattle.term.specs.Traces.{Pairs}
+use Rattle.syntax.specs.declared.form.Form.{Form}
+use Rattle.syntax.specs.declared.form.Form.TheVariants as forms
+use Rattle.syntax.specs.declared.operator.Operator.TheVariants as operators
+use Rattle.syntax.specs.Grammar.{Syntax, Called, Numeral, Node, Syntaxes, NoSyntax, MoreSyntax}
+use Rattle.values.specs.Values.{◌>>=◌, Name}
+use Rattle.values.specs.Names.{same_name, is_process}
+use Rattle.event_phrases.specs.Events.{Events, unless_value, channel_fields, set_of, both, pairs_of, in_order}
+use Rattle.denotation.specs.Bodies.{Body, stop, skip, prefix, ext, int, seq, par, hide, ren, intr, name, choice_of}
+use Rattle.event_phrases.specs.Scopes.{Scope, events_by}
+use Rattle.event_phrases.specs.Fitting.{fitting, has_all}
+
+-- ---- prefixes
+
+-- what a fitting event adds in front of the branches
+abbrev pub with_branch : (Scope → Option Body) → ℕ → Option Scope → List Body → Option (List Body)
+with_branch next a None ps = Some ps
+with_branch next a (Some s) ps = next s >>= λ p. Some (prefix a p ∷ ps)
+
+-- the branches of a prefix: one for each of these events that fits, in order, where a is the first one's number
+unfoldable pub branches : (Scope → Option Body) → Name → Syntaxes → List Values → Scope → ℕ → List Parts → Option (List Body)
+branches next c ts sets s a [] = Some []
+branches next c ts sets s a (p ∷ ps) =
+    if same_name c p.channel then (fitting ts sets p.values s >>= λ x. branches next c ts sets s (suc a) ps >>= with_branch next a x)
+    else branches next c ts sets s (suc a) ps
+
+-- An event phrase before `->`: the choice over the events that fit it. Where the channel has no event none of its fields is looked at.
+unfoldable pub prefixed : Scope → Syntax → (Scope → Option Body) → Option Body
+prefixed s (Node forms.Event (MoreSyntax (Called c) ts)) next =
+    channel_fields s.channels s.known c >>= λ sets. if has_all ts sets then (branches next c ts sets s 0 (events s.channels) >>= λ ps. Some (choice_of ps)) else None
+prefixed s t next = None
+
+-- ---- processes
+
+-- a renaming without any pair is the process itself
+unfoldable pub renamed : ℕ → Pairs → Body → Body
+renamed n [] p = p
+renamed n (r ∷ R) p = ren (in_order n (r ∷ R)) p
+
+-- `P [ A || B ] Q`
+abbrev pub alphabetised : ℕ → (Events → Set) → Body → Events → Events → Body → Body
+alphabetised n set p A B q =
+    par (set (both A B)) (par (set (λ a. nat_lt a n && not (A a))) p skip) (par (set (λ a. nat_lt a n && not (B a))) q skip)
+
+unfoldable mutual
+  -- the process that a phrase denotes
+  pub denoted : Syntax → Scope → Option Body
+  denoted (Called n) s = None
+  denoted (Numeral n) s = None
+  denoted (Node f ts) s = denoted_form f ts s
+
+  pub denoted_form : Form → Syntaxes → Scope → Option Body
+  denoted_form forms.Stop NoSyntax s = Some stop
+  denoted_form forms.Skip NoSyntax s = Some skip
+  denoted_form forms.Event (MoreSyntax (Called n) NoSyntax) s = unless_value (s.known n) (if is_process s.entries n then Some (name (n, [])) else None)
+  denoted_form forms.Brackets (MoreSyntax t NoSyntax) s = denoted t s
+  denoted_form (forms.Operation operators.Prefix) (MoreSyntax e (MoreSyntax t NoSyntax)) s = prefixed s e (denoted t)
+  denoted_form (forms.Operation operators.Sequence) (MoreSyntax t (MoreSyntax u NoSyntax)) s = denoted t s >>= λ p. denoted u s >>= λ q. Some (seq p q)
+  denoted_form (forms.Operation operators.Interrupt) (MoreSyntax t (MoreSyntax u NoSyntax)) s = denoted t s >>= λ p. denoted u s >>= λ q. Some (intr p q)
+  denoted_form (forms.Operation operators.ExternalChoice) (MoreSyntax t (MoreSyntax u NoSyntax)) s = denoted t s >>= λ p. denoted u s >>= λ q. Some (ext p q)
+  denoted_form (forms.Operation operators.InternalChoice) (MoreSyntax t (MoreSyntax u NoSyntax)) s = denoted t s >>= λ p. denoted u s >>= λ q. Some (int p q)
+  denoted_form (forms.Operation operators.Interleaving) (MoreSyntax t (MoreSyntax u NoSyntax)) s = denoted t s >>= λ p. denoted u s >>= λ q. Some (par 0 p q)
+  denoted_form (forms.Operation operators.Sharing) (MoreSyntax t (MoreSyntax a (MoreSyntax u NoSyntax))) s =
+      denoted t s >>= λ p. events_by s a >>= λ A. denoted u s >>= λ q. Some (par (set_of s.channels A) p q)
+  denoted_form (forms.Operation operators.Alphabetised) (MoreSyntax t (MoreSyntax a (MoreSyntax b (MoreSyntax u NoSyntax)))) s =
+      denoted t s >>= λ p. events_by s a >>= λ A. events_by s b >>= λ B. denoted u s >>= λ q. Some (alphabetised (event_count s.channels) (set_of s.channels) p A B q)
+  denoted_form (forms.Operation operators.Hiding) (MoreSyntax t (MoreSyntax a NoSyntax)) s = denoted t s >>= λ p. events_by s a >>= λ A. Some (hide (set_of s.channels A) p)
+  denoted_form (forms.Operation operators.Renaming) (MoreSyntax t ts) s = denoted t s >>= λ p. pairs_of s.channels s.known ts >>= λ R. Some (renamed (event_count s.channels) R p)
+  denoted_form f ts s = None

@@ -1,0 +1,255 @@
+//! Terms made of phrases for processes.
+ghost use Rattle.std.specs.Prelude.{◌≡◌, ◌<◌, Some, map};
+ghost use Rattle.std.specs.Option.{option_map};
+ghost use Rattle.alphabet.specs.Channels.{events as events_of};
+ghost use Rattle.syntax.specs.Parsing.{syntaxes};
+ghost use Rattle.syntax.specs.View.{shape, shapes};
+ghost use Rattle.term.specs.Proc.{proc};
+ghost use Rattle.values.specs.Tables.{input};
+ghost use Rattle.values.specs.View.{Gives};
+ghost use Rattle.event_phrases.specs.EventForms.{within};
+ghost use Rattle.denotation.specs.Forms.{joined, sharing, alphabetised, hiding, renaming};
+ghost use Rattle.denotation.specs.Making.{make, make_branch, make_branches, make_phrase, make_prefixed};
+ghost use Rattle.denotation.specs.Shapes.{plain};
+ghost use Rattle.event_phrases.specs.View.{listed, row};
+ghost use Rattle.denotation.specs.View.{count};
+
+use crate::choice::chosen;
+use crate::forms::{Join, Phrase, misplaced, process_phrase};
+use crate::joining::{
+    alphabetised_within, behind_event, hidden, joined_within, renamed_by, shared,
+};
+use crate::simple::{called, skip, stop};
+use crate::work::Work;
+use event_phrases::forms::event_parts;
+use event_phrases::{
+    GlobalScope, Prefix, Row, Scope, fault, inputs_behind, two_sets, wanted_events,
+};
+use std::alloc::Allocator;
+use syntax::Tree;
+use term::Term;
+use tokens::{ScriptError, ScriptErrorKind};
+
+/// What an event adds to the branches of a prefix.
+#[cycle(making)]
+fn branch<'a, A: Allocator + Copy, G: GlobalScope<A>>(
+    alloc: A,
+    scope: &Scope<'a, A, G>,
+    prefix: &Prefix<'a, A>,
+    number: usize,
+    event: &Row<A>,
+    work: Work<A>,
+) -> Result<(Option<Term<A>>, Work<A>), ScriptError>
+    requires { number < 256 }
+    ensures { Gives (λ x. (option_map proc x.0, count x.1)) result (make_branch (make (shape prefix.now.then.now)) prefix.now.channel.now (syntaxes (shapes prefix.now.fields.now)) (map (λ v. listed v.items) prefix.now.sets.now) (within (G.scope scope.now.global.now) (map input scope.now.inputs.items)) number (row event.now) (count work)) }
+{
+    let found = inputs_behind(alloc, scope, prefix, event)?;
+    match found {
+        None => Ok((None, work)),
+        Some(inputs) => {
+            let inner = Scope {
+                global: scope.global,
+                inputs,
+                line: scope.line,
+            };
+            let (term, work) = process(alloc, &inner, prefix.then, work)?;
+            let (term, work) = behind_event(alloc, number, term, work, scope.line)?;
+            Ok((Some(term), work))
+        }
+    }
+}
+
+/// The branches of a prefix, one for each event that fits.
+#[cycle(making)]
+fn branches<'a, A: Allocator + Copy, G: GlobalScope<A>>(
+    alloc: A,
+    scope: &Scope<'a, A, G>,
+    prefix: &Prefix<'a, A>,
+    work: Work<A>,
+) -> Result<(Vec<Term<A>, A>, Work<A>), ScriptError>
+    ensures { Gives (λ x. (map proc x.0.items, count x.1)) result (make_branches (make (shape prefix.now.then.now)) prefix.now.channel.now (syntaxes (shapes prefix.now.fields.now)) (map (λ v. listed v.items) prefix.now.sets.now) (within (G.scope scope.now.global.now) (map input scope.now.inputs.items)) 0 (events_of (G.scope scope.now.global.now).channels) (count work)) }
+{
+    let mut terms = Vec::new(alloc);
+    let mut work = work;
+    let events = scope.global.events();
+    for (number, event) in events.iter().enumerate() {
+        let (term, next) = branch(alloc, scope, prefix, number, event, work)?;
+        work = next;
+        if let Some(term) = term {
+            terms.push(term)?;
+        }
+    }
+    Ok((terms, work))
+}
+
+/// The process that an event phrase and what stands behind its arrow are a phrase for: the choice over the events that fit.
+#[cycle(making)]
+fn prefixed<'a, A: Allocator + Copy, G: GlobalScope<A>>(
+    alloc: A,
+    scope: &Scope<'a, A, G>,
+    event: &'a Tree<A>,
+    then: &'a Tree<A>,
+    work: Work<A>,
+) -> Result<(Term<A>, Work<A>), ScriptError>
+    ensures { Gives (λ x. (proc x.0, count x.1)) result (make_prefixed (within (G.scope scope.now.global.now) (map input scope.now.inputs.items)) (shape event.now) (make (shape then.now)) (count work)) }
+{
+    match event_parts(event) {
+        None => Err(fault(event.line(), ScriptErrorKind::Expected)),
+        Some((channel, fields)) => match scope.fields(channel) {
+            None => Err(scope.no_channel(event)),
+            Some(sets) => {
+                if fields.len() != sets.len() {
+                    return Err(fault(event.line(), ScriptErrorKind::WrongFields));
+                }
+                let prefix = Prefix {
+                    channel,
+                    fields,
+                    sets,
+                    then,
+                    line: event.line(),
+                };
+                let (terms, work) = branches(alloc, scope, &prefix, work)?;
+                chosen(&alloc, terms, work, scope.line)
+            }
+        },
+    }
+}
+
+/// Two processes that are joined so.
+#[cycle(making)]
+fn joined_phrases<'a, A: Allocator + Copy, G: GlobalScope<A>>(
+    alloc: A,
+    scope: &Scope<'a, A, G>,
+    join: Join,
+    first: &'a Tree<A>,
+    second: &'a Tree<A>,
+    work: Work<A>,
+) -> Result<(Term<A>, Work<A>), ScriptError>
+    ensures { Gives (λ x. (proc x.0, count x.1)) result (make_phrase (joined join (shape first.now) (shape second.now)) (within (G.scope scope.now.global.now) (map input scope.now.inputs.items)) (count work)) }
+{
+    let (first, work) = process(alloc, scope, first, work)?;
+    let (second, work) = process(alloc, scope, second, work)?;
+    joined_within(alloc, join, first, second, work, scope.line)
+}
+
+/// `P [| A |] Q`
+#[cycle(making)]
+fn sharing_phrases<'a, A: Allocator + Copy, G: GlobalScope<A>>(
+    alloc: A,
+    scope: &Scope<'a, A, G>,
+    first: &'a Tree<A>,
+    set: &'a Tree<A>,
+    second: &'a Tree<A>,
+    work: Work<A>,
+) -> Result<(Term<A>, Work<A>), ScriptError>
+    ensures { Gives (λ x. (proc x.0, count x.1)) result (make_phrase (sharing (shape first.now) (shape set.now) (shape second.now)) (within (G.scope scope.now.global.now) (map input scope.now.inputs.items)) (count work)) }
+{
+    let (first, work) = process(alloc, scope, first, work)?;
+    let set = wanted_events(alloc, scope, set)?;
+    let (second, work) = process(alloc, scope, second, work)?;
+    shared(alloc, set, first, second, work, scope.line)
+}
+
+/// `P [ A || B ] Q`, where the sets are A and B.
+#[cycle(making)]
+fn alphabetised_phrases<'a, A: Allocator + Copy, G: GlobalScope<A>>(
+    alloc: A,
+    scope: &Scope<'a, A, G>,
+    first: &'a Tree<A>,
+    sets: (&'a Tree<A>, &'a Tree<A>),
+    second: &'a Tree<A>,
+    work: Work<A>,
+) -> Result<(Term<A>, Work<A>), ScriptError>
+    ensures { Gives (λ x. (proc x.0, count x.1)) result (make_phrase (alphabetised (shape first.now) (shape sets.entry.0.now) (shape sets.entry.1.now) (shape second.now)) (within (G.scope scope.now.global.now) (map input scope.now.inputs.items)) (count work)) }
+{
+    let (first, work) = process(alloc, scope, first, work)?;
+    let sets = two_sets(alloc, scope, sets.0, sets.1)?;
+    let (second, work) = process(alloc, scope, second, work)?;
+    alphabetised_within(alloc, scope, sets, (first, second), work)
+}
+
+/// `P \ A`
+#[cycle(making)]
+fn hiding_phrase<'a, A: Allocator + Copy, G: GlobalScope<A>>(
+    alloc: A,
+    scope: &Scope<'a, A, G>,
+    tree: &'a Tree<A>,
+    set: &'a Tree<A>,
+    work: Work<A>,
+) -> Result<(Term<A>, Work<A>), ScriptError>
+    ensures { Gives (λ x. (proc x.0, count x.1)) result (make_phrase (hiding (shape tree.now) (shape set.now)) (within (G.scope scope.now.global.now) (map input scope.now.inputs.items)) (count work)) }
+{
+    let (term, work) = process(alloc, scope, tree, work)?;
+    let set = wanted_events(alloc, scope, set)?;
+    hidden(alloc, set, term, work, scope.line)
+}
+
+/// `P[[a <- b]]`, with its pairs.
+#[cycle(making)]
+fn renaming_phrase<'a, A: Allocator + Copy, G: GlobalScope<A>>(
+    alloc: A,
+    scope: &Scope<'a, A, G>,
+    tree: &'a Tree<A>,
+    pairs: &'a [Tree<A>],
+    work: Work<A>,
+) -> Result<(Term<A>, Work<A>), ScriptError>
+    ensures { Gives (λ x. (proc x.0, count x.1)) result (make_phrase (renaming (shape tree.now) (shapes pairs.now)) (within (G.scope scope.now.global.now) (map input scope.now.inputs.items)) (count work)) }
+{
+    let (term, work) = process(alloc, scope, tree, work)?;
+    renamed_by(alloc, scope, pairs, term, work)
+}
+
+/// The term made of a phrase by its form, on this line.
+#[cycle(making)]
+fn made<'a, A: Allocator + Copy, G: GlobalScope<A>>(
+    alloc: A,
+    scope: &Scope<'a, A, G>,
+    phrase: Phrase<'a, A>,
+    line: u32,
+    work: Work<A>,
+) -> Result<(Term<A>, Work<A>), ScriptError>
+    ensures { Gives (λ x. (proc x.0, count x.1)) result (make_phrase (plain phrase.entry) (within (G.scope scope.now.global.now) (map input scope.now.inputs.items)) (count work)) }
+{
+    match phrase {
+        Phrase::Stop => stop(work, scope.line),
+        Phrase::Skip => skip(work, scope.line),
+        Phrase::Called(name) => called(alloc, scope, name, line, work),
+        Phrase::Inside(inner) => process(alloc, scope, inner, work),
+        Phrase::Prefix(event, then) => prefixed(alloc, scope, event, then, work),
+        Phrase::Joined(join, first, second) => {
+            joined_phrases(alloc, scope, join, first, second, work)
+        }
+        Phrase::Sharing(first, set, second) => {
+            sharing_phrases(alloc, scope, first, set, second, work)
+        }
+        Phrase::Alphabetised(first, left, right, second) => {
+            alphabetised_phrases(alloc, scope, first, (left, right), second, work)
+        }
+        Phrase::Hiding(process_tree, set) => {
+            hiding_phrase(alloc, scope, process_tree, set, work)
+        }
+        Phrase::Renaming(process_tree, pairs) => {
+            renaming_phrase(alloc, scope, process_tree, pairs, work)
+        }
+    }
+}
+
+/// The term made of a phrase for a process. A fault has the line of the phrase that is at fault; too many nodes have the
+/// line of the definition's name.
+#[cycle(making)]
+pub(crate) fn process<'a, A: Allocator + Copy, G: GlobalScope<A>>(
+    alloc: A,
+    scope: &Scope<'a, A, G>,
+    tree: &'a Tree<A>,
+    work: Work<A>,
+) -> Result<(Term<A>, Work<A>), ScriptError>
+    ensures { Gives (λ x. (proc x.0, count x.1)) result (make (shape tree.now) (within (G.scope scope.now.global.now) (map input scope.now.inputs.items)) (count work)) }
+{
+    match process_phrase(tree) {
+        Some(phrase) => made(alloc, scope, phrase, tree.line(), work),
+        None => match event_parts(tree) {
+            Some(_) => Err(scope.no_channel(tree)),
+            None => Err(fault(tree.line(), misplaced(tree))),
+        },
+    }
+}

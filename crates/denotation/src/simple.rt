@@ -1,0 +1,60 @@
+//! Terms of phrases with no process in them.
+ghost use Rattle.std.specs.Prelude.{◌≡◌, map};
+ghost use Rattle.term.specs.Proc.{proc};
+ghost use Rattle.values.specs.Tables.{input};
+ghost use Rattle.values.specs.View.{Gives};
+ghost use Rattle.event_phrases.specs.EventForms.{within};
+ghost use Rattle.denotation.specs.Forms.{called as called_by, skips, stops};
+ghost use Rattle.denotation.specs.Making.{make_phrase};
+ghost use Rattle.event_phrases.specs.Scopes.{Scope as ScopeOf};
+ghost use Rattle.denotation.specs.View.{count};
+
+use crate::work::{Work, refer, spent};
+use event_phrases::{GlobalScope, Scope, fault};
+use std::alloc::Allocator;
+use term::Term;
+use tokens::{ScriptError, ScriptErrorKind};
+
+/// `STOP`, where there is room for it.
+#[tactic(auto, unfolding(crate::specs::Making::make_phrase))]
+pub(crate) fn stop<A: Allocator>(
+    work: Work<A>,
+    line: u32,
+) -> Result<(Term<A>, Work<A>), ScriptError>
+    ensures { (s : ScopeOf) → Gives (λ x. (proc x.0, count x.1)) result (make_phrase stops s (count work)) }
+{
+    let work = spent(work, 1, line)?;
+    Ok((Term::Stop, work))
+}
+
+/// `SKIP`, where there is room for it.
+#[tactic(auto, unfolding(crate::specs::Making::make_phrase))]
+pub(crate) fn skip<A: Allocator>(
+    work: Work<A>,
+    line: u32,
+) -> Result<(Term<A>, Work<A>), ScriptError>
+    ensures { (s : ScopeOf) → Gives (λ x. (proc x.0, count x.1)) result (make_phrase skips s (count work)) }
+{
+    let work = spent(work, 1, line)?;
+    Ok((Term::Skip, work))
+}
+
+/// The definition with this name, on this line.
+#[tactic(auto, unfolding(crate::specs::Making::make_phrase), using(event_phrases::proofs::Scopes::hidden, event_phrases::proofs::Scopes::seen))]
+pub(crate) fn called<A: Allocator + Copy, G: GlobalScope<A>>(
+    alloc: A,
+    scope: &Scope<'_, A, G>,
+    name: &[u8],
+    line: u32,
+    work: Work<A>,
+) -> Result<(Term<A>, Work<A>), ScriptError>
+    ensures { Gives (λ x. (proc x.0, count x.1)) result (make_phrase (called_by name.now) (within (G.scope scope.now.global.now) (map input scope.now.inputs.items)) (count work)) }
+{
+    if scope.is_value(name) {
+        return Err(fault(line, ScriptErrorKind::Expected));
+    }
+    if !scope.global.is_process(name) {
+        return Err(scope.global.fault(name, line));
+    }
+    refer(Vec::from_slice(alloc, name)?, work, scope.line)
+}

@@ -1,0 +1,11 @@
+pub mod Options
+pub mod SetsBelow
+pub mod Shapes
+pub mod Rows
+pub mod EventLaws
+pub mod EventNumbers
+pub mod EventSetLaws
+pub mod TwoSets
+pub mod Images
+pub mod Scopes
+pub mod Renamings

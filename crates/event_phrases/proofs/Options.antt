@@ -1,0 +1,49 @@
+-- Options, step by step, and faults of steps.
+use Rattle.std.proofs.Common.{◌≡◌, Option, Some, None, refl, ap}
+use Rattle.tokens.specs.declared.error.ScriptErrorKind.{ScriptErrorKind}
+use Rattle.tokens.specs.declared.error.ScriptErrorKind.TheVariants as kinds
+use Rattle.values.specs.Values.{◌>>=◌}
+use Rattle.values.specs.View.{Fails}
+
+pub some_is : {A : Type 0} {x y : A} → Some x ≡ Some y → x ≡ y
+some_is h = cc
+
+pub bind_some : {X Y : Type 0} (o : Option X) (f : X → Option Y) (y : Y) → (o >>= f) ≡ Some y → (x : X) × (o ≡ Some x) × (f x ≡ Some y)
+bind_some None f y h = absurd cc
+bind_some (Some x) f y h = (x, refl, h)
+
+pub bind_none : {A B : Type 0} (o : Option A) (f : A → Option B) → ((x : A) → f x ≡ None) → (o >>= f) ≡ None
+bind_none None f h = refl
+bind_none (Some x) f h = h x
+
+pub bind_assoc : {A B C : Type 0} (o : Option A) (g : A → Option B) (f : B → Option C) → ((o >>= g) >>= f) ≡ (o >>= λ x. g x >>= f)
+bind_assoc None g f = refl
+bind_assoc (Some x) g f = refl
+
+pub bind_same : {A : Type 0} (o : Option A) (f : A → Option A) → ((x : A) → f x ≡ Some x) → (o >>= f) ≡ o
+bind_same None f h = refl
+bind_same (Some x) f h = h x
+
+-- a step that gave this
+pub step : {X Y : Type 0} (o : Option X) (f : X → Option Y) (x : X) → o ≡ Some x → (o >>= f) ≡ f x
+step o f x h = ap (λ o. o >>= f) h
+
+-- a fault of a part is one of the whole
+pub fails_on : {A B : Type 0} (k : ScriptErrorKind) (r : Option A) (t : Option B) → (r ≡ None → t ≡ None) → Fails k r → Fails k t
+fails_on kinds.Memory r t f h = tt
+fails_on kinds.BadByte r t f h = f h
+fails_on kinds.BadToken r t f h = f h
+fails_on kinds.Expected r t f h = f h
+fails_on kinds.UnknownName r t f h = f h
+fails_on kinds.Redeclared r t f h = f h
+fails_on kinds.WrongFields r t f h = f h
+fails_on kinds.OutOfRange r t f h = f h
+fails_on kinds.TooManyEvents r t f h = f h
+fails_on kinds.TooDeep r t f h = f h
+fails_on kinds.TooLarge r t f h = f h
+fails_on kinds.Unsupported r t f h = f h
+fails_on kinds.NoSuchProcess r t f h = f h
+
+-- a fault of a step is one of the whole
+pub fails_at : {X Y : Type 0} (k : ScriptErrorKind) (o : Option X) (f : X → Option Y) → Fails k o → Fails k (o >>= f)
+fails_at k o f h = fails_on k o (o >>= f) (λ n. ap (λ o. o >>= f) n) h

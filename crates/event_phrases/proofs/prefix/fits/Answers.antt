@@ -1,0 +1,16 @@
+use Rattle.std.proofs.Common.{map, subst, sym}
+use Rattle.std.specs.Option.{option_map}
+use Rattle.syntax.specs.View.{shape}
+use Rattle.values.specs.Tables.{input}
+use Rattle.values.specs.View.{Gives, value}
+use Rattle.event_phrases.specs.EventForms.{within}
+use Rattle.event_phrases.specs.Shapes.{plain_field}
+use Rattle.event_phrases.specs.View.{listed}
+use Rattle.event_phrases.proofs.Scopes.{field_fits}
+use Rattle.event_phrases.proofs.prefix.fits.Goals as goal
+
+pub returns-in-Some : goal.returns-in-Some
+returns-in-Some g c =
+    let s = g.G.GlobalScope.scope c.args.global.now in
+    subst (λ o. Gives (option_map (λ v. within s (map input v.items))) c.fits_phrase.result o)
+    (sym (field_fits (shape c.args.tree.now) (plain_field c.in-Some.phrase) (listed c.args.set.now.items) (value c.args.value.now) (within s (map input c.args.inputs.items)) (sym c.in-Some.ensures))) c.fits_phrase.ensures

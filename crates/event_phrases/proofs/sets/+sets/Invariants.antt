@@ -1,0 +1,11 @@
+use Rattle.std.proofs.Common.{◌+◌, ◌*◌}
+use Rattle.syntax.specs.View.{shape}
+use Rattle.event_phrases.specs.Forms.{tall, sets_tall}
+use Rattle.event_phrases.specs.Shapes.{plain_set}
+use Rattle.event_phrases.proofs.sets.+sets.Given as goal
+
+abbrev pub decreases-event_set : goal.decreases-event_set
+decreases-event_set g l = 2 * tall (shape l.tree.now)
+
+abbrev pub decreases-set_of_phrase : goal.decreases-set_of_phrase
+decreases-set_of_phrase g l = 2 * sets_tall (plain_set l.phrase) + 1

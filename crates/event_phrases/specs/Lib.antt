@@ -1,0 +1,9 @@
+-- To believe.
+pub mod Events
+pub mod Scopes
+pub mod Fitting
+pub mod View
+pub mod Forms
+pub mod EventForms
+-- Steps of the program.
+pub mod Shapes

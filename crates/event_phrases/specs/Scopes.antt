@@ -1,0 +1,32 @@
+-- Where phrases stand.
+use Rattle.std.specs.Prelude.{List, Bool, true, false, Option, Some, None, if◌then◌else◌}
+use Rattle.alphabet.specs.Channels.{FieldValue, Channel}
+use Rattle.syntax.specs.Grammar.{Syntax}
+use Rattle.values.specs.Values.{Name}
+use Rattle.values.specs.Worths.{one, Known}
+use Rattle.values.specs.Names.{Entry, Meaning, constant_name, meaning, same_name}
+use Rattle.event_phrases.specs.Events.{Events, KnownEvents, event_set}
+
+-- What is known of a script's names where a phrase stands.
+pub record Scope : Type 0 where
+  pub entries : List Entry
+  pub channels : List Channel
+  -- what names stand for: also the inputs before the phrase
+  pub known : Known
+  pub sets : KnownEvents
+
+-- the name of an input stands for a value
+abbrev pub with_input : Scope → Name → FieldValue → Scope
+with_input s x v = record s { known = λ n. if same_name n x then Some (one v) else s.known n }
+
+unfoldable pub is_constant : Option Meaning → Bool
+is_constant (Some constant_name) = true
+is_constant m = false
+
+-- a name may be an input's unless it is a constant's
+abbrev pub unless_constant : {X : Type 0} → Scope → Name → Option X → Option X
+unless_constant s x y = if is_constant (meaning s.entries x) then None else y
+
+-- the set of events that a phrase stands for
+abbrev pub events_by : Scope → Syntax → Option Events
+events_by s t = event_set s.channels s.known s.sets t

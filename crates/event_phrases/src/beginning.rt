@@ -1,0 +1,184 @@
+//! Events, and events that begin alike, as phrases without inputs give them.
+ghost use Rattle.std.specs.Prelude.{◌≡◌, ◌++◌, Some, length, map};
+ghost use Rattle.std.specs.Option.{option_map};
+ghost use Rattle.syntax.specs.View.{shape, shapes};
+ghost use Rattle.values.specs.Tables.{input};
+ghost use Rattle.values.specs.Values.{is_among};
+ghost use Rattle.values.specs.View.{Gives, value as value_of};
+ghost use Rattle.event_phrases.specs.EventForms.{given_value, within, within_by, values_behind, unbracketed as unbracketed_of};
+ghost use Rattle.event_phrases.specs.Events.{beginning as beginning_in, field_value, whole_event as whole_event_in};
+ghost use Rattle.event_phrases.specs.Shapes.{plain_field};
+ghost use Rattle.event_phrases.specs.View.{beginning as beginning_of, listed};
+
+use crate::forms::{FieldPhrase, event_parts, field, in_brackets};
+use crate::global_scope::{GlobalScope, Set, Wanted};
+use crate::row::Row;
+use crate::scope::{Scope, fault, told, worth};
+use std::alloc::Allocator;
+use syntax::Tree;
+use tokens::{ScriptError, ScriptErrorKind};
+use values::{Value, the_value};
+
+/// Whether the value is one of the set.
+pub(crate) fn is_one_of<A: Allocator>(value: &Value<A>, set: &[Value<A>]) -> bool
+    ensures { result ≡ is_among (value_of value.now) (listed set.now) }
+{
+    set.contains(value)
+}
+
+/// The value that a field of this form gives.
+#[tactic(auto, unfolding(crate::specs::EventForms::given_value))]
+fn given_by<A: Allocator + Copy, G: GlobalScope<A>>(
+    alloc: A,
+    scope: &Scope<'_, A, G>,
+    phrase: FieldPhrase<'_, A>,
+    line: u32,
+) -> Result<Value<A>, ScriptError>
+    ensures { Gives value_of result (given_value (within (G.scope scope.now.global.now) (map input scope.now.inputs.items)).known (plain_field phrase.entry)) }
+{
+    match phrase {
+        FieldPhrase::Given(tree) => {
+            let found = worth(alloc, scope.global, &scope.inputs, tree)?;
+            the_value(found, tree.line())
+        }
+        FieldPhrase::Input(_) => Err(fault(line, ScriptErrorKind::Expected)),
+        FieldPhrase::InputFrom(_, _) => Err(fault(line, ScriptErrorKind::Expected)),
+    }
+}
+
+/// The value that a field gives.
+#[tactic(auto, using(crate::proofs::EventLaws::value_so, crate::proofs::EventLaws::no_value))]
+fn given<A: Allocator + Copy, G: GlobalScope<A>>(
+    alloc: A,
+    scope: &Scope<'_, A, G>,
+    tree: &Tree<A>,
+) -> Result<Value<A>, ScriptError>
+    ensures { Gives value_of result (field_value (within (G.scope scope.now.global.now) (map input scope.now.inputs.items)).known (shape tree.now)) }
+{
+    match field(tree) {
+        Some(phrase) => given_by(alloc, scope, phrase, tree.line()),
+        None => Err(fault(tree.line(), ScriptErrorKind::Expected)),
+    }
+}
+
+/// The values before, and behind them those that the fields give, each of which is one of its field's.
+#[tactic(auto, unfolding(crate::specs::EventForms::within_by), using(crate::proofs::Scopes::not_within))]
+fn more_values<A: Allocator + Copy, G: GlobalScope<A>>(
+    alloc: A,
+    scope: &Scope<'_, A, G>,
+    fields: &[Tree<A>],
+    sets: &[Set<A>],
+    before: Vec<Value<A>, A>,
+    line: u32,
+) -> Result<Vec<Value<A>, A>, ScriptError>
+    ensures { Gives (λ v. listed v.items) result (values_behind (listed before.items) (within_by (within (G.scope scope.now.global.now) (map input scope.now.inputs.items)).known (shapes fields.now) (map (λ v. listed v.items) sets.now))) }
+{
+    match fields {
+        [] => Ok(before),
+        [field, fields @ ..] => match sets {
+            [] => Err(fault(line, ScriptErrorKind::WrongFields)),
+            [set, sets @ ..] => {
+                let value = given(alloc, scope, field)?;
+                if !is_one_of(&value, set) {
+                    return Err(fault(field.line(), ScriptErrorKind::OutOfRange));
+                }
+                let mut values = before;
+                values.push(value)?;
+                more_values(alloc, scope, fields, sets, values, line)
+            }
+        },
+    }
+}
+
+/// The values that the fields give, each of which is one of its field's.
+#[tactic(auto, using(crate::proofs::EventLaws::too_many, crate::proofs::Scopes::from_none))]
+fn values_of<A: Allocator + Copy, G: GlobalScope<A>>(
+    alloc: A,
+    scope: &Scope<'_, A, G>,
+    fields: &[Tree<A>],
+    sets: &[Set<A>],
+    line: u32,
+) -> Result<Vec<Value<A>, A>, ScriptError>
+    ensures { Gives (λ v. listed v.items) result (within_by (within (G.scope scope.now.global.now) (map input scope.now.inputs.items)).known (shapes fields.now) (map (λ v. listed v.items) sets.now)) }
+{
+    if fields.len() > sets.len() {
+        return Err(fault(line, ScriptErrorKind::WrongFields));
+    }
+    more_values(alloc, scope, fields, sets, Vec::new(alloc), line)
+}
+
+/// The channel and the first values that an event phrase without inputs gives. Its fault isn't the one that is told.
+pub(crate) fn beginning<A: Allocator + Copy, G: GlobalScope<A>>(
+    alloc: A,
+    scope: &Scope<'_, A, G>,
+    tree: &Tree<A>,
+) -> Result<Row<A>, ScriptError>
+    ensures { Gives (λ r. beginning_of r) result (beginning_in (G.scope scope.now.global.now).channels (within (G.scope scope.now.global.now) (map input scope.now.inputs.items)).known (shape tree.now)) }
+{
+    match event_parts(tree) {
+        None => Err(fault(tree.line(), ScriptErrorKind::Expected)),
+        Some((channel, fields)) => match scope.fields(channel) {
+            None => Err(fault(tree.line(), ScriptErrorKind::Expected)),
+            Some(sets) => {
+                let values = values_of(alloc, scope, fields, sets, tree.line())?;
+                Ok(Row {
+                    channel: Vec::from_slice(alloc, channel)?,
+                    values,
+                })
+            }
+        },
+    }
+}
+
+/// The same, and the fault where it gives none: of the event where its name is no channel's, one of its fields is an input or
+/// it has too many (`WrongFields`), and of a field whose value is none of its set (`OutOfRange`).
+#[tactic(auto, using(crate::proofs::Scopes::fails_too))]
+pub(crate) fn wanted_beginning<A: Allocator + Copy, G: GlobalScope<A>>(
+    alloc: A,
+    scope: &Scope<'_, A, G>,
+    tree: &Tree<A>,
+) -> Result<Row<A>, ScriptError>
+    ensures { Gives (λ r. beginning_of r) result (beginning_in (G.scope scope.now.global.now).channels (within (G.scope scope.now.global.now) (map input scope.now.inputs.items)).known (shape tree.now)) }
+{
+    match beginning(alloc, scope, tree) {
+        Ok(row) => Ok(row),
+        Err(error) => Err(told(scope.global, &scope.inputs, tree, Wanted::Beginning, error)),
+    }
+}
+
+/// The phrase without the brackets round it.
+fn unbracketed<A: Allocator>(tree: &Tree<A>) -> &Tree<A>
+    ensures { shape result.now ≡ unbracketed_of (shape tree.now) }
+{
+    match in_brackets(tree) {
+        None => tree,
+        Some(inner) => unbracketed(inner),
+    }
+}
+
+/// The event that a phrase without inputs gives, with all its fields. Its fault isn't the one that is told.
+pub(crate) fn whole_event<A: Allocator + Copy, G: GlobalScope<A>>(
+    alloc: A,
+    scope: &Scope<'_, A, G>,
+    tree: &Tree<A>,
+) -> Result<Row<A>, ScriptError>
+    ensures { Gives (λ r. beginning_of r) result (whole_event_in (G.scope scope.now.global.now).channels (within (G.scope scope.now.global.now) (map input scope.now.inputs.items)).known (shape tree.now)) }
+{
+    let inner = unbracketed(tree);
+    match event_parts(inner) {
+        None => Err(fault(tree.line(), ScriptErrorKind::Expected)),
+        Some((channel, fields)) => match scope.fields(channel) {
+            None => Err(fault(inner.line(), ScriptErrorKind::Expected)),
+            Some(sets) => {
+                if fields.len() != sets.len() {
+                    return Err(fault(inner.line(), ScriptErrorKind::WrongFields));
+                }
+                let values = values_of(alloc, scope, fields, sets, inner.line())?;
+                Ok(Row {
+                    channel: Vec::from_slice(alloc, channel)?,
+                    values,
+                })
+            }
+        },
+    }
+}

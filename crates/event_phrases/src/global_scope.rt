@@ -1,0 +1,87 @@
+//! The scope of a whole script.
+ghost use Rattle.std.specs.Prelude.{◌≡◌, ◌≤◌, length, map, Some, MatchOption};
+ghost use Rattle.std.specs.Option.{option_map};
+ghost use Rattle.alphabet.specs.Channels.{events as events_of, event_count};
+ghost use Rattle.alphabet.specs.Events.{is_numbered_below};
+ghost use Rattle.alphabet.specs.declared.events.Event.{Event};
+ghost use Rattle.alphabet.specs.EventSets.{member};
+ghost use Rattle.syntax.specs.Grammar.{Syntax};
+ghost use Rattle.syntax.specs.View.{shape};
+ghost use Rattle.values.specs.Names.{definition as defined_by, meaning, is_process as is_process_of};
+ghost use Rattle.values.specs.Tables.{table};
+ghost use Rattle.event_phrases.specs.Events.{fields_named, masked};
+ghost use Rattle.event_phrases.specs.Scopes.{Scope, is_constant as is_constant_meaning};
+ghost use Rattle.event_phrases.specs.View.{listed, row};
+
+use crate::row::Row;
+use alphabet::EventSet;
+use std::alloc::Allocator;
+use syntax::Tree;
+use tokens::ScriptError;
+use values::{Input, Known, Value};
+
+/// The values of a field, in order.
+pub type Set<A> = Vec<Value<A>, A>;
+
+/// What is wanted of a phrase.
+#[derive(Clone, Copy, Debug, PartialEq, Eq)]
+pub enum Wanted {
+    /// A number or a constant.
+    Value,
+    /// A set of numbers and constants.
+    Values,
+    /// A set of events.
+    Events,
+    /// A channel and its first values, without inputs.
+    Beginning,
+    /// A channel, whatever its fields.
+    Channel,
+}
+
+/// What is known of a script's names where no input stands before a phrase.
+pub trait GlobalScope<A: Allocator>: Drop {
+    /// What is known.
+    ghost scope: { Self → Scope };
+
+    /// What names stand for.
+    fn known(&self) -> &Known<A>
+        ensures { table result.now ≡ (scope self.now).known };
+
+    /// The events of Sigma, each at its number.
+    fn events(&self) -> &[Row<A>]
+        ensures rows { map row result.now ≡ events_of (scope self.now).channels }
+        ensures few { length result.now ≤ 256 };
+
+    /// The values of the fields of a channel.
+    fn fields(&self, channel: &[u8]) -> Option<&[Set<A>]>
+        ensures { option_map (λ f. map (λ v. listed v.items) f.now) result ≡ fields_named (scope self.now).channels channel.now };
+
+    /// Sigma.
+    fn sigma(&self) -> EventSet
+        ensures { (x : Event) → member result x ≡ is_numbered_below (event_count (scope self.now).channels) x };
+
+    /// What a name of a set of events stands for.
+    fn set(&self, name: &[u8]) -> Option<EventSet>
+        ensures { result ≡ masked (scope self.now).channels ((scope self.now).sets name.now) };
+
+    /// Whether the name is one of a process.
+    fn is_process(&self, name: &[u8]) -> bool
+        ensures { result ≡ is_process_of (scope self.now).entries name.now };
+
+    /// Whether the name is a constant's.
+    fn is_constant(&self, name: &[u8]) -> bool
+        ensures { result ≡ is_constant_meaning (meaning (scope self.now).entries name.now) };
+
+    /// The body of the definition with this name.
+    fn definition(&self, name: &[u8]) -> Option<&Tree<A>>
+        ensures { MatchOption result ((t : Syntax) → meaning (scope self.now).entries name.now ≡ Some (defined_by t) → ⊥) (λ t. meaning (scope self.now).entries name.now ≡ Some (defined_by (shape t.now))) };
+
+    /// The line of the name of a definition.
+    fn line(&self, name: &[u8]) -> u32;
+
+    /// What is wrong with a name on this line that is no process.
+    fn fault(&self, name: &[u8], line: u32) -> ScriptError;
+
+    /// What is wrong with a phrase behind these inputs that isn't what is wanted.
+    fn phrase_fault(&self, inputs: &[Input<A>], phrase: &Tree<A>, wanted: Wanted) -> ScriptError;
+}

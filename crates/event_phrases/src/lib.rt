@@ -1,0 +1,22 @@
+//! What phrases for events, sets of events, fields and renamings are where a script's names are known: the definitions, and the
+//! sets, pairs and inputs that phrases give by them.
+#![tactic(auto)]
+
+mod beginning;
+mod events;
+pub mod forms;
+mod global_scope;
+mod pairs;
+mod prefix;
+mod renaming;
+mod row;
+mod scope;
+mod sets;
+
+pub use global_scope::{GlobalScope, Set, Wanted};
+pub use pairs::ordered;
+pub use prefix::{Prefix, inputs_behind};
+pub use renaming::pairs_of;
+pub use row::Row;
+pub use scope::{Scope, fault};
+pub use sets::{set_of_events, two_sets, wanted_events};

@@ -1,0 +1,187 @@
+//! Events held against the fields of a prefix.
+ghost use Rattle.std.specs.Prelude.{◌≡◌, ◌++◌, ◌∷◌, [], IfOk, Some, map};
+ghost use Rattle.std.specs.Option.{option_map};
+ghost use Rattle.syntax.specs.Parsing.{syntaxes};
+ghost use Rattle.syntax.specs.View.{shape, shapes};
+ghost use Rattle.values.specs.Tables.{input};
+ghost use Rattle.values.specs.Values.{is_among};
+ghost use Rattle.values.specs.View.{Gives, value as value_of, values};
+ghost use Rattle.event_phrases.specs.EventForms.{event_fits, fits_by, within};
+ghost use Rattle.event_phrases.specs.Fitting.{fits_field, fitting as fitting_of};
+ghost use Rattle.event_phrases.specs.Shapes.{plain_field};
+ghost use Rattle.event_phrases.specs.View.{listed, row};
+
+use crate::beginning::is_one_of;
+use crate::forms::{FieldPhrase, field};
+use crate::global_scope::{GlobalScope, Set, Wanted};
+use crate::row::{Row, is_equal};
+use crate::scope::{Scope, copies, fault, wanted_worth};
+use std::alloc::{AllocError, Allocator};
+use syntax::Tree;
+use tokens::{ScriptError, ScriptErrorKind};
+use values::{Input, Value, Values, the_set, the_value};
+
+/// A prefix: the channel of its event, the fields with the sets of their values, and the process after its arrow.
+#[derive(Drop)]
+pub struct Prefix<'a, A: Allocator> {
+    /// The channel's name.
+    pub channel: &'a [u8],
+    /// The fields after it.
+    pub fields: &'a [Tree<A>],
+    /// The values of each of the channel's fields.
+    pub sets: &'a [Set<A>],
+    /// The process after the arrow.
+    pub then: &'a Tree<A>,
+    /// The line of the event phrase.
+    pub line: u32,
+}
+
+/// The inputs, and one more behind them.
+fn with_input<A: Allocator + Copy>(
+    alloc: A,
+    inputs: Vec<Input<A>, A>,
+    name: &[u8],
+    value: &Value<A>,
+) -> Result<Vec<Input<A>, A>, AllocError>
+    ensures { IfOk result (λ v. map input v.items ≡ map input inputs.items ++ (name.now, value_of value.now) ∷ []) }
+{
+    let mut inputs = inputs;
+    inputs.push(Input {
+        name: Vec::from_slice(alloc, name)?,
+        value: value.clone()?,
+    })?;
+    Ok(inputs)
+}
+
+/// Whether the value is one of the set.
+fn has_value<A: Allocator>(set: &Values<A>, value: &Value<A>) -> bool
+    ensures { result ≡ is_among (value_of value.now) (values set.now) }
+{
+    set.contains(value)
+}
+
+/// The inputs behind a field, if the event's value fits it; the field's values are this set.
+#[tactic(auto, unfolding(crate::specs::EventForms::fits_by, crate::specs::Fitting::against, crate::specs::Fitting::against_input, crate::specs::Fitting::against_part), using(crate::proofs::Scopes::behind_input))]
+fn fits_phrase<A: Allocator + Copy, G: GlobalScope<A>>(
+    alloc: A,
+    global: &G,
+    inputs: Vec<Input<A>, A>,
+    phrase: FieldPhrase<'_, A>,
+    set: &Set<A>,
+    value: &Value<A>,
+    line: u32,
+) -> Result<Option<Vec<Input<A>, A>>, ScriptError>
+    ensures { Gives (option_map (λ v. within (G.scope global.now) (map input v.items))) result (fits_by (plain_field phrase.entry) (listed set.now.items) (value_of value.now) (within (G.scope global.now) (map input inputs.items))) }
+{
+    match phrase {
+        FieldPhrase::Given(phrase) => {
+            let found = wanted_worth(alloc, global, &inputs, phrase, Wanted::Value)?;
+            let wanted = the_value(found, phrase.line())?;
+            if !is_one_of(&wanted, set) {
+                return Err(fault(phrase.line(), ScriptErrorKind::OutOfRange));
+            }
+            if is_equal(&wanted, value) {
+                Ok(Some(inputs))
+            } else {
+                Ok(None)
+            }
+        }
+        FieldPhrase::Input(name) => {
+            if global.is_constant(name) {
+                return Err(fault(line, ScriptErrorKind::Unsupported));
+            }
+            Ok(Some(with_input(alloc, inputs, name, value)?))
+        }
+        FieldPhrase::InputFrom(name, phrase) => {
+            if global.is_constant(name) {
+                return Err(fault(line, ScriptErrorKind::Unsupported));
+            }
+            let found = wanted_worth(alloc, global, &inputs, phrase, Wanted::Values)?;
+            let part = the_set(found, phrase.line())?;
+            if has_value(&part, value) {
+                Ok(Some(with_input(alloc, inputs, name, value)?))
+            } else {
+                Ok(None)
+            }
+        }
+    }
+}
+
+/// The same of the field as it is written. A fault has the line of the phrase that is at fault.
+#[tactic(auto, using(crate::proofs::Scopes::field_fits, crate::proofs::Scopes::no_field))]
+fn fits<A: Allocator + Copy, G: GlobalScope<A>>(
+    alloc: A,
+    global: &G,
+    inputs: Vec<Input<A>, A>,
+    tree: &Tree<A>,
+    set: &Set<A>,
+    value: &Value<A>,
+) -> Result<Option<Vec<Input<A>, A>>, ScriptError>
+    ensures { Gives (option_map (λ v. within (G.scope global.now) (map input v.items))) result (fits_field (shape tree.now) (listed set.now.items) (value_of value.now) (within (G.scope global.now) (map input inputs.items))) }
+{
+    match field(tree) {
+        Some(phrase) => fits_phrase(alloc, global, inputs, phrase, set, value, tree.line()),
+        None => Err(fault(tree.line(), ScriptErrorKind::Expected)),
+    }
+}
+
+/// The inputs behind the fields, if the event's values fit them, from left to right.
+#[tactic(auto, unfolding(crate::specs::Fitting::fitting))]
+pub(crate) fn fitting<A: Allocator + Copy, G: GlobalScope<A>>(
+    alloc: A,
+    global: &G,
+    inputs: Vec<Input<A>, A>,
+    fields: &[Tree<A>],
+    sets: &[Set<A>],
+    values: &[Value<A>],
+    line: u32,
+) -> Result<Option<Vec<Input<A>, A>>, ScriptError>
+    ensures { Gives (option_map (λ v. within (G.scope global.now) (map input v.items))) result (fitting_of (syntaxes (shapes fields.now)) (map (λ v. listed v.items) sets.now) (listed values.now) (within (G.scope global.now) (map input inputs.items))) }
+{
+    match fields {
+        [] => match sets {
+            [] => match values {
+                [] => Ok(Some(inputs)),
+                [_, ..] => Err(fault(line, ScriptErrorKind::WrongFields)),
+            },
+            [_, ..] => Err(fault(line, ScriptErrorKind::WrongFields)),
+        },
+        [field, fields @ ..] => match sets {
+            [] => Err(fault(line, ScriptErrorKind::WrongFields)),
+            [set, sets @ ..] => match values {
+                [] => Err(fault(line, ScriptErrorKind::WrongFields)),
+                [value, values @ ..] => match fits(alloc, global, inputs, field, set, value)? {
+                    Some(inputs) => fitting(alloc, global, inputs, fields, sets, values, line),
+                    None => Ok(None),
+                },
+            },
+        },
+    }
+}
+
+/// The inputs after a prefix, where the event fits it, and `None` where it doesn't. A fault has the line of the phrase that is
+/// at fault: a field without a value, a value outside its field's set (`OutOfRange`), an input by a constant's name
+/// (`Unsupported`).
+#[tactic(auto, unfolding(crate::specs::EventForms::event_fits))]
+pub fn inputs_behind<A: Allocator + Copy, G: GlobalScope<A>>(
+    alloc: A,
+    scope: &Scope<'_, A, G>,
+    prefix: &Prefix<'_, A>,
+    event: &Row<A>,
+) -> Result<Option<Vec<Input<A>, A>>, ScriptError>
+    ensures { Gives (option_map (λ v. within (G.scope scope.now.global.now) (map input v.items))) result (event_fits prefix.now.channel.now (syntaxes (shapes prefix.now.fields.now)) (map (λ v. listed v.items) prefix.now.sets.now) (within (G.scope scope.now.global.now) (map input scope.now.inputs.items)) (row event.now)) }
+{
+    if prefix.channel != event.channel.as_slice() {
+        return Ok(None);
+    }
+    let inputs = copies(alloc, &scope.inputs)?;
+    fitting(
+        alloc,
+        scope.global,
+        inputs,
+        prefix.fields,
+        prefix.sets,
+        &event.values,
+        prefix.line,
+    )
+}

@@ -1,5 +1,0 @@
-use Rattle.phrases.proofs.Made.{made_is}
-use Rattle.phrases.proofs.law.phrases_are_made.Goals as goal
-
-pub returns : goal.returns
-returns c = made_is
