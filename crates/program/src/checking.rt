@@ -6,6 +6,7 @@ ghost use Rattle.term.specs.Specs.{Specified};
 ghost use Rattle.history.specs.Legal.{Legal};
 ghost use Rattle.history.specs.Beginnings.{StartsWith};
 ghost use Rattle.script.specs.Reading.{IsRead};
+ghost use Rattle.session.specs.Faults.{IsMemory};
 ghost use Rattle.session.specs.Replays.{IsUnopened};
 ghost use Rattle.session.specs.Scripts.{IsUnbegun};
 ghost use Rattle.session.specs.Told.{IsFor};
@@ -157,10 +158,10 @@ pub fn check<R: Wait, D: Disk + Drop, T: Source, W: Sink>(
     ensures legal { IfOk result (λ c. Legal (bodies_of c.session.spec.bodies) c.session.history) }
     ensures exit { IfOk result (λ c. c.exit ≡ exit_of c.end c.tally) }
 
-    // Or there is no session for this reason. Where the script denotes a specification, it is no fault of the script.
+    // Or there is no session for this reason. Where the script denotes a specification, no fault of the script but out of memory comes.
     ensures fault { IfErr result (IsUnbegun script.now process.now) }
     ensures only { (spec : Specified) → IsRead script.now process.now spec
-        → MatchResult result (λ c. c.session.spec ≡ spec) (λ error. IsUnopened spec error ⊎ (error ≡ SessionError.Device)) }
+        → MatchResult result (λ c. c.session.spec ≡ spec) (λ error. IsMemory error ⊎ (IsUnopened spec error ⊎ (error ≡ SessionError.Device))) }
     ensures untouched { IfErr result (λ _. (reader.new ≡ reader.old) × (writer.new ≡ writer.old)) }
 
     ensures handed_on { IfOk result (λ c. W.has_handed_on writer.old → c.end ≢ Err WireError.Write → W.has_handed_on writer.new) }
