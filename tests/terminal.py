@@ -1,5 +1,5 @@
 #!/usr/bin/env python3
-"""What the built program shows of a script's fault on a terminal, and that it shows nothing of it elsewhere.
+"""What the built program shows on a terminal below a fault, and that it shows nothing of it elsewhere.
 
     tests/terminal.py [--program FILE]
 
@@ -19,25 +19,32 @@ SECONDS = 60
 
 UNKNOWN = "        a name isn't declared, or a value depends on itself"
 NO_TOKEN = "        no token begins so, or a comment isn't closed"
+SERVE = ["serve", "p.csp", "P", "j", "--listen", "127.0.0.1:0", "--connections"]
+SERVE_EXAMPLE = "Example: cspwatch serve p.csp P run.journal --listen 127.0.0.1:7000 --connections 2"
+GOOD, UNDECLARED = b"channel a\nP = a -> STOP\n", b"channel a\nP = a -> Q\n"
 
-# What is tried, the command's words, the script's bytes, and the lines on standard error.
+# What is tried, the command's words, the script's bytes, the fault on standard error wherever that goes (None: any text), what
+# a terminal shows below it, and the exit status.
 ROWS = [
-    ("a name that isn't declared", ["check", "p.csp", "P"], b"channel a\nP = a -> Q\n",
-     ["p.csp:2: 4 unknown", "    2 | P = a -> Q", UNKNOWN]),
-    ("the same when printing", ["print", "p.csp", "P"], b"channel a\nP = a -> Q\n",
-     ["p.csp:2: 4 unknown", "    2 | P = a -> Q", UNKNOWN]),
-    ("the same when serving", ["serve", "p.csp", "P", "j", "--listen", "127.0.0.1:0", "--connections", "1"], b"channel a\nP = a -> Q\n",
-     ["p.csp:2: 4 unknown", "    2 | P = a -> Q", UNKNOWN]),
+    ("a name that isn't declared", ["check", "p.csp", "P"], UNDECLARED, ["p.csp:2: 4 unknown"], ["    2 | P = a -> Q", UNKNOWN], 3),
+    ("the same when printing", ["print", "p.csp", "P"], UNDECLARED, ["p.csp:2: 4 unknown"], ["    2 | P = a -> Q", UNKNOWN], 3),
+    ("the same when serving", SERVE + ["1"], UNDECLARED, ["p.csp:2: 4 unknown"], ["    2 | P = a -> Q", UNKNOWN], 3),
     ("a line without an end", ["check", "p.csp", "P"], b"channel a\n\nP = a -> Q",
-     ["p.csp:3: 4 unknown", "    3 | P = a -> Q", UNKNOWN]),
+     ["p.csp:3: 4 unknown"], ["    3 | P = a -> Q", UNKNOWN], 3),
     ("a line that ends with a carriage return", ["check", "p.csp", "P"], b"channel a\r\nP = a -> Q\r\n",
-     ["p.csp:2: 4 unknown", "    2 | P = a -> Q", UNKNOWN]),
+     ["p.csp:2: 4 unknown"], ["    2 | P = a -> Q", UNKNOWN], 3),
     ("a control character isn't sent to the terminal", ["check", "p.csp", "P"], b"channel a\nP =\ta -> \x1b[2J STOP\n",
-     ["p.csp:2: 1 byte", "    2 | P = a -> ?[2J STOP", "        a control character, or one that is not ASCII"]),
+     ["p.csp:2: 1 byte"], ["    2 | P = a -> ?[2J STOP", "        a control character, or one that is not ASCII"], 3),
     ("two hundred bytes of a long line", ["check", "p.csp", "P"], b"channel a\nP = $" + b" " * 300 + b"STOP\n",
-     ["p.csp:2: 2 token", "    2 | P = $" + " " * 195, NO_TOKEN]),
-    ("no line for a fault of the whole script", ["check", "p.csp", "Q"], b"channel a\nP = a -> STOP\n",
-     ["p.csp:1: 12 process", "        the script defines no process of this name"]),
+     ["p.csp:2: 2 token"], ["    2 | P = $" + " " * 195, NO_TOKEN], 3),
+    ("no line for a fault of the whole script", ["check", "p.csp", "Q"], GOOD,
+     ["p.csp:1: 12 process"], ["        the script defines no process of this name"], 3),
+    ("an example of the command that was used wrongly", SERVE + ["0"], GOOD, None, [SERVE_EXAMPLE], 2),
+    ("the same for a wrong address", SERVE[:5] + ["10.0.0.1:80", "--connections", "1"], GOOD, None, [SERVE_EXAMPLE], 2),
+    ("the same for a word that is missing", ["check", "p.csp"], GOOD, None,
+     ["Example: printf 'E a\\nR a b\\n' | cspwatch check p.csp P"], 2),
+    ("no example where no command was named", ["judge"], GOOD, None, [], 2),
+    ("nothing below other faults", ["replay", "j"], GOOD, ["j: cannot read"], [], 5),
 ]
 
 
@@ -74,13 +81,14 @@ def main():
     parser.add_argument("--program", default=PROGRAM)
     program = os.path.abspath(parser.parse_args().program)
     passed = failed = 0
-    for name, words, script, wanted in ROWS:
+    for name, words, script, fault, below, status in ROWS:
         with tempfile.TemporaryDirectory() as folder:
             with open(os.path.join(folder, "p.csp"), "wb") as file:
                 file.write(script)
             shown = on_terminal([program] + words, folder)
             plain = elsewhere([program] + words, folder)
-        if shown == (wanted, 3) and plain == (wanted[:1], 3):
+        fault = fault or plain[0]
+        if fault and shown == (fault + below, status) and plain == (fault, status):
             passed += 1
         else:
             failed += 1
