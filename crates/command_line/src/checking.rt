@@ -1,5 +1,8 @@
 //! `cspwatch check`: the reports on the input, judged by what a script denotes.
 
+ghost use Rattle.std.specs.Prelude.{◌≡◌, ◌⊎◌, IfOk, IfErr};
+ghost use Rattle.command_line.specs.Commands.{IsRefusal, Judged};
+
 use crate::scripts::text_of;
 use crate::telling::{tell_fault, tell_opening, tell_script};
 use memory_disks::MemoryDisk;
@@ -12,7 +15,7 @@ use std::sync::Wait;
 use wire::{End, Sink, Source, WireError};
 
 // How a conversation ended, and the exit status that it asks for.
-#[derive(Clone, Copy, Debug)]
+#[derive(Clone, Copy)]
 struct Talked {
     end: Result<End, WireError>,
     exit: Exit,
@@ -24,7 +27,9 @@ fn tell_unopened<E: Write + IsTerminal>(
     name: &str,
     script: &[u8],
     error: SessionError,
-) -> Exit {
+) -> Exit
+    ensures { IsRefusal result }
+{
     match error {
         SessionError::Script(fault) => tell_script(errors, name, script, &fault),
         SessionError::Device => tell_opening(errors, name, SessionError::Memory),
@@ -33,7 +38,9 @@ fn tell_unopened<E: Write + IsTerminal>(
 }
 
 // Reports the fault that ended the conversation, if one did.
-fn tell_end<E: Write>(errors: &mut E, name: &str, talked: Talked) -> Exit {
+fn tell_end<E: Write>(errors: &mut E, name: &str, talked: Talked) -> Exit
+    ensures { result ≡ talked.exit }
+{
     match talked.end {
         Ok(_) => talked.exit,
         Err(WireError::Read) => tell_fault(errors, "-", "cannot read", talked.exit),
@@ -50,7 +57,10 @@ fn talk<R: Wait, T: Source, W: Sink>(
     process: &[u8],
     reader: &mut T,
     writer: &mut W,
-) -> Result<Talked, SessionError> {
+) -> Result<Talked, SessionError>
+    ensures judged { IfOk result (λ t. Judged process.now (T.left reader.old) (T.left reader.new) (W.contents writer.old) (W.contents writer.new) t.exit) }
+    ensures untouched { IfErr result (λ _. (reader.new ≡ reader.old) × (writer.new ≡ writer.old)) }
+{
     let disk = MemoryDisk::new(Vec::new(alloc));
     let Checked {
         session: _,
@@ -62,14 +72,18 @@ fn talk<R: Wait, T: Source, W: Sink>(
 }
 
 /// Judges the lines of the reader by the process of the script in the file, and answers the exit status.
-pub(crate) fn check<R: Files + AllocGlobal + Wait, T: Source, W: Sink, E: Write + IsTerminal>(
+pub fn check<R: Files + AllocGlobal + Wait, T: Source, W: Sink, E: Write + IsTerminal>(
     rt: &R,
     name: &str,
     process: &str,
     reader: &mut T,
     writer: &mut W,
     errors: &mut E,
-) -> Exit {
+) -> Exit
+    // A conversation was judged, and the exit status is its own; or nothing was read or written, and it is that of a refusal.
+    ensures { Judged process.now (T.left reader.old) (T.left reader.new) (W.contents writer.old) (W.contents writer.new) result
+        ⊎ (IsRefusal result × (reader.new ≡ reader.old) × (writer.new ≡ writer.old)) }
+{
     let script = match text_of(rt, name, errors) {
         Ok(script) => script,
         Err(exit) => return exit,

@@ -10,7 +10,7 @@ use std::net::SocketAddrV4;
 const VERSION: &str = "0.2.0";
 
 /// What the words ask for.
-#[derive(Clone, Copy, Debug, PartialEq, Eq)]
+#[derive(Clone, Copy)]
 pub(crate) enum Wish<'a> {
     /// To judge the reports on standard input by the process of the script in the file `spec`.
     Check { spec: &'a str, process: &'a str },
@@ -23,7 +23,7 @@ pub(crate) enum Wish<'a> {
 }
 
 /// What is served, and where.
-#[derive(Clone, Copy, Debug, PartialEq, Eq)]
+#[derive(Clone, Copy)]
 pub(crate) struct Service<'a> {
     pub(crate) spec: &'a str,
     pub(crate) process: &'a str,

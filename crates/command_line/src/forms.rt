@@ -1,5 +1,10 @@
 //! `cspwatch print`: the printed form of what a script denotes.
 
+ghost use Rattle.std.specs.Prelude.{◌≡◌, ◌⊎◌, IsTrue};
+ghost use Rattle.std.specs.Io.KnownBytes.{Appends};
+ghost use Rattle.program.specs.declared.exit.Exit.TheVariants.{Done, FileFailed};
+ghost use Rattle.command_line.specs.Commands.{Printed};
+
 use crate::scripts::text_of;
 use crate::telling::{tell_fault, tell_script};
 use program::{Exit, PrintError};
@@ -7,7 +12,9 @@ use std::io::{IsTerminal, Write};
 use std::rt::Files;
 
 /// Writes the text, or reports that the output failed. Answers whether it was written.
-pub(crate) fn put_out<O: Write, E: Write>(text: &[u8], output: &mut O, errors: &mut E) -> bool {
+pub(crate) fn put_out<O: Write, E: Write>(text: &[u8], output: &mut O, errors: &mut E) -> bool
+    ensures { IsTrue result → Appends (O.contents output.old) (O.contents output.new) text.now }
+{
     let is_written = output.write_all(text).is_ok() && output.flush().is_ok();
     if !is_written {
         tell_fault(errors, "-", "cannot write", Exit::FileFailed);
@@ -21,7 +28,9 @@ pub(crate) fn write<O: Write, E: Write>(
     exit: Exit,
     output: &mut O,
     errors: &mut E,
-) -> Exit {
+) -> Exit
+    ensures { (result ≡ FileFailed) ⊎ ((result ≡ exit) × Appends (O.contents output.old) (O.contents output.new) text.now) }
+{
     if put_out(text, output, errors) {
         exit
     } else {
@@ -30,13 +39,15 @@ pub(crate) fn write<O: Write, E: Write>(
 }
 
 /// Prints what the script in the file denotes for the process, and answers the exit status.
-pub(crate) fn print<R: Files + AllocGlobal, O: Write, E: Write + IsTerminal>(
+pub fn print<R: Files + AllocGlobal, O: Write, E: Write + IsTerminal>(
     rt: &R,
     name: &str,
     process: &str,
     output: &mut O,
     errors: &mut E,
-) -> Exit {
+) -> Exit
+    ensures { result ≡ Done → Printed process.now (O.contents output.old) (O.contents output.new) }
+{
     let script = match text_of(rt, name, errors) {
         Ok(script) => script,
         Err(exit) => return exit,

@@ -19,6 +19,9 @@ mod shown;
 mod telling;
 mod words;
 
+pub use checking::check;
+pub use forms::print;
+pub use replaying::replay;
 pub use running::run;
 pub use telling::tell_no_memory;
 pub use words::words_of;

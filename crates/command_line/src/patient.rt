@@ -24,8 +24,9 @@ impl<T: Read> Read for Patient<T> {
     fn read(&mut self, buf: &mut [u8]) -> io::Result<usize> {
         for _ in 0..u64::MAX {
             match self.inner.read(buf) {
+                Ok(count) => return Ok(count),
                 Err(fault) if fault.kind() == ErrorKind::Interrupted => {}
-                done => return done,
+                Err(fault) => return Err(fault),
             }
         }
         Err(io::Error::from(ErrorKind::Interrupted))

@@ -1,7 +1,8 @@
 //! The script of the command line.
-ghost use Rattle.std.specs.Prelude.{IfOk};
+ghost use Rattle.std.specs.Prelude.{IfOk, IfErr};
 ghost use Rattle.script.specs.Reading.{IsRead};
 ghost use Rattle.term.specs.Specs.{Specified};
+ghost use Rattle.command_line.specs.Commands.{IsRefusal};
 
 use crate::telling::{tell_fault, tell_script};
 use program::Exit;
@@ -28,7 +29,9 @@ fn read_file<R: Files>(rt: &R, name: &str, text: &mut Vec<u8>) -> io::Result<usi
 }
 
 // Reports why the file can't be read, and answers the status.
-fn tell_unread<E: Write + IsTerminal>(errors: &mut E, name: &str, kind: ErrorKind) -> Exit {
+fn tell_unread<E: Write + IsTerminal>(errors: &mut E, name: &str, kind: ErrorKind) -> Exit
+    ensures { IsRefusal result }
+{
     match kind {
         ErrorKind::OutOfMemory => tell_script(errors, name, &[], &NO_MEMORY),
         _ => tell_fault(errors, name, "cannot read", Exit::FileFailed),
@@ -41,7 +44,9 @@ pub(crate) fn text_of<R: Files + AllocGlobal, E: Write + IsTerminal>(
     rt: &R,
     name: &str,
     errors: &mut E,
-) -> Result<Vec<u8>, Exit> {
+) -> Result<Vec<u8>, Exit>
+    ensures { IfErr result IsRefusal }
+{
     let mut text = Vec::new(rt.alloc());
     match read_file(rt, name, &mut text) {
         Ok(_) => Ok(text),

@@ -22,7 +22,7 @@ use std::thread::Threads;
 
 // What is left of a run once its connections are over: the counts of its history, whether the journal failed in this run, and
 // what came of the connections.
-#[derive(Clone, Copy, Debug)]
+#[derive(Clone, Copy)]
 struct Ended {
     summary: Summary,
     closed: bool,
