@@ -88,14 +88,7 @@ pub fn check<R: Files + AllocGlobal + Wait, T: Source, W: Sink, E: Write + IsTer
         Ok(script) => script,
         Err(exit) => return exit,
     };
-    match talk(
-        rt,
-        rt.alloc(),
-        &script,
-        process.as_bytes(),
-        reader,
-        writer,
-    ) {
+    match talk(rt, rt.alloc(), &script, process.as_bytes(), reader, writer) {
         Ok(talked) => tell_end(errors, name, talked),
         Err(error) => tell_unopened(errors, name, &script, error),
     }

@@ -31,13 +31,7 @@ fn fulfil<
     I: Read,
     O: Write,
     E: Write + IsTerminal,
->(
-    rt: &R,
-    wish: Wish<'_>,
-    input: &mut I,
-    output: &mut O,
-    errors: &mut E,
-) -> Exit {
+>(rt: &R, wish: Wish<'_>, input: &mut I, output: &mut O, errors: &mut E) -> Exit {
     match wish {
         Wish::Check { spec, process } => {
             let mut reader = Plain::new(Patient::new(input));
@@ -62,13 +56,7 @@ fn exit_of<
     I: Read,
     O: Write,
     E: Write + IsTerminal,
->(
-    rt: &R,
-    words: &[S],
-    input: &mut I,
-    output: &mut O,
-    errors: &mut E,
-) -> Exit {
+>(rt: &R, words: &[S], input: &mut I, output: &mut O, errors: &mut E) -> Exit {
     match read_words(rt.alloc(), words) {
         Err(error) => tell_use(&error, example_of(words), output, errors),
         Ok(None) => Exit::Misuse,
@@ -92,13 +80,7 @@ pub fn run<
     I: Read,
     O: Write,
     E: Write + IsTerminal,
->(
-    rt: &R,
-    words: &[S],
-    input: &mut I,
-    output: &mut O,
-    errors: &mut E,
-) -> u8
+>(rt: &R, words: &[S], input: &mut I, output: &mut O, errors: &mut E) -> u8
     ensures { (exit : Status) × (result ≡ exit_code exit) }
 {
     exit_of(rt, words, input, output, errors).code()

@@ -85,12 +85,7 @@ fn listen_at<
     R: Files<File = File> + Net<Stream = TcpStream, Listener = TcpListener>,
     O: Write,
     E: Write,
->(
-    rt: &R,
-    service: &Service<'_>,
-    output: &mut O,
-    errors: &mut E,
-) -> Result<TcpListener, Exit> {
+>(rt: &R, service: &Service<'_>, output: &mut O, errors: &mut E) -> Result<TcpListener, Exit> {
     if keep_name(rt, service.journal).is_err() {
         return Err(tell_fault(errors, service.journal, "cannot write", Exit::FileFailed));
     }
@@ -114,8 +109,13 @@ fn serve_all<
     listener: TcpListener,
 ) -> Result<Ended, AllocError> {
     let accept = TcpAccept::new(listener);
-    let Closing { session, account } =
-        serve_session(rt, rt.alloc(), session, accept, service.connections)?;
+    let Closing { session, account } = serve_session(
+        rt,
+        rt.alloc(),
+        session,
+        accept,
+        service.connections,
+    )?;
     Ok(Ended {
         summary: session.summary(),
         closed: session.is_closed(),
@@ -159,7 +159,12 @@ fn session_at<R: Files<File = File> + AllocGlobal, E: Write + IsTerminal>(
     errors: &mut E,
 ) -> Result<Session<FileDisk<File>, Global>, Exit> {
     let file = journal_at(rt, service.journal, errors)?;
-    match open(rt.alloc(), FileDisk::new(file), script, service.process.as_bytes()) {
+    match open(
+        rt.alloc(),
+        FileDisk::new(file),
+        script,
+        service.process.as_bytes(),
+    ) {
         Ok(session) => Ok(session),
         Err((error, _)) => Err(tell_open(errors, service.spec, script, service.journal, error)),
     }
@@ -176,12 +181,7 @@ pub(crate) fn serve<
         + Sync,
     O: Write,
     E: Write + IsTerminal,
->(
-    rt: &R,
-    service: &Service<'_>,
-    output: &mut O,
-    errors: &mut E,
-) -> Exit {
+>(rt: &R, service: &Service<'_>, output: &mut O, errors: &mut E) -> Exit {
     let script = match script_of(rt, service, errors) {
         Ok(script) => script,
         Err(exit) => return exit,
@@ -199,6 +199,12 @@ fn script_of<R: Files + AllocGlobal, E: Write + IsTerminal>(
     errors: &mut E,
 ) -> Result<Vec<u8>, Exit> {
     let script = text_of(rt, service.spec, errors)?;
-    tell_read(rt.alloc(), service.spec, &script, service.process.as_bytes(), errors)?;
+    tell_read(
+        rt.alloc(),
+        service.spec,
+        &script,
+        service.process.as_bytes(),
+        errors,
+    )?;
     Ok(script)
 }
