@@ -45,7 +45,7 @@ fn fulfil<
 }
 
 // Reads the words, does what they ask for, and answers the exit status.
-fn exit_of<
+fn fulfil_words<
     S: AsStr,
     R: Files<File = File>
         + Net<Stream = TcpStream, Listener = TcpListener>
@@ -83,5 +83,5 @@ pub fn run<
 >(rt: &R, words: &[S], input: &mut I, output: &mut O, errors: &mut E) -> u8
     ensures { (exit : Status) × (result ≡ exit_code exit) }
 {
-    exit_of(rt, words, input, output, errors).code()
+    fulfil_words(rt, words, input, output, errors).code()
 }

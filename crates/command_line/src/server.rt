@@ -99,7 +99,7 @@ fn listen_at<
 }
 
 // Serves the connections of the listener at this session, and says what is left of the run.
-fn serve_all<
+fn serve_to_end<
     D: Disk + Drop + Send,
     R: Net<Stream = TcpStream, Listener = TcpListener> + AllocGlobal + Threads + Wait + Sync,
 >(
@@ -145,7 +145,7 @@ fn serve_at<
         Ok(listener) => listener,
         Err(exit) => return exit,
     };
-    match serve_all(rt, service, session, listener) {
+    match serve_to_end(rt, service, session, listener) {
         Ok(ended) => tell_ended(rt.alloc(), service, ended, output, errors),
         Err(AllocError) => tell_fault(errors, service.spec, "40 memory", Exit::Limit),
     }
