@@ -7,10 +7,10 @@ use std::convert::AsStr;
 use std::net::SocketAddrV4;
 
 /// The version of the program, as `--version` prints it.
-const VERSION: &str = "0.1.0";
+const VERSION: &str = "0.2.0";
 
 /// What the words ask for.
-#[derive(Clone, Copy, Debug, PartialEq, Eq)]
+#[derive(Clone, Copy)]
 pub(crate) enum Wish<'a> {
     /// To judge the reports on standard input by the process of the script in the file `spec`.
     Check { spec: &'a str, process: &'a str },
@@ -23,7 +23,7 @@ pub(crate) enum Wish<'a> {
 }
 
 /// What is served, and where.
-#[derive(Clone, Copy, Debug, PartialEq, Eq)]
+#[derive(Clone, Copy)]
 pub(crate) struct Service<'a> {
     pub(crate) spec: &'a str,
     pub(crate) process: &'a str,
@@ -38,6 +38,21 @@ pub(crate) struct Service<'a> {
 // How a fault of the address is reported.
 const BAD_ADDRESS: &str = "ADDR is 127.x.y.z:port, in decimals without leading zeros";
 
+// What the help of the program ends with.
+const STATUSES: &str = "\
+Exit status: 0 all is done, 1 a report was rejected, 2 bad use, 3 the script is refused,
+4 the journal gives no session, 5 a file or a stream failed, 6 out of memory or at a limit";
+
+// An example of each command, at the end of its help.
+const CHECK_EXAMPLE: &str = "Example: printf 'E a\\nR a b\\n' | cspwatch check p.csp P";
+
+const PRINT_EXAMPLE: &str = "Example: cspwatch print p.csp P";
+
+const REPLAY_EXAMPLE: &str = "Example: cspwatch replay run.journal";
+
+const SERVE_EXAMPLE: &str =
+    "Example: cspwatch serve p.csp P run.journal --listen 127.0.0.1:7000 --connections 2";
+
 fn word<'a>(alloc: Global, id: &'a str, help: &'a str) -> Arg<'a> {
     Arg::new(alloc, id)
         .required(true)
@@ -45,15 +60,17 @@ fn word<'a>(alloc: Global, id: &'a str, help: &'a str) -> Arg<'a> {
         .help(help)
 }
 
-// A command on the process of a script.
+// A command on the process of a script, with an example of its use.
 fn on_process<'a>(
     alloc: Global,
     name: &'a str,
     about: &'a str,
     help: &'a str,
+    example: &'a str,
 ) -> Result<Command<'a>, AllocError> {
     Command::new(alloc, name)
         .about(about)
+        .after_help(example)
         .arg(word(alloc, "SPEC", "The file of the script"))?
         .arg(word(alloc, "PROCESS", help))
 }
@@ -64,6 +81,7 @@ fn check_command<'a>(alloc: Global) -> Result<Command<'a>, AllocError> {
         "check",
         "Judges the reports on standard input, and answers on standard output",
         "The process of the script to judge by",
+        CHECK_EXAMPLE,
     )
 }
 
@@ -73,12 +91,14 @@ fn print_command<'a>(alloc: Global) -> Result<Command<'a>, AllocError> {
         "print",
         "Prints what a process of the script means, with numbers for its definitions",
         "The process of the script to print",
+        PRINT_EXAMPLE,
     )
 }
 
 fn replay_command<'a>(alloc: Global) -> Result<Command<'a>, AllocError> {
     Command::new(alloc, "replay")
-        .about("Judges the records of a journal anew, and tells their summary")
+        .about("Judges the records of a journal anew, and prints their summary")
+        .after_help(REPLAY_EXAMPLE)
         .arg(word(alloc, "JOURNAL", "The file of the journal"))
 }
 
@@ -97,6 +117,7 @@ fn serve_command<'a>(alloc: Global) -> Result<Command<'a>, AllocError> {
         "serve",
         "Judges the reports of connections, and keeps them in a journal",
         "The process of the script to judge by",
+        SERVE_EXAMPLE,
     )?
     .arg(word(alloc, "JOURNAL", "The file of the journal"))?
     .arg(listen)?
@@ -123,6 +144,7 @@ fn command<'a>(alloc: Global) -> Result<Command<'a>, AllocError> {
     let command = Command::new(alloc, "cspwatch")
         .version(VERSION)
         .about("Judges reports of running components against a CSP specification")
+        .after_help(STATUSES)
         .subcommand_required(true);
     let command = with_serve(alloc, with_check(alloc, command)?)?;
     with_replay(alloc, with_print(alloc, command)?)
@@ -167,7 +189,7 @@ fn wish_of<'a>(matches: &ArgMatches<'a>) -> Option<Wish<'a>> {
 }
 
 /// Reads the words, the first of which is the program's name. What `clap` takes has the words of its command, but no
-/// clause here says so: `Ok(None)` stands for their want.
+/// clause here says so: `Ok(None)` is the answer where one is missing.
 pub(crate) fn read_words<'a, S: AsStr>(
     alloc: Global,
     words: &'a [S],
@@ -176,5 +198,16 @@ pub(crate) fn read_words<'a, S: AsStr>(
     match matches.subcommand() {
         Some(("serve", inner)) => serve_wish(alloc, inner),
         _ => Ok(wish_of(&matches)),
+    }
+}
+
+/// An example of the command that the words name, if they name one.
+pub(crate) fn example_of<S: AsStr>(words: &[S]) -> Option<&'static str> {
+    match words.get(1)?.as_str() {
+        "check" => Some(CHECK_EXAMPLE),
+        "print" => Some(PRINT_EXAMPLE),
+        "replay" => Some(REPLAY_EXAMPLE),
+        "serve" => Some(SERVE_EXAMPLE),
+        _ => None,
     }
 }

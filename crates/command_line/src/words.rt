@@ -23,7 +23,7 @@ fn word_bytes<R: Env>(rt: &R, alloc: Global, at: usize) -> Result<Option<Vec<u8>
 }
 
 /// All words, the first of which is the program's name.
-pub(crate) fn words_of<R: Env>(rt: &R, alloc: Global) -> Result<Vec<String>, AllocError> {
+pub fn words_of<R: Env>(rt: &R, alloc: Global) -> Result<Vec<String>, AllocError> {
     let mut words = Vec::new(alloc);
     for at in 0..usize::MAX {
         match word_bytes(rt, alloc, at)? {
