@@ -1,11 +1,15 @@
-//! What a crash leaves after each call, and what there is in a file cut to each length.
+//! What a crash leaves after each call, what comes where each call fails, and what there is in a file cut to each length.
 
-use crate::scenes::{Scene, in_memory, played, put_left};
-use memory_disks::{CrashDisk, Part};
+use crate::scenes::{Scene, after_failing, at_fault, in_memory, played, put_left};
+use crate::stops::stops;
+use memory_disks::{Afterwards, CrashDisk, Part};
 use std::alloc::{AllocError, Global};
 
+/// More calls than a row's disk has.
+const MOST_CALLS: usize = 1_000;
+
 /// Adds the outcome at this place where it isn't the last one.
-fn put_outcome(
+pub(crate) fn put_outcome(
     place: usize,
     came: String,
     last: &mut String,
@@ -14,7 +18,7 @@ fn put_outcome(
     if came == *last {
         return Ok(());
     }
-    let mark = if place > 0 { " | " } else { "" };
+    let mark = if last.is_empty() { "" } else { " | " };
     write!(out, "{mark}{place}: {came}")?;
     *last = came;
     Ok(())
@@ -95,6 +99,48 @@ fn lengths(alloc: Global, scene: &Scene, out: &mut String) -> Result<(), AllocEr
     Ok(())
 }
 
+/// What comes where each call of the disk fails, as far as the first that isn't made. None fails in the full outcome.
+fn failures(
+    alloc: Global,
+    afterwards: Afterwards,
+    scene: &Scene,
+    out: &mut String,
+) -> Result<(), AllocError> {
+    let mut full = String::new(alloc);
+    at_fault(alloc, 0, afterwards, scene, &mut full)?;
+    let mut last = String::new(alloc);
+    for call in 1..MOST_CALLS {
+        let mut came = String::new(alloc);
+        at_fault(alloc, call as u64, afterwards, scene, &mut came)?;
+        let is_full = came == full;
+        put_outcome(call, came, &mut last, out)?;
+        if is_full {
+            return Ok(());
+        }
+    }
+    out.push_str(" too many calls")
+}
+
+/// Plays `once ROW` or `always ROW`.
+fn play_failures(alloc: Global, text: &str, out: &mut String) -> Result<(), AllocError> {
+    let (afterwards, row) = after_failing(text);
+    match Scene::read(row) {
+        Some(scene) => failures(alloc, afterwards, &scene, out),
+        None => out.push_str("no such row"),
+    }
+}
+
+/// Plays the row with a stop after each call.
+fn play_stops(alloc: Global, row: &str, out: &mut String) -> Result<(), AllocError> {
+    match Scene::read(row) {
+        Some(scene) => {
+            let disk = kept(alloc, &scene)?;
+            stops(alloc, &disk, out)
+        }
+        None => out.push_str("no such row"),
+    }
+}
+
 /// Plays `PART ROW`.
 fn play_crashes(alloc: Global, text: &str, out: &mut String) -> Result<(), AllocError> {
     let (part, row) = text.split_once(' ').unwrap_or((text, ""));
@@ -116,6 +162,8 @@ pub(crate) fn play(
 ) -> Result<bool, AllocError> {
     let done = match kind {
         "crashes" => play_crashes(alloc, text, out),
+        "failures" => play_failures(alloc, text, out),
+        "stops" => play_stops(alloc, text, out),
         "lengths" => lengths(alloc, &Scene::of_file(text), out),
         _ => return Ok(false),
     };
