@@ -8,7 +8,7 @@
 //! | `over FILE # ROOT SCRIPT # ASKS` | the same on a disk that holds this file before: the answers, and the journal's file |
 //! | `written ROOT SCRIPT # ASKS` | the same: the answers, and the journal's file |
 //! | `journal FILE # ASKS` | a session of what the file holds: the answers, and the file as it is then |
-//! | `records ROOT SCRIPT # RECORDS # ASKS` | a session of a file with such a header and these records |
+//! | `records VERSION ROOT SCRIPT # RECORDS # ASKS` | a session of a file with a header of this version, root and script, and these records |
 //! | `fault K once ROW` | a `session`, `over` or `journal` on a disk whose K-th call fails: the answers, the file, and what a session of that file answers to `S` and leaves |
 //! | `fault K always ROW` | the same where all calls from the K-th on fail |
 //! | `failures once ROW`, `failures always ROW` | the same with each call of the disk, as far as the first that isn't made; each outcome with the first call that has it |

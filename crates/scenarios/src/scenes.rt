@@ -146,12 +146,13 @@ pub(crate) fn put_left(alloc: Global, file: &[u8], out: &mut String) -> Result<(
     reopened(alloc, file, out)
 }
 
-/// The file of a journal with this root and script, and these records, and then what is asked.
+/// The file of a journal of this version, root and script, and these records, and then what is asked.
 fn with_header(alloc: Global, text: &str) -> Result<String, AllocError> {
     let (begin, rest) = text.split_once(" # ").unwrap_or((text, ""));
+    let (version, begin) = begin.split_once(' ').unwrap_or((begin, ""));
     let (root, script) = begin.split_once(' ').unwrap_or((begin, ""));
     let length = script.len();
-    format!(in alloc; "cspwatch journal 1\nroot {root}\nscript {length}\n{script}\n{rest}")
+    format!(in alloc; "cspwatch journal {version}\nroot {root}\nscript {length}\n{script}\n{rest}")
 }
 
 /// The answers of a session of a file with this header and these records.
