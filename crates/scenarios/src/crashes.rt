@@ -99,22 +99,43 @@ fn lengths(alloc: Global, scene: &Scene, out: &mut String) -> Result<(), AllocEr
     Ok(())
 }
 
-/// What comes where each call of the disk fails, as far as the first that isn't made. None fails in the full outcome.
+/// What comes where this call of the disk fails; with 0 none does.
+fn failure(
+    alloc: Global,
+    call: usize,
+    afterwards: Afterwards,
+    scene: &Scene,
+) -> Result<String, AllocError> {
+    let mut out = String::new(alloc);
+    at_fault(alloc, call as u64, afterwards, scene, &mut out)?;
+    Ok(out)
+}
+
+/// Adds what comes where this call fails. Whether it is the full outcome is answered.
+fn put_failure(
+    call: usize,
+    came: String,
+    full: &str,
+    last: &mut String,
+    out: &mut String,
+) -> Result<bool, AllocError> {
+    let is_full = came.as_str() == full;
+    put_outcome(call, came, last, out)?;
+    Ok(is_full)
+}
+
+/// What comes where each call of the disk fails, as far as the first that isn't made: then the full outcome comes.
 fn failures(
     alloc: Global,
     afterwards: Afterwards,
     scene: &Scene,
     out: &mut String,
 ) -> Result<(), AllocError> {
-    let mut full = String::new(alloc);
-    at_fault(alloc, 0, afterwards, scene, &mut full)?;
+    let full = failure(alloc, 0, afterwards, scene)?;
     let mut last = String::new(alloc);
     for call in 1..MOST_CALLS {
-        let mut came = String::new(alloc);
-        at_fault(alloc, call as u64, afterwards, scene, &mut came)?;
-        let is_full = came == full;
-        put_outcome(call, came, &mut last, out)?;
-        if is_full {
+        let came = failure(alloc, call, afterwards, scene)?;
+        if put_failure(call, came, &full, &mut last, out)? {
             return Ok(());
         }
     }

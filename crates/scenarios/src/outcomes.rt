@@ -98,6 +98,17 @@ fn expected(alloc: Global, replies: &str, others: &str) -> Result<String, AllocE
     Ok(out)
 }
 
+/// What comes of the lines that weren't answered with a fault, where no request is refused.
+fn run_without<T: Wait>(
+    rt: &T,
+    alloc: Global,
+    talk: &Talk,
+    replies: &str,
+) -> Result<String, AllocError> {
+    let lines = others(alloc, talk.lines, replies)?;
+    talk.in_full(rt, alloc, &lines)
+}
+
 /// Whether the lines without faults are answered as if the others weren't there, and the exit status is 1 where a report was rejected,
 /// else 6.
 fn is_as_without<T: Wait>(
@@ -107,11 +118,11 @@ fn is_as_without<T: Wait>(
     came: &str,
 ) -> Result<bool, AllocError> {
     let (replies, status) = parts_of_run(came);
-    let lines = others(alloc, talk.lines, replies)?;
-    let run = talk.in_full(rt, alloc, &lines)?;
+    let run = run_without(rt, alloc, talk, replies)?;
     let (others, other_status) = parts_of_run(&run);
     let wanted = expected(alloc, replies, others)?;
-    Ok(wanted.as_str() == replies && status == if other_status == "1" { "1" } else { "6" })
+    let wanted_status = if other_status == "1" { "1" } else { "6" };
+    Ok(wanted.as_str() == replies && status == wanted_status)
 }
 
 /// Whether nothing came but the refusal, before there was anything to answer.
