@@ -14,7 +14,7 @@ fn played<T: Threads + Wait + Clock + Sync>(
     out: &mut String,
 ) -> Result<bool, AllocError> {
     let text = row.replace(alloc, '$', "\n")?;
-    let (kind, rest) = text.split_once(' ').unwrap_or((&text, ""));
+    let (kind, rest) = text.split_once(' ').unwrap_or((text.as_str(), ""));
     Ok(talks::play(rt, alloc, kind, rest, out)? || threads::play(rt, alloc, kind, rest, out)?)
 }
 

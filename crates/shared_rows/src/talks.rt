@@ -219,7 +219,7 @@ fn share<D: Disk + Drop, N: Naming, T: Wait>(
     requires book { opened.seen.book ≡ N.book }
     requires ledger { (blank.name ≡ N.name) × (blank.parts ≡ N.parts) × (N.all ≡ N.parts) × (N.all ≡ 65) }
     requires events { event_count N.spec.alphabet ≡ event_count alphabet.now }
-    requires places { (0 < talks.places) × (talks.places ≤ 64) }
+    requires places { (0 < talks.now.places) × (talks.now.places ≤ 64) }
 {
     let Ok(shared) = Shared::<D, Global, N>::new(alloc, session, opened, blank, talks.places) else {
         return Err(AllocError);
@@ -238,7 +238,7 @@ fn over<D: Disk + Drop, T: Wait>(
     talks: &Talks,
     out: &mut String,
 ) -> Result<(), AllocError>
-    requires places { (0 < talks.places) × (talks.places ≤ 64) }
+    requires places { (0 < talks.now.places) × (talks.now.places ≤ 64) }
 {
     match copy_of(alloc, session.spec().alphabet()) {
         Ok(alphabet) => share::<_, Brand, _>(
