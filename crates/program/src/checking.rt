@@ -24,7 +24,7 @@ use disk::Disk;
 use seats::{SeatJudge, copy_of};
 use session::{Session, SessionError};
 use shared::{SeatFault, Share, Shared};
-use std::alloc::Global;
+use std::alloc::{Allocator, Global};
 use std::marker::Brand;
 use std::sync::Wait;
 use std::sync::ledger::Blank;
@@ -32,9 +32,9 @@ use wire::{End, Sink, Source, Tally, WireError};
 
 /// What a check comes to.
 #[derive(Drop)]
-pub struct Checked<D: Disk> {
+pub struct Checked<D: Disk, A: Allocator = Global> {
     /// The session, with the history of what was reported.
-    pub session: Session<D, Global>,
+    pub session: Session<D, A>,
     /// How the conversation ended.
     pub end: Result<End, WireError>,
     /// What there was among the answers.
@@ -44,21 +44,21 @@ pub struct Checked<D: Disk> {
 }
 
 // What the only seat has seen and done at the end, how its conversation ended, and what was answered.
-struct Heard<N: Naming> {
-    share: Share<N, Global>,
+struct Heard<N: Naming, A: Allocator> {
+    share: Share<N, A>,
     end: Result<End, WireError>,
     tally: Tally,
 }
 
 // Answers the lines of the reader from a seat.
-fn hear<R: Wait, D: Disk, N: Naming, T: Source, W: Sink>(
+fn hear<R: Wait, D: Disk, A: Allocator + Copy + Drop, N: Naming, T: Source, W: Sink>(
     rt: &R,
-    alloc: Global,
-    shared: &Shared<D, Global, N>,
-    alphabet: &Alphabet<Global>,
+    alloc: A,
+    shared: &Shared<D, A, N>,
+    alphabet: &Alphabet<A>,
     reader: &mut T,
     writer: &mut W,
-) -> Result<Heard<N>, SeatFault>
+) -> Result<Heard<N, A>, SeatFault>
     requires { alphabet.now ≡ N.spec.alphabet }
     ensures serves { IfOk result (λ h. (first : SeatTold) × (first.mine ≡ []) × (first.closed ≡ false)
         × Serves (LineReplies (Reports (bodies_of N.spec.bodies)) (Statuses (bodies_of N.spec.bodies)) (Nexts (bodies_of N.spec.bodies)) N.spec.alphabet)
@@ -83,16 +83,23 @@ fn hear<R: Wait, D: Disk, N: Naming, T: Source, W: Sink>(
 }
 
 // Answers the lines of the reader from the only seat of the session. The caller picks the names.
-fn hear_alone<R: Wait, D: Disk + Drop, N: Naming, T: Source, W: Sink>(
+fn hear_alone<
+    R: Wait,
+    D: Disk + Drop,
+    A: Allocator + Copy + Drop,
+    N: Naming,
+    T: Source,
+    W: Sink,
+>(
     rt: &R,
-    alloc: Global,
-    session: Session<D, Global>,
+    alloc: A,
+    session: Session<D, A>,
     opened: Opened,
     blank: Blank,
-    alphabet: &Alphabet<Global>,
+    alphabet: &Alphabet<A>,
     reader: &mut T,
     writer: &mut W,
-) -> Result<Checked<D>, SessionError>
+) -> Result<Checked<D, A>, SessionError>
     requires story { (session.spec ≡ N.spec) × (session.history ≡ N.opening) × (N.opening ≡ []) }
     requires book { opened.seen.book ≡ N.book }
     requires ledger { (blank.name ≡ N.name) × (blank.parts ≡ N.parts) × (N.all ≡ N.parts) × (N.all ≡ 2) }
@@ -108,7 +115,7 @@ fn hear_alone<R: Wait, D: Disk + Drop, N: Naming, T: Source, W: Sink>(
     ensures reader_failed { IfOk result (λ c. IsErrOf c.end WireError.Read → T.failures reader.old < T.failures reader.new) }
     ensures writer_failed { IfOk result (λ c. IsErrOf c.end WireError.Write → W.failures writer.old < W.failures writer.new) }
 {
-    let Ok(shared) = Shared::<D, Global, N>::new(alloc, session, opened, blank, 1) else {
+    let Ok(shared) = Shared::<D, A, N>::new(alloc, session, opened, blank, 1) else {
         return Err(SessionError::Memory);
     };
     let mut shares = Vec::new(alloc);
@@ -140,15 +147,15 @@ fn hear_alone<R: Wait, D: Disk + Drop, N: Naming, T: Source, W: Sink>(
 ///
 /// The errors are those of `Session::create`: `Script`, then `Depth` or `States`, then `Device`, or `Memory`. Nothing is then read or
 /// written.
-pub fn check<R: Wait, D: Disk + Drop, T: Source, W: Sink>(
+pub fn check<R: Wait, D: Disk + Drop, A: Allocator + Copy + Drop, T: Source, W: Sink>(
     rt: &R,
-    alloc: Global,
+    alloc: A,
     disk: D,
     script: &[u8],
     process: &[u8],
     reader: &mut T,
     writer: &mut W,
-) -> Result<Checked<D>, SessionError>
+) -> Result<Checked<D, A>, SessionError>
     // The script denotes the session's specification for the process.
     ensures read { IfOk result (λ c. IsRead script.now process.now c.session.spec) }
 
@@ -176,7 +183,7 @@ pub fn check<R: Wait, D: Disk + Drop, T: Source, W: Sink>(
         return Err(SessionError::Memory);
     };
     let opened = Opened::new();
-    hear_alone::<_, _, Brand, _, _>(
+    hear_alone::<_, _, _, Brand, _, _>(
         rt,
         alloc,
         session,
