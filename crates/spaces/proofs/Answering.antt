@@ -1,5 +1,6 @@
 -- What comes of a set by an event.
-use Rattle.std.proofs.Common.{◌≡◌, ℕ, ◌≤◌, true, false, nat_eq, Option, None, Some, IfNone, IfSome, Result, Ok, Err, IfOk, IfErr, OnOk, List, [], ◌∷◌, ◌++◌, length, refl, subst}
+use Rattle.std.proofs.Common.{◌≡◌, ℕ, ◌≤◌, true, false, nat_eq, Option, None, Some, IfNone, IfSome, Result, Ok, Err, IfOk, IfErr, OnOk, List, [], ◌∷◌, ◌++◌, length, refl, ap, subst, arith}
+use Rattle.std.proofs.lemmas.Bool.{eqb-true}
 use Rattle.alphabet.specs.declared.events.Event.{Event}
 use Rattle.step.specs.declared.targets.Label.TheVariants as label
 use Rattle.targets.specs.Cuts.{CutOf}
@@ -28,13 +29,13 @@ pub opening-within : (s t : Spaced) (set : ℕ) → GrewFrom s t → IsClosedSet
 opening-within s t set g c = subst (λ (p : Specified). NoLimit (bodies_of p.bodies) Opening) g.spec (start-within t.spec (states t set) c.closure)
 
 -- ---- no number, and some
-pub no-number : (ps : List Proc) (ns : List ℕ) → nat_eq (length ns) 0 ≡ true → look ps ns ≡ []
-no-number ps [] e = refl
-no-number ps (n ∷ ns) e = absurd (cc)
+pub no-number : (ps : List Proc) (ns : List ℕ) (k : ℕ) → k ≡ length ns → nat_eq k 0 ≡ true → look ps ns ≡ []
+no-number ps [] k h e = refl
+no-number ps (n ∷ ns) k h e = absurd (let q : k ≡ 0 = eqb-true k 0 e in omega (arith, q, h))
 
-pub some-number : (ps : List Proc) (ns : List ℕ) → nat_eq (length ns) 0 ≡ false → (Q : Proc) × In Q (look ps ns)
-some-number ps [] e = absurd (cc)
-some-number ps (n ∷ ns) e = (at ps n, here)
+pub some-number : (ps : List Proc) (ns : List ℕ) (k : ℕ) → k ≡ length ns → nat_eq k 0 ≡ false → (Q : Proc) × In Q (look ps ns)
+some-number ps [] k h e = let f : nat_eq k 0 ≡ true = ap (λ (n : ℕ). nat_eq n 0) h in absurd (cc)
+some-number ps (n ∷ ns) k h e = (at ps n, here)
 
 -- ---- the targets of the event, and what hidden steps reach from them
 module _ (space : Spaced) (set : ℕ) (x : Event) (first : List Proc) (cut : CutOf (TargetOf (bodies_of space.spec.bodies) (states space set) (label.Event x)) most_states first) (few : length first ≤ most_states) where

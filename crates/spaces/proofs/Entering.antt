@@ -67,16 +67,15 @@ module _ {A : Type 0} where
       subst (λ (ps : List Proc). AreFactsOf e.1 ps) (sym (shown-at (found spec a.table es) k w ∙ ap (look a.table.processes) (list-at es k e f))) stored.facts
 
   -- ---- a new list
+  there-if : (e : Vec ℕ A × SetFacts A) (es : List (Vec ℕ A × SetFacts A)) (v : Vec ℕ A) (b : Bool) → pointwise nat_eq v.items e.0.items ≡ b
+      → ((k : ℕ) → k < length (lists_of (e ∷ es)) → get_or (lists_of (e ∷ es)) k [] ≡ v.items → ⊥) → lookup (λ (x : Vec ℕ A). pointwise nat_eq v.items x.items) es ≡ None
+      → cond (pointwise nat_eq v.items e.0.items) (Some e.1) (lookup (λ (x : Vec ℕ A). pointwise nat_eq v.items x.items) es) ≡ None
+  there-if e es v true q h rest = absurd (h 0 (omega arith) (sym ((bytes_decides v.items e.0.items).0 q)))
+  there-if e es v false q h rest = ap (λ (b : Bool). cond b (Some e.1) (lookup (λ (x : Vec ℕ A). pointwise nat_eq v.items x.items) es)) q ∙ rest
+
   not-there : (es : List (Vec ℕ A × SetFacts A)) (v : Vec ℕ A) → ((k : ℕ) → k < length (lists_of es) → get_or (lists_of es) k [] ≡ v.items → ⊥) → lookup (λ (x : Vec ℕ A). pointwise nat_eq v.items x.items) es ≡ None
   not-there [] v h = refl
-  not-there (e ∷ es) v h = by (pointwise nat_eq v.items e.0.items) refl
-    where
-      rest : (k : ℕ) → k < length (lists_of es) → get_or (lists_of es) k [] ≡ v.items → ⊥
-      rest k l f = h (suc k) (omega arith) f
-
-      by : (b : Bool) → pointwise nat_eq v.items e.0.items ≡ b → cond (pointwise nat_eq v.items e.0.items) (Some e.1) (lookup (λ (x : Vec ℕ A). pointwise nat_eq v.items x.items) es) ≡ None
-      by true q = absurd (h 0 (omega arith) (sym ((bytes_decides v.items e.0.items).0 q)))
-      by false q = ap (λ (b : Bool). cond b (Some e.1) (lookup (λ (x : Vec ℕ A). pointwise nat_eq v.items x.items) es)) q ∙ not-there es v rest
+  not-there (e ∷ es) v h = there-if e es v (pointwise nat_eq v.items e.0.items) refl h (not-there es v (λ k l f. h (suc k) (omega arith) f))
 
   pub entries-more : {S : Type 0} (m : IndexMap (Vec ℕ A) (SetFacts A) S) (es : List (Vec ℕ A × SetFacts A)) (v : Vec ℕ A) (f : SetFacts A) → ((k : ℕ) → k < length (lists_of m.entries) → get_or (lists_of m.entries) k [] ≡ v.items → ⊥) → es ≡ insert_entry (λ (a b : Vec ℕ A). pointwise nat_eq a.items b.items) m.entries v f → es ≡ m.entries ++ (v, f) ∷ []
   entries-more m es v f h e = e ∙ insert_entry-new (λ (a b : Vec ℕ A). pointwise nat_eq a.items b.items) m v f (not-there m.entries v h)

@@ -38,13 +38,17 @@ both : (a b : Bool) → a ≡ true → b ≡ true → (a && b) ≡ true
 both true b e f = f
 both false b e f = absurd (cc)
 
-not-on : (b : Bool) → not b ≡ true → b ≡ false
+pub not-on : (b : Bool) → not b ≡ true → b ≡ false
 not-on true e = absurd (cc)
 not-on false e = refl
 
 off-not : (b : Bool) → b ≡ false → not b ≡ true
 off-not true e = absurd (cc)
 off-not false e = refl
+
+pub off-on : (b : Bool) → not b ≡ false → b ≡ true
+off-on true e = refl
+off-on false e = absurd (cc)
 
 is-off : (b : Bool) → (b ≡ true → ⊥) → b ≡ false
 is-off true h = absurd (h refl)
@@ -132,17 +136,20 @@ first-or here = inr refl
 first-or (there i) = inl i
 
 -- one of the first sets, one set further
-pub set-more : (sets : List Set) (i : ℕ) (S : Set → Type 0) → i < length sets → ((M : Set) × In M (take (i + 1) sets) × S M) → ((M : Set) × In M (take i sets) × S M) ⊎ S (get_or sets i 0)
-set-more sets i S h (M, j, s) =
-    elim (append-In (take i sets) (get_or sets i 0 ∷ []) M (subst (λ (l : List Set). In M l) (take_more sets i 0 h) j)) [
+pub set-more : (sets : List Set) (i : ℕ) (O : Set) (S : Set → Type 0) → O ≡ get_or sets i O → i < length sets → ((M : Set) × In M (take (i + 1) sets) × S M) → ((M : Set) × In M (take i sets) × S M) ⊎ S O
+set-more sets i O S e h (M, j, s) =
+    elim (append-In (take i sets) (get_or sets i O ∷ []) M (subst (λ (l : List Set). In M l) (take_more sets i O h) j)) [
       | inl k ↦ inl (M, k, s)
-      | inr k ↦ inr (subst S (single k) s)
+      | inr k ↦ inr (subst S (single k ∙ sym e) s)
     ]
 
-pub set-at : (sets : List Set) (i : ℕ) → i < length sets → In (get_or sets i 0) sets
-set-at [] i h = absurd (omega arith)
-set-at (M ∷ sets) zero h = here
-set-at (M ∷ sets) (suc i) h = there (set-at sets i (omega arith))
+at-In : (sets : List Set) (i : ℕ) (d : Set) → i < length sets → In (get_or sets i d) sets
+at-In [] i d h = absurd (omega arith)
+at-In (M ∷ sets) zero d h = here
+at-In (M ∷ sets) (suc i) d h = there (at-In sets i d (omega arith))
+
+pub set-at : (sets : List Set) (i : ℕ) (O : Set) → O ≡ get_or sets i O → i < length sets → In O sets
+set-at sets i O e h = subst (λ (M : Set). In M sets) (sym e) (at-In sets i O h)
 
 pub put-part : (old : List Set) (O : Set) → HasPart old O → HasPutOffer old O old
 put-part old O h = record { only = λ M i. inl i; kept = λ M i. (M, i, λ x y. y); added = h }

@@ -1,12 +1,11 @@
 -- What contracts see of a space, and to which traces its sets belong.
-use Rattle.std.specs.Prelude.{◌≡◌, ℕ, ◌<◌, List, [], length, get_or}
+use Rattle.std.specs.Prelude.{◌≡◌, ℕ, ◌<◌, List, [], ◌++◌, length, get_or}
 use Rattle.std.specs.Coded.{Coded, code_by, coded×, coded_list}
 use Rattle.std.proofs.Common.{refl}
 use Rattle.alphabet.specs.declared.events.Event.{Event}
 use Rattle.term.specs.Codes.{proc_code}
 use Rattle.term.specs.Proc.{Proc}
 use Rattle.term.specs.Specs.{Specified, specified_code}
-use Rattle.nodes.specs.Tables.{Begins}
 use Rattle.after.specs.Belonging.{Belongs as BelongsTo}
 
 -- A specification, and the sets of states found so far, by number: each the list of its members.
@@ -24,7 +23,7 @@ states space set = get_or space.sets set []
 -- There are only more sets: each number keeps what it is of. The specification stays.
 pub record GrewFrom (old new : Spaced) : Type 0 where
   pub spec : new.spec ≡ old.spec
-  pub sets : Begins old.sets new.sets
+  pub sets : (more : List (List Proc)) × (new.sets ≡ old.sets ++ more)
 
 -- The set belongs to the trace u in this space: its members are just the processes that u reaches from the root, with
 -- hidden steps anywhere, also at the end.

@@ -84,7 +84,7 @@ impl<A: Allocator + Copy> Space<A> {
         }
         match self.find(set, event) {
             Ok(answer) => {
-                self.remember(set, event, answer);
+                self.remember(set, event, &answer);
                 Ok(answer)
             }
             Err(fault) => Err(fault),
@@ -102,15 +102,15 @@ impl<A: Allocator + Copy> Space<A> {
     }
 
     /// Remembers what comes of the set by the event, unless enough is remembered or memory is refused.
-    fn remember(&mut self, set: StateSet, event: Event, answer: Option<StateSet>)
+    fn remember(&mut self, set: StateSet, event: Event, answer: &Option<StateSet>)
         requires here { set < length self.old.sets }
-        requires answer { IsAnswer self.old set event answer }
+        requires answer { IsAnswer self.old set event answer.now }
         ensures { self.new ≡ self.old }
     {
         if self.answers.len() >= MOST_REMEMBERED {
             return;
         }
-        let _ = self.answers.insert(key_of(set, event), answer);
+        let _ = self.answers.insert(key_of(set, event), *answer);
     }
 }
 

@@ -7,7 +7,7 @@ pub returns-in-Some : goal.returns-in-Some
 returns-in-Some g c =
     let es = c.args.sets.now.entries in
     let e : Some (c.in-Some.numbers.now, c.in-Some.field-0-1.now) ≡ slice_get es c.number.result = rw c.in-Some.is at c.get_index.ensures.entry in
-    c.as_slice.ensures ∙ sym (list-at es c.number.result (c.in-Some.numbers.now, c.in-Some.field-0-1.now) e) ∙ ap (λ k. get_or (lists_of es) k []) c.number.ensures
+    c.as_slice.ensures.value ∙ sym (list-at es c.number.result (c.in-Some.numbers.now, c.in-Some.field-0-1.now) e) ∙ ap (λ k. get_or (lists_of es) k []) c.number.ensures
 
 pub returns-in-None : goal.returns-in-None
 returns-in-None g c =

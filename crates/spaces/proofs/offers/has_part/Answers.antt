@@ -1,4 +1,4 @@
-use Rattle.std.proofs.Common.{◌≡◌, ◌≤◌, ◌∙◌, List, inl, inr, length, take, get_or, refl, sym, subst, true≢false, arith}
+use Rattle.std.proofs.Common.{◌≡◌, ◌≤◌, ◌∙◌, List, inl, inr, length, take, refl, sym, subst, true≢false, arith}
 use Rattle.std.proofs.lemmas.List.{take_all}
 use Rattle.alphabet.specs.EventSets.{Set}
 use Rattle.spaces.specs.Offers.{HasPart, IsPart}
@@ -12,14 +12,14 @@ pub returns-then-is_within : goal.returns-then-is_within
 returns-then-is_within c =
     let sets = c.args.sets.now in
     let i = c.loop-other.other-index in
-    ((λ _. (get_or sets i 0, set-at sets i c.loop-other-test.true, c.is_within.ensures.0 c.if-is_within.true)), (λ _. refl))
+    ((λ _. (c.other-item.result, set-at sets i c.other-item.result c.other-item.is c.loop-other-test.true, c.is_within.ensures.0 c.if-is_within.true)), (λ _. refl))
 
 pub loop-other-preserved : goal.loop-other-preserved
 loop-other-preserved c =
     let sets = c.args.sets.now in
     let i = c.loop-other.other-index in
     λ w.
-    elim (set-more sets i (λ (M : Set). IsPart M c.args.set.now) c.loop-other-test.true w) [
+    elim (set-more sets i c.other-item.result (λ (M : Set). IsPart M c.args.set.now) c.other-item.is c.loop-other-test.true w) [
       | inl v ↦ c.loop-other.invariant v
       | inr p ↦ true≢false (sym (c.is_within.ensures.1 p) ∙ c.if-is_within.false)
     ]

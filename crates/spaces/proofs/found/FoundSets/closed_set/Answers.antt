@@ -11,8 +11,8 @@ use Rattle.spaces.proofs.found.FoundSets.closed_set.Goals as goal
 pub put-requires-clause-shallow : goal.put-requires-clause-shallow
 put-requires-clause-shallow g c = c.in-Ok.ensures.closure.shallow
 
-pub returns-in_err-put-clause-grown : goal.returns-in_err-put-clause-grown
-returns-in_err-put-clause-grown g c = grew-on (shown c.args.self.now) (shown c.closure.new.self) (shown c.put.new.self) c.in-Ok.ensures.grown c.put.ensures.grown
+pub returns-in_err-set-clause-grown : goal.returns-in_err-set-clause-grown
+returns-in_err-set-clause-grown g c = grew-on (shown c.args.self.now) (shown c.closure.new.self) (shown c.put.new.self) c.in-Ok.ensures.grown c.put.ensures.grown
 
 pub returns-clause-set : goal.returns-clause-set
 returns-clause-set g c =

@@ -1,4 +1,4 @@
-use Rattle.std.proofs.Common.{◌≡◌, ◌≤◌, ◌∙◌, None, Some, List, length, sym, subst}
+use Rattle.std.proofs.Common.{◌≡◌, ◌≤◌, ◌∙◌, None, Some, List, length, sym, subst, arith}
 use Rattle.step.specs.declared.targets.Label.TheVariants as label
 use Rattle.targets.specs.Cuts.{CutOf}
 use Rattle.term.specs.Limits.{most_states}
@@ -22,7 +22,7 @@ returns-then-is_empty-clause-answer g c =
     let qs = c.level_after.new.self.table.processes in
     let first = look qs c.in-Ok.first.items in
     let cut = cut-on s t c.in-Ok.ensures.grown c.args.set c.args.event first c.requires.1.within c.in-Ok.ensures.cut in
-    answer-none t c.args.set c.args.event first cut c.in-Ok.ensures.opens.few (no-number qs c.in-Ok.first.items (sym c.is_empty.ensures ∙ c.if-is_empty.true))
+    answer-none t c.args.set c.args.event first cut c.in-Ok.ensures.opens.few (no-number qs c.in-Ok.first.items c.in-Ok.first.len (omega (arith, c.in-Ok.first.ok.0)) (sym c.is_empty.ensures ∙ c.if-is_empty.true))
 
 pub returns-in-Ok-closed_set-clause-answer : goal.returns-in-Ok-closed_set-clause-answer
 returns-in-Ok-closed_set-clause-answer g c =
@@ -33,7 +33,7 @@ returns-in-Ok-closed_set-clause-answer g c =
     let first = look qs c.in-Ok.first.items in
     let grown = grew-on s t u c.in-Ok.ensures.grown c.in-Ok-closed_set.ensures.grown in
     let cut = cut-on s u grown c.args.set c.args.event first c.requires.1.within c.in-Ok.ensures.cut in
-    let (Q, i) = some-number qs c.in-Ok.first.items (sym c.is_empty.ensures ∙ c.if-is_empty.false) in
+    let (Q, i) = some-number qs c.in-Ok.first.items c.in-Ok.first.len (omega (arith, c.in-Ok.first.ok.0)) (sym c.is_empty.ensures ∙ c.if-is_empty.false) in
     answer-some u c.args.set c.args.event first cut c.in-Ok.ensures.opens.few c.in-Ok-closed_set.next Q i c.in-Ok-closed_set.ensures.set
 
 pub returns-in-Ok-closed_set-clause-grown : goal.returns-in-Ok-closed_set-clause-grown

@@ -9,9 +9,10 @@ use Rattle.spaces.specs.Spaces.{GrewFrom}
 use Rattle.spaces.proofs.Entering.{entries-more, new-list, sets-grew, sound-push}
 use Rattle.spaces.proofs.Growing.{grew-same}
 use Rattle.spaces.proofs.found.FoundSets.put_new.Goals as goal
+use Rattle.spaces.proofs.found.FoundSets.put_new.Goals.{In_ok-insert}
 
-pub returns-then-number-MOST_SETS-clause-grown : goal.returns-then-number-MOST_SETS-clause-grown
-returns-then-number-MOST_SETS-clause-grown g c = grew-same (shown c.args.self.now)
+pub returns-then-number-ge-MOST_SETS-clause-grown : goal.returns-then-number-ge-MOST_SETS-clause-grown
+returns-then-number-ge-MOST_SETS-clause-grown g c = grew-same (shown c.args.self.now)
 
 pub facts_of-requires : goal.facts_of-requires
 facts_of-requires g c =
@@ -22,7 +23,7 @@ pub invariant_of-self : goal.invariant_of-self
 invariant_of-self g c =
     subst (λ (es : List (Vec ℕ g.row.A.Denot × SetFacts g.row.A.Denot)). IsSound c.self.inside.spec c.self.inside.all es) (sym c.in_err-insert.ensures.err) c.self.invariant
 
-module _ (g : _) (c : goal.In_ok-insert g) where
+module _ (g : _) (c : In_ok-insert g) where
   entries : c.insert.new.self.entries ≡ c.self.inside.sets.entries ++ (c.args.list, c.in_ok-facts.facts) ∷ []
   entries =
       entries-more c.self.inside.sets c.insert.new.self.entries c.args.list c.in_ok-facts.facts
