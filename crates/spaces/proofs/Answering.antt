@@ -1,5 +1,5 @@
 -- What comes of a set by an event.
-use Rattle.std.proofs.Common.{◌≡◌, ℕ, ◌≤◌, true, false, nat_eq, Option, None, Some, IfNone, IfSome, Result, Ok, Err, IfOk, IfErr, OnOk, List, [], ◌∷◌, ◌++◌, length, refl, ap, subst, arith}
+use Rattle.std.proofs.Common.{◌≡◌, ℕ, ◌≤◌, true, false, nat_eq, Option, None, Some, IfNone, IfSome, Result, Ok, Err, IfOk, OnOk, List, [], ◌∷◌, ◌++◌, length, refl, ap, subst, arith}
 use Rattle.std.proofs.lemmas.Bool.{eqb-true}
 use Rattle.alphabet.specs.declared.events.Event.{Event}
 use Rattle.step.specs.declared.targets.Label.TheVariants as label
@@ -15,8 +15,8 @@ use Rattle.after.specs.declared.fault.AfterFault.{AfterFault}
 use Rattle.after.specs.Belonging.{MeetsLimit}
 use Rattle.after.specs.Closing.{Among, IsClosure, TargetOf}
 use Rattle.after.proofs.Advances.{nothing-within, first-closure, first-limit, nowhere}
-use Rattle.after.proofs.Belongings.{start-belongs, start-within, start-limit, advance-fro, advance-limit, advance-within, advance-belongs, target-trace, trace-target}
-use Rattle.spaces.specs.Answers.{HasMembers, IsAfter, IsAnswer, IsClosedSet}
+use Rattle.after.proofs.Belongings.{start-belongs, start-within, advance-fro, advance-limit, advance-within, advance-belongs, target-trace, trace-target}
+use Rattle.spaces.specs.Answers.{HasMembers, IsAnswer, IsClosedSet}
 use Rattle.spaces.specs.Spaces.{Spaced, GrewFrom, Belongs, states}
 use Rattle.spaces.proofs.Growing.{belongs-on}
 use Rattle.spaces.proofs.Members.{closure-same}
@@ -43,11 +43,11 @@ module _ (space : Spaced) (set : ℕ) (x : Event) (first : List Proc) (cut : Cut
   answer-none e =
       record {
         exact = λ u b t.
-        let (Q, h) = trace-target space.spec u (states space set) b.exact x t in
-        nowhere space.spec (states space set) x first cut few e Q h;
+            let (Q, h) = trace-target space.spec u (states space set) b.exact x t in
+            nowhere space.spec (states space set) x first cut few e Q h;
         within = λ u b.
-        nothing-within (bodies_of space.spec.bodies) (Advance (bodies_of space.spec.bodies) u x)
-        (λ Q h. nowhere space.spec (states space set) x first cut few e Q (advance-fro space.spec u (states space set) b.exact x Q h));
+            nothing-within (bodies_of space.spec.bodies) (Advance (bodies_of space.spec.bodies) u x)
+            (λ Q h. nowhere space.spec (states space set) x first cut few e Q (advance-fro space.spec u (states space set) b.exact x Q h));
       }
 
   pub answer-some : (next : ℕ) (Q : Proc) → In Q first → IsClosedSet space (Among first) next → IsAnswer space set x (Some next)

@@ -1,6 +1,6 @@
 -- What holds of a space goes on to hold while it grows.
 use Rattle.std.proofs.Common.{◌≡◌, ◌↔◌, ℕ, suc, ◌<◌, ◌≤◌, Option, None, Some, List, [], ◌∷◌, ◌++◌, length, get_or, map, refl, sym, ap, ◌∙◌, subst, arith}
-use Rattle.std.proofs.lemmas.List.{append-nil, length-map, get_or-map}
+use Rattle.std.proofs.lemmas.List.{get_or-map}
 use Rattle.std.proofs.lemmas.List.Elements.{All-weaker}
 use Rattle.std.specs.List.{All}
 use Rattle.std.specs.declared.vec.Vec.{Vec}
@@ -19,7 +19,7 @@ use Rattle.nodes.proofs.Looking.{below-grown, look-grown}
 use Rattle.transitions.specs.Numbered.{Numbered, KeepsNumbers}
 use Rattle.after.specs.Closing.{AllShallow, TargetOf}
 use Rattle.spaces.specs.declared.facts.SetFacts.{SetFacts}
-use Rattle.spaces.specs.Answers.{IsAfter, IsAnswer, IsMemory, AllRemembered}
+use Rattle.spaces.specs.Answers.{IsAfter, IsAnswer, IsMemory}
 use Rattle.spaces.specs.Found.{Found, members, shown}
 use Rattle.spaces.specs.Known.{AreFactsOf, IsStored, IsSound, lists_of, found}
 use Rattle.spaces.specs.Spaces.{Spaced, GrewFrom, Belongs, states}
@@ -43,8 +43,8 @@ module _ (s t : Spaced) (g : GrewFrom s t) where
       record {
         within = here-on n b.within;
         exact = λ Q.
-        subst (λ (ps : List Proc). In Q ps ↔ Reach (bodies_of t.spec.bodies) root u Q) (sym (states-on n b.within))
-        (subst (λ (p : Specified). In Q (states s n) ↔ Reach (bodies_of p.bodies) root u Q) (sym g.spec) (b.exact Q));
+            subst (λ (ps : List Proc). In Q ps ↔ Reach (bodies_of t.spec.bodies) root u Q) (sym (states-on n b.within))
+            (subst (λ (p : Specified). In Q (states s n) ↔ Reach (bodies_of p.bodies) root u Q) (sym g.spec) (b.exact Q));
       }
 
   -- and the other way round, where it was there before
@@ -53,8 +53,8 @@ module _ (s t : Spaced) (g : GrewFrom s t) where
       record {
         within = h;
         exact = λ Q.
-        subst (λ (ps : List Proc). In Q ps ↔ Reach (bodies_of s.spec.bodies) root u Q) (states-on n h)
-        (subst (λ (p : Specified). In Q (states t n) ↔ Reach (bodies_of p.bodies) root u Q) g.spec (b.exact Q));
+            subst (λ (ps : List Proc). In Q ps ↔ Reach (bodies_of s.spec.bodies) root u Q) (states-on n h)
+            (subst (λ (p : Specified). In Q (states t n) ↔ Reach (bodies_of p.bodies) root u Q) g.spec (b.exact Q));
       }
 
   pub cut-on : (n : ℕ) (x : Event) (first : List Proc) → n < length s.sets → CutOf (TargetOf (bodies_of s.spec.bodies) (states s n) (label.Event x)) most_states first → CutOf (TargetOf (bodies_of t.spec.bodies) (states t n) (label.Event x)) most_states first
@@ -78,8 +78,8 @@ module _ (s t : Spaced) (g : GrewFrom s t) where
   memory-on es m =
       record {
         remembered = λ n x a i e.
-        let r = m.remembered n x a i e in
-        record { here = here-on n r.here; is = answer-on n x a r.here r.is };
+            let r = m.remembered n x a i e in
+            record { here = here-on n r.here; is = answer-on n x a r.here r.is };
         few = m.few;
       }
 

@@ -14,7 +14,7 @@ use Rattle.step.proofs.Offered.{offered-Offers, Act-offered}
 use Rattle.step.proofs.Rest.{resting-says}
 use Rattle.targets.proofs.Cutting.{only as one-In}
 use Rattle.term.specs.Proc.{Proc}
-use Rattle.term.specs.Steps.{Refuses, Ticks}
+use Rattle.term.specs.Steps.{Refuses}
 use Rattle.term.specs.Traces.{In, here, there}
 use Rattle.term.proofs.Bools.{or-cases, or-left, or-right}
 use Rattle.nodes.specs.declared.facts.Facts.{Facts}
@@ -92,25 +92,25 @@ offers-same sets ps P a n =
     record {
       only = λ O i. let (Q, j, w, o) = a.only O i in (Q, In-append_l j (P ∷ []), w, o);
       all = λ Q i w.
-      elim (append-In ps (P ∷ []) Q i) [
-        | inl j ↦ a.all Q j w
-        | inr j ↦ absurd (n (subst (λ (R : Proc). Waits R) (one-In j refl) w))
-      ];
+          elim (append-In ps (P ∷ []) Q i) [
+            | inl j ↦ a.all Q j w
+            | inr j ↦ absurd (n (subst (λ (R : Proc). Waits R) (one-In j refl) w))
+          ];
     }
 
 pub offers-more : (old new : List Set) (O : Set) (ps : List Proc) (P : Proc) → AreOffers old ps → Waits P → IsOffer O P → HasPutOffer old O new → AreOffers new (ps ++ P ∷ [])
 offers-more old new O ps P a v o p =
     record {
       only = λ M i.
-      elim (p.only M i) [
-        | inl j ↦ let (Q, k, w, f) = a.only M j in (Q, In-append_l k (P ∷ []), w, f)
-        | inr e ↦ (P, In-append_r ps here, v, subst (λ (S : Set). IsOffer S P) (sym e) o)
-      ];
+          elim (p.only M i) [
+            | inl j ↦ let (Q, k, w, f) = a.only M j in (Q, In-append_l k (P ∷ []), w, f)
+            | inr e ↦ (P, In-append_r ps here, v, subst (λ (S : Set). IsOffer S P) (sym e) o)
+          ];
       all = λ Q i w.
-      elim (append-In ps (P ∷ []) Q i) [
-        | inl j ↦ let (M, k, h) = a.all Q j w in let (N, l, part) = p.kept M k in (N, l, λ b y. h b (part (ev b) y))
-        | inr j ↦ let (N, l, part) = p.added in (N, l, λ b y. ap (λ (R : Proc). offered R b) (one-In j refl) ∙ sym (o.events b) ∙ part (ev b) y)
-      ];
+          elim (append-In ps (P ∷ []) Q i) [
+            | inl j ↦ let (M, k, h) = a.all Q j w in let (N, l, part) = p.kept M k in (N, l, λ b y. h b (part (ev b) y))
+            | inr j ↦ let (N, l, part) = p.added in (N, l, λ b y. ap (λ (R : Proc). offered R b) (one-In j refl) ∙ sym (o.events b) ∙ part (ev b) y)
+          ];
     }
 
 -- from what is known of the state

@@ -1,8 +1,8 @@
 -- What is remembered of sets and events.
-use Rattle.std.proofs.Common.{◌≡◌, ℕ, ◌+◌, ◌<◌, ◌≤◌, Bool, true, false, cond, nat_eq, Option, None, Some, IfSome, Result, Ok, Err, OnOk, OnErr, IfOk, is_some, if◌then◌else◌, List, [], length, refl, sym, ap, ◌∙◌, subst, arith}
+use Rattle.std.proofs.Common.{◌≡◌, ℕ, ◌+◌, ◌<◌, ◌≤◌, Bool, true, false, cond, nat_eq, Option, None, Some, Result, Ok, Err, OnOk, OnErr, IfOk, is_some, if◌then◌else◌, List, [], length, refl, sym, ap, ◌∙◌, subst, arith}
 use Rattle.std.proofs.lemmas.Bool.{eqb-true}
 use Rattle.std.specs.Map.{lookup}
-use Rattle.indexmap.specs.IndexMap.{IndexMap, Updates, IsUnchanged, get, index_map_len}
+use Rattle.indexmap.specs.IndexMap.{IndexMap, Updates, IsUnchanged, index_map_len}
 use Rattle.alphabet.specs.declared.events.Event.{Event}
 use Rattle.alphabet.specs.declared.events.Event.TheVariants.{Tick as tick, Of as ev}
 use Rattle.step.specs.declared.targets.Label.TheVariants as label

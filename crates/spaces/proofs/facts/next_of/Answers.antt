@@ -1,4 +1,4 @@
-use Rattle.std.proofs.Common.{◌≡◌, ◌≤◌, ◌↔◌, ◌∙◌, IsTrue, List, ℕ, length, take, get_or, sym, subst, true≢false, arith}
+use Rattle.std.proofs.Common.{◌↔◌, ◌∙◌, IsTrue, List, ℕ, length, take, get_or, sym, subst, true≢false, arith}
 use Rattle.std.proofs.lemmas.List.{take_all}
 use Rattle.alphabet.specs.EventSets.{member}
 use Rattle.nodes.specs.Shapes.{at}

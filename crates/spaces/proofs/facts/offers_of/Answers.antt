@@ -1,4 +1,4 @@
-use Rattle.std.proofs.Common.{◌≤◌, List, [], ℕ, length, take, get_or, sym, subst, arith}
+use Rattle.std.proofs.Common.{List, [], ℕ, length, take, get_or, sym, subst, arith}
 use Rattle.std.proofs.lemmas.List.{take_all}
 use Rattle.alphabet.specs.EventSets.{Set}
 use Rattle.nodes.specs.Shapes.{at}

@@ -12,5 +12,5 @@ pub returns : goal.returns
 returns g c =
     on-ok c.put_offer.result _ _ c.put_offer.ensures
     (λ p P ps k a.
-        offers-more c.args.into.now.items c.put_offer.new.into.items c.args.facts.offers ps P a
-        (known-waits c.args.facts P k c.if-facts.false (off-on c.args.facts.rests c.if-not-facts.false)) (known-offer c.args.facts P k) p)
+    offers-more c.args.into.now.items c.put_offer.new.into.items c.args.facts.offers ps P a
+    (known-waits c.args.facts P k c.if-facts.false (off-on c.args.facts.rests c.if-not-facts.false)) (known-offer c.args.facts P k) p)

@@ -1,4 +1,4 @@
-use Rattle.std.proofs.Common.{◌≡◌, ◌≤◌, ◌∙◌, List, inl, inr, length, take, refl, sym, subst, true≢false, arith}
+use Rattle.std.proofs.Common.{◌≤◌, ◌∙◌, List, inl, inr, length, refl, sym, subst, true≢false, arith}
 use Rattle.std.proofs.lemmas.List.{take_all}
 use Rattle.alphabet.specs.EventSets.{Set}
 use Rattle.spaces.specs.Offers.{HasPart, IsPart}

@@ -1,4 +1,4 @@
-use Rattle.std.proofs.Common.{◌≡◌, ◌≤◌, ◌∙◌, List, IsTrue, inl, inr, length, take, refl, sym, subst, true≢false, arith}
+use Rattle.std.proofs.Common.{◌≤◌, ◌∙◌, List, IsTrue, inl, inr, length, refl, sym, subst, true≢false, arith}
 use Rattle.std.proofs.lemmas.List.{take_all}
 use Rattle.alphabet.specs.EventSets.{Set, member}
 use Rattle.alphabet.specs.declared.events.Event.{Event}

@@ -24,11 +24,11 @@ loop-place-preserved-then-is_within g c =
     record {
       only = λ O j. c.loop-place.invariant.only O (taken-only xs i x p O (subst (λ (l : List Set). In O l) c.swap_remove.ensures.items j));
       kept = λ O j.
-      elim (c.loop-place.invariant.kept O j) [
-        | inl k ↦ elim (taken-kept xs i x p O k) [
-          | inl m ↦ inl (subst (λ (l : List Set). In O l) (sym c.swap_remove.ensures.items) m)
-          | inr e ↦ inr (subst (λ (M : Set). IsPart c.args.set.now M) (sym e) part)
-        ]
-        | inr q ↦ inr q
-      ];
+          elim (c.loop-place.invariant.kept O j) [
+            | inl k ↦ elim (taken-kept xs i x p O k) [
+              | inl m ↦ inl (subst (λ (l : List Set). In O l) (sym c.swap_remove.ensures.items) m)
+              | inr e ↦ inr (subst (λ (M : Set). IsPart c.args.set.now M) (sym {A = Set} e) part)
+            ]
+            | inr q ↦ inr q
+          ];
     }

@@ -1,12 +1,9 @@
-use Rattle.std.proofs.Common.{◌≡◌, ◌≤◌, ◌∙◌, None, Some, List, length, sym, subst, arith}
-use Rattle.step.specs.declared.targets.Label.TheVariants as label
-use Rattle.targets.specs.Cuts.{CutOf}
-use Rattle.term.specs.Limits.{most_states}
+use Rattle.std.proofs.Common.{◌∙◌, sym, subst, arith}
 use Rattle.term.specs.Proc.{bodies_of}
 use Rattle.term.specs.Specs.{Specified}
 use Rattle.nodes.specs.Looks.{look}
 use Rattle.after.specs.Belonging.{MeetsLimit}
-use Rattle.after.specs.Closing.{Among, TargetOf}
+use Rattle.after.specs.Closing.{Among}
 use Rattle.spaces.specs.Found.{shown}
 use Rattle.spaces.proofs.Answering.{answer-none, answer-some, limit-after, limit-at, no-number, some-number}
 use Rattle.spaces.proofs.Growing.{cut-on, grew-on}

@@ -1,4 +1,4 @@
-use Rattle.std.proofs.Common.{◌≡◌, ◌<◌, ◌≤◌, List, ℕ, length, sym, ap, ◌∙◌, subst, arith}
+use Rattle.std.proofs.Common.{◌≡◌, ◌<◌, List, ℕ, length, sym, ap, ◌∙◌, subst, arith}
 use Rattle.std.proofs.lemmas.List.{length-map}
 use Rattle.std.proofs.lemmas.Result.{IfOk-weaker, IfErr-weaker}
 use Rattle.std.specs.declared.vec.Vec.{Vec}
@@ -60,45 +60,45 @@ first_level-requires-clause-bodies g c = c.self.invariant.bodies
 
 pub first_level-requires-clause-here : goal.first_level-requires-clause-here
 first_level-requires-clause-here g c =
-    let a = (goal.at.first_level-requires-clause-here c).After-numbers_of-numbers in
+    let a = (goal.at.first_level-requires-clause-here g c).After-numbers_of-numbers in
     subst (λ (ns : List ℕ). AllBelow (length c.self.inside.all.table.processes) ns) (sym c.numbers_of-numbers.ensures)
     (sound-below c.self.inside.spec c.self.inside.sets.entries c.self.inside.all c.self.invariant c.args.set (within g a))
 
 pub first_level-requires-clause-lies : goal.first_level-requires-clause-lies
-first_level-requires-clause-lies g c = lies g (goal.at.first_level-requires-clause-lies c).After-numbers_of-numbers
+first_level-requires-clause-lies g c = lies g (goal.at.first_level-requires-clause-lies g c).After-numbers_of-numbers
 
 pub first_level-requires-clause-shallow : goal.first_level-requires-clause-shallow
-first_level-requires-clause-shallow g c = shallow g (goal.at.first_level-requires-clause-shallow c).After-numbers_of-numbers
+first_level-requires-clause-shallow g c = shallow g (goal.at.first_level-requires-clause-shallow g c).After-numbers_of-numbers
 
 pub invariant_of-self : goal.invariant_of-self
 invariant_of-self g c = sound-on c.self.inside.spec c.self.inside.sets.entries c.self.inside.all c.first_level.new.all c.self.invariant c.first_level.ensures.kept
 
 pub returns-clause-opens : goal.returns-clause-opens
 returns-clause-opens g c =
-    let a = (goal.at.returns-clause-opens c).After-numbers_of-numbers in
+    let a = (goal.at.returns-clause-opens g c).After-numbers_of-numbers in
     let ps = look c.self.inside.all.table.processes c.numbers_of-numbers.result.now in
     let qs = c.first_level.new.all.table.processes in
     if-both c.first_level.result _ _ _ c.first_level.ensures.all c.first_level.ensures.few
     (λ (first : Vec ℕ g.row.A.Denot) cut few.
-        first-opens c.self.inside.spec ps c.args.event (look qs first.items) cut (omega (arith, few, length-map first.items (at qs))) c.self.invariant.closed (lies g a) (shallow g a))
+    first-opens c.self.inside.spec ps c.args.event (look qs first.items) cut (omega (arith, few, length-map first.items (at qs))) c.self.invariant.closed (lies g a) (shallow g a))
 
 pub returns-clause-cut : goal.returns-clause-cut
 returns-clause-cut g c =
-    let a = (goal.at.returns-clause-cut c).After-numbers_of-numbers in
+    let a = (goal.at.returns-clause-cut g c).After-numbers_of-numbers in
     let qs = c.first_level.new.all.table.processes in
     IfOk-weaker c.first_level.result _ _
     (λ (first : Vec ℕ g.row.A.Denot) cut.
-        subst (λ (f : Found). CutOf (TargetOf (bodies_of f.spec.bodies) (states (shown c.args.self.now) c.args.set) (label.Event c.args.event)) most_states (look qs first.items)) c.self.view_is
-        (subst (λ (ps : List Proc). CutOf (TargetOf (bodies_of c.self.inside.spec.bodies) ps (label.Event c.args.event)) most_states (look qs first.items)) (listed g a) cut))
+    subst (λ (f : Found). CutOf (TargetOf (bodies_of f.spec.bodies) (states (shown c.args.self.now) c.args.set) (label.Event c.args.event)) most_states (look qs first.items)) c.self.view_is
+    (subst (λ (ps : List Proc). CutOf (TargetOf (bodies_of c.self.inside.spec.bodies) ps (label.Event c.args.event)) most_states (look qs first.items)) (listed g a) cut))
     c.first_level.ensures.all
 
 pub returns-clause-limit : goal.returns-clause-limit
 returns-clause-limit g c =
-    let a = (goal.at.returns-clause-limit c).After-numbers_of-numbers in
+    let a = (goal.at.returns-clause-limit g c).After-numbers_of-numbers in
     IfErr-weaker c.first_level.result _ _
     (λ (e : AfterFault) m.
-        subst (λ (f : Found). MeetsLimit (bodies_of f.spec.bodies) (TargetOf (bodies_of f.spec.bodies) (states (shown c.args.self.now) c.args.set) (label.Event c.args.event)) e) c.self.view_is
-        (subst (λ (ps : List Proc). MeetsLimit (bodies_of c.self.inside.spec.bodies) (TargetOf (bodies_of c.self.inside.spec.bodies) ps (label.Event c.args.event)) e) (listed g a) m))
+    subst (λ (f : Found). MeetsLimit (bodies_of f.spec.bodies) (TargetOf (bodies_of f.spec.bodies) (states (shown c.args.self.now) c.args.set) (label.Event c.args.event)) e) c.self.view_is
+    (subst (λ (ps : List Proc). MeetsLimit (bodies_of c.self.inside.spec.bodies) (TargetOf (bodies_of c.self.inside.spec.bodies) ps (label.Event c.args.event)) e) (listed g a) m))
     c.first_level.ensures.err
 
 pub returns-clause-grown : goal.returns-clause-grown

@@ -1,4 +1,4 @@
-use Rattle.std.proofs.Common.{◌∷◌, [], List, sym, ◌∙◌, subst}
+use Rattle.std.proofs.Common.{◌∷◌, [], List, subst}
 use Rattle.std.proofs.lemmas.Result.{IfOk-weaker, IfErr-weaker}
 use Rattle.term.specs.Proc.{Proc, bodies_of, root}
 use Rattle.term.specs.Specs.{Specified}
@@ -20,8 +20,8 @@ pub returns-clause-limit : goal.returns-clause-limit
 returns-clause-limit g c =
     IfErr-weaker c.closed_set.result _ _
     (λ (e : AfterFault) m.
-        subst (λ (p : Specified). MeetsLimit (bodies_of p.bodies) (Among (root ∷ [])) e) c.root_alone.ensures.grown.spec
-        (subst (λ (ps : List Proc). MeetsLimit (bodies_of c.root_alone.new.self.spec.bodies) (Among ps) e) c.in_ok-first.ensures.root m))
+    subst (λ (p : Specified). MeetsLimit (bodies_of p.bodies) (Among (root ∷ [])) e) c.root_alone.ensures.grown.spec
+    (subst (λ (ps : List Proc). MeetsLimit (bodies_of c.root_alone.new.self.spec.bodies) (Among ps) e) c.in_ok-first.ensures.root m))
     c.closed_set.ensures.limit
 
 pub returns-clause-grown : goal.returns-clause-grown

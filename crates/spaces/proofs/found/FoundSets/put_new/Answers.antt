@@ -1,4 +1,4 @@
-use Rattle.std.proofs.Common.{◌≡◌, ◌++◌, ◌∷◌, [], ◌<◌, ◌+◌, ◌^◌, List, ℕ, length, sym, ◌∙◌, subst, arith}
+use Rattle.std.proofs.Common.{◌≡◌, ◌++◌, ◌∷◌, [], ◌<◌, List, ℕ, length, sym, ◌∙◌, subst, arith}
 use Rattle.std.specs.declared.vec.Vec.{Vec}
 use Rattle.nodes.specs.Looks.{look, AllBelow}
 use Rattle.after.specs.Closing.{AllShallow}
@@ -40,18 +40,20 @@ module _ (g : _) (c : In_ok-insert g) where
 
 pub invariant_of-self-2 : goal.invariant_of-self-2
 invariant_of-self-2 g c =
-    subst (λ (es : List (Vec ℕ g.row.A.Denot × SetFacts g.row.A.Denot)). IsSound c.self.inside.spec c.self.inside.all es) (sym (entries g c))
-    (sound-push c.self.inside.spec c.self.inside.sets.entries c.args.list c.in_ok-facts.facts c.self.inside.all c.self.invariant (omega (arith, c.len-number.ensures.len)) (stored g c))
+    let a = (goal.at.invariant_of-self-2 g c).In_ok-insert in
+    subst (λ (es : List (Vec ℕ g.row.A.Denot × SetFacts g.row.A.Denot)). IsSound c.self.inside.spec c.self.inside.all es) (sym (entries g a))
+    (sound-push c.self.inside.spec c.self.inside.sets.entries c.args.list c.in_ok-facts.facts c.self.inside.all c.self.invariant (omega (arith, c.len-number.ensures.len)) (stored g a))
 
 pub returns-clause-set : goal.returns-clause-set
 returns-clause-set g c =
-    let a = (goal.at.returns-clause-set c).In_ok-insert in
+    let a = (goal.at.returns-clause-set g c).In_ok-insert in
     subst (λ (f : Found). HasList (shown (found c.self.inside.spec c.self.inside.all.table c.insert.new.self.entries)) (look f.table.processes c.args.list.items) c.at.result) c.self.view_is
     (subst (λ (es : List (Vec ℕ g.row.A.Denot × SetFacts g.row.A.Denot)). HasList (shown (found c.self.inside.spec c.self.inside.all.table es)) (look c.self.inside.all.table.processes c.args.list.items) c.at.result) (sym (entries g a))
     (new-list c.self.inside.spec c.self.inside.sets.entries c.args.list c.in_ok-facts.facts c.self.inside.all.table c.at.result (c.at.ensures ∙ c.len-number.ensures.len)))
 
 pub returns-clause-grown : goal.returns-clause-grown
 returns-clause-grown g c =
+    let a = (goal.at.returns-clause-grown g c).In_ok-insert in
     subst (λ (f : Found). GrewFrom (shown f) (shown (found c.self.inside.spec c.self.inside.all.table c.insert.new.self.entries))) c.self.view_is
-    (subst (λ (es : List (Vec ℕ g.row.A.Denot × SetFacts g.row.A.Denot)). GrewFrom (shown (found c.self.inside.spec c.self.inside.all.table c.self.inside.sets.entries)) (shown (found c.self.inside.spec c.self.inside.all.table es))) (sym (entries g c))
+    (subst (λ (es : List (Vec ℕ g.row.A.Denot × SetFacts g.row.A.Denot)). GrewFrom (shown (found c.self.inside.spec c.self.inside.all.table c.self.inside.sets.entries)) (shown (found c.self.inside.spec c.self.inside.all.table es))) (sym (entries g a))
     (sets-grew c.self.inside.spec c.self.inside.sets.entries c.args.list c.in_ok-facts.facts c.self.inside.all.table))

@@ -1,4 +1,4 @@
-use Rattle.std.proofs.Common.{◌≡◌, Option, Some, ℕ, nat_eq, sym, subst}
+use Rattle.std.proofs.Common.{◌≡◌, Some, nat_eq, sym, subst}
 use Rattle.std.specs.Map.{lookup}
 use Rattle.spaces.specs.Answers.{IsAnswer}
 use Rattle.spaces.specs.Found.{shown}

@@ -1,4 +1,4 @@
-use Rattle.std.proofs.Common.{◌≤◌, arith}
+use Rattle.std.proofs.Common.{arith}
 use Rattle.after.proofs.Belongings.{takes-trace}
 use Rattle.spaces.specs.Spaces.{states}
 use Rattle.spaces.proofs.states.StateSet.next.Goals as goal

@@ -1,4 +1,4 @@
-use Rattle.std.proofs.Common.{◌≤◌, arith}
+use Rattle.std.proofs.Common.{arith}
 use Rattle.alphabet.specs.EventSets.{member}
 use Rattle.term.specs.Proc.{bodies_of}
 use Rattle.after.proofs.Belongings.{refuses-failure}
