@@ -1,6 +1,6 @@
 //! The sets of states found so far.
 
-ghost use Rattle.std.specs.Prelude.{◌≡◌, ◌<◌, ◌≤◌, ◌∷◌, [], IfErr, IfNone, IfOk, IfSome, List, ℕ, get_or, length};
+ghost use Rattle.std.specs.Prelude.{◌≡◌, ◌+◌, ◌<◌, ◌≤◌, ◌^◌, ◌∷◌, [], IfErr, IfNone, IfOk, IfSome, List, OnOk, ℕ, get_or, length};
 ghost use Rattle.alphabet.specs.declared.events.Event.{Event};
 ghost use Rattle.step.specs.declared.targets.Label.TheVariants as label;
 ghost use Rattle.targets.specs.Cuts.{CutOf};
@@ -63,8 +63,8 @@ impl<A: Allocator + Copy> FoundSets<A> {
         ensures spec { IfOk result (λ found. found.spec ≡ spec) }
         ensures empty { IfOk result (λ found. found.sets ≡ []) }
     {
-        let bodies = spec.bodies();
-        prove!(bodies > 0);
+        // A specification is closed: its own clause says so.
+        let _bodies = spec.bodies();
         let all = Transitions::new(alloc, &spec)?;
         Ok(FoundSets {
             spec,
@@ -197,10 +197,7 @@ impl<A: Allocator + Copy> FoundSets<A> {
         ensures grown { GrewFrom (shown self.old) (shown self.new) }
     {
         let number = self.sets.len();
-        if number >= MOST_SETS {
-            return Err(AllocError);
-        }
-        let facts = facts_of(&self.all, self.alloc, &list)?;
+        let facts = facts_of_new(&self.all, &self.sets, self.alloc, &list)?;
         self.sets.insert(list, facts)?;
         Ok(StateSet::at(number as u32))
     }
@@ -236,4 +233,21 @@ fn numbers_of<A: Allocator>(sets: &Lists<A>, set: StateSet) -> &[u32]
         Some((numbers, _)) => numbers.as_slice(),
         None => &[],
     }
+}
+
+/// What is known of a set that isn't stored yet. Refused where no number is left for it.
+fn facts_of_new<A: Allocator + Copy>(
+    all: &Transitions<A>,
+    sets: &Lists<A>,
+    alloc: A,
+    numbers: &[u32],
+) -> Result<SetFacts<A>, AllocError>
+    requires { AllBelow (length all.now.table.processes) numbers.now }
+    ensures facts { IfOk result (λ facts. AreFactsOf facts (look all.now.table.processes numbers.now)) }
+    ensures few { OnOk result (length sets.now.entries + 1 < 2 ^ 32) }
+{
+    if sets.len() >= MOST_SETS {
+        return Err(AllocError);
+    }
+    facts_of(all, alloc, numbers)
 }

@@ -1,4 +1,4 @@
-use Rattle.std.proofs.Common.{◌≡◌, ◌++◌, ◌∷◌, [], ◌<◌, List, ℕ, length, sym, ◌∙◌, subst, arith}
+use Rattle.std.proofs.Common.{◌≡◌, ◌++◌, ◌∷◌, [], ◌<◌, List, ℕ, length, sym, ◌∙◌, subst}
 use Rattle.std.specs.declared.vec.Vec.{Vec}
 use Rattle.nodes.specs.Looks.{look, AllBelow}
 use Rattle.after.specs.Closing.{AllShallow}
@@ -7,15 +7,11 @@ use Rattle.spaces.specs.Found.{Found, HasList, members, shown}
 use Rattle.spaces.specs.Known.{AreFactsOf, IsSound, IsStored, found}
 use Rattle.spaces.specs.Spaces.{GrewFrom}
 use Rattle.spaces.proofs.Entering.{entries-more, new-list, sets-grew, sound-push}
-use Rattle.spaces.proofs.Growing.{grew-same}
 use Rattle.spaces.proofs.found.FoundSets.put_new.Goals as goal
 use Rattle.spaces.proofs.found.FoundSets.put_new.Goals.{In_ok-insert}
 
-pub returns-then-number-ge-MOST_SETS-clause-grown : goal.returns-then-number-ge-MOST_SETS-clause-grown
-returns-then-number-ge-MOST_SETS-clause-grown g c = grew-same (shown c.args.self.now)
-
-pub facts_of-requires : goal.facts_of-requires
-facts_of-requires g c =
+pub facts_of_new-requires : goal.facts_of_new-requires
+facts_of_new-requires g c =
     subst (λ (ns : List ℕ). AllBelow (length c.self.inside.all.table.processes) ns) (sym c.deref.ensures.value)
     (subst (λ (f : Found). AllBelow (length f.table.processes) c.args.list.items) (sym c.self.view_is) c.requires.below)
 
@@ -35,14 +31,14 @@ module _ (g : _) (c : In_ok-insert g) where
       record {
         below = subst (λ (f : Found). AllBelow (length f.table.processes) c.args.list.items) (sym c.self.view_is) c.requires.below;
         shallow = subst (λ (f : Found). AllShallow (look f.table.processes c.args.list.items)) (sym c.self.view_is) c.requires.shallow;
-        facts = subst (λ (ns : List ℕ). AreFactsOf c.in_ok-facts.facts (look c.self.inside.all.table.processes ns)) c.deref.ensures.value c.in_ok-facts.ensures;
+        facts = subst (λ (ns : List ℕ). AreFactsOf c.in_ok-facts.facts (look c.self.inside.all.table.processes ns)) c.deref.ensures.value c.in_ok-facts.ensures.facts;
       }
 
 pub invariant_of-self-2 : goal.invariant_of-self-2
 invariant_of-self-2 g c =
     let a = (goal.at.invariant_of-self-2 g c).In_ok-insert in
     subst (λ (es : List (Vec ℕ g.row.A.Denot × SetFacts g.row.A.Denot)). IsSound c.self.inside.spec c.self.inside.all es) (sym (entries g a))
-    (sound-push c.self.inside.spec c.self.inside.sets.entries c.args.list c.in_ok-facts.facts c.self.inside.all c.self.invariant (omega (arith, c.len-number.ensures.len)) (stored g a))
+    (sound-push c.self.inside.spec c.self.inside.sets.entries c.args.list c.in_ok-facts.facts c.self.inside.all c.self.invariant c.in_ok-facts.ensures.few (stored g a))
 
 pub returns-clause-set : goal.returns-clause-set
 returns-clause-set g c =
