@@ -1,4 +1,5 @@
 -- To believe.
+pub mod Accounts
 pub mod Held
 -- Steps of the program.
 pub mod Crossing

@@ -2,6 +2,7 @@
 #![tactic(auto)]
 
 mod account;
+mod connections;
 mod gate;
 mod opening;
 mod sessions;
@@ -10,6 +11,7 @@ mod tcp;
 mod threads;
 
 pub use account::Account;
+pub use connections::Connections;
 pub use gate::{Accept, AcceptFault, Gate, Over};
 pub use opening::{OpenError, open};
 pub use sessions::{Closing, serve_session};

@@ -1,6 +1,6 @@
 //! A session, served from its first connection to its last.
 
-ghost use Rattle.std.specs.Prelude.{◌≡◌, IfOk};
+ghost use Rattle.std.specs.Prelude.{◌≡◌, ◌+◌, IfOk};
 ghost use Rattle.std.specs.Thread.{IsSend};
 ghost use Rattle.alphabet.specs.Channels.{event_count};
 ghost use Rattle.term.specs.Proc.{bodies_of};
@@ -9,6 +9,7 @@ ghost use Rattle.history.specs.Beginnings.{StartsWith};
 ghost use Rattle.serving.specs.Crossing.{LegalCrosses};
 
 use crate::account::{Account, settle};
+use crate::connections::Connections;
 use crate::gate::Accept;
 use crate::shared_gate::SharedGate;
 use crate::threads::serve_all;
@@ -25,11 +26,6 @@ use std::marker::Brand;
 use std::sync::ledger::Blank;
 use std::sync::{Wait, ledger};
 use std::thread::Threads;
-
-// The seats of one run, and the parts of its ledger: one for each seat, and one for what lies under the lock.
-const PLACES: u64 = 64;
-
-const PARTS: u64 = 65;
 
 /// A session whose connections are over.
 #[derive(Drop)]
@@ -83,6 +79,7 @@ fn serve_at<D: Disk + Send, N: Naming + Send + Sync, T: Threads + Wait + Sync, L
     }
 }
 
+// Serves the connections at a shared session with a place for each of them.
 fn over_seats<
     N: Naming + Send + Sync,
     D: Disk + Drop + Send,
@@ -96,15 +93,17 @@ fn over_seats<
     blank: Blank,
     accept: L,
     alphabet: &Alphabet<Global>,
-    count: u8,
+    connections: Connections,
 ) -> Result<Closing<D>, AllocError>
     requires story { (session.spec ≡ N.spec) × (session.history ≡ N.opening) }
     requires book { opened.seen.book ≡ N.book }
-    requires ledger { (blank.name ≡ N.name) × (blank.parts ≡ N.parts) × (N.all ≡ N.parts) × (N.all ≡ 65) }
+    requires ledger { (blank.name ≡ N.name) × (blank.parts ≡ N.parts) × (N.all ≡ N.parts) × (N.all ≡ connections + 1) }
     requires alphabet { event_count N.spec.alphabet ≡ event_count alphabet.now }
     ensures { IfOk result (λ c. (c.session.spec ≡ N.spec) × StartsWith c.session.history N.opening × Legal (bodies_of N.spec.bodies) c.session.history) }
 {
-    let Ok(shared) = Shared::<D, Global, N>::new(alloc, session, opened, blank, PLACES) else {
+    let count = connections.get();
+    let places = u64::from(count);
+    let Ok(shared) = Shared::<D, Global, N>::new(alloc, session, opened, blank, places) else {
         return Err(AllocError);
     };
     let mut shares = Vec::new(alloc);
@@ -117,28 +116,30 @@ fn over_seats<
     Ok(Closing { session, account })
 }
 
-/// Serves up to `count` connections, each in a thread of its own at a seat of its own, and gives the session back once all are
-/// over: its specification is as it was, and its history is legal and begins with the one that it had. The error is want of memory
-/// before the first connection; the session is gone then, and its file stays.
+/// Serves up to so many connections, each in a thread of its own at a seat of its own, and gives the session back once all are over: its
+/// specification is as it was, and its history is legal and begins with the one that it had. The error is want of memory before the
+/// first connection; the session is gone then, and its file stays.
 pub fn serve_session<D: Disk + Drop + Send, T: Threads + Wait + Sync, L: Accept + Drop>(
     rt: &T,
     alloc: Global,
     session: Session<D, Global>,
     accept: L,
-    count: u8,
+    connections: Connections,
 ) -> Result<Closing<D>, AllocError>
     ensures { IfOk result (λ c. (c.session.spec ≡ session.spec) × StartsWith c.session.history session.history × Legal (bodies_of session.spec.bodies) c.session.history) }
 {
     let alphabet = copy_of(alloc, session.spec().alphabet())?;
     let opened = Opened::new();
+    // The ledger has a part for each seat, and one for what lies under the lock.
+    let parts = u64::from(connections.get()) + 1;
     over_seats::<Brand, D, T, L>(
         rt,
         alloc,
         session,
         opened,
-        Blank::new(PARTS),
+        Blank::new(parts),
         accept,
         &alphabet,
-        count,
+        connections,
     )
 }
