@@ -16,4 +16,4 @@ pub use gate::{Accept, AcceptFault, Gate, Over};
 pub use number::Connections;
 pub use outcome::{Ending, Outcome, part};
 pub use tcp::TcpAccept;
-pub use threads::Served;
+pub use threads::{Served, serve_all};
