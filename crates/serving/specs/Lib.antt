@@ -1,5 +1,5 @@
 -- To believe.
-pub mod Accounts
 pub mod Held
+pub mod Runs
 -- Steps of the program.
 pub mod Crossing

@@ -1,11 +1,10 @@
 //! A shared session as a gate.
 
 ghost use Rattle.std.specs.Prelude.{◌≡◌};
-ghost use Rattle.alphabet.specs.Channels.{event_count};
 
-use crate::gate::{Gate, Over};
 use alphabet::Alphabet;
 use board::{Board, Naming};
+use connections::{Gate, Over};
 use disk::Disk;
 use left_right::Absorb;
 use seats::{SeatJudge, refusal_of};
@@ -23,17 +22,16 @@ where
 {
     shared: &'a Shared<D, Global, N>,
     alphabet: &'a Alphabet<Global>,
-    ghost same: { event_count N.spec.alphabet ≡ event_count alphabet.now },
+    ghost same: { alphabet.now ≡ N.spec.alphabet },
 }
 
 impl<'a, D: Disk, N: Naming> SharedGate<'a, D, N> {
-    /// The gate to this session. The alphabet's events are those of its specification.
+    /// The gate to this session. The alphabet is that of its specification.
     pub fn new(
         shared: &'a Shared<D, Global, N>,
         alphabet: &'a Alphabet<Global>,
     ) -> SharedGate<'a, D, N>
-        requires { event_count N.spec.alphabet ≡ event_count alphabet.now }
-        ensures { result.alphabet.now ≡ alphabet.now }
+        requires { alphabet.now ≡ N.spec.alphabet }
     {
         SharedGate { shared, alphabet }
     }
@@ -50,17 +48,13 @@ impl<'a, D: Disk, N: Naming> SharedGate<'a, D, N> {
 impl<D: Disk, N: Naming + Send + Sync> Gate for SharedGate<'_, D, N> {
     type Place = Share<N, Global>;
 
-    ghost use Rattle.term.specs.Proc.{bodies_of};
-    ghost use Rattle.wire.specs.Replies.{LineReplies, noted};
-    ghost use Rattle.wire.specs.Talks.{Serves};
-    ghost use Rattle.seats.specs.Judges.{Reports, Statuses, Nexts};
-    ghost use Rattle.serving.specs.Accounts.{no_answers};
+    ghost use Rattle.serving.specs.Runs.{IsAnsweredAt, IsNewSeat, IsRefusal};
 
-    // As `SeatJudge::serve` does at the seat of this share: each `OK n` or `NO n` for a report is the verdict and the place of that line's
-    // own entry, in a legal history that begins with all that the seat had seen.
-    ghost serves = { λ gate share last tally left rest old new result. Serves
-        (LineReplies (Reports (bodies_of N.spec.bodies)) (Statuses (bodies_of N.spec.bodies)) (Nexts (bodies_of N.spec.bodies)) gate.alphabet.now)
-        (noted share no_answers) (noted last tally) left rest old new result };
+    ghost gives = { λ _ share. IsNewSeat N.opening share };
+
+    ghost refuses = { λ _ fault. IsRefusal fault };
+
+    ghost serves = { λ _ share last tally left rest old new end. IsAnsweredAt N.spec share last tally left rest old new end };
 
     fn place<T: Wait>(&self, rt: &T, alloc: Global) -> Result<Share<N, Global>, Fault> {
         match self.shared.seat(rt, alloc) {
