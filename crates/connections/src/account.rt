@@ -86,6 +86,26 @@ impl Ending {
     }
 }
 
+// Whether a report of some connection was rejected.
+fn have_rejected(endings: &[Ending]) -> bool
+    ensures { result ≡ list_any has_rejected endings.now }
+{
+    match endings {
+        [] => false,
+        [first, rest @ ..] => first.has_rejected() || have_rejected(rest),
+    }
+}
+
+// Whether memory ran out for some connection, or it met a limit.
+fn have_met_limit(endings: &[Ending]) -> bool
+    ensures { result ≡ list_any met_limit endings.now }
+{
+    match endings {
+        [] => false,
+        [first, rest @ ..] => first.met_limit() || have_met_limit(rest),
+    }
+}
+
 impl Account {
     /// Of connections that ended so, after which another couldn't be taken, or all were.
     pub fn of(endings: &[Ending], accept_failed: bool) -> Account
@@ -94,8 +114,8 @@ impl Account {
         ensures accept { result.accept_failed ≡ accept_failed }
     {
         Account {
-            rejected: endings.iter().any(Ending::has_rejected),
-            limit: endings.iter().any(Ending::met_limit),
+            rejected: have_rejected(endings),
+            limit: have_met_limit(endings),
             accept_failed,
         }
     }
