@@ -14,8 +14,8 @@ nothing_left (x ∷ xs) h = absurd (omega arith)
 -- one connection more is taken
 pub turn_more : {A R W O : Type 0} (takes : A → R → W → A → Type 0) (came : R → W → O → Type 0) (a mid b : A) (os : List O) (o : O)
     → InTurn takes came a os mid → (r : R) × (w : W) × takes mid r w b × came r w o → InTurn takes came a (os ++ o ∷ []) b
-turn_more takes came a mid b [] o h t = (t.0, t.1, b, subst (λ s. takes s t.0 t.1 b) h t.2.0, t.2.1, refl)
-turn_more takes came a mid b (x ∷ xs) o h t = (h.0, h.1, h.2.0, h.2.1.0, h.2.1.1.0, turn_more takes came h.2.0 mid b xs o h.2.1.1.1 t)
+turn_more takes came a mid b [] o h t = (t.0, t.1, b, subst (λ s. takes s t.0 t.1 b) h t.2, t.3, refl)
+turn_more takes came a mid b (x ∷ xs) o h t = (h.0, h.1, h.2, h.3, h.4, turn_more takes came h.2 mid b xs o h.5 t)
 
 -- one pair more
 pub each_more : {T O : Type 0} (is : T → O → Type 0) (ts : List T) (os : List O) (t : T) (o : O) → Each is ts os → is t o → Each is (ts ++ t ∷ []) (os ++ o ∷ [])
@@ -38,7 +38,7 @@ turn_joined takes taken came is step a b [] [] h e = h
 turn_joined takes taken came is step a b [] (x ∷ xs) h e = absurd e
 turn_joined takes taken came is step a b (y ∷ ys) [] h e = absurd e
 turn_joined takes taken came is step a b (y ∷ ys) (x ∷ xs) h e =
-    (h.0, h.1, h.2.0, h.2.1.0, step h.0 h.1 y x h.2.1.1.0 e.0, turn_joined takes taken came is step h.2.0 b ys xs h.2.1.1.1 e.1)
+    (h.0, h.1, h.2, h.3, step h.0 h.1 y x h.4 e.0, turn_joined takes taken came is step h.2 b ys xs h.5 e.1)
 
 pub places-append : {P : Type 0} (os : List (Outcome P)) (o : Outcome P) → places_of (os ++ o ∷ []) ≡ places_of os ++ places_of (o ∷ [])
 places-append [] o = refl

@@ -1,6 +1,6 @@
 //! What came of a connection.
 
-ghost use Rattle.std.specs.Prelude.{◌≡◌, ◌+◌, ◌≤◌, ◌++◌, length, map, vec_capacity};
+ghost use Rattle.std.specs.Prelude.{◌≡◌, ◌+◌, ◌<◌, ◌≤◌, ◌++◌, [], ◌∷◌, length, map, vec_capacity};
 ghost use Rattle.connections.specs.Outcomes.{ending_of, places_of};
 
 use crate::gate::Over;
@@ -29,6 +29,24 @@ pub enum Ending {
     NotStarted,
 }
 
+// How a connection ended. The place that it was served at comes to the places.
+fn part_one<P: Drop>(outcome: Outcome<P>, places: &mut Vec<P, Global>) -> Ending
+    requires { length places.old.items < vec_capacity places.old }
+    ensures ending { result ≡ ending_of outcome }
+    ensures places { places.new.items ≡ places.old.items ++ places_of (outcome ∷ []) }
+    ensures len { length places.new.items ≤ length places.old.items + 1 }
+    ensures capacity { vec_capacity places.new ≡ vec_capacity places.old }
+{
+    match outcome {
+        Outcome::Over(Over { place, end, tally }) => {
+            places.push_reserved(place);
+            Ending::Served(end, tally)
+        }
+        Outcome::Refused(fault) => Ending::Refused(fault),
+        Outcome::NotStarted => Ending::NotStarted,
+    }
+}
+
 /// Parts what came of connections: how each ended comes to the endings, and the places that they were served at come to the places,
 /// in their order. There is room in both.
 pub fn part<P: Drop>(
@@ -42,14 +60,6 @@ pub fn part<P: Drop>(
     ensures endings { endings.new.items ≡ endings.old.items ++ map ending_of outcomes.items }
 {
     for outcome in outcomes {
-        let ending = match outcome {
-            Outcome::Over(Over { place, end, tally }) => {
-                places.push_reserved(place);
-                Ending::Served(end, tally)
-            }
-            Outcome::Refused(fault) => Ending::Refused(fault),
-            Outcome::NotStarted => Ending::NotStarted,
-        };
-        endings.push_reserved(ending);
+        endings.push_reserved(part_one(outcome, places));
     }
 }

@@ -12,6 +12,6 @@ returns-clause-served g c = (
   (λ reader writer. IsOutcome (g.G.Gate.gives c.args.gate.now) (g.G.Gate.refuses c.args.gate.now) (g.G.Gate.serves c.args.gate.now) (g.A.Reader.Source.left reader) (g.A.Writer.Sink.contents writer))
   _
   (joined c.args.gate.now (g.G.Gate.gives c.args.gate.now) (g.G.Gate.refuses c.args.gate.now) g.G.Gate.serves g.A.Reader.Source.left g.A.Writer.Sink.contents)
-  c.args.accept c.take_all-accept_failed.ensures.0 _ _ c.take_all-accept_failed.ensures.1.0 c.join_all.ensures,
-  rw (each_long _ _ _ c.join_all.ensures) at c.take_all-accept_failed.ensures.1.1,
+  c.args.accept c.take_all-accept_failed.ensures.0 _ _ c.take_all-accept_failed.ensures.1 c.join_all.ensures,
+  subst (λ n. IsLast g.A.Accept.fails c.take_all-accept_failed.ensures.0 n c.args.count c.take_all-accept_failed.result) (sym (each_long _ _ _ c.join_all.ensures)) c.take_all-accept_failed.ensures.2,
 )
