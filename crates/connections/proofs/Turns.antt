@@ -7,10 +7,6 @@ use Rattle.connections.specs.declared.outcome.Outcome.TheVariants.{Over, Refused
 use Rattle.connections.specs.Outcomes.{InTurn, places_of}
 use Rattle.connections.specs.Starting.{Each}
 
-pub nothing_left : {X : Type 0} (l : List X) → length l ≡ 0 → l ≡ []
-nothing_left [] h = refl
-nothing_left (x ∷ xs) h = absurd (omega arith)
-
 -- one connection more is taken
 pub turn_more : {A R W O : Type 0} (takes : A → R → W → A → Type 0) (came : R → W → O → Type 0) (a mid b : A) (os : List O) (o : O)
     → InTurn takes came a os mid → (r : R) × (w : W) × takes mid r w b × came r w o → InTurn takes came a (os ++ o ∷ []) b

@@ -2,12 +2,10 @@
 
 use crate::commands::Service;
 use crate::scripts::{spec_told, text_of};
-use crate::telling::{
-    BAD_JOURNAL, DONE, FILE_FAILED, LIMIT, REJECTED, tell_fault, tell_open, write_summary,
-};
+use crate::telling::{FILE_FAILED, LIMIT, tell_fault, tell_open, write_summary};
 use disk::Disk;
 use file_disk::FileDisk;
-use serving::{Account, Closing, TcpAccept, open, serve_session};
+use serving::{Closing, RunStatus, TcpAccept, open, serve_session};
 use session::Session;
 use std::alloc::{AllocError, Global};
 use std::fs::OpenOptions;
@@ -17,19 +15,6 @@ use std::os::unix::fs::FileExt;
 use std::rt::Files;
 use std::sync::Wait;
 use std::thread::Threads;
-
-// The status of a run, apart from a fault of its journal.
-fn status_of(account: Account) -> u8 {
-    if account.accept_failed {
-        FILE_FAILED
-    } else if account.tally.rejected {
-        REJECTED
-    } else if account.tally.limit || account.limit {
-        LIMIT
-    } else {
-        DONE
-    }
-}
 
 // The journal's file, which is made where there is none, or the status of the fault that was told.
 fn journal_at<R: Files, E: Write>(rt: &R, name: &str, errors: &mut E) -> Result<R::File, u8> {
@@ -63,12 +48,11 @@ fn tell_closing<D: Disk, O: Write, E: Write>(
     if !written {
         tell_fault(errors, "-", "cannot write", FILE_FAILED);
     }
-    if closing.session.is_closed() {
-        BAD_JOURNAL
-    } else if !written {
-        FILE_FAILED
+    let status = closing.account.status(closing.session.is_closed());
+    if written || status == RunStatus::Closed {
+        status.code()
     } else {
-        status_of(closing.account)
+        FILE_FAILED
     }
 }
 
@@ -115,7 +99,7 @@ fn serve_at<
     let accept = TcpAccept::new(listener);
     match serve_session(rt, rt.alloc(), session, accept, service.connections) {
         Ok(closing) => tell_closing(service.listen, &closing, output, errors),
-        Err(AllocError) => tell_fault(errors, service.spec, "40 memory", LIMIT),
+        Err((AllocError, _)) => tell_fault(errors, service.spec, "40 memory", LIMIT),
     }
 }
 

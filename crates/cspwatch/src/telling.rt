@@ -14,9 +14,6 @@ use tokens::ScriptError;
 /// All is done.
 pub(crate) const DONE: u8 = 0;
 
-/// A report was rejected.
-pub(crate) const REJECTED: u8 = 1;
-
 /// The words, or a line, ask for nothing that there is.
 pub(crate) const BAD_USE: u8 = 2;
 
