@@ -1,5 +1,5 @@
 -- What came of a connection, where its thread kept its promise.
-use Rattle.std.proofs.Common.{◌≡◌, subst, sym}
+use Rattle.std.proofs.Common.{subst, sym}
 use Rattle.std.specs.Prelude.{ℕ, List, Option, Result}
 use Rattle.wire.specs.declared.answers.Fault.{Fault}
 use Rattle.wire.specs.declared.answers.Tally.{Tally}
@@ -26,9 +26,9 @@ module _ {G P R W : Type 0} (gate : G) (gives : P → Type 0) (refuses : Fault �
       → IsOutcome gives refuses (serves gate) (left r) (contents w) o
   joined r w (Started handle) (outcome.Over over) taken kept =
       let at : (rest : Option (List ℕ)) × (new : Option (List ℕ)) × serves gate handle.promise.place.value over.place over.tally (left r) rest (contents w) new over.end =
-          subst (λ x. (rest : Option (List ℕ)) × (new : Option (List ℕ)) × serves gate handle.promise.place.value over.place over.tally (left r) rest (contents x) new over.end) taken.3
-          (subst (λ x. (rest : Option (List ℕ)) × (new : Option (List ℕ)) × serves gate handle.promise.place.value over.place over.tally (left x) rest (contents handle.promise.writer.value) new over.end) taken.2
-          (subst (λ x. (rest : Option (List ℕ)) × (new : Option (List ℕ)) × serves x handle.promise.place.value over.place over.tally (left handle.promise.reader.value) rest (contents handle.promise.writer.value) new over.end) taken.0 kept)) in
+      subst (λ x. (rest : Option (List ℕ)) × (new : Option (List ℕ)) × serves gate handle.promise.place.value over.place over.tally (left r) rest (contents x) new over.end) taken.3
+      (subst (λ x. (rest : Option (List ℕ)) × (new : Option (List ℕ)) × serves gate handle.promise.place.value over.place over.tally (left x) rest (contents handle.promise.writer.value) new over.end) taken.2
+      (subst (λ x. (rest : Option (List ℕ)) × (new : Option (List ℕ)) × serves x handle.promise.place.value over.place over.tally (left handle.promise.reader.value) rest (contents handle.promise.writer.value) new over.end) taken.0 kept)) in
       (handle.promise.place.value, at.0, at.1, taken.1, at.2)
   joined r w (Refused fault) (outcome.Refused told) taken kept = subst refuses (sym kept) taken
   joined r w NotStarted outcome.NotStarted taken kept = tt

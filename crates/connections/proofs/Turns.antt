@@ -1,7 +1,5 @@
 -- Lists of what came of connections, with one more, and from one list to the next.
-use Rattle.std.proofs.Common.{◌≡◌, ℕ, ◌+◌, List, [], ◌∷◌, ◌++◌, length, refl, sym, ap, ◌∙◌, subst, append_assoc, append-nil, arith}
-use Rattle.std.specs.Prelude.{map}
-use Rattle.std.proofs.lemmas.List.{map-append}
+use Rattle.std.proofs.Common.{◌≡◌, List, [], ◌∷◌, ◌++◌, length, refl, ap, subst, arith}
 use Rattle.connections.specs.declared.outcome.Outcome.{Outcome}
 use Rattle.connections.specs.declared.outcome.Outcome.TheVariants.{Over, Refused, NotStarted}
 use Rattle.connections.specs.Outcomes.{InTurn, places_of}

@@ -1,5 +1,5 @@
 -- What came of all connections together, and the exit status of a run.
-use Rattle.std.specs.Prelude.{◌≡◌, ◌||◌, ℕ, Bool, true, false, cond, Result, Ok, Err}
+use Rattle.std.specs.Prelude.{◌||◌, ℕ, Bool, true, false, cond, Result, Ok, Err}
 use Rattle.wire.specs.declared.answers.Fault.{Fault}
 use Rattle.wire.specs.declared.answers.Fault.TheVariants as fault
 use Rattle.wire.specs.declared.engine.End.{End}

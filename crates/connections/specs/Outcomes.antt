@@ -1,5 +1,5 @@
 -- What came of the connections that were taken.
-use Rattle.std.specs.Prelude.{◌≡◌, ℕ, ◌<◌, Bool, true, false, List, [], ◌∷◌, length, Option, Result}
+use Rattle.std.specs.Prelude.{◌≡◌, ℕ, ◌<◌, Bool, true, false, List, [], ◌∷◌, Option, Result}
 use Rattle.wire.specs.declared.answers.Fault.{Fault}
 use Rattle.wire.specs.declared.answers.Tally.{Tally}
 use Rattle.wire.specs.declared.engine.End.{End}

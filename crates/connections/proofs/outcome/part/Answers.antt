@@ -1,7 +1,7 @@
 use Rattle.std.proofs.Common.{◌≡◌, ◌∷◌, [], ◌++◌, length, sym, ap, ◌∙◌, append_assoc, arith}
 use Rattle.std.specs.Prelude.{map}
 use Rattle.std.proofs.lemmas.List.{map-append}
-use Rattle.std.specs.Vec.Iter.{into_iter_items, into_iter_len}
+use Rattle.std.specs.Vec.Iter.{into_iter_items}
 use Rattle.connections.specs.Outcomes.{ending_of, places_of}
 use Rattle.connections.proofs.Turns.{places-append}
 use Rattle.connections.proofs.outcome.part.Goals as goal
@@ -23,9 +23,9 @@ loop-outcome-preserved g c =
       append_assoc at.yielded (x ∷ []) _ ∙ rw (← steps) at.invariant.0,
       omega (arith, gone, long, short),
       c.part_one.ensures.places ∙ ap (λ l. l ++ places_of (x ∷ [])) at.invariant.2 ∙ append_assoc c.args.places.now.items (places_of at.yielded) (places_of (x ∷ []))
-      ∙ ap (λ l. c.args.places.now.items ++ l) (sym (places-append at.yielded x)),
+          ∙ ap (λ l. c.args.places.now.items ++ l) (sym (places-append at.yielded x)),
       c.push_reserved.ensures.items ∙ ap (λ e. at.endings.items ++ e ∷ []) c.part_one.ensures.ending ∙ ap (λ l. l ++ ending_of x ∷ []) at.invariant.3
-      ∙ append_assoc c.args.endings.now.items (map ending_of at.yielded) (ending_of x ∷ []) ∙ ap (λ l. c.args.endings.now.items ++ l) (sym (map-append ending_of at.yielded (x ∷ []))),
+          ∙ append_assoc c.args.endings.now.items (map ending_of at.yielded) (ending_of x ∷ []) ∙ ap (λ l. c.args.endings.now.items ++ l) (sym (map-append ending_of at.yielded (x ∷ []))),
       omega (arith, gone, first, one, kept),
       omega (arith, gone, second, len, capacity),
     )

@@ -1,7 +1,7 @@
-use Rattle.std.proofs.Common.{◌≡◌, ◌∷◌, [], ◌++◌, length, refl, sym, ap, subst, ◌∙◌, append_assoc, append-nil, arith, rules}
-use Rattle.std.specs.Vec.Iter.{into_iter_items, into_iter_len}
+use Rattle.std.proofs.Common.{◌≡◌, ◌∷◌, [], ◌++◌, length, sym, ap, subst, ◌∙◌, append_assoc, arith}
+use Rattle.std.specs.Vec.Iter.{into_iter_items}
 use Rattle.connections.specs.Starting.{Each, IsJoined}
-use Rattle.connections.proofs.Turns.{each_more, nothing_left}
+use Rattle.connections.proofs.Turns.{each_more}
 use Rattle.connections.proofs.threads.join_all.Goals as goal
 
 pub loop-taken-preserved : goal.loop-taken-preserved
@@ -16,7 +16,7 @@ loop-taken-preserved g c =
     let len = c.push_reserved.ensures.len in
     let capacity = c.push_reserved.ensures.capacity in
     let joined : Each (IsJoined g.P.Promise.kept_by) (at.yielded ++ x ∷ []) (at.outcomes.items ++ c.outcome_of.result ∷ []) =
-        each_more _ at.yielded at.outcomes.items x c.outcome_of.result at.invariant.1 c.outcome_of.ensures in (
+    each_more _ at.yielded at.outcomes.items x c.outcome_of.result at.invariant.1 c.outcome_of.ensures in (
       append_assoc at.yielded (x ∷ []) _ ∙ rw (← steps) at.invariant.0,
       subst (λ os. Each (IsJoined g.P.Promise.kept_by) (at.yielded ++ x ∷ []) os) (sym c.push_reserved.ensures.items) joined,
       omega (arith, gone, long, short),
