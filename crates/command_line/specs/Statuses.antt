@@ -1,19 +1,21 @@
 -- The exit statuses of the commands, where more than one call of `program` or `serving` decides.
-use Rattle.std.specs.Prelude.{Bool, ◌||◌, cond}
 use Rattle.program.specs.Exits.{script_exit, journal_exit}
 use Rattle.program.specs.declared.exit.Exit.{Exit}
 use Rattle.program.specs.declared.exit.Exit.TheVariants.{Done, Rejected, BadJournal, FileFailed, Limit}
-use Rattle.serving.specs.declared.account.Account.{Account}
+use Rattle.connections.specs.declared.account.RunStatus.{RunStatus}
+use Rattle.connections.specs.declared.account.RunStatus.TheVariants as status
 use Rattle.serving.specs.declared.opening.OpenError.{OpenError}
 use Rattle.serving.specs.declared.opening.OpenError.TheVariants.{Begin, Replay, OtherSpecification}
 use Rattle.session.specs.declared.fault.SessionError.{SessionError}
 use Rattle.session.specs.declared.fault.SessionError.TheVariants.{Script, Device}
 
--- After `serve`: 4 where the journal failed in this run; then 5 where the listener or the output did, 1 where a report was
--- rejected, 6 where a line was answered with a fault of the session or a connection got no place or no thread; else 0.
-abbrev pub serve_exit : Bool → Bool → Account → Exit
-serve_exit closed failed account = cond closed BadJournal (cond failed FileFailed
-    (cond account.tally.rejected Rejected (cond (account.tally.limit || account.limit) Limit Done)))
+-- after `serve`
+abbrev pub run_exit : RunStatus → Exit
+run_exit status.Done = Done
+run_exit status.Rejected = Rejected
+run_exit status.Closed = BadJournal
+run_exit status.AcceptFailed = FileFailed
+run_exit status.Limit = Limit
 
 -- where no new session begins on an empty journal
 abbrev pub begin_exit : SessionError → Exit

@@ -2,6 +2,7 @@
 use crate::addresses::address_of;
 use clap::error::ErrorKind;
 use clap::{Arg, ArgAction, ArgMatches, Command, Error};
+use serving::Connections;
 use std::alloc::{AllocError, Global};
 use std::convert::AsStr;
 use std::net::SocketAddrV4;
@@ -32,7 +33,7 @@ pub(crate) struct Service<'a> {
     pub(crate) listen: &'a str,
     pub(crate) address: SocketAddrV4,
     /// How many connections are served.
-    pub(crate) connections: u8,
+    pub(crate) connections: Connections,
 }
 
 // How a fault of the address is reported.
@@ -158,7 +159,7 @@ fn service_of<'a>(matches: &ArgMatches<'a>, address: SocketAddrV4) -> Option<Ser
         journal: matches.get_str("JOURNAL")?,
         listen: matches.get_str("ADDR")?,
         address,
-        connections: matches.get_one::<u8>("N")?,
+        connections: Connections::new(matches.get_one::<u8>("N")?)?,
     })
 }
 

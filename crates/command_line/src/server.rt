@@ -1,6 +1,6 @@
 //! `cspwatch serve`: the reports of connections, judged by one session with a journal.
 ghost use Rattle.std.specs.Prelude.{◌≡◌};
-ghost use Rattle.command_line.specs.Statuses.{serve_exit};
+ghost use Rattle.command_line.specs.Statuses.{run_exit};
 
 use crate::commands::Service;
 use crate::forms::put_out;
@@ -10,7 +10,7 @@ use crate::telling::{tell_fault, tell_open};
 use disk::Disk;
 use file_disk::FileDisk;
 use program::{Exit, summary_line};
-use serving::{Account, Closing, TcpAccept, open, serve_session};
+use serving::{Account, Closing, RunStatus, TcpAccept, open, serve_session};
 use session::{Session, Summary};
 use std::alloc::{AllocError, Global};
 use std::fs::File;
@@ -29,20 +29,16 @@ struct Ended {
     account: Account,
 }
 
-// The exit status of a run in which the journal failed or not, and the listener or the output or not.
-fn exit_of(closed: bool, failed: bool, account: Account) -> Exit
-    ensures { result ≡ serve_exit closed failed account }
+// The exit status of a run of the server.
+fn exit_of(status: RunStatus) -> Exit
+    ensures { result ≡ run_exit status }
 {
-    if closed {
-        Exit::BadJournal
-    } else if failed {
-        Exit::FileFailed
-    } else if account.tally.rejected {
-        Exit::Rejected
-    } else if account.tally.limit || account.limit {
-        Exit::Limit
-    } else {
-        Exit::Done
+    match status {
+        RunStatus::Done => Exit::Done,
+        RunStatus::Rejected => Exit::Rejected,
+        RunStatus::Closed => Exit::BadJournal,
+        RunStatus::AcceptFailed => Exit::FileFailed,
+        RunStatus::Limit => Exit::Limit,
     }
 }
 
@@ -66,7 +62,9 @@ fn tell_ended<O: Write, E: Write>(
             true
         }
     };
-    exit_of(ended.closed, account.accept_failed || !is_written, account)
+    // An output that failed counts as a listener that did.
+    account.accept_failed |= !is_written;
+    exit_of(account.status(ended.closed))
 }
 
 // Listens at the address.
@@ -109,18 +107,14 @@ fn serve_to_end<
     listener: TcpListener,
 ) -> Result<Ended, AllocError> {
     let accept = TcpAccept::new(listener);
-    let Closing { session, account } = serve_session(
-        rt,
-        rt.alloc(),
-        session,
-        accept,
-        service.connections,
-    )?;
-    Ok(Ended {
-        summary: session.summary(),
-        closed: session.is_closed(),
-        account,
-    })
+    match serve_session(rt, rt.alloc(), session, accept, service.connections) {
+        Ok(closing) => Ok(Ended {
+            summary: closing.session.summary(),
+            closed: closing.session.is_closed(),
+            account: closing.account,
+        }),
+        Err((AllocError, _)) => Err(AllocError),
+    }
 }
 
 // Serves the connections of the address at this session, and answers the exit status.

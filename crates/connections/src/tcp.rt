@@ -36,6 +36,11 @@ impl Accept for TcpAccept {
 
     type Writer = Plain<TcpStream>;
 
+    // Nothing is known of what the system does.
+    ghost takes = { λ _ _ _ _. Unit {0} };
+
+    ghost fails = { λ _ _. Unit {0} };
+
     fn accept(&mut self) -> Result<(Plain<TcpStream>, Plain<TcpStream>), AcceptFault> {
         let Ok(stream) = self.next() else {
             return Err(AcceptFault);
