@@ -1,5 +1,5 @@
 -- What is judged of a report after a trace.
-use Rattle.std.proofs.Common.{◌≡◌, ℕ, ◌<◌, Bool, true, false, Option, Some, None, is_some, IfSome, IfNone, List, [], ◌∷◌, ◌++◌, refl, sym, ap, ◌∙◌, subst, ◌↔◌, IsTrue, IfOk, IsOk, is_ok, if◌then◌else◌, Result, Ok, Err}
+use Rattle.std.proofs.Common.{◌≡◌, ℕ, ◌<◌, Bool, Option, Some, None, is_some, IfSome, IfNone, List, [], ◌∷◌, ◌++◌, refl, sym, subst, ◌↔◌, IsTrue, IfOk, IsOk, is_ok, if◌then◌else◌, Result, Ok, Err}
 use Rattle.alphabet.specs.declared.events.Event.{Event}
 use Rattle.alphabet.specs.declared.events.Report.{Report}
 use Rattle.alphabet.specs.declared.events.Report.TheVariants as report

@@ -1,4 +1,4 @@
-use Rattle.std.proofs.Common.{◌≡◌, ◌<◌, ◌-◌, [], ◌∷◌, ◌++◌, sym, subst, vec_len, vec_capacity, arith}
+use Rattle.std.proofs.Common.{◌<◌, ◌-◌, [], ◌∷◌, ◌++◌, sym, subst, vec_len, vec_capacity, arith}
 use Rattle.spaces.specs.Spaces.{Belongs}
 use Rattle.monitor.specs.Monitors.{Follows}
 use Rattle.monitor.proofs.Judgments.{follows-event, pushed}

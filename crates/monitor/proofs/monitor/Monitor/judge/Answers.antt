@@ -1,17 +1,18 @@
-use Rattle.std.proofs.Common.{◌≡◌, ◌-◌, ◌↔◌, IsTrue, refl, vec_len, vec_capacity, arith, subst}
+use Rattle.std.proofs.Common.{◌≡◌, ◌-◌, ◌↔◌, IsTrue, List, refl, sym, vec_len, vec_capacity, arith, subst}
+use Rattle.alphabet.specs.declared.events.Event.{Event}
 use Rattle.term.specs.Proc.{bodies_of}
 use Rattle.term.specs.Specs.{Specified}
 use Rattle.term.specs.Verdict.{Verdict}
-use Rattle.spaces.specs.Spaces.{Belongs, GrewFrom}
-use Rattle.spaces.proofs.Growing.{belongs-on, grew-same}
-use Rattle.monitor.specs.Monitors.{IsJudgment, IsOf, Monitoring, space_of}
+use Rattle.spaces.specs.Spaces.{Belongs}
+use Rattle.spaces.proofs.Growing.{belongs-on}
+use Rattle.monitor.specs.Monitors.{IsJudgment, IsOf, Monitoring}
 use Rattle.monitor.proofs.Judgments.{if-ok, judgment-of}
 use Rattle.monitor.proofs.monitor.Monitor.judge.Goals as goal
 
 pub invariant_of-self : goal.invariant_of-self
 invariant_of-self g c =
-    let u = c.self.inside.trace.items in
-    belongs-on c.self.inside.space c.judge_by.new.space c.judge_by.ensures.grown c.self.inside.states _ ?
+    belongs-on c.self.inside.space c.judge_by.new.space c.judge_by.ensures.grown c.self.inside.states c.reserve.new.self.items
+    (subst (λ (u : List Event). Belongs c.self.inside.space c.self.inside.states u) (sym c.in-Ok.ensures.items) c.self.invariant)
 
 pub returns-in-Ok-clause-report : goal.returns-in-Ok-clause-report
 returns-in-Ok-clause-report g c =
