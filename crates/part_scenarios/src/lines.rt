@@ -13,7 +13,7 @@ use script::read;
 use std::alloc::{AllocError, Global};
 use std::cell::Cell;
 use std::sync::Wait;
-use wire::{End, Fault, Plain, WireError, refuse};
+use wire::{End, Fault, Plain, Tally, WireError, refuse};
 
 /// How a connection ended.
 fn end_word(end: Result<End, WireError>) -> &'static str {
@@ -173,6 +173,16 @@ fn plain<T: Wait>(
     out.push_str(if refused { " refused" } else { " no refusal" })
 }
 
+/// Appends what there was among the answers.
+fn put_tally(into: &mut String, tally: Tally) -> Result<(), AllocError> {
+    into.push_str("rejected")?;
+    put_answer(into, tally.rejected)?;
+    into.push_str(" misuse")?;
+    put_answer(into, tally.misuse)?;
+    into.push_str(" limit")?;
+    put_answer(into, tally.limit)
+}
+
 /// What there was among the answers.
 fn tallied<T: Wait>(
     rt: &T,
@@ -185,13 +195,8 @@ fn tallied<T: Wait>(
 {
     let mut reader = Plain::new(lines);
     let mut writer = Plain::new(Vec::new(alloc));
-    let tally = talk(rt, alloc, &mut reader, &mut writer, alphabet).tally;
-    out.push_str("rejected")?;
-    put_answer(out, tally.rejected)?;
-    out.push_str(" misuse")?;
-    put_answer(out, tally.misuse)?;
-    out.push_str(" limit")?;
-    put_answer(out, tally.limit)
+    let came = talk(rt, alloc, &mut reader, &mut writer, alphabet);
+    put_tally(out, came.tally)
 }
 
 /// The request for memory with this number is refused.

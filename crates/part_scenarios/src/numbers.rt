@@ -32,6 +32,21 @@ fn put_found(
 }
 
 /// Appends how many targets the steps of the process have: found, and remembered.
+fn put_both(
+    into: &mut String,
+    alloc: Global,
+    all: &mut Transitions<Global>,
+    term: &Term<Global>,
+    label: Label,
+) -> Result<(), AllocError>
+    requires { SetsBelow 256 (proc term.now) }
+{
+    let number = all.number_of_term(term)?;
+    put_found(into, alloc, all, number, label)?;
+    put_found(into, alloc, all, number, label)
+}
+
+/// Appends how many targets the steps of the process have, asked twice.
 fn put_twice(
     into: &mut String,
     alloc: Global,
@@ -42,9 +57,15 @@ fn put_twice(
     requires { SetsBelow 256 (proc term.now) }
 {
     let mut all = Transitions::new(alloc, spec)?;
+    put_both(into, alloc, &mut all, term, label)
+}
+
+/// Whether a hidden step of the process, which isn't too deep, leads to one that is.
+fn leads_too_deep(all: &mut Transitions<Global>, term: &Term<Global>) -> Result<bool, AllocError>
+    requires { depth (proc term.now) ≤ deepest_state }
+{
     let number = all.number_of_term(term)?;
-    put_found(into, alloc, &mut all, number, label)?;
-    put_found(into, alloc, &mut all, number, label)
+    all.has_deep_target(number)
 }
 
 /// Whether a hidden step of the process, which isn't too deep, leads to one that is.
@@ -56,8 +77,7 @@ fn has_deep_target(
     requires { depth (proc term.now) ≤ deepest_state }
 {
     let mut all = Transitions::new(alloc, spec)?;
-    let number = all.number_of_term(term)?;
-    all.has_deep_target(number)
+    leads_too_deep(&mut all, term)
 }
 
 /// Appends whether a hidden step leads to a process that is too deep.

@@ -179,7 +179,7 @@ fn is_begun(full: &str, came: &str) -> bool {
 /// Whether this may come of what a session is asked, where what is refused is asked again: nothing but the refusal; the full answers,
 /// with the refusal reported once; or the full answers up to where no more was granted, or where the disk couldn't grow.
 fn is_asked(alloc: Global, refused: Refused, full: &str, came: &str) -> Result<bool, AllocError> {
-    if came == "40 memory" || came == "30 journal" {
+    if matches!(came, "40 memory" | "script 1: 40 memory" | "30 journal") {
         return Ok(true);
     }
     if refused == Refused::AllFrom || came.split("; ").any(|answer| answer == "ERR 30 journal") {
