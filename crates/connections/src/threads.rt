@@ -184,11 +184,54 @@ fn join_all<T: Threads, O: Drop, P: Promise<Over<O>>>(
     }
 }
 
-fn start_all<'s, E, T, A, G>(
+// Empty lists with room for so many.
+fn rooms<T: Drop, O: Drop>(alloc: Global, count: u8) -> Result<(Vec<T>, Vec<O>), AllocError>
+    ensures threads { IfOk result (λ rooms. (rooms.0.items ≡ []) × (count ≤ vec_capacity rooms.0)) }
+    ensures outcomes { IfOk result (λ rooms. (rooms.1.items ≡ []) × (count ≤ vec_capacity rooms.1)) }
+{
+    let threads = Vec::with_capacity(alloc, usize::from(count))?;
+    let outcomes = Vec::with_capacity(alloc, usize::from(count))?;
+    Ok((threads, outcomes))
+}
+
+// Takes the connections, closes where they come from, and waits until all are over.
+fn run_all<'s, E, T, A, G>(
     rt: &'s T,
     alloc: Global,
     scope: &Scope<'s, E>,
     mut accept: A,
+    gate: &'s G,
+    count: u8,
+    mut threads: Vec<Taken<Over<G::Place>, Begun<G, G::Place, A::Reader, A::Writer>>>,
+    mut outcomes: Vec<Outcome<G::Place>>,
+) -> Served<G::Place>
+where
+    T: Threads + Wait + Sync,
+    A: Accept + Drop,
+    G: Gate + Sync,
+    A::Reader: 's,
+    A::Writer: 's,
+    G::Place: 's,
+    requires threads { (threads.items ≡ []) × (count ≤ vec_capacity threads) }
+    requires outcomes { (outcomes.items ≡ []) × (count ≤ vec_capacity outcomes) }
+    ensures { (end : _)
+        × InTurn A.takes (λ reader writer. IsOutcome (G.gives gate.now) (G.refuses gate.now) (G.serves gate.now) (A.Reader.left reader) (A.Writer.contents writer)) accept result.outcomes.items end
+        × IsLast A.fails end (length result.outcomes.items) count result.accept_failed }
+{
+    let accept_failed = take_all(rt, alloc, scope, &mut accept, gate, count, &mut threads);
+    drop(accept);
+    join_all(rt, threads, &mut outcomes);
+    Served {
+        outcomes,
+        accept_failed,
+    }
+}
+
+fn start_all<'s, E, T, A, G>(
+    rt: &'s T,
+    alloc: Global,
+    scope: &Scope<'s, E>,
+    accept: A,
     gate: &'s G,
     count: u8,
 ) -> Result<Served<G::Place>, (AllocError, A)>
@@ -204,19 +247,12 @@ where
         × IsLast A.fails end (length s.outcomes.items) count s.accept_failed) }
     ensures memory { IfErr result (λ error. error.1 ≡ accept) }
 {
-    let (Ok(mut outcomes), Ok(mut threads)) = (
-        Vec::with_capacity(alloc, usize::from(count)),
-        Vec::with_capacity(alloc, usize::from(count)),
-    ) else {
-        return Err((AllocError, accept));
-    };
-    let accept_failed = take_all(rt, alloc, scope, &mut accept, gate, count, &mut threads);
-    drop(accept);
-    join_all(rt, threads, &mut outcomes);
-    Ok(Served {
-        outcomes,
-        accept_failed,
-    })
+    match rooms(alloc, count) {
+        Ok((threads, outcomes)) => Ok(run_all(
+            rt, alloc, scope, accept, gate, count, threads, outcomes,
+        )),
+        Err(error) => Err((error, accept)),
+    }
 }
 
 /// Takes up to `count` connections, and serves each in a thread of its own, at a place of its own. One that gets no place is sent

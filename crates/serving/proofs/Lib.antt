@@ -1,3 +1,3 @@
-pub mod Accounts
+pub mod Closings
 pub mod Crossings
 pub mod Openings

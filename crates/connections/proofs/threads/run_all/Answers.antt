@@ -3,10 +3,10 @@ use Rattle.connections.specs.Outcomes.{IsLast, IsOutcome}
 use Rattle.connections.specs.Starting.{IsTaken}
 use Rattle.connections.proofs.Turns.{each_long, turn_joined}
 use Rattle.connections.proofs.Joining.{joined}
-use Rattle.connections.proofs.threads.start_all.Goals as goal
+use Rattle.connections.proofs.threads.run_all.Goals as goal
 
-pub returns-clause-served : goal.returns-clause-served
-returns-clause-served g c = (
+pub returns : goal.returns
+returns g c = (
   c.take_all-accept_failed.ensures.0,
   turn_joined g.A.Accept.takes (IsTaken c.args.gate.now (g.G.Gate.gives c.args.gate.now) (g.G.Gate.refuses c.args.gate.now))
       (λ reader writer. IsOutcome (g.G.Gate.gives c.args.gate.now) (g.G.Gate.refuses c.args.gate.now) (g.G.Gate.serves c.args.gate.now) (g.A.Reader.Source.left reader) (g.A.Writer.Sink.contents writer))
