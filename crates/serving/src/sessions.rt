@@ -120,14 +120,41 @@ fn serve_at<D: Disk + Send, N: Naming + Send + Sync, T: Threads + Wait + Sync, L
     let served = serve_all(rt, alloc, accept, &gate, count);
     gate.end();
     match served {
-        Ok(Served {
-            outcomes,
-            accept_failed,
-        }) => {
+        Ok(
+            Served {
+                outcomes,
+                accept_failed,
+            },
+        ) => {
             part(outcomes, shares, endings);
             Ok(accept_failed)
         }
         Err(refused) => Err(refused),
+    }
+}
+
+// The same, once there is room for the shares.
+fn serve_in<D: Disk + Send, N: Naming + Send + Sync, T: Threads + Wait + Sync, L: Accept + Drop>(
+    rt: &T,
+    alloc: Global,
+    shared: &Shared<D, Global, N>,
+    accept: L,
+    alphabet: &Alphabet<Global>,
+    count: u8,
+    shares: &mut Vec<Share<N, Global>, Global>,
+    endings: &mut Vec<Ending, Global>,
+) -> Result<bool, (AllocError, L)>
+    requires alphabet { alphabet.now ≡ N.spec.alphabet }
+    requires shares { shares.old.items ≡ [] }
+    requires endings { (endings.old.items ≡ []) × (count ≤ vec_capacity endings.old) }
+    ensures served { IfOk result (λ accept_failed. (outcomes : List (Outcome SeatTold))
+        × CameTo L.takes L.fails L.Reader.left L.Writer.contents accept count N.spec N.opening outcomes accept_failed
+        × (shares.new.items ≡ places_of outcomes) × (endings.new.items ≡ map ending_of outcomes)) }
+    ensures memory { IfErr result (λ error. error.1 ≡ accept) }
+{
+    match shares.reserve(usize::from(count)) {
+        Ok(()) => serve_at(rt, alloc, shared, accept, alphabet, count, shares, endings),
+        Err(_) => Err((AllocError, accept)),
     }
 }
 
@@ -156,50 +183,7 @@ fn close<D: Disk + Drop, L>(
     }
 }
 
-// Shares the session, and serves its connections.
-fn share_out<
-    N: Naming + Send + Sync,
-    D: Disk + Drop + Send,
-    T: Threads + Wait + Sync,
-    L: Accept + Drop,
->(
-    rt: &T,
-    alloc: Global,
-    session: Session<D, Global>,
-    opened: Opened,
-    blank: Blank,
-    accept: L,
-    room: Room,
-    shares: Vec<Share<N, Global>, Global>,
-    count: u8,
-) -> Result<Closing<D>, (AllocError, L)>
-    requires count { (1 ≤ count) × (count ≤ 64) }
-    requires story { (session.spec ≡ N.spec) × (session.history ≡ N.opening) }
-    requires book { opened.seen.book ≡ N.book }
-    requires ledger { (blank.name ≡ N.name) × (blank.parts ≡ N.parts) × (N.all ≡ N.parts) × (N.all ≡ count + 1) }
-    requires alphabet { room.alphabet ≡ N.spec.alphabet }
-    requires endings { (room.endings.items ≡ []) × (count ≤ vec_capacity room.endings) }
-    requires shares { (shares.items ≡ []) × (count ≤ vec_capacity shares) }
-    ensures session { IfOk result (λ c. (c.session.spec ≡ N.spec) × StartsWith c.session.history N.opening × Legal (bodies_of N.spec.bodies) c.session.history) }
-    ensures kept { IfOk result (λ c. (script : List ℕ) × (root : List ℕ) × IsFor D.state script root c.session) }
-    ensures went { IfOk result (λ c. Went L.takes L.fails L.Reader.left L.Writer.contents accept count N.spec N.opening c.session.history c.endings.items c.account.accept_failed c.answered) }
-    ensures account { IfOk result (λ c. (c.account.rejected ≡ list_any has_rejected c.endings.items) × (c.account.limit ≡ list_any met_limit c.endings.items)) }
-    ensures memory { IfErr result (λ error. error.1 ≡ accept) }
-{
-    let Room {
-        alphabet,
-        mut endings,
-    } = room;
-    let mut shares = shares;
-    let Ok(shared) = Shared::<D, Global, N>::new(alloc, session, opened, blank, u64::from(count)) else {
-        return Err((AllocError, accept));
-    };
-    let served = serve_at(rt, alloc, &shared, accept, &alphabet, count, &mut shares, &mut endings);
-    let (session, answered) = shared.finish(rt, shares);
-    close(session, answered, endings, served)
-}
-
-// The same, where the caller picks the names.
+// Shares the session, and serves its connections. The caller picks the names.
 fn over_seats<
     N: Naming + Send + Sync,
     D: Disk + Drop + Send,
@@ -227,12 +211,27 @@ fn over_seats<
     ensures account { IfOk result (λ c. (c.account.rejected ≡ list_any has_rejected c.endings.items) × (c.account.limit ≡ list_any met_limit c.endings.items)) }
     ensures memory { IfErr result (λ error. error.1 ≡ accept) }
 {
-    match Vec::with_capacity(alloc, usize::from(count)) {
-        Ok(shares) => share_out::<N, D, T, L>(
-            rt, alloc, session, opened, blank, accept, room, shares, count,
-        ),
-        Err(AllocError) => give_up(session, accept),
-    }
+    let Room {
+        alphabet,
+        mut endings,
+    } = room;
+    let mut shares = Vec::new(alloc);
+    let Ok(shared) = Shared::<D, Global, N>::new(alloc, session, opened, blank, u64::from(count))
+    else {
+        return Err((AllocError, accept));
+    };
+    let served = serve_in(
+        rt,
+        alloc,
+        &shared,
+        accept,
+        &alphabet,
+        count,
+        &mut shares,
+        &mut endings,
+    );
+    let (session, answered) = shared.finish(rt, shares);
+    close(session, answered, endings, served)
 }
 
 /// Serves up to so many connections, each in a thread of its own at a seat of its own, and gives the session back once all are over, with
