@@ -5,7 +5,6 @@ ghost use Rattle.command_line.specs.Commands.{IsRefusal, Judged};
 
 use crate::scripts::text_of;
 use crate::telling::{tell_fault, tell_opening, tell_script};
-use disk::Disk;
 use memory_disks::MemoryDisk;
 use program::{Checked, Exit};
 use session::SessionError;
@@ -50,16 +49,6 @@ fn tell_end<E: Write>(errors: &mut E, name: &str, talked: Talked) -> Exit
     }
 }
 
-// How the conversation ended, and its exit status. The session is dropped.
-fn talked_of<D: Disk + Drop>(checked: Checked<D>) -> Talked
-    ensures { (result.end ≡ checked.end) × (result.exit ≡ checked.exit) }
-{
-    Talked {
-        end: checked.end,
-        exit: checked.exit,
-    }
-}
-
 // Judges the lines of the reader by what the script denotes for the process.
 fn talk<R: Wait, T: Source, W: Sink>(
     rt: &R,
@@ -73,10 +62,13 @@ fn talk<R: Wait, T: Source, W: Sink>(
     ensures untouched { IfErr result (λ _. (reader.new ≡ reader.old) × (writer.new ≡ writer.old)) }
 {
     let disk = MemoryDisk::new(Vec::new(alloc));
-    match program::check(rt, alloc, disk, script, process, reader, writer) {
-        Ok(checked) => Ok(talked_of(checked)),
-        Err(error) => Err(error),
-    }
+    let Checked {
+        session: _,
+        end,
+        tally: _,
+        exit,
+    } = program::check(rt, alloc, disk, script, process, reader, writer)?;
+    Ok(Talked { end, exit })
 }
 
 /// Judges the lines of the reader by the process of the script in the file, and answers the exit status.

@@ -162,11 +162,6 @@ fn service_of<'a>(matches: &ArgMatches<'a>, address: SocketAddrV4) -> Option<Ser
     })
 }
 
-// The fault of use of an address.
-fn bad_address(alloc: Global) -> Result<Error, AllocError> {
-    serve_command(alloc)?.error(ErrorKind::ValueValidation, BAD_ADDRESS)
-}
-
 // The wish to serve, or the fault of use of its address.
 fn serve_wish<'a>(alloc: Global, matches: &ArgMatches<'a>) -> Result<Option<Wish<'a>>, Error> {
     let Some(listen) = matches.get_str("ADDR") else {
@@ -174,7 +169,7 @@ fn serve_wish<'a>(alloc: Global, matches: &ArgMatches<'a>) -> Result<Option<Wish
     };
     match address_of(alloc, listen)? {
         Some(address) => Ok(service_of(matches, address).map(Wish::Serve)),
-        None => Err(bad_address(alloc)?),
+        None => Err(serve_command(alloc)?.error(ErrorKind::ValueValidation, BAD_ADDRESS)?),
     }
 }
 
@@ -193,14 +188,6 @@ fn wish_of<'a>(matches: &ArgMatches<'a>) -> Option<Wish<'a>> {
     }
 }
 
-// The wish that the words were taken for.
-fn wish_in<'a>(alloc: Global, matches: &ArgMatches<'a>) -> Result<Option<Wish<'a>>, Error> {
-    match matches.subcommand() {
-        Some(("serve", inner)) => serve_wish(alloc, inner),
-        _ => Ok(wish_of(matches)),
-    }
-}
-
 /// Reads the words, the first of which is the program's name. What `clap` takes has the words of its command, but no
 /// clause here says so: `Ok(None)` is the answer where one is missing.
 pub(crate) fn read_words<'a, S: AsStr>(
@@ -208,7 +195,10 @@ pub(crate) fn read_words<'a, S: AsStr>(
     words: &'a [S],
 ) -> Result<Option<Wish<'a>>, Error> {
     let matches = command(alloc)?.try_get_matches_from(words)?;
-    wish_in(alloc, &matches)
+    match matches.subcommand() {
+        Some(("serve", inner)) => serve_wish(alloc, inner),
+        _ => Ok(wish_of(&matches)),
+    }
 }
 
 /// An example of the command that the words name, if they name one.

@@ -18,22 +18,15 @@ fn from_line(text: &[u8], line: u32) -> &[u8] {
     rest
 }
 
-/// The byte as it is shown: what a terminal doesn't print becomes `?`, a tab a blank.
-fn shown_byte(byte: u8) -> u8 {
-    match byte {
-        b'\t' => b' ',
-        b' '..=b'~' => byte,
-        _ => b'?',
-    }
-}
-
-/// Writes the first line of the text, as far as it is shown.
+/// Writes the first line of the text, as far as it is shown. What a terminal doesn't print becomes `?`, a tab a blank.
 fn write_line<E: Write>(errors: &mut E, text: &[u8]) -> io::Result<()> {
     for byte in text.iter().take(MOST_SHOWN) {
-        if matches!(*byte, b'\n' | b'\r') {
-            break;
+        match *byte {
+            b'\n' | b'\r' => break,
+            b'\t' => errors.write_all(b" ")?,
+            b' '..=b'~' => errors.write_all(&[*byte])?,
+            _ => errors.write_all(b"?")?,
         }
-        errors.write_all(&[shown_byte(*byte)])?;
     }
     errors.write_all(b"\n")
 }
