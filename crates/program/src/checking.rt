@@ -1,6 +1,6 @@
 //! A conversation of one who reports alone, judged by what a script denotes.
 
-ghost use Rattle.std.specs.Prelude.{◌≡◌, ◌≢◌, ◌⊎◌, ◌<◌, [], false, ℕ, List, IfOk, IfErr, MatchResult, IsErrOf, Err};
+ghost use Rattle.std.specs.Prelude.{◌≡◌, ◌≢◌, ◌⊎◌, ◌<◌, [], false, true, ℕ, List, IfOk, IfErr, MatchResult, IsErrOf, Err, vec_len, vec_capacity};
 ghost use Rattle.term.specs.Proc.{bodies_of};
 ghost use Rattle.term.specs.Specs.{Specified};
 ghost use Rattle.history.specs.Legal.{Legal};
@@ -82,6 +82,14 @@ fn hear<R: Wait, D: Disk, A: Allocator + Copy + Drop, N: Naming, T: Source, W: S
     })
 }
 
+// Whether there is room for one share more.
+fn has_room<N: Naming, A: Allocator>(shares: &mut Vec<Share<N, A>, A>) -> bool
+    ensures items { shares.new.items ≡ shares.old.items }
+    ensures room { result ≡ true → vec_len shares.new < vec_capacity shares.new }
+{
+    shares.reserve(1).is_ok()
+}
+
 // Answers the lines of the reader from the only seat of the session. The caller picks the names.
 fn hear_alone<
     R: Wait,
@@ -119,7 +127,7 @@ fn hear_alone<
         return Err(SessionError::Memory);
     };
     let mut shares = Vec::new(alloc);
-    if shares.reserve(1).is_err() {
+    if !has_room(&mut shares) {
         let (_session, _count) = shared.finish(rt, shares);
         return Err(SessionError::Memory);
     }

@@ -2,7 +2,6 @@
 
 ghost use Rattle.std.specs.Prelude.{◌≡◌, ◌≤◌, ◌+◌, [], ℕ, List, Ok, Err, IfOk, IfErr, IsErr, length, map, vec_capacity};
 ghost use Rattle.std.specs.List.{list_any};
-ghost use Rattle.std.specs.Thread.{IsSend};
 ghost use Rattle.term.specs.Proc.{bodies_of};
 ghost use Rattle.history.specs.Legal.{Legal};
 ghost use Rattle.history.specs.Beginnings.{StartsWith};
@@ -11,15 +10,14 @@ ghost use Rattle.shared.specs.Told.{SeatTold};
 ghost use Rattle.connections.specs.declared.outcome.Outcome.{Outcome};
 ghost use Rattle.connections.specs.Accounts.{has_rejected, met_limit};
 ghost use Rattle.connections.specs.Outcomes.{ending_of, places_of};
-ghost use Rattle.serving.specs.Crossing.{LegalCrosses};
 ghost use Rattle.serving.specs.Runs.{CameTo, Went};
 
 use crate::shared_gate::SharedGate;
 use alphabet::Alphabet;
 use board::{Front, Naming, Opened, Publisher, Source, Spine};
-use connections::{Accept, Account, Connections, Ending, Served, part, serve_all};
+use connections::{Accept, Account, Connections, Ending, part, serve_all};
+use crossings::{crosses, legal_crosses};
 use disk::Disk;
-use history::LegalHistory;
 use journal::Journal;
 use seats::copy_of;
 use session::{Failed, Session};
@@ -75,18 +73,6 @@ fn give_up<D: Disk + Drop, L>(
     Err((AllocError, accept))
 }
 
-// That a type may go to another thread.
-fn crosses<T: Send>()
-    ensures { IsSend T.row }
-{}
-
-// That a legal history may. It stands apart since the search for its proof takes too long beside a caller's types.
-fn legal_crosses()
-    ensures legal { LegalCrosses }
-{
-    crosses::<LegalHistory<Global>>();
-}
-
 // Serves the connections at seats of the shared session. Their shares come to the shares, and how each ended to the endings.
 fn serve_at<D: Disk + Send, N: Naming + Send + Sync, T: Threads + Wait + Sync, L: Accept + Drop>(
     rt: &T,
@@ -120,13 +106,9 @@ fn serve_at<D: Disk + Send, N: Naming + Send + Sync, T: Threads + Wait + Sync, L
     let served = serve_all(rt, alloc, accept, &gate, count);
     gate.end();
     match served {
-        Ok(
-            Served {
-                outcomes,
-                accept_failed,
-            },
-        ) => {
-            part(outcomes, shares, endings);
+        Ok(all) => {
+            let accept_failed = all.accept_failed;
+            part(all.outcomes, shares, endings);
             Ok(accept_failed)
         }
         Err(refused) => Err(refused),

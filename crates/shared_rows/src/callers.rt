@@ -1,12 +1,11 @@
 //! Callers, each on a thread of its own.
 
-ghost use Rattle.std.specs.Thread.{IsSend};
 
 use crate::held::Gate;
 use alphabet::{Event, Report};
 use board::{Front, Naming, Publisher, Source, Spine};
+use crossings::{crosses, legal_crosses};
 use disk::Disk;
-use history::LegalHistory;
 use journal::Journal;
 use session::{Entry, Failed, SeatNumber};
 use shared::{Receipt, Share, Shared};
@@ -124,11 +123,6 @@ fn run<D: Disk, N: Naming, T: Wait + Clock>(
     (share, answers)
 }
 
-/// That a type may go to another thread.
-fn crosses<T: Send>()
-    ensures { IsSend T.row }
-{}
-
 /// Runs each caller on a thread of its own, in the order of the list where no thread can be made.
 pub(crate) fn run_all<D: Disk + Send, N: Naming + Send + Sync, R: Threads + Wait + Clock + Sync>(
     rt: &R,
@@ -138,7 +132,7 @@ pub(crate) fn run_all<D: Disk + Send, N: Naming + Send + Sync, R: Threads + Wait
     callers: Vec<Caller<N>, Global>,
 ) -> Result<Vec<(Share<N, Global>, Answers), Global>, AllocError> {
     // The parts of what lies under the lock: the proof that the whole may go to another thread asks for each.
-    crosses::<LegalHistory<Global>>();
+    legal_crosses();
     crosses::<Journal<D>>();
     crosses::<Option<Failed>>();
     crosses::<Spine<N>>();

@@ -1,7 +1,12 @@
-use Rattle.std.proofs.Common.{◌≡◌, List, Ok, IfOk, subst, sym}
+use Rattle.std.proofs.Common.{◌≡◌, ℕ, List, Ok, Err, IfOk, IfErr, subst, sym}
 use Rattle.std.specs.Prelude.{map}
 use Rattle.shared.specs.Told.{SeatTold}
+use Rattle.term.specs.Proc.{bodies_of}
+use Rattle.history.specs.Legal.{Legal}
+use Rattle.history.specs.Beginnings.{StartsWith}
+use Rattle.session.specs.Told.{IsFor}
 use Rattle.session.proofs.Keeping.{if_ok}
+use Rattle.session.proofs.ScriptLemmas.{if_err}
 use Rattle.connections.specs.declared.outcome.Outcome.{Outcome}
 use Rattle.connections.specs.Outcomes.{ending_of, places_of}
 use Rattle.serving.specs.Runs.{CameTo, Went}
@@ -31,3 +36,31 @@ returns-clause-went g c =
     × (served.new.shares.items ≡ places_of outcomes) × (served.new.endings.items ≡ map ending_of outcomes))) is.3 served.ensures.served)
     finish.ensures.counted finish.ensures.told))))
     c.close.ensures.closed
+
+pub returns-clause-session : goal.returns-clause-session
+returns-clause-session g c =
+    let served = c.serve_in-served in
+    let finish = c.finish-session in
+    let spec = g.N.Naming.spec in
+    if_ok (λ k. (k.session ≡ finish.result.0) × (k.answered ≡ finish.result.1) × (k.endings ≡ served.new.endings) × (served.result ≡ Ok k.account.accept_failed))
+    (λ k. (k.session.spec ≡ spec) × StartsWith k.session.history g.N.Naming.opening × Legal (bodies_of spec.bodies) k.session.history)
+    c.close.result
+    (λ k is. subst (λ s. (s.spec ≡ spec) × StartsWith s.history g.N.Naming.opening × Legal (bodies_of spec.bodies) s.history) (sym is.0) finish.ensures.session)
+    c.close.ensures.closed
+
+pub returns-clause-kept : goal.returns-clause-kept
+returns-clause-kept g c =
+    let served = c.serve_in-served in
+    let finish = c.finish-session in
+    if_ok (λ k. (k.session ≡ finish.result.0) × (k.answered ≡ finish.result.1) × (k.endings ≡ served.new.endings) × (served.result ≡ Ok k.account.accept_failed))
+    (λ k. (script : List ℕ) × (root : List ℕ) × IsFor g.D.Disk.state script root k.session)
+    c.close.result
+    (λ k is. subst (λ s. (script : List ℕ) × (root : List ℕ) × IsFor g.D.Disk.state script root s) (sym is.0) finish.ensures.kept)
+    c.close.ensures.closed
+
+pub returns-clause-memory : goal.returns-clause-memory
+returns-clause-memory g c =
+    let served = c.serve_in-served in
+    if_err (λ e. served.result ≡ Err e) (λ e. e.1 ≡ c.args.accept) c.close.result
+    (λ e is. subst (λ r. IfErr r (λ error. error.1 ≡ c.args.accept)) is served.ensures.memory)
+    c.close.ensures.memory

@@ -57,8 +57,8 @@ serve_all-served-requires-sync-G g c κs within =
 
 pub returns-in-Ok-clause-served : goal.returns-in-Ok-clause-served
 returns-in-Ok-clause-served g c = (
-  c.in-Ok.outcomes.items,
+  c.in-Ok.all.outcomes.items,
   c.in-Ok.ensures.served,
-  c.part.ensures.places ∙ ap (λ l. l ++ places_of c.in-Ok.outcomes.items) c.requires.shares.0,
-  c.part.ensures.endings ∙ ap (λ l. l ++ map ending_of c.in-Ok.outcomes.items) c.requires.endings.0,
+  c.part.ensures.places ∙ ap (λ l. l ++ places_of c.in-Ok.all.outcomes.items) c.requires.shares.0,
+  c.part.ensures.endings ∙ ap (λ l. l ++ map ending_of c.in-Ok.all.outcomes.items) c.requires.endings.0,
 )

@@ -1,0 +1,2 @@
+-- To believe.
+pub mod Crossings
