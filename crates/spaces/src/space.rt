@@ -21,6 +21,7 @@ use indexmap::IndexMap;
 use std::alloc::{AllocError, Allocator};
 use std::marker::Model;
 use term::Spec;
+use transitions::Transitions;
 
 /// The most answers that are remembered.
 pub const MOST_REMEMBERED: usize = 65_536;
@@ -52,9 +53,9 @@ impl<A: Allocator + Copy> Space<A> {
     pub fn new(alloc: A, spec: Spec<A>) -> Result<Space<A>, AllocError>
         ensures { IfOk result (λ space. space.spec ≡ spec) }
     {
-        let found = FoundSets::new(alloc, spec)?;
+        let all = Transitions::new(alloc, &spec)?;
         Ok(Space {
-            found,
+            found: FoundSets::new(alloc, spec, all),
             answers: IndexMap::new(alloc),
         })
     }
