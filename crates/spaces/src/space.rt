@@ -53,11 +53,13 @@ impl<A: Allocator + Copy> Space<A> {
     pub fn new(alloc: A, spec: Spec<A>) -> Result<Space<A>, AllocError>
         ensures { IfOk result (λ space. space.spec ≡ spec) }
     {
-        let all = Transitions::new(alloc, &spec)?;
-        Ok(Space {
-            found: FoundSets::new(alloc, spec, all),
-            answers: IndexMap::new(alloc),
-        })
+        match Transitions::new(alloc, &spec) {
+            Ok(all) => Ok(Space {
+                found: FoundSets::new(alloc, spec, all),
+                answers: IndexMap::new(alloc),
+            }),
+            Err(refused) => Err(refused),
+        }
     }
 
     /// The set of all that hidden steps reach from the root's name.
