@@ -58,20 +58,20 @@ impl<A: Allocator> Model for FoundSets<A> {
 }
 
 impl<A: Allocator + Copy> FoundSets<A> {
-    /// No sets yet, of this specification.
-    pub(crate) fn new(alloc: A, spec: Spec<A>) -> Result<FoundSets<A>, AllocError>
-        ensures spec { IfOk result (λ found. found.spec ≡ spec) }
-        ensures empty { IfOk result (λ found. found.sets ≡ []) }
+    /// No sets yet, of this specification, whose bodies stand in the table.
+    pub(crate) fn new(alloc: A, spec: Spec<A>, all: Transitions<A>) -> FoundSets<A>
+        requires { all.bodies ≡ spec.bodies }
+        ensures spec { result.spec ≡ spec }
+        ensures empty { result.sets ≡ [] }
     {
-        // A specification is closed: its own clause says so.
+        // A specification is closed: a clause of its own says so.
         let _bodies = spec.bodies();
-        let all = Transitions::new(alloc, &spec)?;
-        Ok(FoundSets {
+        FoundSets {
             spec,
             all,
             sets: IndexMap::new(alloc),
             alloc,
-        })
+        }
     }
 
     /// The set of all that hidden steps reach from the root's name.
@@ -173,7 +173,10 @@ impl<A: Allocator + Copy> FoundSets<A> {
         sorted.sort_unstable();
         match self.set_of(&sorted) {
             Some(set) => Ok(set),
-            None => self.put_new(sorted),
+            None => match self.facts_of_new(&sorted) {
+                Ok(facts) => self.put_new(sorted, facts),
+                Err(refused) => Err(refused),
+            },
         }
     }
 
@@ -188,16 +191,29 @@ impl<A: Allocator + Copy> FoundSets<A> {
         }
     }
 
-    /// A set that isn't stored yet.
-    fn put_new(&mut self, list: Vec<u32, A>) -> Result<StateSet, AllocError>
+    /// What is known of a set that isn't stored yet. Refused where no number is left for it.
+    fn facts_of_new(&self, numbers: &[u32]) -> Result<SetFacts<A>, AllocError>
+        requires { AllBelow (length self.now.table.processes) numbers.now }
+        ensures facts { IfOk result (λ facts. AreFactsOf facts (look self.now.table.processes numbers.now)) }
+        ensures few { OnOk result (length self.now.sets + 1 < 2 ^ 32) }
+    {
+        if self.sets.len() >= MOST_SETS {
+            return Err(AllocError);
+        }
+        facts_of(&self.all, self.alloc, numbers)
+    }
+
+    /// A set that isn't stored yet, of which this is known.
+    fn put_new(&mut self, list: Vec<u32, A>, facts: SetFacts<A>) -> Result<StateSet, AllocError>
         requires below { AllBelow (length self.old.table.processes) list.items }
         requires shallow { AllShallow (look self.old.table.processes list.items) }
+        requires facts { AreFactsOf facts (look self.old.table.processes list.items) }
+        requires few { length self.old.sets + 1 < 2 ^ 32 }
         requires new { (set : ℕ) → set < length self.old.sets → members self.old set ≡ list.items → ⊥ }
         ensures set { IfOk result (HasList (shown self.new) (look self.old.table.processes list.items)) }
         ensures grown { GrewFrom (shown self.old) (shown self.new) }
     {
         let number = self.sets.len();
-        let facts = facts_of_new(&self.all, &self.sets, self.alloc, &list)?;
         self.sets.insert(list, facts)?;
         Ok(StateSet::at(number as u32))
     }
@@ -233,21 +249,4 @@ fn numbers_of<A: Allocator>(sets: &Lists<A>, set: StateSet) -> &[u32]
         Some((numbers, _)) => numbers.as_slice(),
         None => &[],
     }
-}
-
-/// What is known of a set that isn't stored yet. Refused where no number is left for it.
-fn facts_of_new<A: Allocator + Copy>(
-    all: &Transitions<A>,
-    sets: &Lists<A>,
-    alloc: A,
-    numbers: &[u32],
-) -> Result<SetFacts<A>, AllocError>
-    requires { AllBelow (length all.now.table.processes) numbers.now }
-    ensures facts { IfOk result (λ facts. AreFactsOf facts (look all.now.table.processes numbers.now)) }
-    ensures few { OnOk result (length sets.now.entries + 1 < 2 ^ 32) }
-{
-    if sets.len() >= MOST_SETS {
-        return Err(AllocError);
-    }
-    facts_of(all, alloc, numbers)
 }

@@ -21,6 +21,7 @@ use indexmap::IndexMap;
 use std::alloc::{AllocError, Allocator};
 use std::marker::Model;
 use term::Spec;
+use transitions::Transitions;
 
 /// The most answers that are remembered.
 pub const MOST_REMEMBERED: usize = 65_536;
@@ -52,11 +53,13 @@ impl<A: Allocator + Copy> Space<A> {
     pub fn new(alloc: A, spec: Spec<A>) -> Result<Space<A>, AllocError>
         ensures { IfOk result (λ space. space.spec ≡ spec) }
     {
-        let found = FoundSets::new(alloc, spec)?;
-        Ok(Space {
-            found,
-            answers: IndexMap::new(alloc),
-        })
+        match Transitions::new(alloc, &spec) {
+            Ok(all) => Ok(Space {
+                found: FoundSets::new(alloc, spec, all),
+                answers: IndexMap::new(alloc),
+            }),
+            Err(refused) => Err(refused),
+        }
     }
 
     /// The set of all that hidden steps reach from the root's name.

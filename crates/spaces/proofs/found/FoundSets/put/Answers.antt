@@ -1,7 +1,8 @@
-use Rattle.std.proofs.Common.{List, ℕ, sym, ◌∙◌, subst}
+use Rattle.std.proofs.Common.{List, ℕ, length, sym, ◌∙◌, subst}
 use Rattle.std.proofs.lemmas.Result.{IfOk-weaker}
-use Rattle.nodes.specs.Looks.{look}
+use Rattle.nodes.specs.Looks.{look, AllBelow}
 use Rattle.spaces.specs.Found.{HasList, shown}
+use Rattle.spaces.specs.Known.{AreFactsOf}
 use Rattle.spaces.proofs.Entering.{has-members}
 use Rattle.spaces.proofs.Growing.{grew-same}
 use Rattle.spaces.proofs.Members.{below-permuted, look-permuted, shallow-permuted}
@@ -27,8 +28,16 @@ put_new-requires-clause-shallow g c = shallow-permuted c.args.numbers.items c.so
 pub put_new-requires-clause-new : goal.put_new-requires-clause-new
 put_new-requires-clause-new g c = λ k h e. c.in-None.ensures.absent k h (e ∙ sym c.deref.ensures.value)
 
-pub returns-in-None-clause-set : goal.returns-in-None-clause-set
-returns-in-None-clause-set g c =
+pub facts_of_new-requires : goal.facts_of_new-requires
+facts_of_new-requires g c =
+    subst (λ (ns : List ℕ). AllBelow (length c.args.self.now.table.processes) ns) (sym c.deref-in-None.ensures.value)
+    (below-permuted c.args.numbers.items c.sort_unstable.new.self.items c.sort_unstable.ensures.permutation _ c.requires.below)
+
+pub put_new-requires-clause-facts : goal.put_new-requires-clause-facts
+put_new-requires-clause-facts g c = subst (λ (ns : List ℕ). AreFactsOf c.in-Ok.facts (look c.args.self.now.table.processes ns)) c.deref-in-None.ensures.value c.in-Ok.ensures.facts
+
+pub returns-in-Ok-clause-set : goal.returns-in-Ok-clause-set
+returns-in-Ok-clause-set g c =
     let ps = c.args.self.now.table.processes in
     let ns = c.args.numbers.items in
     let ms = c.sort_unstable.new.self.items in
