@@ -16,6 +16,7 @@ pub(crate) struct Stop {
 }
 
 /// Gives these places in turn, or refuses them.
+#[derive(Drop)]
 pub(crate) struct Turns {
     turns: &'static [Result<Stop, Fault>],
     given: AtomicUsize,

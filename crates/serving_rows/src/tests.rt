@@ -21,16 +21,14 @@ const REJECTED: Tally = Tally {
     limit: false,
 };
 
-// A client that sends this and then no more.
-const fn says(lines: &'static [u8]) -> Sent {
-    Sent {
-        lines,
-        breaks_off: false,
-        is_deaf: false,
-    }
-}
+// A client that sends nothing.
+const SILENT: Sent = Sent {
+    lines: b"",
+    breaks_off: false,
+    is_deaf: false,
+};
 
-const SILENT: [Sent; 5] = [says(b""), says(b""), says(b""), says(b""), says(b"")];
+const CLIENTS: [Sent; 5] = [SILENT; 5];
 
 const TURNS: [Result<Stop, Fault>; 5] = [
     Ok(Stop {
@@ -66,7 +64,8 @@ fn ended<T: Threads + Wait + Sync>(
     ) else {
         return Err(Fail::new("there is room"));
     };
-    match serve_all(rt, alloc, Listed::new(&SILENT), &Turns::new(&TURNS), count) {
+    let gate = Turns::new(&TURNS);
+    match serve_all(rt, alloc, Listed::new(&CLIENTS), &gate, count) {
         Ok(Served {
             outcomes,
             accept_failed,
@@ -88,6 +87,6 @@ fn each_connection_is_reported(rt: HostRuntime) -> Result<(), Fail> {
         limit: true,
         accept_failed: true,
     };
-    assert!(rt; endings.as_slice() == &ENDINGS && account == expected);
+    assert!(rt; endings.as_slice() == ENDINGS.as_slice() && account == expected);
     Ok(())
 }
