@@ -352,7 +352,7 @@ CONVERSATIONS = [
      ["N c.0 c.1", "OK 1", "OK 2", "NO 3", "ERR 11 event", "OK 4", "S 4 2 1 1 open"]),
     ("a renaming", "channel c, d : {0..1}\nP = (c?x -> STOP)[[c <- d]]\n", ["N", "R c.0 c.1", "E d.1"], ["N d.0 d.1", "OK 1", "OK 2"]),
 ]
-JOURNAL = b"cspwatch journal 2\nroot P\nscript 32\nchannel a, b, c\nP = a -> b -> P\n\n+1 1 E+ 1\n+1 2 E- 1\n+1 3 E+ 2\n."
+JOURNAL = b"cspwatch journal 1\nroot P\nscript 32\nchannel a, b, c\nP = a -> b -> P\n\n+1 1 E+ a\n+1 2 E- a\n+1 3 E+ b\n."
 # Which requests are refused, from the k-th on.
 SPANS = {"one": 1, "five": 5, "all": ALWAYS}
 ONE_LINE_OF_40 = re.compile(rb"(cspwatch|p\.csp|p\.csp:1|j|j: script 1): 40 memory\n")

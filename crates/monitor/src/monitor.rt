@@ -7,14 +7,12 @@ ghost use Rattle.term.specs.Limits.{NoLimit, Opening};
 ghost use Rattle.term.specs.Meaning.{Trace};
 ghost use Rattle.term.specs.Proc.{bodies_of, root};
 ghost use Rattle.term.specs.Verdict.{Verdict};
-ghost use Rattle.after.specs.Belonging.{MeetsLimit};
-ghost use Rattle.spaces.specs.Spaces.{Belongs, GrewFrom, IsSetOf};
+ghost use Rattle.after.specs.Belonging.{Belongs, IsSetOf, MeetsLimit};
 ghost use Rattle.monitor.specs.TraceAfter.{trace_after};
-ghost use Rattle.monitor.specs.Monitors.{IsJudgment, IsOf, MeetsNone, Stops, space_of};
+ghost use Rattle.monitor.specs.Monitors.{IsJudgment, IsOf, MeetsNone, Stops};
 
-use after::AfterFault;
+use after::{AfterFault, Space, StateSet};
 use alphabet::{Event, EventSet, Report};
-use spaces::{Space, StateSet};
 use std::alloc::Allocator;
 use std::marker::Model;
 use term::Spec;
@@ -25,7 +23,7 @@ pub struct Monitor<A: Allocator> {
     space: Space<A>,
     trace: Vec<Event, A>,
     /// What the root may be after the trace.
-    states: StateSet,
+    states: StateSet<A>,
 }
 
 impl<A: Allocator> Model for Monitor<A> {
@@ -36,28 +34,23 @@ impl<A: Allocator> Model for Monitor<A> {
     ghost coded = { monitoring_code };
 
     ghost use Rattle.std.specs.Prelude.{◌-◌, vec_len, vec_capacity};
-    ghost use Rattle.spaces.specs.Spaces.{Belongs};
+    ghost use Rattle.after.specs.Belonging.{Belongs};
 
-    ghost view = { λ m. record {
-      spec = m.space.spec;
-      trace = m.trace.items;
-      room = vec_capacity m.trace - vec_len m.trace;
-      sets = m.space.sets;
-    } };
+    ghost view = { λ m. record { spec = m.space; trace = m.trace.items; room = vec_capacity m.trace - vec_len m.trace } };
 
     ghost invariant = { λ m. Belongs m.space m.states m.trace.items };
 }
 
 /// What a monitor found of a report, after the trace that it then had.
 #[derive(Drop)]
-pub struct Judged {
+pub struct Judged<A: Allocator> {
     report: Report,
     verdict: bool,
     /// What the root may be after the event, where it is accepted.
-    next: Option<StateSet>,
+    next: Option<StateSet<A>>,
 }
 
-impl Model for Judged {
+impl<A: Allocator> Model for Judged<A> {
     ghost use Rattle.monitor.specs.Monitors.{Judgment, judgment_code};
 
     ghost Value = { Judgment };
@@ -67,7 +60,7 @@ impl Model for Judged {
     ghost view = { λ j. record { report = j.report; verdict = j.verdict; next = j.next } };
 }
 
-impl Judged {
+impl<A: Allocator> Judged<A> {
     /// Whether the report is accepted. Takes no memory.
     pub fn verdict(&self) -> bool
         ensures { result ≡ self.now.verdict }
@@ -85,7 +78,7 @@ impl<A: Allocator + Copy> Monitor<A> {
         ensures within { OnOk result (NoLimit (bodies_of spec.bodies) Opening) }
         ensures limit { IfErr result (MeetsLimit (bodies_of spec.bodies) Opening) }
     {
-        let mut space = Space::new(alloc, spec)?;
+        let mut space = Space::new(alloc, spec);
         match StateSet::start(&mut space) {
             Ok(states) => Ok(Monitor {
                 space,
@@ -98,7 +91,7 @@ impl<A: Allocator + Copy> Monitor<A> {
 
     /// Judges the report after the present trace, which stays, and makes room for one event more. An event is refused
     /// where the levels from its targets on meet a limit; a refusal meets none.
-    pub fn judge(&mut self, report: &Report) -> Result<Judged, AfterFault>
+    pub fn judge(&mut self, report: &Report) -> Result<Judged<A>, AfterFault>
         ensures report { IfOk result (λ judged. judged.report ≡ report.now) }
 
         // An event is accepted exactly where it makes the trace longer, a refusal exactly where it is a stable failure.
@@ -108,22 +101,18 @@ impl<A: Allocator + Copy> Monitor<A> {
         ensures limit { IfErr result (Stops (bodies_of self.old.spec.bodies) self.old.trace report.now) }
         ensures spec { self.new.spec ≡ self.old.spec }
         ensures trace { self.new.trace ≡ self.old.trace }
-
-        // What was judged before the trace grows is of this monitor still.
-        ensures grown { GrewFrom (space_of self.old) (space_of self.new) }
     {
         match self.trace.reserve(1) {
-            Ok(()) => judge_by(self.states, &mut self.space, *report),
+            Ok(()) => judge_by(&self.states, &mut self.space, *report),
             Err(_) => Err(AfterFault::Memory),
         }
     }
 
     /// Takes the report over: the trace grows by an accepted event, and by nothing else. Takes no memory.
-    pub fn commit(&mut self, judged: Judged)
+    pub fn commit(&mut self, judged: Judged<A>)
         requires { IsOf self.old judged }
         ensures spec { self.new.spec ≡ self.old.spec }
         ensures trace { self.new.trace ≡ trace_after self.old.trace judged.report judged.verdict }
-        ensures sets { self.new.sets ≡ self.old.sets }
     {
         let Judged {
             report,
@@ -164,15 +153,15 @@ impl<A: Allocator> Monitor<A> {
 
 /// Judges a report after each trace to which the states belong.
 fn judge_by<A: Allocator + Copy>(
-    states: StateSet,
+    states: &StateSet<A>,
     space: &mut Space<A>,
     report: Report,
-) -> Result<Judged, AfterFault>
-    requires { IsSetOf space.old states }
-    ensures judged { (u : List Event) → Belongs space.old states u → IfOk result (IsJudgment space.new u report) }
-    ensures within { (u : List Event) → Belongs space.old states u → OnOk result (MeetsNone (bodies_of space.old.spec.bodies) u report) }
-    ensures limit { (u : List Event) → Belongs space.old states u → IfErr result (Stops (bodies_of space.old.spec.bodies) u report) }
-    ensures grown { GrewFrom space.old space.new }
+) -> Result<Judged<A>, AfterFault>
+    requires { IsSetOf space.old states.now }
+    ensures judged { (u : List Event) → Belongs space.old states.now u → IfOk result (IsJudgment space.old u report) }
+    ensures within { (u : List Event) → Belongs space.old states.now u → OnOk result (MeetsNone (bodies_of space.old.bodies) u report) }
+    ensures limit { (u : List Event) → Belongs space.old states.now u → IfErr result (Stops (bodies_of space.old.bodies) u report) }
+    ensures space { space.new ≡ space.old }
 {
     match report {
         Report::Event(event) => match states.advance(space, event) {

@@ -1,12 +1,11 @@
 //! A conversation of one who reports alone, judged by what a script denotes.
 
-ghost use Rattle.std.specs.Prelude.{◌≡◌, ◌≢◌, ◌⊎◌, ◌<◌, [], false, true, ℕ, List, IfOk, IfErr, MatchResult, IsErrOf, Err, vec_len, vec_capacity};
+ghost use Rattle.std.specs.Prelude.{◌≡◌, ◌≢◌, ◌⊎◌, ◌<◌, [], false, ℕ, List, IfOk, IfErr, MatchResult, IsErrOf, Err};
 ghost use Rattle.term.specs.Proc.{bodies_of};
 ghost use Rattle.term.specs.Specs.{Specified};
 ghost use Rattle.history.specs.Legal.{Legal};
 ghost use Rattle.history.specs.Beginnings.{StartsWith};
 ghost use Rattle.script.specs.Reading.{IsRead};
-ghost use Rattle.session.specs.Faults.{IsMemory};
 ghost use Rattle.session.specs.Replays.{IsUnopened};
 ghost use Rattle.session.specs.Scripts.{IsUnbegun};
 ghost use Rattle.session.specs.Told.{IsFor};
@@ -24,7 +23,7 @@ use disk::Disk;
 use seats::{SeatJudge, copy_of};
 use session::{Session, SessionError};
 use shared::{SeatFault, Share, Shared};
-use std::alloc::{Allocator, Global};
+use std::alloc::Global;
 use std::marker::Brand;
 use std::sync::Wait;
 use std::sync::ledger::Blank;
@@ -32,9 +31,9 @@ use wire::{End, Sink, Source, Tally, WireError};
 
 /// What a check comes to.
 #[derive(Drop)]
-pub struct Checked<D: Disk, A: Allocator = Global> {
+pub struct Checked<D: Disk> {
     /// The session, with the history of what was reported.
-    pub session: Session<D, A>,
+    pub session: Session<D, Global>,
     /// How the conversation ended.
     pub end: Result<End, WireError>,
     /// What there was among the answers.
@@ -44,21 +43,21 @@ pub struct Checked<D: Disk, A: Allocator = Global> {
 }
 
 // What the only seat has seen and done at the end, how its conversation ended, and what was answered.
-struct Heard<N: Naming, A: Allocator> {
-    share: Share<N, A>,
+struct Heard<N: Naming> {
+    share: Share<N, Global>,
     end: Result<End, WireError>,
     tally: Tally,
 }
 
 // Answers the lines of the reader from a seat.
-fn hear<R: Wait, D: Disk, A: Allocator + Copy + Drop, N: Naming, T: Source, W: Sink>(
+fn hear<R: Wait, D: Disk, N: Naming, T: Source, W: Sink>(
     rt: &R,
-    alloc: A,
-    shared: &Shared<D, A, N>,
-    alphabet: &Alphabet<A>,
+    alloc: Global,
+    shared: &Shared<D, Global, N>,
+    alphabet: &Alphabet<Global>,
     reader: &mut T,
     writer: &mut W,
-) -> Result<Heard<N, A>, SeatFault>
+) -> Result<Heard<N>, SeatFault>
     requires { alphabet.now ≡ N.spec.alphabet }
     ensures serves { IfOk result (λ h. (first : SeatTold) × (first.mine ≡ []) × (first.closed ≡ false)
         × Serves (LineReplies (Reports (bodies_of N.spec.bodies)) (Statuses (bodies_of N.spec.bodies)) (Nexts (bodies_of N.spec.bodies)) N.spec.alphabet)
@@ -82,32 +81,17 @@ fn hear<R: Wait, D: Disk, A: Allocator + Copy + Drop, N: Naming, T: Source, W: S
     })
 }
 
-// Whether there is room for one share more.
-fn has_room<N: Naming, A: Allocator>(shares: &mut Vec<Share<N, A>, A>) -> bool
-    ensures items { shares.new.items ≡ shares.old.items }
-    ensures room { result ≡ true → vec_len shares.new < vec_capacity shares.new }
-{
-    shares.reserve(1).is_ok()
-}
-
 // Answers the lines of the reader from the only seat of the session. The caller picks the names.
-fn hear_alone<
-    R: Wait,
-    D: Disk + Drop,
-    A: Allocator + Copy + Drop,
-    N: Naming,
-    T: Source,
-    W: Sink,
->(
+fn hear_alone<R: Wait, D: Disk + Drop, N: Naming, T: Source, W: Sink>(
     rt: &R,
-    alloc: A,
-    session: Session<D, A>,
+    alloc: Global,
+    session: Session<D, Global>,
     opened: Opened,
     blank: Blank,
-    alphabet: &Alphabet<A>,
+    alphabet: &Alphabet<Global>,
     reader: &mut T,
     writer: &mut W,
-) -> Result<Checked<D, A>, SessionError>
+) -> Result<Checked<D>, SessionError>
     requires story { (session.spec ≡ N.spec) × (session.history ≡ N.opening) × (N.opening ≡ []) }
     requires book { opened.seen.book ≡ N.book }
     requires ledger { (blank.name ≡ N.name) × (blank.parts ≡ N.parts) × (N.all ≡ N.parts) × (N.all ≡ 2) }
@@ -123,11 +107,11 @@ fn hear_alone<
     ensures reader_failed { IfOk result (λ c. IsErrOf c.end WireError.Read → T.failures reader.old < T.failures reader.new) }
     ensures writer_failed { IfOk result (λ c. IsErrOf c.end WireError.Write → W.failures writer.old < W.failures writer.new) }
 {
-    let Ok(shared) = Shared::<D, A, N>::new(alloc, session, opened, blank, 1) else {
+    let Ok(shared) = Shared::<D, Global, N>::new(alloc, session, opened, blank, 1) else {
         return Err(SessionError::Memory);
     };
     let mut shares = Vec::new(alloc);
-    if !has_room(&mut shares) {
+    if shares.reserve(1).is_err() {
         let (_session, _count) = shared.finish(rt, shares);
         return Err(SessionError::Memory);
     }
@@ -155,15 +139,15 @@ fn hear_alone<
 ///
 /// The errors are those of `Session::create`: `Script`, then `Depth` or `States`, then `Device`, or `Memory`. Nothing is then read or
 /// written.
-pub fn check<R: Wait, D: Disk + Drop, A: Allocator + Copy + Drop, T: Source, W: Sink>(
+pub fn check<R: Wait, D: Disk + Drop, T: Source, W: Sink>(
     rt: &R,
-    alloc: A,
+    alloc: Global,
     disk: D,
     script: &[u8],
     process: &[u8],
     reader: &mut T,
     writer: &mut W,
-) -> Result<Checked<D, A>, SessionError>
+) -> Result<Checked<D>, SessionError>
     // The script denotes the session's specification for the process.
     ensures read { IfOk result (λ c. IsRead script.now process.now c.session.spec) }
 
@@ -173,10 +157,10 @@ pub fn check<R: Wait, D: Disk + Drop, A: Allocator + Copy + Drop, T: Source, W: 
     ensures legal { IfOk result (λ c. Legal (bodies_of c.session.spec.bodies) c.session.history) }
     ensures exit { IfOk result (λ c. c.exit ≡ exit_of c.end c.tally) }
 
-    // Or there is no session for this reason. Where the script denotes a specification, no fault of the script but out of memory comes.
+    // Or there is no session for this reason. Where the script denotes a specification, it is no fault of the script.
     ensures fault { IfErr result (IsUnbegun script.now process.now) }
     ensures only { (spec : Specified) → IsRead script.now process.now spec
-        → MatchResult result (λ c. c.session.spec ≡ spec) (λ error. IsMemory error ⊎ (IsUnopened spec error ⊎ (error ≡ SessionError.Device))) }
+        → MatchResult result (λ c. c.session.spec ≡ spec) (λ error. IsUnopened spec error ⊎ (error ≡ SessionError.Device)) }
     ensures untouched { IfErr result (λ _. (reader.new ≡ reader.old) × (writer.new ≡ writer.old)) }
 
     ensures handed_on { IfOk result (λ c. W.has_handed_on writer.old → c.end ≢ Err WireError.Write → W.has_handed_on writer.new) }
@@ -191,7 +175,7 @@ pub fn check<R: Wait, D: Disk + Drop, A: Allocator + Copy + Drop, T: Source, W: 
         return Err(SessionError::Memory);
     };
     let opened = Opened::new();
-    hear_alone::<_, _, _, Brand, _, _>(
+    hear_alone::<_, _, Brand, _, _>(
         rt,
         alloc,
         session,

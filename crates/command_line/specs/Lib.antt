@@ -1,4 +1,0 @@
--- To believe.
-pub mod Commands
--- Steps of the program.
-pub mod Statuses

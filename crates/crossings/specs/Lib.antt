@@ -1,2 +1,0 @@
--- To believe.
-pub mod Crossings

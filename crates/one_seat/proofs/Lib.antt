@@ -1,0 +1,4 @@
+pub mod LineLemmas
+pub mod AnswerLemmas
+pub mod SigmaLemmas
+pub mod CopyLemmas
