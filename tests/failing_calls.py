@@ -19,7 +19,7 @@ makes the k-th fail, for each k of a run in which none does.
   with all after it. A run then tells 40 before the first reply, or its replies are those of the run without the lines that were answered
   `ERR 40 memory`, or `ERR 30 journal` and then `ERR 31 closed`.
 
-The last line is `N passed, M failed`, over the runs. Departures that are known are counted and listed, and are no failures.
+The last line is `N passed, M failed`, over the runs.
 """
 import argparse
 import errno
@@ -352,7 +352,7 @@ CONVERSATIONS = [
      ["N c.0 c.1", "OK 1", "OK 2", "NO 3", "ERR 11 event", "OK 4", "S 4 2 1 1 open"]),
     ("a renaming", "channel c, d : {0..1}\nP = (c?x -> STOP)[[c <- d]]\n", ["N", "R c.0 c.1", "E d.1"], ["N d.0 d.1", "OK 1", "OK 2"]),
 ]
-JOURNAL = b"cspwatch journal 1\nroot P\nscript 32\nchannel a, b, c\nP = a -> b -> P\n\n+1 1 E+ a\n+1 2 E- a\n+1 3 E+ b\n."
+JOURNAL = b"cspwatch journal 2\nroot P\nscript 32\nchannel a, b, c\nP = a -> b -> P\n\n+1 1 E+ 1\n+1 2 E- 1\n+1 3 E+ 2\n."
 # Which requests are refused, from the k-th on.
 SPANS = {"one": 1, "five": 5, "all": ALWAYS}
 ONE_LINE_OF_40 = re.compile(rb"(cspwatch|p\.csp|p\.csp:1|j|j: script 1): 40 memory\n")
@@ -453,13 +453,6 @@ def try_memory(options, library, book):
             book.tell("memory print, " + name)
         whole_or_40(memory, "replay", ["replay", "j"], {"j": JOURNAL})
         book.tell("memory replay")
-        tell_known(book)
-
-
-def tell_known(book):
-    """Where the program is known to depart from what was wanted of it at first."""
-    times = sum(count for kind, counts in book.counts.items() if kind.startswith("memory check") for what, count in counts.items() if what.startswith("told `p.csp: 40"))
-    print("known: `check` told `p.csp: 40 memory` %d times; while the script is being read `p.csp:1: 40 memory` was wanted, which `print` tells (docs/DECISIONS.md)" % times)
 
 
 def built(folder):

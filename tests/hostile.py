@@ -344,18 +344,18 @@ def try_connection(options, number):
 
 # --- Journals ---
 
-JOURNAL_PIECES = [b"+", b".", b"\n", b" ", b"x", b"E+", b"E-", b"R+", b"R-", b"1", b"0", b"65535", b"65536", b"1000001", b" a", b" b", b" c.1", b" _tick", b"root ", b"script ",
-                  b"\n+1 1 E+ a\n.", b"cspwatch journal 1\n", b"\xff", b"\0"]
+JOURNAL_PIECES = [b"+", b".", b"\n", b" ", b"x", b"E+", b"E-", b"R+", b"R-", b"1", b"0", b"65535", b"65536", b"1000001", b" a", b" b", b" c.1", b" _tick", b" 1", b" 4", b" 6", b" 7", b" 01", b"root ", b"script ",
+                  b"\n+1 1 E+ a\n.", b"\n+1 1 E+ 1\n.", b"cspwatch journal 1\n", b"cspwatch journal 2\n", b"cspwatch journal 3\n", b"\xff", b"\0"]
 REFUSED = re.compile(rb"j: (script [1-9][0-9]*: ([0-9]+) ([a-z]+)|(20 depth|21 states)|52 record ([1-9][0-9]*)|53 verdict ([1-9][0-9]*))\n")
 
 
 def a_journal(rng):
-    """A journal of some reports by several seats, sometimes with bytes past its last gate."""
+    """A journal of either version, of some reports by several seats, sometimes with bytes past its last gate."""
     history = History()
     for _ in range(rng.randint(0, 12)):
         kind, names = report_of(rng.choice([b"E a", b"E b", b"E c.1", b"E c.2", b"R", b"R a b", b"R a c.0 _tick", b"E _tick"]))
         history.add(rng.choice((1, 1, 2, 3, 65_535)), kind, names)
-    return journal_bytes(history.entries) + (b"" if rng.random() < 0.7 else rng.randbytes(rng.randint(1, 30)))
+    return journal_bytes(history.entries, version=rng.choice((1, 2))) + (b"" if rng.random() < 0.7 else rng.randbytes(rng.randint(1, 30)))
 
 
 def judged(held):
@@ -445,7 +445,7 @@ def try_journal(options, number):
 def journals_to_cut(seed):
     """Journals with few and many records, one with bytes past its last gate, one with a closed gate in its middle, one of a long script."""
     rng = random.Random("%d cuts" % seed)
-    plain = [journal_bytes([]), a_journal(rng), a_journal(rng), a_journal(rng) + b"+9 1 E+ a\n."]
+    plain = [journal_bytes([]), journal_bytes([], version=1), a_journal(rng), a_journal(rng), a_journal(rng) + b"+9 1 E+ a\n."]
     history = History()
     for line in (b"E a", b"E a", b"R a c.0", b"E b", b"E c.2", b"R"):
         history.add(1, *report_of(line))

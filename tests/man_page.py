@@ -3,8 +3,9 @@
 
     tests/man_page.py [--program FILE]
 
-Every command, option and operand that `cspwatch --help` and the help of each command show has to stand in man/cspwatch.1,
-and every command and option in each file of completions/; and no option or command of those may be one that no help shows.
+The page's version is that of `cspwatch --version`. Every command, option and operand that `cspwatch --help` and the help of
+each command show has to stand in man/cspwatch.1, and every command and option in each file of completions/; and no option or
+command of those may be one that no help shows.
 Without --program the program is crates/cspwatch/out/cspwatch. The last line is `N passed, M failed`.
 """
 import argparse
@@ -24,6 +25,12 @@ def help_of(program, words):
     """The help text that the program prints for these words."""
     done = subprocess.run([program] + words + ["--help"], stdout=subprocess.PIPE, timeout=SECONDS, check=True)
     return done.stdout.decode("utf-8")
+
+
+def version_of(program):
+    """The program's name and version, as it prints them."""
+    done = subprocess.run([program, "--version"], stdout=subprocess.PIPE, timeout=SECONDS, check=True)
+    return done.stdout.decode("utf-8").strip()
 
 
 def section(text, title):
@@ -69,9 +76,10 @@ def has_word(text, word):
     return re.search(r"(?<![\w-])%s(?![\w-])" % re.escape(word), text) is not None
 
 
-def page_problems(commands, options, operands):
+def page_problems(version, commands, options, operands):
     """A line for each comparison with the page: None where it is right, else what is wrong."""
     text = page_text(PAGE)
+    yield None if has_word(text.splitlines()[0], version) else "man/cspwatch.1 is not of %s" % version
     for name in sorted(commands | options | operands):
         yield None if has_word(text, name) else "man/cspwatch.1 has no %s" % name
     for name in sorted(set(re.findall(r"(?<![\w-])--[a-z][a-z-]*", text))):
@@ -108,7 +116,7 @@ def main():
         return 1
     commands, switches, operands = shown(program)
     problems = [None if commands and switches and operands else "the help shows no commands, options or operands"]
-    problems += page_problems(commands, switches, operands)
+    problems += page_problems(version_of(program), commands, switches, operands)
     for name in sorted(os.listdir(COMPLETIONS)):
         problems += completion_problems(name, commands, switches)
     wrong = [problem for problem in problems if problem]

@@ -99,7 +99,7 @@ def run(case, program, folder):
         command = bounded(case["output_bytes"], command)
     ends = {**input_of(case), **output_of(case)}
     try:
-        done = subprocess.run(command, cwd=folder, timeout=SECONDS, stderr=subprocess.PIPE, **ends)
+        done = subprocess.run(command, cwd=folder, timeout=case.get("seconds", SECONDS), stderr=subprocess.PIPE, **ends)
         out = done.stdout or b""
         if "output_bytes" in case:
             ends["stdout"].seek(0)
@@ -122,7 +122,7 @@ def problems_of(case, program):
         try:
             out, err, status, after = run(case, program, folder)
         except subprocess.TimeoutExpired:
-            return ["took more than %d seconds" % SECONDS]
+            return ["took more than %d seconds" % case.get("seconds", SECONDS)]
     problems = []
     for name, got in (("stdout", out), ("stderr", err)):
         if name in case and got != lines(case[name]):

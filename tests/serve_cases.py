@@ -88,8 +88,9 @@ class Link:
 class Server:
     """A run of `serve`, from its first line to its end."""
 
-    def __init__(self, process, deadline):
-        self.process, self.deadline = process, deadline
+    def __init__(self, process, deadline, beside):
+        """`beside` runs another command in the same folder, and gives its output, its errors and its status."""
+        self.process, self.deadline, self.beside = process, deadline, beside
         self.links = {}
         self.out = b""
         self.address = None
@@ -110,6 +111,11 @@ class Server:
         if who == "server":
             self.process.send_signal(getattr(signal, "SIG" + values[0]))
             self.process.wait(timeout=STEP_SECONDS)
+            return
+        if who == "beside":
+            wanted = values[0]
+            if self.beside(what) != (lines(wanted["stdout"]), lines(wanted["stderr"]), wanted["status"]):
+                raise Failure("%s beside it: %s" % (" ".join(what), self.beside(what)))
             return
         for number in range(who[0], who[1] + 1) if isinstance(who, list) else [who]:
             try:
@@ -231,13 +237,18 @@ def file_problems(run, folder):
             yield "%s has the records %s, wanted %s" % (name, records, wanted)
 
 
+def done_beside(words, folder):
+    done = subprocess.run(words, cwd=folder, stdin=subprocess.DEVNULL, capture_output=True, timeout=STEP_SECONDS)
+    return done.stdout, done.stderr, done.returncode
+
+
 def outcome(run, program, folder, deadline, addresses):
     """What a run wrote on its output and its errors, its status, and what was wrong on the way."""
     words = words_of(run, program, addresses)
     if "file_bytes" in run:
         words = bounded(run["file_bytes"], words)
     process = subprocess.Popen(words, cwd=folder, stdin=subprocess.DEVNULL, stdout=subprocess.PIPE, stderr=subprocess.PIPE)
-    server = Server(process, deadline)
+    server = Server(process, deadline, lambda args: done_beside([program] + args, folder))
     problems = []
     alarm = threading.Timer(max(1, deadline - time.monotonic()), process.kill)
     alarm.start()

@@ -1,5 +1,4 @@
 pub mod Lists
-pub mod Looking
 pub mod Expanding
 pub mod Putting
 pub mod Levels

@@ -4,4 +4,7 @@
 mod closing;
 mod numbers;
 
+pub use after::AfterFault;
 pub use closing::{close, first_level};
+pub use nodes::{Facts, Table};
+pub use transitions::Transitions;

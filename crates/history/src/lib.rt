@@ -4,12 +4,15 @@
 //! entry has the verdict of the specification after the accepted events before it, and is its seat's next.
 #![tactic(auto)]
 
+mod crossing;
 mod entry;
 mod history;
 mod legal;
 mod seat;
 
+pub use crossing::legal_crosses;
 pub use entry::{Entry, Summary};
 pub use history::{HISTORY_LIMIT, History};
 pub use legal::{Candidate, LegalHistory};
+pub use monitor::{AfterFault, crosses};
 pub use seat::SeatNumber;

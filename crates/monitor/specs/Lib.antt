@@ -1,3 +1,8 @@
 -- To believe.
 pub mod Monitors
 pub mod TraceAfter
+pub mod Crossings
+-- Of the layers below, for those above.
+pub use Rattle.spaces.specs.AfterFault
+pub use Rattle.spaces.specs.Belonging
+pub use Rattle.spaces.specs.Spaces

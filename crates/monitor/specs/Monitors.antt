@@ -11,46 +11,55 @@ use Rattle.term.specs.Codes.{proc_code}
 use Rattle.term.specs.Specs.{Specified, specified_code}
 use Rattle.term.specs.Limits.{Advance, NoLimit}
 use Rattle.term.specs.Verdict.{Verdict}
-use Rattle.after.specs.declared.fault.AfterFault.{AfterFault}
-use Rattle.after.specs.declared.fault.AfterFault.TheVariants.{Memory}
-use Rattle.after.specs.Belonging.{Belongs, MeetsLimit}
+use Rattle.spaces.specs.AfterFault.{AfterFault}
+use Rattle.spaces.specs.AfterFault.TheVariants.{Memory}
+use Rattle.spaces.specs.Belonging.{MeetsLimit}
+use Rattle.spaces.specs.Spaces.{Spaced, Belongs}
 
--- A monitor: its specification, the events that it accepted, and for how many further ones it has room.
+-- A monitor: its specification, the events that it accepted, for how many further ones it has room, and the sets of states
+-- that it has found, by number.
 pub record Monitoring : Type 0 where
   pub spec : Specified
   pub trace : List Event
   pub room : ℕ
+  pub sets : List (List Proc)
 
--- A judgment: the report, whether it is accepted, and the states after an accepted event.
+-- the monitor's space
+abbrev pub space_of : Monitoring → Spaced
+space_of m = record { spec = m.spec; sets = m.sets }
+
+-- A judgment: the report, whether it is accepted, and the number of the set of states after an accepted event.
 pub record Judgment : Type 0 where
   pub report : Report
   pub verdict : Bool
-  pub next : Option (List Proc)
+  pub next : Option ℕ
 
 abbrev pub monitoring_code : Coded Monitoring
 monitoring_code =
-    code_by (Specified × (List Event × ℕ)) (coded× specified_code (coded× (coded_list event_type.the_row.coded) coded_ℕ)) (λ m. (m.spec, (m.trace, m.room))) (λ p. record { spec = p.0; trace = p.1.0; room = p.1.1 }) (λ _. refl)
+    code_by (Specified × (List Event × (ℕ × List (List Proc))))
+    (coded× specified_code (coded× (coded_list event_type.the_row.coded) (coded× coded_ℕ (coded_list (coded_list proc_code)))))
+    (λ m. (m.spec, (m.trace, (m.room, m.sets)))) (λ p. record { spec = p.0; trace = p.1.0; room = p.1.1.0; sets = p.1.1.1 }) (λ _. refl)
 
 abbrev pub judgment_code : Coded Judgment
 judgment_code =
-    code_by (Report × (Bool × Option (List Proc))) (coded× report_type.the_row.coded (coded× coded_bool (coded_option (coded_list proc_code)))) (λ j. (j.report, (j.verdict, j.next))) (λ p. record { report = p.0; verdict = p.1.0; next = p.1.1 }) (λ _. refl)
+    code_by (Report × (Bool × Option ℕ)) (coded× report_type.the_row.coded (coded× coded_bool (coded_option coded_ℕ))) (λ j. (j.report, (j.verdict, j.next))) (λ p. record { report = p.0; verdict = p.1.0; next = p.1.1 }) (λ _. refl)
 
--- An accepted event has states, which belong to the trace and the event; a rejected one has none. Those of a refusal
--- don't matter.
-abbrev pub Follows : Specified → List Event → Report → Bool → Option (List Proc) → Type 0
-Follows spec u (report.Event x) verdict next = (verdict ≡ is_some next) × IfSome next (λ states. Belongs spec states (u ++ x ∷ []))
-Follows spec u (report.Refusal X) verdict next = Unit {0}
+-- An accepted event has a set of states, which belongs to the trace and the event; a rejected one has none. That of a refusal
+-- doesn't matter.
+abbrev pub Follows : Spaced → List Event → Report → Bool → Option ℕ → Type 0
+Follows space u (report.Event x) verdict next = (verdict ≡ is_some next) × IfSome next (λ set. Belongs space set (u ++ x ∷ []))
+Follows space u (report.Refusal X) verdict next = Unit {0}
 
 -- The judgment of this report after the trace u: the verdict is that of the definition.
-pub record IsJudgment (spec : Specified) (u : List Event) (r : Report) (judgment : Judgment) : Type 0 where
+pub record IsJudgment (space : Spaced) (u : List Event) (r : Report) (judgment : Judgment) : Type 0 where
   pub report : judgment.report ≡ r
-  pub verdict : IsTrue judgment.verdict ↔ Verdict (bodies_of spec.bodies) u r
-  pub follows : Follows spec u judgment.report judgment.verdict judgment.next
+  pub verdict : IsTrue judgment.verdict ↔ Verdict (bodies_of space.spec.bodies) u r
+  pub follows : Follows space u judgment.report judgment.verdict judgment.next
 
 -- The judgment is of this monitor and its present trace, and there is room for one event more.
 pub record IsOf (monitor : Monitoring) (judgment : Judgment) : Type 0 where
   pub verdict : IsTrue judgment.verdict ↔ Verdict (bodies_of monitor.spec.bodies) monitor.trace judgment.report
-  pub follows : Follows monitor.spec monitor.trace judgment.report judgment.verdict judgment.next
+  pub follows : Follows (space_of monitor) monitor.trace judgment.report judgment.verdict judgment.next
   pub room : 0 < monitor.room
 
 -- Judging the report after the trace u meets no limit; a refusal never does.

@@ -4,6 +4,9 @@
 //! whether a report is accepted after this trace, and `commit` makes the trace longer by an accepted event.
 #![tactic(auto)]
 
+mod crossing;
 mod monitor;
 
+pub use crossing::monitor_crosses;
 pub use monitor::{Judged, Monitor};
+pub use spaces::{AfterFault, crosses};

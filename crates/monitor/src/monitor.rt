@@ -7,12 +7,13 @@ ghost use Rattle.term.specs.Limits.{NoLimit, Opening};
 ghost use Rattle.term.specs.Meaning.{Trace};
 ghost use Rattle.term.specs.Proc.{bodies_of, root};
 ghost use Rattle.term.specs.Verdict.{Verdict};
-ghost use Rattle.after.specs.Belonging.{Belongs, IsSetOf, MeetsLimit};
+ghost use Rattle.spaces.specs.Belonging.{MeetsLimit};
+ghost use Rattle.spaces.specs.Spaces.{Belongs, GrewFrom, IsSetOf};
 ghost use Rattle.monitor.specs.TraceAfter.{trace_after};
-ghost use Rattle.monitor.specs.Monitors.{IsJudgment, IsOf, MeetsNone, Stops};
+ghost use Rattle.monitor.specs.Monitors.{IsJudgment, IsOf, MeetsNone, Stops, space_of};
 
-use after::{AfterFault, Space, StateSet};
 use alphabet::{Event, EventSet, Report};
+use spaces::{AfterFault, Space, StateSet};
 use std::alloc::Allocator;
 use std::marker::Model;
 use term::Spec;
@@ -23,7 +24,7 @@ pub struct Monitor<A: Allocator> {
     space: Space<A>,
     trace: Vec<Event, A>,
     /// What the root may be after the trace.
-    states: StateSet<A>,
+    states: StateSet,
 }
 
 impl<A: Allocator> Model for Monitor<A> {
@@ -34,23 +35,28 @@ impl<A: Allocator> Model for Monitor<A> {
     ghost coded = { monitoring_code };
 
     ghost use Rattle.std.specs.Prelude.{◌-◌, vec_len, vec_capacity};
-    ghost use Rattle.after.specs.Belonging.{Belongs};
+    ghost use Rattle.spaces.specs.Spaces.{Belongs};
 
-    ghost view = { λ m. record { spec = m.space; trace = m.trace.items; room = vec_capacity m.trace - vec_len m.trace } };
+    ghost view = { λ m. record {
+      spec = m.space.spec;
+      trace = m.trace.items;
+      room = vec_capacity m.trace - vec_len m.trace;
+      sets = m.space.sets;
+    } };
 
     ghost invariant = { λ m. Belongs m.space m.states m.trace.items };
 }
 
 /// What a monitor found of a report, after the trace that it then had.
 #[derive(Drop)]
-pub struct Judged<A: Allocator> {
+pub struct Judged {
     report: Report,
     verdict: bool,
     /// What the root may be after the event, where it is accepted.
-    next: Option<StateSet<A>>,
+    next: Option<StateSet>,
 }
 
-impl<A: Allocator> Model for Judged<A> {
+impl Model for Judged {
     ghost use Rattle.monitor.specs.Monitors.{Judgment, judgment_code};
 
     ghost Value = { Judgment };
@@ -60,7 +66,7 @@ impl<A: Allocator> Model for Judged<A> {
     ghost view = { λ j. record { report = j.report; verdict = j.verdict; next = j.next } };
 }
 
-impl<A: Allocator> Judged<A> {
+impl Judged {
     /// Whether the report is accepted. Takes no memory.
     pub fn verdict(&self) -> bool
         ensures { result ≡ self.now.verdict }
@@ -78,7 +84,7 @@ impl<A: Allocator + Copy> Monitor<A> {
         ensures within { OnOk result (NoLimit (bodies_of spec.bodies) Opening) }
         ensures limit { IfErr result (MeetsLimit (bodies_of spec.bodies) Opening) }
     {
-        let mut space = Space::new(alloc, spec);
+        let mut space = Space::new(alloc, spec)?;
         match StateSet::start(&mut space) {
             Ok(states) => Ok(Monitor {
                 space,
@@ -91,7 +97,7 @@ impl<A: Allocator + Copy> Monitor<A> {
 
     /// Judges the report after the present trace, which stays, and makes room for one event more. An event is refused
     /// where the levels from its targets on meet a limit; a refusal meets none.
-    pub fn judge(&mut self, report: &Report) -> Result<Judged<A>, AfterFault>
+    pub fn judge(&mut self, report: &Report) -> Result<Judged, AfterFault>
         ensures report { IfOk result (λ judged. judged.report ≡ report.now) }
 
         // An event is accepted exactly where it makes the trace longer, a refusal exactly where it is a stable failure.
@@ -101,18 +107,22 @@ impl<A: Allocator + Copy> Monitor<A> {
         ensures limit { IfErr result (Stops (bodies_of self.old.spec.bodies) self.old.trace report.now) }
         ensures spec { self.new.spec ≡ self.old.spec }
         ensures trace { self.new.trace ≡ self.old.trace }
+
+        // What was judged before the trace grows is of this monitor still.
+        ensures grown { GrewFrom (space_of self.old) (space_of self.new) }
     {
         match self.trace.reserve(1) {
-            Ok(()) => judge_by(&self.states, &mut self.space, *report),
+            Ok(()) => judge_by(self.states, &mut self.space, *report),
             Err(_) => Err(AfterFault::Memory),
         }
     }
 
     /// Takes the report over: the trace grows by an accepted event, and by nothing else. Takes no memory.
-    pub fn commit(&mut self, judged: Judged<A>)
+    pub fn commit(&mut self, judged: Judged)
         requires { IsOf self.old judged }
         ensures spec { self.new.spec ≡ self.old.spec }
         ensures trace { self.new.trace ≡ trace_after self.old.trace judged.report judged.verdict }
+        ensures sets { self.new.sets ≡ self.old.sets }
     {
         let Judged {
             report,
@@ -153,15 +163,15 @@ impl<A: Allocator> Monitor<A> {
 
 /// Judges a report after each trace to which the states belong.
 fn judge_by<A: Allocator + Copy>(
-    states: &StateSet<A>,
+    states: StateSet,
     space: &mut Space<A>,
     report: Report,
-) -> Result<Judged<A>, AfterFault>
-    requires { IsSetOf space.old states.now }
-    ensures judged { (u : List Event) → Belongs space.old states.now u → IfOk result (IsJudgment space.old u report) }
-    ensures within { (u : List Event) → Belongs space.old states.now u → OnOk result (MeetsNone (bodies_of space.old.bodies) u report) }
-    ensures limit { (u : List Event) → Belongs space.old states.now u → IfErr result (Stops (bodies_of space.old.bodies) u report) }
-    ensures space { space.new ≡ space.old }
+) -> Result<Judged, AfterFault>
+    requires { IsSetOf space.old states }
+    ensures judged { (u : List Event) → Belongs space.old states u → IfOk result (IsJudgment space.new u report) }
+    ensures within { (u : List Event) → Belongs space.old states u → OnOk result (MeetsNone (bodies_of space.old.spec.bodies) u report) }
+    ensures limit { (u : List Event) → Belongs space.old states u → IfErr result (Stops (bodies_of space.old.spec.bodies) u report) }
+    ensures grown { GrewFrom space.old space.new }
 {
     match report {
         Report::Event(event) => match states.advance(space, event) {

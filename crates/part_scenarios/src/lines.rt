@@ -13,7 +13,7 @@ use script::read;
 use std::alloc::{AllocError, Global};
 use std::cell::Cell;
 use std::sync::Wait;
-use wire::{End, Fault, Plain, WireError, refuse};
+use wire::{End, Fault, Plain, Tally, WireError, refuse};
 
 /// How a connection ended.
 fn end_word(end: Result<End, WireError>) -> &'static str {
@@ -36,12 +36,20 @@ fn put(into: &mut String, came: Outcome, written: &[u8]) -> Result<(), AllocErro
     into.push(']')
 }
 
-/// What comes of a connection whose reader gives these pieces, and whose writer has so much room.
+/// How a connection's reader gives its bytes, and how many bytes its writer takes.
+#[derive(Clone, Copy, Drop)]
+struct Ends {
+    size: usize,
+    room: usize,
+    fails: bool,
+}
+
+/// What comes of a connection to this reader, whose writer has so much room.
 fn heard<T: Wait>(
     rt: &T,
     alphabet: &Alphabet<Global>,
     alloc: Global,
-    mut reader: Pieces<'_>,
+    reader: &mut Pieces<'_>,
     room: usize,
     out: &mut String,
 ) -> Result<(), AllocError>
@@ -52,8 +60,28 @@ fn heard<T: Wait>(
         room,
         failures: Count::new(),
     };
-    let came = talk(rt, alloc, &mut reader, &mut writer, alphabet);
+    let came = talk(rt, alloc, reader, &mut writer, alphabet);
     put(out, came, &writer.taken)
+}
+
+/// What comes of a connection over these bytes.
+fn heard_in<T: Wait>(
+    rt: &T,
+    alphabet: &Alphabet<Global>,
+    alloc: Global,
+    bytes: &[u8],
+    ends: Ends,
+    out: &mut String,
+) -> Result<(), AllocError>
+    requires { event_count alphabet.now ≡ 2 }
+{
+    let mut reader = Pieces {
+        bytes,
+        size: ends.size,
+        fails: ends.fails,
+        failures: Count::new(),
+    };
+    heard(rt, alphabet, alloc, &mut reader, ends.room, out)
 }
 
 /// The size of the pieces, the room of the writer, how the reader ends, and the text.
@@ -69,14 +97,13 @@ fn in_pieces<T: Wait>(
     let (size, rest) = first_word(rest);
     let (room, rest) = first_word(rest);
     let (end, text) = first_word(rest);
-    let bytes = bytes_of(alloc, text)?;
-    let reader = Pieces {
-        bytes: &bytes,
+    let ends = Ends {
         size: number(size),
+        room: number(room),
         fails: end == "fails",
-        failures: Count::new(),
     };
-    heard(rt, alphabet, alloc, reader, number(room), out)
+    let bytes = bytes_of(alloc, text)?;
+    heard_in(rt, alphabet, alloc, &bytes, ends, out)
 }
 
 /// The reader fails where it is asked for more before a reply was flushed.
@@ -146,6 +173,16 @@ fn plain<T: Wait>(
     out.push_str(if refused { " refused" } else { " no refusal" })
 }
 
+/// Appends what there was among the answers.
+fn put_tally(into: &mut String, tally: Tally) -> Result<(), AllocError> {
+    into.push_str("rejected")?;
+    put_answer(into, tally.rejected)?;
+    into.push_str(" misuse")?;
+    put_answer(into, tally.misuse)?;
+    into.push_str(" limit")?;
+    put_answer(into, tally.limit)
+}
+
 /// What there was among the answers.
 fn tallied<T: Wait>(
     rt: &T,
@@ -158,13 +195,8 @@ fn tallied<T: Wait>(
 {
     let mut reader = Plain::new(lines);
     let mut writer = Plain::new(Vec::new(alloc));
-    let tally = talk(rt, alloc, &mut reader, &mut writer, alphabet).tally;
-    out.push_str("rejected")?;
-    put_answer(out, tally.rejected)?;
-    out.push_str(" misuse")?;
-    put_answer(out, tally.misuse)?;
-    out.push_str(" limit")?;
-    put_answer(out, tally.limit)
+    let came = talk(rt, alloc, &mut reader, &mut writer, alphabet);
+    put_tally(out, came.tally)
 }
 
 /// The request for memory with this number is refused.

@@ -37,6 +37,7 @@ fn put_of_spec(
         "looks" => steps::put_looks(into, spec),
         "steps" => steps::put_steps(into, alloc, spec, words),
         "targets" => steps::put_targets(into, alloc, spec, words),
+        "numbered" => steps::put_by_number(into, alloc, spec, words),
         "hidden" => steps::put_hidden(into, alloc, spec, words),
         "same" => steps::put_same(into, alloc, spec, words),
         "bodies" => steps::put_bodies(into, alloc, spec),

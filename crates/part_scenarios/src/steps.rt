@@ -4,6 +4,7 @@ ghost use Rattle.std.specs.Prelude.{IfOk, ◌<◌, length};
 ghost use Rattle.term.specs.Proc.{proc};
 ghost use Rattle.term.specs.Specs.{IsProcessOf};
 
+use crate::numbers::put_numbered;
 use crate::rows::{first_word, number, put_answer, put_word};
 use crate::sets::put_set;
 use alphabet::{Alphabet, EventSet};
@@ -126,6 +127,32 @@ fn hidden(
         term = Term::Hide(none, Box::new(alloc, term)?);
     }
     Ok(term)
+}
+
+/// Appends what is told by number of the steps with this label of the root's body in so many hidings of no event.
+fn put_numbered_in(
+    into: &mut String,
+    alloc: Global,
+    spec: &Spec<Global>,
+    times: usize,
+    label: Label,
+) -> Result<(), AllocError> {
+    let term = hidden(alloc, spec, root(spec), times)?;
+    put_numbered(into, alloc, spec, &term, label)
+}
+
+/// Appends what is told by number of the steps of the root's body in hidings of no event.
+pub(crate) fn put_by_number(
+    into: &mut String,
+    alloc: Global,
+    spec: &Spec<Global>,
+    words: &str,
+) -> Result<(), AllocError> {
+    let (times, word) = first_word(words);
+    match label(spec.alphabet(), word) {
+        Some(label) => put_numbered_in(into, alloc, spec, number(times), label),
+        None => into.push_str(" no such event"),
+    }
 }
 
 /// Appends the depths of processes.

@@ -13,13 +13,13 @@ use Rattle.term.specs.Proc.{Proc, root, bodies_of}
 use Rattle.term.specs.Meaning.{Trace}
 use Rattle.term.specs.Specs.{Specified}
 use Rattle.term.specs.Verdict.{Verdict}
-use Rattle.history.specs.declared.entry.Entry.{Entry}
-use Rattle.history.specs.Entries.{calls, events}
-use Rattle.history.specs.Beginnings.{StartsWith}
-use Rattle.history.proofs.Beginnings.{begins_self}
-use Rattle.history.proofs.Histories.{calls-le}
-use Rattle.session.specs.declared.fault.Fault.{Fault as SessionFault}
-use Rattle.session.specs.declared.fault.Fault.TheVariants as session
+use Rattle.shared.specs.Entry.{Entry}
+use Rattle.shared.specs.Entries.{calls, events}
+use Rattle.shared.specs.Beginnings.{StartsWith}
+use Rattle.shared.proofs.Beginnings.{begins_self}
+use Rattle.shared.proofs.Histories.{calls-le}
+use Rattle.shared.specs.Fault.{Fault as SessionFault}
+use Rattle.shared.specs.Fault.TheVariants as session
 use Rattle.shared.specs.Told.{SeatTold}
 use Rattle.shared.specs.Faults.{Answers as Explains, closes as closing}
 use Rattle.shared.specs.Seats.{Answered, Refused, AllTold, receipts}

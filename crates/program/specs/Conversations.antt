@@ -2,7 +2,7 @@
 use Rattle.std.specs.Prelude.{◌≡◌, ℕ, List, Bool, false, Option, Result}
 use Rattle.term.specs.Proc.{bodies_of}
 use Rattle.term.specs.Specs.{Specified}
-use Rattle.history.specs.declared.entry.Entry.{Entry}
+use Rattle.shared.specs.Entry.{Entry}
 use Rattle.wire.specs.Replies.{LineReplies, noted}
 use Rattle.wire.specs.Talks.{Serves}
 use Rattle.wire.specs.declared.answers.Tally.{Tally}

@@ -6,11 +6,11 @@ use Rattle.alphabet.specs.EventSets.{Set, member}
 use Rattle.term.specs.Proc.{Proc, root}
 use Rattle.term.specs.Meaning.{Trace}
 use Rattle.term.specs.Verdict.{Verdict}
-use Rattle.after.specs.declared.fault.AfterFault.TheVariants as limit
-use Rattle.monitor.specs.Monitors.{Stops}
-use Rattle.history.specs.declared.entry.Entry.{Entry}
-use Rattle.history.specs.declared.entry.Summary.{Summary}
-use Rattle.history.specs.Entries.{events, summary_of}
+use Rattle.shared.specs.AfterFault.TheVariants as limit
+use Rattle.shared.specs.Monitors.{Stops}
+use Rattle.shared.specs.Entry.{Entry}
+use Rattle.shared.specs.Summary.{Summary}
+use Rattle.shared.specs.Entries.{events, summary_of}
 use Rattle.wire.specs.declared.answers.Receipt.{Receipt}
 use Rattle.wire.specs.declared.answers.Status.{Status}
 use Rattle.wire.specs.declared.answers.Fault.{Fault}

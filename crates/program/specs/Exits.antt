@@ -1,14 +1,14 @@
 -- The exit statuses.
 use Rattle.std.specs.Prelude.{ℕ, Bool, true, false, ◌||◌, cond, Result, Ok, Err, List, zero, suc}
-use Rattle.history.specs.declared.entry.Entry.{Entry}
-use Rattle.history.specs.Entries.{summary_of}
+use Rattle.shared.specs.Entry.{Entry}
+use Rattle.shared.specs.Entries.{summary_of}
 use Rattle.wire.specs.declared.answers.Tally.{Tally}
 use Rattle.wire.specs.declared.engine.End.{End}
 use Rattle.wire.specs.declared.engine.End.TheVariants.{Quit, Input, Line}
 use Rattle.wire.specs.declared.engine.WireError.{WireError}
 use Rattle.wire.specs.declared.engine.WireError.TheVariants.{Read, Write, Memory}
-use Rattle.session.specs.declared.fault.SessionError.{SessionError}
-use Rattle.session.specs.declared.fault.SessionError.TheVariants as error
+use Rattle.shared.specs.SessionError.{SessionError}
+use Rattle.shared.specs.SessionError.TheVariants as error
 use Rattle.tokens.specs.declared.error.ScriptError.{ScriptError}
 use Rattle.tokens.specs.declared.error.ScriptErrorKind.{ScriptErrorKind}
 use Rattle.tokens.specs.declared.error.ScriptErrorKind.TheVariants as kind

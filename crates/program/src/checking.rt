@@ -1,14 +1,15 @@
 //! A conversation of one who reports alone, judged by what a script denotes.
 
-ghost use Rattle.std.specs.Prelude.{◌≡◌, ◌≢◌, ◌⊎◌, ◌<◌, [], false, ℕ, List, IfOk, IfErr, MatchResult, IsErrOf, Err};
+ghost use Rattle.std.specs.Prelude.{◌≡◌, ◌≢◌, ◌⊎◌, ◌<◌, [], false, true, ℕ, List, IfOk, IfErr, MatchResult, IsErrOf, Err, vec_len, vec_capacity};
 ghost use Rattle.term.specs.Proc.{bodies_of};
 ghost use Rattle.term.specs.Specs.{Specified};
-ghost use Rattle.history.specs.Legal.{Legal};
-ghost use Rattle.history.specs.Beginnings.{StartsWith};
+ghost use Rattle.shared.specs.Legal.{Legal};
+ghost use Rattle.shared.specs.Beginnings.{StartsWith};
 ghost use Rattle.script.specs.Reading.{IsRead};
-ghost use Rattle.session.specs.Replays.{IsUnopened};
-ghost use Rattle.session.specs.Scripts.{IsUnbegun};
-ghost use Rattle.session.specs.Told.{IsFor};
+ghost use Rattle.shared.specs.SessionFaults.{IsMemory};
+ghost use Rattle.shared.specs.Replays.{IsUnopened};
+ghost use Rattle.shared.specs.Scripts.{IsUnbegun};
+ghost use Rattle.shared.specs.SessionTold.{IsFor};
 ghost use Rattle.shared.specs.Told.{SeatTold};
 ghost use Rattle.seats.specs.Judges.{Reports, Statuses, Nexts};
 ghost use Rattle.wire.specs.Replies.{LineReplies, noted};
@@ -18,12 +19,10 @@ ghost use Rattle.program.specs.Exits.{exit_of};
 
 use crate::exit::Exit;
 use alphabet::Alphabet;
-use board::{Naming, Opened};
 use disk::Disk;
 use seats::{SeatJudge, copy_of};
-use session::{Session, SessionError};
-use shared::{SeatFault, Share, Shared};
-use std::alloc::Global;
+use shared::{Naming, Opened, SeatFault, Session, SessionError, Share, Shared};
+use std::alloc::{Allocator, Global};
 use std::marker::Brand;
 use std::sync::Wait;
 use std::sync::ledger::Blank;
@@ -31,9 +30,9 @@ use wire::{End, Sink, Source, Tally, WireError};
 
 /// What a check comes to.
 #[derive(Drop)]
-pub struct Checked<D: Disk> {
+pub struct Checked<D: Disk, A: Allocator = Global> {
     /// The session, with the history of what was reported.
-    pub session: Session<D, Global>,
+    pub session: Session<D, A>,
     /// How the conversation ended.
     pub end: Result<End, WireError>,
     /// What there was among the answers.
@@ -43,21 +42,21 @@ pub struct Checked<D: Disk> {
 }
 
 // What the only seat has seen and done at the end, how its conversation ended, and what was answered.
-struct Heard<N: Naming> {
-    share: Share<N, Global>,
+struct Heard<N: Naming, A: Allocator> {
+    share: Share<N, A>,
     end: Result<End, WireError>,
     tally: Tally,
 }
 
 // Answers the lines of the reader from a seat.
-fn hear<R: Wait, D: Disk, N: Naming, T: Source, W: Sink>(
+fn hear<R: Wait, D: Disk, A: Allocator + Copy + Drop, N: Naming, T: Source, W: Sink>(
     rt: &R,
-    alloc: Global,
-    shared: &Shared<D, Global, N>,
-    alphabet: &Alphabet<Global>,
+    alloc: A,
+    shared: &Shared<D, A, N>,
+    alphabet: &Alphabet<A>,
     reader: &mut T,
     writer: &mut W,
-) -> Result<Heard<N>, SeatFault>
+) -> Result<Heard<N, A>, SeatFault>
     requires { alphabet.now ≡ N.spec.alphabet }
     ensures serves { IfOk result (λ h. (first : SeatTold) × (first.mine ≡ []) × (first.closed ≡ false)
         × Serves (LineReplies (Reports (bodies_of N.spec.bodies)) (Statuses (bodies_of N.spec.bodies)) (Nexts (bodies_of N.spec.bodies)) N.spec.alphabet)
@@ -81,17 +80,25 @@ fn hear<R: Wait, D: Disk, N: Naming, T: Source, W: Sink>(
     })
 }
 
+// Whether there is room for one share more.
+fn has_room<N: Naming, A: Allocator>(shares: &mut Vec<Share<N, A>, A>) -> bool
+    ensures items { shares.new.items ≡ shares.old.items }
+    ensures room { result ≡ true → vec_len shares.new < vec_capacity shares.new }
+{
+    shares.reserve(1).is_ok()
+}
+
 // Answers the lines of the reader from the only seat of the session. The caller picks the names.
-fn hear_alone<R: Wait, D: Disk + Drop, N: Naming, T: Source, W: Sink>(
+fn hear_alone<R: Wait, D: Disk + Drop, A: Allocator + Copy + Drop, N: Naming, T: Source, W: Sink>(
     rt: &R,
-    alloc: Global,
-    session: Session<D, Global>,
+    alloc: A,
+    session: Session<D, A>,
     opened: Opened,
     blank: Blank,
-    alphabet: &Alphabet<Global>,
+    alphabet: &Alphabet<A>,
     reader: &mut T,
     writer: &mut W,
-) -> Result<Checked<D>, SessionError>
+) -> Result<Checked<D, A>, SessionError>
     requires story { (session.spec ≡ N.spec) × (session.history ≡ N.opening) × (N.opening ≡ []) }
     requires book { opened.seen.book ≡ N.book }
     requires ledger { (blank.name ≡ N.name) × (blank.parts ≡ N.parts) × (N.all ≡ N.parts) × (N.all ≡ 2) }
@@ -107,11 +114,11 @@ fn hear_alone<R: Wait, D: Disk + Drop, N: Naming, T: Source, W: Sink>(
     ensures reader_failed { IfOk result (λ c. IsErrOf c.end WireError.Read → T.failures reader.old < T.failures reader.new) }
     ensures writer_failed { IfOk result (λ c. IsErrOf c.end WireError.Write → W.failures writer.old < W.failures writer.new) }
 {
-    let Ok(shared) = Shared::<D, Global, N>::new(alloc, session, opened, blank, 1) else {
+    let Ok(shared) = Shared::<D, A, N>::new(alloc, session, opened, blank, 1) else {
         return Err(SessionError::Memory);
     };
     let mut shares = Vec::new(alloc);
-    if shares.reserve(1).is_err() {
+    if !has_room(&mut shares) {
         let (_session, _count) = shared.finish(rt, shares);
         return Err(SessionError::Memory);
     }
@@ -139,15 +146,15 @@ fn hear_alone<R: Wait, D: Disk + Drop, N: Naming, T: Source, W: Sink>(
 ///
 /// The errors are those of `Session::create`: `Script`, then `Depth` or `States`, then `Device`, or `Memory`. Nothing is then read or
 /// written.
-pub fn check<R: Wait, D: Disk + Drop, T: Source, W: Sink>(
+pub fn check<R: Wait, D: Disk + Drop, A: Allocator + Copy + Drop, T: Source, W: Sink>(
     rt: &R,
-    alloc: Global,
+    alloc: A,
     disk: D,
     script: &[u8],
     process: &[u8],
     reader: &mut T,
     writer: &mut W,
-) -> Result<Checked<D>, SessionError>
+) -> Result<Checked<D, A>, SessionError>
     // The script denotes the session's specification for the process.
     ensures read { IfOk result (λ c. IsRead script.now process.now c.session.spec) }
 
@@ -157,10 +164,10 @@ pub fn check<R: Wait, D: Disk + Drop, T: Source, W: Sink>(
     ensures legal { IfOk result (λ c. Legal (bodies_of c.session.spec.bodies) c.session.history) }
     ensures exit { IfOk result (λ c. c.exit ≡ exit_of c.end c.tally) }
 
-    // Or there is no session for this reason. Where the script denotes a specification, it is no fault of the script.
+    // Or there is no session for this reason. Where the script denotes a specification, no fault of the script but out of memory comes.
     ensures fault { IfErr result (IsUnbegun script.now process.now) }
     ensures only { (spec : Specified) → IsRead script.now process.now spec
-        → MatchResult result (λ c. c.session.spec ≡ spec) (λ error. IsUnopened spec error ⊎ (error ≡ SessionError.Device)) }
+        → MatchResult result (λ c. c.session.spec ≡ spec) (λ error. IsMemory error ⊎ (IsUnopened spec error ⊎ (error ≡ SessionError.Device))) }
     ensures untouched { IfErr result (λ _. (reader.new ≡ reader.old) × (writer.new ≡ writer.old)) }
 
     ensures handed_on { IfOk result (λ c. W.has_handed_on writer.old → c.end ≢ Err WireError.Write → W.has_handed_on writer.new) }
@@ -175,7 +182,7 @@ pub fn check<R: Wait, D: Disk + Drop, T: Source, W: Sink>(
         return Err(SessionError::Memory);
     };
     let opened = Opened::new();
-    hear_alone::<_, _, Brand, _, _>(
+    hear_alone::<_, _, _, Brand, _, _>(
         rt,
         alloc,
         session,

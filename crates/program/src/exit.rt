@@ -3,7 +3,7 @@
 ghost use Rattle.std.specs.Prelude.{◌≡◌};
 ghost use Rattle.program.specs.Exits.{exit_code, exit_of, opening_exit, script_exit, journal_exit};
 
-use session::SessionError;
+use shared::SessionError;
 use tokens::{ScriptError, ScriptErrorKind};
 use wire::{End, Tally, WireError};
 

@@ -14,4 +14,5 @@ pub use checking::{Checked, check};
 pub use exit::Exit;
 pub use forms::{PrintError, print};
 pub use replaying::{Replayed, replay};
+pub use shared::{Session, SessionError, Summary};
 pub use summaries::summary_line;

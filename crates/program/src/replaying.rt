@@ -4,9 +4,9 @@ ghost use Rattle.std.specs.Prelude.{◌≡◌, ◌⊎◌, ℕ, List, false, IsTr
 ghost use Rattle.term.specs.Specs.{Specified};
 ghost use Rattle.journal.specs.Faults.{HasFault};
 ghost use Rattle.journal.specs.declared.error.JournalError.{JournalError};
-ghost use Rattle.history.specs.declared.entry.Entry.{Entry};
-ghost use Rattle.session.specs.Faults.{journal_error};
-ghost use Rattle.session.specs.Scripts.{HasNoSession, IsOutside, IsReplayOf};
+ghost use Rattle.shared.specs.Entry.{Entry};
+ghost use Rattle.shared.specs.SessionFaults.{journal_error};
+ghost use Rattle.shared.specs.Scripts.{HasNoSession, IsOutside, IsReplayOf};
 ghost use Rattle.wire.specs.Replies.{status_text};
 ghost use Rattle.program.specs.Courses.{status_of};
 ghost use Rattle.program.specs.Exits.{rejected_exit, replay_exit};
@@ -15,7 +15,7 @@ use crate::exit::Exit;
 use crate::summaries::summary_line;
 use disk::Disk;
 use journal::Header;
-use session::{Session, SessionError};
+use shared::{Session, SessionError};
 use std::alloc::Allocator;
 
 /// What a replay comes to.

@@ -5,7 +5,7 @@ ghost use Rattle.wire.specs.Replies.{status_text};
 ghost use Rattle.program.specs.Courses.{status_by};
 
 use itoa::Buffer;
-use session::Summary;
+use shared::Summary;
 use std::alloc::{AllocError, Allocator};
 
 // Appends a number in decimal.

@@ -1,11 +1,15 @@
-//! What a crash leaves after each call, and what there is in a file cut to each length.
+//! What a crash leaves after each call, what comes where each call fails, and what there is in a file cut to each length.
 
-use crate::scenes::{Scene, in_memory, played, put_left};
-use memory_disks::{CrashDisk, Part};
+use crate::scenes::{Scene, after_failing, at_fault, in_memory, played, put_left};
+use crate::stops::stops;
+use memory_disks::{Afterwards, CrashDisk, Part};
 use std::alloc::{AllocError, Global};
 
+/// More calls than a row's disk has.
+const MOST_CALLS: usize = 1_000;
+
 /// Adds the outcome at this place where it isn't the last one.
-fn put_outcome(
+pub(crate) fn put_outcome(
     place: usize,
     came: String,
     last: &mut String,
@@ -14,7 +18,7 @@ fn put_outcome(
     if came == *last {
         return Ok(());
     }
-    let mark = if place > 0 { " | " } else { "" };
+    let mark = if last.is_empty() { "" } else { " | " };
     write!(out, "{mark}{place}: {came}")?;
     *last = came;
     Ok(())
@@ -95,6 +99,69 @@ fn lengths(alloc: Global, scene: &Scene, out: &mut String) -> Result<(), AllocEr
     Ok(())
 }
 
+/// What comes where this call of the disk fails; with 0 none does.
+fn failure(
+    alloc: Global,
+    call: usize,
+    afterwards: Afterwards,
+    scene: &Scene,
+) -> Result<String, AllocError> {
+    let mut out = String::new(alloc);
+    at_fault(alloc, call as u64, afterwards, scene, &mut out)?;
+    Ok(out)
+}
+
+/// Adds what comes where this call fails. Whether it is the full outcome is answered.
+fn put_failure(
+    call: usize,
+    came: String,
+    full: &str,
+    last: &mut String,
+    out: &mut String,
+) -> Result<bool, AllocError> {
+    let is_full = came.as_str() == full;
+    put_outcome(call, came, last, out)?;
+    Ok(is_full)
+}
+
+/// What comes where each call of the disk fails, as far as the first that isn't made: then the full outcome comes.
+fn failures(
+    alloc: Global,
+    afterwards: Afterwards,
+    scene: &Scene,
+    out: &mut String,
+) -> Result<(), AllocError> {
+    let full = failure(alloc, 0, afterwards, scene)?;
+    let mut last = String::new(alloc);
+    for call in 1..MOST_CALLS {
+        let came = failure(alloc, call, afterwards, scene)?;
+        if put_failure(call, came, &full, &mut last, out)? {
+            return Ok(());
+        }
+    }
+    out.push_str(" too many calls")
+}
+
+/// Plays `once ROW` or `always ROW`.
+fn play_failures(alloc: Global, text: &str, out: &mut String) -> Result<(), AllocError> {
+    let (afterwards, row) = after_failing(text);
+    match Scene::read(row) {
+        Some(scene) => failures(alloc, afterwards, &scene, out),
+        None => out.push_str("no such row"),
+    }
+}
+
+/// Plays the row with a stop after each call.
+fn play_stops(alloc: Global, row: &str, out: &mut String) -> Result<(), AllocError> {
+    match Scene::read(row) {
+        Some(scene) => {
+            let disk = kept(alloc, &scene)?;
+            stops(alloc, &disk, out)
+        }
+        None => out.push_str("no such row"),
+    }
+}
+
 /// Plays `PART ROW`.
 fn play_crashes(alloc: Global, text: &str, out: &mut String) -> Result<(), AllocError> {
     let (part, row) = text.split_once(' ').unwrap_or((text, ""));
@@ -116,6 +183,8 @@ pub(crate) fn play(
 ) -> Result<bool, AllocError> {
     let done = match kind {
         "crashes" => play_crashes(alloc, text, out),
+        "failures" => play_failures(alloc, text, out),
+        "stops" => play_stops(alloc, text, out),
         "lengths" => lengths(alloc, &Scene::of_file(text), out),
         _ => return Ok(false),
     };

@@ -10,7 +10,7 @@ use memory_disks::MemoryDisk;
 use session::SeatNumber;
 use std::alloc::{AllocError, Global};
 
-/// A record, as `SEAT NUMBER KIND NAME..`.
+/// A record, as `SEAT NUMBER KIND MARK..`.
 fn put_record(record: &Record<Global>, out: &mut String) -> Result<(), AllocError> {
     let kind = match record.kind {
         Kind::Event => 'E',
@@ -18,9 +18,9 @@ fn put_record(record: &Record<Global>, out: &mut String) -> Result<(), AllocErro
     };
     let sign = if record.verdict { '+' } else { '-' };
     write!(out, " {} {} {kind}{sign}", record.seat, record.number)?;
-    for name in &record.names {
+    for mark in &record.marks {
         out.push(' ')?;
-        put_bytes(name, out)?;
+        put_bytes(mark, out)?;
     }
     out.push(';')
 }

@@ -8,30 +8,32 @@
 //! | `over FILE # ROOT SCRIPT # ASKS` | the same on a disk that holds this file before: the answers, and the journal's file |
 //! | `written ROOT SCRIPT # ASKS` | the same: the answers, and the journal's file |
 //! | `journal FILE # ASKS` | a session of what the file holds: the answers, and the file as it is then |
-//! | `records ROOT SCRIPT # RECORDS # ASKS` | a session of a file with such a header and these records |
+//! | `records VERSION ROOT SCRIPT # RECORDS # ASKS` | a session of a file with a header of this version, root and script, and these records |
 //! | `fault K once ROW` | a `session`, `over` or `journal` on a disk whose K-th call fails: the answers, the file, and what a session of that file answers to `S` and leaves |
 //! | `fault K always ROW` | the same where all calls from the K-th on fail |
+//! | `failures once ROW`, `failures always ROW` | the same with each call of the disk, as far as the first that isn't made; each outcome with the first call that has it |
 //! | `crashes PART ROW` | the file that a crash after each number of calls leaves, of which this part of what no sync has followed is done (`nothing`, `everything`, `first`, `plus`), and what a session of that file answers to `S` and leaves; each with the first number that has it |
+//! | `stops ROW` | what sessions answer to `S` of every file that a stop after each number of calls may leave: each beginning and each end of what no sync has followed is done, the rest is as before, or `+`; each list of answers with the first number that has it |
 //! | `lengths FILE # ASKS` | sessions of the file cut to each length, each outcome with the first length that has it |
-//! | `talk ROOT SCRIPT # INPUT # INPUT ..` | conversations with the only seat of a session on a disk in memory |
-//! | `talk_fault K once ROOT SCRIPT # INPUT ..` | the same on a disk whose K-th call fails |
 //! | `copied FILE` | the journal in the file: its header and its records, and the file of a journal of the same |
 //! | `seat NUMBER` | the seat with this number, and the one after it |
 //! | `fault_text session NAME`, `fault_text journal NAME` | a fault's number and word, and its text |
 //! | `file TEXT # CALLS` | a disk on a real file of this text, and one in memory: what each call answers, where the two differ in an answer or in their bytes, and the bytes at the end |
-//! | `memory ROW` | a `session`, a `journal` or `read ROOT SCRIPT` with each request for memory refused in turn: the full answers, and what came in their place that may not |
+//! | `memory ROW` | a `session`, a `journal`, `read ROOT SCRIPT`, `check ROOT SCRIPT # LINES`, `replay FILE` or `print ROOT SCRIPT` with each request for memory refused in turn, once, and with all after it: the full answers, and what came in their place that may not |
 #![tactic(auto)]
 
 mod asks;
+mod commands;
 mod crashes;
 mod faults;
 mod files;
 mod journals;
+mod outcomes;
 mod playing;
 mod scenes;
 mod sessions;
 mod shortage;
-mod talks;
+mod stops;
 
 use playing::told;
 use std::io;

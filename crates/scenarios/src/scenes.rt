@@ -48,6 +48,15 @@ impl<'a> Scene<'a> {
         }
     }
 
+    /// A session of what the file holds, which is asked for its status.
+    pub(crate) fn opening(file: &'a [u8]) -> Scene<'a> {
+        Scene {
+            new: None,
+            file,
+            asks: "S",
+        }
+    }
+
     /// The same with the file cut to a length.
     pub(crate) fn cut_to(&self, length: usize) -> Scene<'a> {
         Scene {
@@ -127,12 +136,7 @@ fn answers(alloc: Global, scene: &Scene, out: &mut String) -> Result<(), AllocEr
 
 /// What a session of this file answers to `S`, and the file that it leaves.
 fn reopened(alloc: Global, file: &[u8], out: &mut String) -> Result<(), AllocError> {
-    let scene = Scene {
-        new: None,
-        file,
-        asks: "S",
-    };
-    with_file(alloc, &scene, out)
+    with_file(alloc, &Scene::opening(file), out)
 }
 
 /// The file, and what a session of it answers and leaves.
@@ -142,12 +146,13 @@ pub(crate) fn put_left(alloc: Global, file: &[u8], out: &mut String) -> Result<(
     reopened(alloc, file, out)
 }
 
-/// The file of a journal with this root and script, and these records, and then what is asked.
+/// The file of a journal of this version, root and script, and these records, and then what is asked.
 fn with_header(alloc: Global, text: &str) -> Result<String, AllocError> {
     let (begin, rest) = text.split_once(" # ").unwrap_or((text, ""));
+    let (version, begin) = begin.split_once(' ').unwrap_or((begin, ""));
     let (root, script) = begin.split_once(' ').unwrap_or((begin, ""));
     let length = script.len();
-    format!(in alloc; "cspwatch journal 1\nroot {root}\nscript {length}\n{script}\n{rest}")
+    format!(in alloc; "cspwatch journal {version}\nroot {root}\nscript {length}\n{script}\n{rest}")
 }
 
 /// The answers of a session of a file with this header and these records.
@@ -156,15 +161,21 @@ fn records(alloc: Global, text: &str, out: &mut String) -> Result<(), AllocError
     answers(alloc, &Scene::of_file(&text), out)
 }
 
-/// The parts of `K once ROW` or `K always ROW`: the call that fails, what the calls after it do, and the row.
-pub(crate) fn failing(text: &str) -> (u64, Afterwards, &str) {
-    let (call, text) = text.split_once(' ').unwrap_or((text, ""));
+/// The parts of `once ROW` or `always ROW`: what the calls after the one that fails do, and the row.
+pub(crate) fn after_failing(text: &str) -> (Afterwards, &str) {
     let (word, row) = text.split_once(' ').unwrap_or((text, ""));
     let afterwards = if word == "always" {
         Afterwards::Fail
     } else {
         Afterwards::GoOn
     };
+    (afterwards, row)
+}
+
+/// The parts of `K once ROW` or `K always ROW`: the call that fails, what the calls after it do, and the row.
+fn failing(text: &str) -> (u64, Afterwards, &str) {
+    let (call, text) = text.split_once(' ').unwrap_or((text, ""));
+    let (afterwards, row) = after_failing(text);
     (number_of(call), afterwards, row)
 }
 
@@ -184,14 +195,23 @@ fn on_failing(
 }
 
 /// The answers where a call of the disk fails, and what is left.
+pub(crate) fn at_fault(
+    alloc: Global,
+    call: u64,
+    afterwards: Afterwards,
+    scene: &Scene,
+    out: &mut String,
+) -> Result<(), AllocError> {
+    let disk = on_failing(alloc, call, afterwards, scene, out)?;
+    out.push(' ')?;
+    put_left(alloc, disk.bytes(), out)
+}
+
+/// Plays `K once ROW` or `K always ROW`.
 fn fault(alloc: Global, text: &str, out: &mut String) -> Result<(), AllocError> {
     let (call, afterwards, row) = failing(text);
     match Scene::read(row) {
-        Some(scene) => {
-            let disk = on_failing(alloc, call, afterwards, &scene, out)?;
-            out.push(' ')?;
-            put_left(alloc, disk.bytes(), out)
-        }
+        Some(scene) => at_fault(alloc, call, afterwards, &scene, out),
         None => out.push_str("no such row"),
     }
 }

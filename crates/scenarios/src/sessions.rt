@@ -1,6 +1,6 @@
 //! Sessions and journals, on disks in memory of which some fail or crash, and with requests for memory refused.
 
-use crate::{crashes, journals, scenes, shortage, talks};
+use crate::{crashes, journals, scenes, shortage};
 use std::alloc::{AllocError, Global};
 use std::sync::Wait;
 
@@ -16,8 +16,7 @@ fn played<T: Wait>(
         scenes::play(alloc, kind, text, out)?
             || crashes::play(alloc, kind, text, out)?
             || journals::play(alloc, kind, text, out)?
-            || talks::play(rt, alloc, kind, text, out)?
-            || shortage::play(alloc, kind, text, out)?,
+            || shortage::play(rt, alloc, kind, text, out)?,
     )
 }
 

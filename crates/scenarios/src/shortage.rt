@@ -1,11 +1,14 @@
-//! What is played while a request for memory is refused, each in turn.
+//! What is played while requests for memory are refused: each in turn, by itself and with all after it.
 
 use crate::asks::put_bytes;
+use crate::commands;
+use crate::outcomes::{Refused, is_allowed};
 use crate::scenes::{Scene, played};
 use memory_disks::MemoryDisk;
 use refusing::Refusing;
 use script::{print, read};
 use std::alloc::{AllocError, Global};
+use std::sync::Wait;
 use term::Spec;
 
 /// How many requests are refused at most.
@@ -45,8 +48,18 @@ fn reading(refusing: &Refusing<Global>, text: &str, out: &mut String) -> Result<
 }
 
 /// What comes of the row in memory of this allocator.
-fn put_row(refusing: &Refusing<Global>, row: &str, out: &mut String) -> Result<(), AllocError> {
-    match row.split_once(' ').unwrap_or((row, "")) {
+fn put_row<T: Wait>(
+    rt: &T,
+    alloc: Global,
+    refusing: &Refusing<Global>,
+    row: &str,
+    out: &mut String,
+) -> Result<(), AllocError> {
+    let row = row.split_once(' ').unwrap_or((row, ""));
+    if commands::put(rt, alloc, refusing, row, out)? {
+        return Ok(());
+    }
+    match row {
         ("session", text) => session(refusing, &Scene::new(text), out),
         ("journal", text) => session(refusing, &Scene::of_file(text), out),
         ("read", text) => reading(refusing, text, out),
@@ -55,51 +68,63 @@ fn put_row(refusing: &Refusing<Global>, row: &str, out: &mut String) -> Result<(
 }
 
 /// What comes of the row in memory of this allocator.
-fn came(alloc: Global, refusing: &Refusing<Global>, row: &str) -> Result<String, AllocError> {
+fn came<T: Wait>(
+    rt: &T,
+    alloc: Global,
+    refusing: &Refusing<Global>,
+    row: &str,
+) -> Result<String, AllocError> {
     let mut out = String::new(alloc);
-    put_row(refusing, row, &mut out)?;
+    put_row(rt, alloc, refusing, row, &mut out)?;
     Ok(out)
 }
 
-/// Whether these are the full answers, with the refusal reported once among them.
-fn is_reported_once(alloc: Global, full: &str, came: &str) -> Result<bool, AllocError> {
-    let without = came.replacen(alloc, "ERR 40 memory; ", "", 1)?;
-    Ok(without.as_str() == full)
-}
-
-/// Whether this is what may come in place of the full answers: these, with the refusal reported once; or nothing but the refusal; or
-/// these up to where the disk could not grow.
-fn is_allowed(alloc: Global, full: &str, came: &str) -> Result<bool, AllocError> {
-    match came.split_once("ERR 30 journal") {
-        Some((before, _)) => Ok(full.starts_with(before)),
-        None if came == "40 memory" || came == "30 journal" => Ok(true),
-        None => is_reported_once(alloc, full, came),
-    }
-}
-
-/// Refuses this request. Whether it came is answered, and writes what came of it where that may not come.
-fn refuse(
+/// What comes of the row where these requests are refused. Whether one was is answered, and appends what came where that may not come.
+fn refuse<T: Wait>(
+    rt: &T,
     alloc: Global,
-    which: u64,
+    which: (u64, Refused),
     row: &str,
     full: &str,
     out: &mut String,
 ) -> Result<bool, AllocError> {
-    let refusing = Refusing::new(alloc, which);
-    let came = came(alloc, &refusing, row)?;
-    if !is_allowed(alloc, full, &came)? {
-        write!(out, ", request {which} refused: {came}")?;
+    let (request, refused) = which;
+    let refusing = match refused {
+        Refused::One => Refusing::new(alloc, request),
+        Refused::AllFrom => Refusing::all_from(alloc, request),
+    };
+    let came = came(rt, alloc, &refusing, row)?;
+    if !is_allowed(rt, alloc, refused, row, full, &came)? {
+        let word = if refused == Refused::One {
+            "once"
+        } else {
+            "always"
+        };
+        write!(out, ", request {request} refused {word}: {came}")?;
     }
     Ok(refusing.has_refused())
 }
 
-/// The full answers, and what came in their place that may not come where each request was refused.
-fn sweep(alloc: Global, row: &str, out: &mut String) -> Result<(), AllocError> {
-    let full = came(alloc, &Refusing::new(alloc, 0), row)?;
+/// Refuses the request with this number, and then it and all after it. Whether it came is answered.
+fn refuse_both<T: Wait>(
+    rt: &T,
+    alloc: Global,
+    request: u64,
+    row: &str,
+    full: &str,
+    out: &mut String,
+) -> Result<bool, AllocError> {
+    let refused = refuse(rt, alloc, (request, Refused::One), row, full, out)?;
+    Ok(refuse(rt, alloc, (request, Refused::AllFrom), row, full, out)? || refused)
+}
+
+/// The full answers, and what came in their place that may not come where each request was refused, once and with all after it.
+fn sweep<T: Wait>(rt: &T, alloc: Global, row: &str, out: &mut String) -> Result<(), AllocError> {
+    let full = came(rt, alloc, &Refusing::new(alloc, 0), row)?;
     out.push_str(&full)?;
-    for which in 1..MOST {
-        if !refuse(alloc, which, row, &full, out)? {
-            return out.push_str(if which > 1 {
+    for request in 1..MOST {
+        if !refuse_both(rt, alloc, request, row, &full, out)? {
+            return out.push_str(if request > 1 {
                 ", each refused"
             } else {
                 ", no request"
@@ -110,14 +135,15 @@ fn sweep(alloc: Global, row: &str, out: &mut String) -> Result<(), AllocError> {
 }
 
 /// Plays a row of this kind. Whether it is one is answered.
-pub(crate) fn play(
+pub(crate) fn play<T: Wait>(
+    rt: &T,
     alloc: Global,
     kind: &str,
     text: &str,
     out: &mut String,
 ) -> Result<bool, AllocError> {
     if kind == "memory" {
-        sweep(alloc, text, out)?;
+        sweep(rt, alloc, text, out)?;
     }
     Ok(kind == "memory")
 }

@@ -1,6 +1,6 @@
 -- The faults of sessions and seats as those of the line protocol.
-use Rattle.session.specs.declared.fault.Fault.{Fault as SessionFault}
-use Rattle.session.specs.declared.fault.Fault.TheVariants as session
+use Rattle.shared.specs.Fault.{Fault as SessionFault}
+use Rattle.shared.specs.Fault.TheVariants as session
 use Rattle.shared.specs.declared.fault.SeatFault.{SeatFault}
 use Rattle.shared.specs.declared.fault.SeatFault.TheVariants as seat
 use Rattle.wire.specs.declared.answers.Fault.{Fault}

@@ -5,10 +5,10 @@ use Rattle.alphabet.specs.declared.events.Report.{Report}
 use Rattle.alphabet.specs.EventSets.{Set, member}
 use Rattle.term.specs.Proc.{Proc, root}
 use Rattle.term.specs.Meaning.{Trace}
-use Rattle.history.specs.Entries.{events, summary_of}
-use Rattle.history.specs.Legal.{Legal}
-use Rattle.history.specs.Beginnings.{StartsWith}
-use Rattle.session.specs.declared.fault.Fault.{Fault as SessionFault}
+use Rattle.shared.specs.Entries.{events, summary_of}
+use Rattle.shared.specs.Legal.{Legal}
+use Rattle.shared.specs.Beginnings.{StartsWith}
+use Rattle.shared.specs.Fault.{Fault as SessionFault}
 use Rattle.shared.specs.Told.{SeatTold}
 use Rattle.shared.specs.Seats.{Answered, Refused}
 use Rattle.wire.specs.declared.answers.Receipt.{Receipt}

@@ -6,19 +6,19 @@ use shared::SeatFault;
 use wire::Fault;
 
 /// A session's fault, as the line protocol tells it.
-pub(crate) fn told(fault: session::Fault) -> Fault
+pub(crate) fn told(fault: shared::Fault) -> Fault
     ensures { result ≡ told_as fault }
 {
     match fault {
-        session::Fault::Depth => Fault::Depth,
-        session::Fault::States => Fault::States,
-        session::Fault::Seats => Fault::Seats,
-        session::Fault::History => Fault::History,
-        session::Fault::Turn => Fault::Turn,
-        session::Fault::Behind => Fault::Behind,
-        session::Fault::Journal(_) => Fault::Journal,
-        session::Fault::Closed(_) => Fault::Closed,
-        session::Fault::Memory => Fault::Memory,
+        shared::Fault::Depth => Fault::Depth,
+        shared::Fault::States => Fault::States,
+        shared::Fault::Seats => Fault::Seats,
+        shared::Fault::History => Fault::History,
+        shared::Fault::Turn => Fault::Turn,
+        shared::Fault::Behind => Fault::Behind,
+        shared::Fault::Journal(_) => Fault::Journal,
+        shared::Fault::Closed(_) => Fault::Closed,
+        shared::Fault::Memory => Fault::Memory,
     }
 }
 

@@ -8,11 +8,9 @@ ghost use Rattle.seats.specs.Judges.{Reports, Statuses, Nexts};
 
 use crate::faults::told;
 use alphabet::{Alphabet, EventSet, Report};
-use board::{Board, Naming};
 use disk::Disk;
 use left_right::Absorb;
-use session::{Entry, Summary};
-use shared::{Seat, Share};
+use shared::{Board, Entry, Naming, Seat, Share, Summary};
 use std::alloc::Allocator;
 use std::sync::Wait;
 use wire::{End, Fault, Judge, Receipt, Sink, Source, Status, Tally, WireError};

@@ -1,1 +1,3 @@
+pub mod Closings
 pub mod Crossings
+pub mod Openings

@@ -1,4 +1,3 @@
 -- To believe.
 pub mod Held
--- Steps of the program.
-pub mod Crossing
+pub mod Runs

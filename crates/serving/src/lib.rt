@@ -1,18 +1,15 @@
-//! Connections, each served by a thread of its own at a place of its own; and a session that is served so.
+//! A session that is served over connections, each by a thread of its own at a seat of its own; and the session of a script on a
+//! journal that may be there already.
 #![tactic(auto)]
 
-mod account;
-mod gate;
 mod opening;
 mod sessions;
 mod shared_gate;
-mod tcp;
-mod threads;
 
-pub use account::Account;
-pub use gate::{Accept, AcceptFault, Gate, Over};
+pub use connections::{
+    Accept, AcceptFault, Account, Connections, Ending, Gate, Outcome, Over, RunStatus, Served,
+    TcpAccept, serve_all,
+};
 pub use opening::{OpenError, open};
 pub use sessions::{Closing, serve_session};
 pub use shared_gate::SharedGate;
-pub use tcp::TcpAccept;
-pub use threads::{Outcome, Served, serve_all};

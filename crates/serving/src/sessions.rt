@@ -1,58 +1,79 @@
 //! A session, served from its first connection to its last.
 
-ghost use Rattle.std.specs.Prelude.{◌≡◌, IfOk};
-ghost use Rattle.std.specs.Thread.{IsSend};
-ghost use Rattle.alphabet.specs.Channels.{event_count};
+ghost use Rattle.std.specs.Prelude.{◌≡◌, ◌≤◌, ◌+◌, [], ℕ, List, Ok, Err, IfOk, IfErr, IsErr, length, map, vec_capacity};
+ghost use Rattle.std.specs.List.{list_any};
 ghost use Rattle.term.specs.Proc.{bodies_of};
-ghost use Rattle.history.specs.Legal.{Legal};
-ghost use Rattle.history.specs.Beginnings.{StartsWith};
-ghost use Rattle.serving.specs.Crossing.{LegalCrosses};
+ghost use Rattle.shared.specs.Legal.{Legal};
+ghost use Rattle.shared.specs.Beginnings.{StartsWith};
+ghost use Rattle.shared.specs.SessionTold.{IsFor};
+ghost use Rattle.shared.specs.Told.{SeatTold};
+ghost use Rattle.connections.specs.declared.outcome.Outcome.{Outcome};
+ghost use Rattle.connections.specs.Accounts.{has_rejected, met_limit};
+ghost use Rattle.connections.specs.Outcomes.{ending_of, places_of};
+ghost use Rattle.serving.specs.Runs.{CameTo, Went};
 
-use crate::account::{Account, settle};
-use crate::gate::Accept;
 use crate::shared_gate::SharedGate;
-use crate::threads::serve_all;
 use alphabet::Alphabet;
-use board::{Front, Naming, Opened, Publisher, Source, Spine};
+use connections::{Accept, Account, Connections, Ending, part, serve_all};
 use disk::Disk;
-use history::LegalHistory;
 use journal::Journal;
 use seats::copy_of;
-use session::{Failed, Session};
-use shared::{Share, Shared};
+use shared::{
+    Failed, Front, Naming, Opened, Publisher, Session, Share, Shared, Source, Spine, crosses,
+    legal_crosses,
+};
 use std::alloc::{AllocError, Global};
 use std::marker::Brand;
 use std::sync::ledger::Blank;
 use std::sync::{Wait, ledger};
 use std::thread::Threads;
 
-// The seats of one run, and the parts of its ledger: one for each seat, and one for what lies under the lock.
-const PLACES: u64 = 64;
-
-const PARTS: u64 = 65;
-
 /// A session whose connections are over.
 #[derive(Drop)]
 pub struct Closing<D: Disk> {
     /// The session.
     pub session: Session<D, Global>,
-    /// What came of its connections.
+    /// How each connection ended, in the order in which they were taken.
+    pub endings: Vec<Ending, Global>,
+    /// What came of all connections together.
     pub account: Account,
+    /// How many reports were answered with `OK` or `NO`. `None` where a connection's place was lost, since no thread could be started for it.
+    pub answered: Option<u64>,
 }
 
-// That a type may go to another thread.
-fn crosses<T: Send>()
-    ensures { IsSend T.row }
-{}
+// What a run needs memory for before its first connection.
+#[derive(Drop)]
+struct Room {
+    alphabet: Alphabet<Global>,
+    endings: Vec<Ending, Global>,
+}
 
-// That a legal history may. It stands apart since the search for its proof takes too long beside a caller's types.
-fn legal_crosses()
-    ensures legal { LegalCrosses }
+fn room_for<D: Disk>(
+    alloc: Global,
+    session: &Session<D, Global>,
+    count: u8,
+) -> Result<Room, AllocError>
+    ensures alphabet { IfOk result (λ room. room.alphabet ≡ session.now.spec.alphabet) }
+    ensures endings { IfOk result (λ room. (room.endings.items ≡ []) × (count ≤ vec_capacity room.endings)) }
 {
-    crosses::<LegalHistory<Global>>();
+    let alphabet = copy_of(alloc, session.spec().alphabet())?;
+    let endings = Vec::with_capacity(alloc, usize::from(count))?;
+    Ok(Room { alphabet, endings })
 }
 
-// Serves the connections at seats of the shared session, whose shares come to the others.
+// Ends a session that can't be served for want of memory.
+fn give_up<D: Disk + Drop, L>(
+    session: Session<D, Global>,
+    accept: L,
+) -> Result<Closing<D>, (AllocError, L)>
+    ensures memory { IfErr result (λ error. error.1 ≡ accept) }
+    ensures none { IsErr result }
+{
+    drop(session);
+    Err((AllocError, accept))
+}
+
+// Serves the connections at seats of the shared session. Their shares come to the shares, and how each ended to the endings.
 fn serve_at<D: Disk + Send, N: Naming + Send + Sync, T: Threads + Wait + Sync, L: Accept + Drop>(
     rt: &T,
     alloc: Global,
@@ -61,8 +82,15 @@ fn serve_at<D: Disk + Send, N: Naming + Send + Sync, T: Threads + Wait + Sync, L
     alphabet: &Alphabet<Global>,
     count: u8,
     shares: &mut Vec<Share<N, Global>, Global>,
-) -> Account
-    requires { event_count N.spec.alphabet ≡ event_count alphabet.now }
+    endings: &mut Vec<Ending, Global>,
+) -> Result<bool, (AllocError, L)>
+    requires alphabet { alphabet.now ≡ N.spec.alphabet }
+    requires shares { (shares.old.items ≡ []) × (count ≤ vec_capacity shares.old) }
+    requires endings { (endings.old.items ≡ []) × (count ≤ vec_capacity endings.old) }
+    ensures served { IfOk result (λ accept_failed. (outcomes : List (Outcome SeatTold))
+        × CameTo L.takes L.fails L.Reader.left L.Writer.contents accept count N.spec N.opening outcomes accept_failed
+        × (shares.new.items ≡ places_of outcomes) × (endings.new.items ≡ map ending_of outcomes)) }
+    ensures memory { IfErr result (λ error. error.1 ≡ accept) }
 {
     // The parts of what lies under the lock: the proof that the whole may go to another thread asks for each.
     legal_crosses();
@@ -78,11 +106,66 @@ fn serve_at<D: Disk + Send, N: Naming + Send + Sync, T: Threads + Wait + Sync, L
     let served = serve_all(rt, alloc, accept, &gate, count);
     gate.end();
     match served {
-        Ok(served) => settle(served, shares),
-        Err(AllocError) => Account::out_of_memory(),
+        Ok(all) => {
+            let accept_failed = all.accept_failed;
+            part(all.outcomes, shares, endings);
+            Ok(accept_failed)
+        }
+        Err(refused) => Err(refused),
     }
 }
 
+// The same, once there is room for the shares.
+fn serve_in<D: Disk + Send, N: Naming + Send + Sync, T: Threads + Wait + Sync, L: Accept + Drop>(
+    rt: &T,
+    alloc: Global,
+    shared: &Shared<D, Global, N>,
+    accept: L,
+    alphabet: &Alphabet<Global>,
+    count: u8,
+    shares: &mut Vec<Share<N, Global>, Global>,
+    endings: &mut Vec<Ending, Global>,
+) -> Result<bool, (AllocError, L)>
+    requires alphabet { alphabet.now ≡ N.spec.alphabet }
+    requires shares { shares.old.items ≡ [] }
+    requires endings { (endings.old.items ≡ []) × (count ≤ vec_capacity endings.old) }
+    ensures served { IfOk result (λ accept_failed. (outcomes : List (Outcome SeatTold))
+        × CameTo L.takes L.fails L.Reader.left L.Writer.contents accept count N.spec N.opening outcomes accept_failed
+        × (shares.new.items ≡ places_of outcomes) × (endings.new.items ≡ map ending_of outcomes)) }
+    ensures memory { IfErr result (λ error. error.1 ≡ accept) }
+{
+    match shares.reserve(usize::from(count)) {
+        Ok(()) => serve_at(rt, alloc, shared, accept, alphabet, count, shares, endings),
+        Err(_) => Err((AllocError, accept)),
+    }
+}
+
+// What is answered of a session whose connections are over, or that had none for want of memory.
+fn close<D: Disk + Drop, L>(
+    session: Session<D, Global>,
+    answered: Option<u64>,
+    endings: Vec<Ending, Global>,
+    served: Result<bool, (AllocError, L)>,
+) -> Result<Closing<D>, (AllocError, L)>
+    ensures closed { IfOk result (λ c. (c.session ≡ session) × (c.answered ≡ answered) × (c.endings ≡ endings) × (served ≡ Ok c.account.accept_failed)) }
+    ensures account { IfOk result (λ c. (c.account.rejected ≡ list_any has_rejected c.endings.items) × (c.account.limit ≡ list_any met_limit c.endings.items)) }
+    ensures memory { IfErr result (λ error. served ≡ Err error) }
+{
+    match served {
+        Ok(accept_failed) => {
+            let account = Account::of(&endings, accept_failed);
+            Ok(Closing {
+                session,
+                endings,
+                account,
+                answered,
+            })
+        }
+        Err(refused) => Err(refused),
+    }
+}
+
+// Shares the session, and serves its connections. The caller picks the names.
 fn over_seats<
     N: Naming + Send + Sync,
     D: Disk + Drop + Send,
@@ -95,50 +178,71 @@ fn over_seats<
     opened: Opened,
     blank: Blank,
     accept: L,
-    alphabet: &Alphabet<Global>,
+    room: Room,
     count: u8,
-) -> Result<Closing<D>, AllocError>
+) -> Result<Closing<D>, (AllocError, L)>
+    requires count { (1 ≤ count) × (count ≤ 64) }
     requires story { (session.spec ≡ N.spec) × (session.history ≡ N.opening) }
     requires book { opened.seen.book ≡ N.book }
-    requires ledger { (blank.name ≡ N.name) × (blank.parts ≡ N.parts) × (N.all ≡ N.parts) × (N.all ≡ 65) }
-    requires alphabet { event_count N.spec.alphabet ≡ event_count alphabet.now }
-    ensures { IfOk result (λ c. (c.session.spec ≡ N.spec) × StartsWith c.session.history N.opening × Legal (bodies_of N.spec.bodies) c.session.history) }
+    requires ledger { (blank.name ≡ N.name) × (blank.parts ≡ N.parts) × (N.all ≡ N.parts) × (N.all ≡ count + 1) }
+    requires alphabet { room.alphabet ≡ N.spec.alphabet }
+    requires endings { (room.endings.items ≡ []) × (count ≤ vec_capacity room.endings) }
+    ensures session { IfOk result (λ c. (c.session.spec ≡ N.spec) × StartsWith c.session.history N.opening × Legal (bodies_of N.spec.bodies) c.session.history) }
+    ensures kept { IfOk result (λ c. (script : List ℕ) × (root : List ℕ) × IsFor D.state script root c.session) }
+    ensures went { IfOk result (λ c. Went L.takes L.fails L.Reader.left L.Writer.contents accept count N.spec N.opening c.session.history c.endings.items c.account.accept_failed c.answered) }
+    ensures account { IfOk result (λ c. (c.account.rejected ≡ list_any has_rejected c.endings.items) × (c.account.limit ≡ list_any met_limit c.endings.items)) }
+    ensures memory { IfErr result (λ error. error.1 ≡ accept) }
 {
-    let Ok(shared) = Shared::<D, Global, N>::new(alloc, session, opened, blank, PLACES) else {
-        return Err(AllocError);
-    };
+    let Room {
+        alphabet,
+        mut endings,
+    } = room;
     let mut shares = Vec::new(alloc);
-    let account = if shares.reserve(usize::from(count)).is_ok() {
-        serve_at(rt, alloc, &shared, accept, alphabet, count, &mut shares)
-    } else {
-        Account::out_of_memory()
+    let Ok(shared) = Shared::<D, Global, N>::new(alloc, session, opened, blank, u64::from(count))
+    else {
+        return Err((AllocError, accept));
     };
-    let (session, _) = shared.finish(rt, shares);
-    Ok(Closing { session, account })
+    let served = serve_in(
+        rt,
+        alloc,
+        &shared,
+        accept,
+        &alphabet,
+        count,
+        &mut shares,
+        &mut endings,
+    );
+    let (session, answered) = shared.finish(rt, shares);
+    close(session, answered, endings, served)
 }
 
-/// Serves up to `count` connections, each in a thread of its own at a seat of its own, and gives the session back once all are
-/// over: its specification is as it was, and its history is legal and begins with the one that it had. The error is want of memory
-/// before the first connection; the session is gone then, and its file stays.
+/// Serves up to so many connections, each in a thread of its own at a seat of its own, and gives the session back once all are over, with
+/// how each connection ended. Its specification is as it was, and its history is legal and begins with the one that it had. The error is
+/// that memory ran out before the first connection, and comes with where connections come from; the session is gone then, and its file
+/// stays.
 pub fn serve_session<D: Disk + Drop + Send, T: Threads + Wait + Sync, L: Accept + Drop>(
     rt: &T,
     alloc: Global,
     session: Session<D, Global>,
     accept: L,
-    count: u8,
-) -> Result<Closing<D>, AllocError>
-    ensures { IfOk result (λ c. (c.session.spec ≡ session.spec) × StartsWith c.session.history session.history × Legal (bodies_of session.spec.bodies) c.session.history) }
+    connections: Connections,
+) -> Result<Closing<D>, (AllocError, L)>
+    ensures session { IfOk result (λ c. (c.session.spec ≡ session.spec) × StartsWith c.session.history session.history × Legal (bodies_of session.spec.bodies) c.session.history) }
+    ensures kept { IfOk result (λ c. (script : List ℕ) × (root : List ℕ) × IsFor D.state script root c.session) }
+
+    // What came of each connection, in the order in which they were taken.
+    ensures went { IfOk result (λ c. Went L.takes L.fails L.Reader.left L.Writer.contents accept connections session.spec session.history c.session.history c.endings.items c.account.accept_failed c.answered) }
+    ensures account { IfOk result (λ c. (c.account.rejected ≡ list_any has_rejected c.endings.items) × (c.account.limit ≡ list_any met_limit c.endings.items)) }
+    ensures memory { IfErr result (λ error. error.1 ≡ accept) }
 {
-    let alphabet = copy_of(alloc, session.spec().alphabet())?;
-    let opened = Opened::new();
-    over_seats::<Brand, D, T, L>(
-        rt,
-        alloc,
-        session,
-        opened,
-        Blank::new(PARTS),
-        accept,
-        &alphabet,
-        count,
-    )
+    let count = connections.get();
+    match room_for(alloc, &session, count) {
+        Ok(room) => {
+            let opened = Opened::new();
+            // The ledger has a part for each seat, and one for what lies under the lock.
+            let blank = Blank::new(u64::from(count) + 1);
+            over_seats::<Brand, D, T, L>(rt, alloc, session, opened, blank, accept, room, count)
+        }
+        Err(AllocError) => give_up(session, accept),
+    }
 }

@@ -1,23 +1,16 @@
 //! A shared session as a gate.
 
-ghost use Rattle.std.specs.Prelude.{◌≡◌, ◌≢◌, ◌<◌, Err, IsErrOf, false};
-ghost use Rattle.alphabet.specs.Channels.{event_count};
-ghost use Rattle.term.specs.Proc.{bodies_of};
-ghost use Rattle.wire.specs.Replies.{LineReplies, noted};
-ghost use Rattle.wire.specs.Talks.{Serves};
-ghost use Rattle.seats.specs.Judges.{Reports, Statuses, Nexts};
+ghost use Rattle.std.specs.Prelude.{◌≡◌};
 
-use crate::gate::{Gate, Over};
 use alphabet::Alphabet;
-use board::{Board, Naming};
+use connections::{Gate, Over};
 use disk::Disk;
 use left_right::Absorb;
 use seats::{SeatJudge, refusal_of};
-use session::{Entry, Summary};
-use shared::{Share, Shared};
+use shared::{Board, Entry, Naming, Share, Shared, Summary};
 use std::alloc::Global;
 use std::sync::Wait;
-use wire::{Fault, Sink, Source, Tally, WireError};
+use wire::{Fault, Sink, Source, Tally};
 
 /// A shared session at which connections are served, each at a seat of its own. Its places are the seats' shares. It isn't `Drop`:
 /// end it by `end`.
@@ -27,17 +20,16 @@ where
 {
     shared: &'a Shared<D, Global, N>,
     alphabet: &'a Alphabet<Global>,
-    ghost same: { event_count N.spec.alphabet ≡ event_count alphabet.now },
+    ghost same: { alphabet.now ≡ N.spec.alphabet },
 }
 
 impl<'a, D: Disk, N: Naming> SharedGate<'a, D, N> {
-    /// The gate to this session. The alphabet's events are those of its specification.
+    /// The gate to this session. The alphabet is that of its specification.
     pub fn new(
         shared: &'a Shared<D, Global, N>,
         alphabet: &'a Alphabet<Global>,
     ) -> SharedGate<'a, D, N>
-        requires { event_count N.spec.alphabet ≡ event_count alphabet.now }
-        ensures { result.alphabet.now ≡ alphabet.now }
+        requires { alphabet.now ≡ N.spec.alphabet }
     {
         SharedGate { shared, alphabet }
     }
@@ -49,37 +41,18 @@ impl<'a, D: Disk, N: Naming> SharedGate<'a, D, N> {
             alphabet: _,
         } = self;
     }
-
-    /// Serves a connection at the seat of this share, as `SeatJudge::serve` does: each `OK n` or `NO n` for a report is the
-    /// verdict and the place of that line's own entry, in a legal history that begins with all that the seat had seen.
-    pub fn serve_at<T: Wait, R: Source, W: Sink>(
-        &self,
-        rt: &T,
-        alloc: Global,
-        share: Share<N, Global>,
-        reader: &mut R,
-        writer: &mut W,
-    ) -> Over<Share<N, Global>>
-        ensures serves { Serves (LineReplies (Reports (bodies_of N.spec.bodies)) (Statuses (bodies_of N.spec.bodies)) (Nexts (bodies_of N.spec.bodies)) self.now.alphabet.now)
-            (noted share (record { rejected = false; misuse = false; limit = false })) (noted result.place result.tally)
-            (R.left reader.old) (R.left reader.new) (W.contents writer.old) (W.contents writer.new) result.end }
-        ensures handed_on { W.has_handed_on writer.old → result.end ≢ Err WireError.Write → W.has_handed_on writer.new }
-        ensures reader_failed { IsErrOf result.end WireError.Read → R.failures reader.old < R.failures reader.new }
-        ensures writer_failed { IsErrOf result.end WireError.Write → W.failures writer.old < W.failures writer.new }
-    {
-        let mut judge = SeatJudge::new(rt, self.shared.again(share));
-        let mut tally = Tally::new();
-        let end = judge.serve(alloc, reader, writer, self.alphabet, &mut tally);
-        Over {
-            place: judge.end(),
-            end,
-            tally,
-        }
-    }
 }
 
 impl<D: Disk, N: Naming + Send + Sync> Gate for SharedGate<'_, D, N> {
     type Place = Share<N, Global>;
+
+    ghost use Rattle.serving.specs.Runs.{IsAnsweredAt, IsNewSeat, IsRefusal};
+
+    ghost gives = { λ _ share. IsNewSeat N.opening share };
+
+    ghost refuses = { λ _ fault. IsRefusal fault };
+
+    ghost serves = { λ _ share last tally left rest old new end. IsAnsweredAt N.spec share last tally left rest old new end };
 
     fn place<T: Wait>(&self, rt: &T, alloc: Global) -> Result<Share<N, Global>, Fault> {
         match self.shared.seat(rt, alloc) {
@@ -96,6 +69,13 @@ impl<D: Disk, N: Naming + Send + Sync> Gate for SharedGate<'_, D, N> {
         reader: &mut R,
         writer: &mut W,
     ) -> Over<Share<N, Global>> {
-        self.serve_at(rt, alloc, place, reader, writer)
+        let mut judge = SeatJudge::new(rt, self.shared.again(place));
+        let mut tally = Tally::new();
+        let end = judge.serve(alloc, reader, writer, self.alphabet, &mut tally);
+        Over {
+            place: judge.end(),
+            end,
+            tally,
+        }
     }
 }

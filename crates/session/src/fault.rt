@@ -1,14 +1,13 @@
 //! Why a session takes no report, and why there is no session.
 
 ghost use Rattle.std.specs.Prelude.{◌≡◌};
-ghost use Rattle.session.specs.Faults.{code_of, word_of, fault_of, error_code, error_word, error_of, journal_error, script_error};
+ghost use Rattle.session.specs.Faults.{code_of, word_of, fault_of, error_code, error_word, error_of, journal_error};
 
-use after::AfterFault;
-use history::Entry;
+use history::{AfterFault, Entry};
 use journal::JournalError;
 use std::fmt;
 use std::marker::Model;
-use tokens::{ScriptError, ScriptErrorKind};
+use tokens::ScriptError;
 
 /// The entry that a disk failed on, and that closed a session. Only this crate makes one.
 #[derive(Clone, Copy, Debug, PartialEq, Eq)]
@@ -133,7 +132,7 @@ pub enum SessionError {
     History,
     /// The device failed in this call.
     Device,
-    /// A request for memory was refused.
+    /// A request for memory was refused, but not while the script was read.
     Memory,
     /// The file does not begin with a header.
     BadHeader,
@@ -143,7 +142,7 @@ pub enum SessionError {
     BadRecord(usize),
     /// The record with this place, counted from 1, has another verdict than the specification's.
     OtherVerdict(usize),
-    /// The script denotes no specification for the root. Want of memory is `Memory`.
+    /// The script denotes no specification for the root, or there was no memory to read it: `40 memory` with line 1.
     Script(ScriptError),
 }
 
@@ -226,12 +225,11 @@ impl From<JournalError> for SessionError {
 }
 
 impl From<ScriptError> for SessionError {
-    ghost from_gives = { λ fault result. result ≡ script_error fault };
+    ghost use Rattle.session.specs.declared.fault.SessionError.{SessionError};
+
+    ghost from_gives = { λ fault result. result ≡ SessionError.Script fault };
 
     fn from(fault: ScriptError) -> SessionError {
-        match fault.kind {
-            ScriptErrorKind::Memory => SessionError::Memory,
-            _ => SessionError::Script(fault),
-        }
+        SessionError::Script(fault)
     }
 }

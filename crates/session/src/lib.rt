@@ -13,7 +13,7 @@ mod scripted;
 mod session;
 
 pub use fault::{Failed, Fault, SessionError};
-pub use history::{Entry, HISTORY_LIMIT, SeatNumber, Summary};
+pub use history::{AfterFault, Entry, HISTORY_LIMIT, SeatNumber, Summary, crosses, legal_crosses};
 pub use law::headers_take_scripts;
 pub use ready::Ready;
 pub use session::Session;

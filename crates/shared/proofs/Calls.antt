@@ -5,13 +5,13 @@ use Rattle.std.proofs.lemmas.List.{append-nil}
 use Rattle.std.proofs.lemmas.List.Elements.{filter-append}
 use Rattle.std.proofs.lemmas.Bool.Decides.{nat_tests}
 use Rattle.term.specs.Proc.{Proc}
-use Rattle.history.specs.declared.entry.Entry.{Entry}
-use Rattle.history.specs.declared.entry.Summary.{Summary}
-use Rattle.history.specs.Entries.{calls, summary_of}
-use Rattle.history.specs.Legal.{Fits}
-use Rattle.history.proofs.Histories.{calls-le}
-use Rattle.history.specs.Beginnings.{StartsWith}
-use Rattle.history.proofs.Beginnings.{begins_after, begins_self}
+use Rattle.session.specs.Entry.{Entry}
+use Rattle.session.specs.Summary.{Summary}
+use Rattle.session.specs.Entries.{calls, summary_of}
+use Rattle.session.specs.Legal.{Fits}
+use Rattle.session.proofs.Histories.{calls-le}
+use Rattle.session.specs.Beginnings.{StartsWith}
+use Rattle.session.proofs.Beginnings.{begins_after, begins_self}
 
 off : IsTrue false → ⊥
 off e = cc

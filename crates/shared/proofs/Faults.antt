@@ -2,7 +2,7 @@
 use Rattle.std.proofs.Common.{◌≡◌, ℕ, ◌+◌, ◌≤◌, Option, List, length, ap, arith}
 use Rattle.alphabet.specs.declared.events.Report.{Report}
 use Rattle.term.specs.Proc.{Proc}
-use Rattle.history.specs.declared.entry.Entry.{Entry}
+use Rattle.session.specs.Entry.{Entry}
 use Rattle.session.specs.declared.fault.Fault.{Fault}
 use Rattle.session.specs.declared.fault.Fault.TheVariants.{Depth, States, Seats, History, Turn, Behind, Journal, Closed, Memory}
 use Rattle.session.specs.Faults.{Explains}

@@ -3,11 +3,11 @@ use Rattle.std.proofs.Common.{◌≡◌, ℕ, Bool, true, false, Result, Ok, Err
 use Rattle.std.specs.Prelude.{MatchBool, ◌||◌}
 use Rattle.alphabet.specs.declared.events.Report.{Report}
 use Rattle.term.specs.Proc.{Proc}
-use Rattle.history.specs.declared.entry.Entry.{Entry}
-use Rattle.history.specs.Entries.{calls}
-use Rattle.history.specs.Legal.{Legal}
-use Rattle.history.specs.Beginnings.{StartsWith}
-use Rattle.history.proofs.Beginnings.{begins_self, begins_trans, begins_push}
+use Rattle.session.specs.Entry.{Entry}
+use Rattle.session.specs.Entries.{calls}
+use Rattle.session.specs.Legal.{Legal}
+use Rattle.session.specs.Beginnings.{StartsWith}
+use Rattle.session.proofs.Beginnings.{begins_self, begins_trans, begins_push}
 use Rattle.session.specs.declared.fault.Fault.{Fault}
 use Rattle.session.specs.declared.fault.Fault.TheVariants.{Memory}
 use Rattle.shared.specs.Told.{SeatTold}

@@ -4,8 +4,8 @@ use Rattle.std.specs.Prelude.{filter}
 use Rattle.std.proofs.lemmas.List.Sums.{sum_by-cons}
 use Rattle.std.proofs.lemmas.List.Filters.{length-filter_both}
 use Rattle.std.proofs.lemmas.Bool.Decides.{nat_tests}
-use Rattle.history.specs.declared.entry.Entry.{Entry}
-use Rattle.history.specs.Entries.{calls}
+use Rattle.session.specs.Entry.{Entry}
+use Rattle.session.specs.Entries.{calls}
 use Rattle.shared.specs.Told.{SeatTold}
 use Rattle.shared.specs.Seats.{IsWithin, AllWithin, AllTold, receipts, apart, is_new}
 use Rattle.shared.proofs.Calls.{calls-append, calls_all}

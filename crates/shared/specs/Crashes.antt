@@ -2,19 +2,21 @@
 use Rattle.std.specs.Prelude.{ℕ, List, [], ◌∷◌, IsTrue}
 use Rattle.alphabet.specs.Channels.{Channel}
 use Rattle.disk.specs.State.{DiskState}
-use Rattle.journal.specs.Format.{Stands}
-use Rattle.history.specs.declared.entry.Entry.{Entry}
+use Rattle.session.specs.Version.{Version}
+use Rattle.session.specs.Format.{Stands}
+use Rattle.session.specs.Entry.{Entry}
 use Rattle.session.specs.Records.{records_of}
 use Rattle.session.specs.Told.{Told}
-use Rattle.history.specs.Beginnings.{StartsWith}
+use Rattle.session.specs.Beginnings.{StartsWith}
 use Rattle.shared.specs.Told.{SeatTold}
 
--- the file is a journal of a history that begins with this part
+-- the file is a journal, of either version, of a history that begins with this part
 pub record StandsForLonger (cs : List Channel) (part : List Entry) (file : List ℕ) : Type 0 where
+  pub version : Version
   pub script : List ℕ
   pub root : List ℕ
   pub history : List Entry
-  pub stands : Stands file script root (records_of cs history)
+  pub stands : Stands file version script root (records_of version cs history)
   pub begins : StartsWith history part
 
 -- every crash leaves such a file, on a disk that claims its bytes and what crashes leave

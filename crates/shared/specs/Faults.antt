@@ -2,10 +2,10 @@
 use Rattle.std.specs.Prelude.{◌≡◌, ℕ, List, length, Bool, true, false}
 use Rattle.alphabet.specs.declared.events.Report.{Report}
 use Rattle.term.specs.Proc.{Proc}
-use Rattle.after.specs.declared.fault.AfterFault.TheVariants as limit
-use Rattle.monitor.specs.Monitors.{Stops}
-use Rattle.history.specs.declared.entry.Entry.{Entry}
-use Rattle.history.specs.Entries.{calls, events, next_number}
+use Rattle.session.specs.AfterFault.TheVariants as limit
+use Rattle.session.specs.Monitors.{Stops}
+use Rattle.session.specs.Entry.{Entry}
+use Rattle.session.specs.Entries.{calls, events, next_number}
 use Rattle.session.specs.declared.fault.Fault.{Fault}
 use Rattle.session.specs.declared.fault.Fault.TheVariants.{Depth, States, Seats, History, Turn, Behind, Journal, Closed, Memory}
 

@@ -3,10 +3,10 @@ use Rattle.std.specs.Prelude.{◌≡◌, ℕ, List, [], ◌∷◌, ◌++◌, len
 use Rattle.std.specs.List.{sum_by}
 use Rattle.alphabet.specs.declared.events.Report.{Report}
 use Rattle.term.specs.Proc.{Proc}
-use Rattle.history.specs.declared.entry.Entry.{Entry}
-use Rattle.history.specs.Entries.{calls}
-use Rattle.history.specs.Legal.{Legal}
-use Rattle.history.specs.Beginnings.{StartsWith}
+use Rattle.session.specs.Entry.{Entry}
+use Rattle.session.specs.Entries.{calls}
+use Rattle.session.specs.Legal.{Legal}
+use Rattle.session.specs.Beginnings.{StartsWith}
 use Rattle.session.specs.declared.fault.Fault.{Fault}
 use Rattle.shared.specs.Told.{SeatTold}
 use Rattle.shared.specs.Faults.{Answers, closes}

@@ -10,7 +10,11 @@ mod locked;
 mod seat;
 mod share;
 
+pub use board::{Board, Front, Naming, Opened, Publisher, Source, Spine};
 pub use fault::SeatFault;
 pub use locked::{Ended, Locked};
 pub use seat::{Seat, Shared};
+pub use session::{
+    Entry, Failed, Fault, SeatNumber, Session, SessionError, Summary, crosses, legal_crosses,
+};
 pub use share::{Receipt, Share, Status};

@@ -6,10 +6,10 @@ ghost use Rattle.alphabet.specs.EventSets.{member};
 ghost use Rattle.term.specs.Meaning.{Trace};
 ghost use Rattle.term.specs.Proc.{bodies_of, root};
 ghost use Rattle.term.specs.Specs.{IsClosed};
-ghost use Rattle.journal.specs.Reports.{IsReport};
-ghost use Rattle.history.specs.Entries.{events, summary_of};
-ghost use Rattle.history.specs.Legal.{Legal};
-ghost use Rattle.history.specs.Beginnings.{StartsWith};
+ghost use Rattle.session.specs.Reports.{IsReport};
+ghost use Rattle.session.specs.Entries.{events, summary_of};
+ghost use Rattle.session.specs.Legal.{Legal};
+ghost use Rattle.session.specs.Beginnings.{StartsWith};
 ghost use Rattle.shared.specs.Seats.{Answered, Refused};
 
 use crate::fault::SeatFault;

@@ -5,10 +5,10 @@ ghost use Rattle.alphabet.specs.declared.events.Event.{Event};
 ghost use Rattle.alphabet.specs.EventSets.{member};
 ghost use Rattle.term.specs.Meaning.{Trace};
 ghost use Rattle.term.specs.Proc.{bodies_of, root};
-ghost use Rattle.journal.specs.Reports.{IsReport};
-ghost use Rattle.history.specs.Entries.{calls, events, summary_of};
-ghost use Rattle.history.specs.Legal.{Legal};
-ghost use Rattle.history.specs.Beginnings.{StartsWith};
+ghost use Rattle.session.specs.Reports.{IsReport};
+ghost use Rattle.session.specs.Entries.{calls, events, summary_of};
+ghost use Rattle.session.specs.Legal.{Legal};
+ghost use Rattle.session.specs.Beginnings.{StartsWith};
 ghost use Rattle.shared.specs.Faults.{closes};
 ghost use Rattle.shared.specs.Seats.{Answered, Refused, IsWithin};
 
@@ -57,8 +57,8 @@ impl<N: Naming, A: Allocator> Model for Share<N, A> {
     ghost Value = { SeatTold };
 
     ghost use Rattle.std.specs.Prelude.{◌≡◌, ◌≤◌, ◌++◌, length, [], vec_capacity};
-    ghost use Rattle.history.specs.Entries.{calls, summary_of};
-    ghost use Rattle.history.specs.Beginnings.{StartsWith};
+    ghost use Rattle.session.specs.Entries.{calls, summary_of};
+    ghost use Rattle.session.specs.Beginnings.{StartsWith};
 
     ghost view = { λ s. record {
       seat = s.number;

@@ -1,17 +1,14 @@
 //! Callers, each on a thread of its own.
 
-ghost use Rattle.std.specs.Thread.{IsSend};
-
 use crate::held::Gate;
 use alphabet::{Event, Report};
-use board::{Front, Naming, Publisher, Source, Spine};
 use disk::Disk;
-use history::LegalHistory;
 use journal::Journal;
-use session::{Entry, Failed, SeatNumber};
-use shared::{Receipt, Share, Shared};
-use std::alloc::Global;
-use std::process::Abort;
+use shared::{
+    Entry, Failed, Front, Naming, Publisher, Receipt, SeatNumber, Share, Shared, Source, Spine,
+    crosses, legal_crosses,
+};
+use std::alloc::{AllocError, Global};
 use std::sync::{Wait, ledger};
 use std::thread::{Threads, map_vec};
 use std::time::Clock;
@@ -58,14 +55,14 @@ impl Answers {
     }
 }
 
-// Whether the receipt is the answer to the report of this entry, which has so many before it.
+/// Whether the receipt is the answer to the report of this entry, which has so many before it.
 fn is_of(receipt: &Receipt, index: usize, entry: &Entry) -> bool {
     receipt.place.checked_sub(1) == Some(index as u64) && receipt.verdict == entry.verdict
 }
 
-// Reports tick so many times.
-fn ticks<D: Disk, N: Naming, R: Wait + Abort>(
-    rt: &R,
+/// Reports tick so many times. A receipt for which there is no memory is left out, and so the history doesn't explain the others.
+fn ticks<D: Disk, N: Naming, T: Wait>(
+    rt: &T,
     alloc: Global,
     shared: &Shared<D, Global, N>,
     share: Share<N, Global>,
@@ -75,13 +72,13 @@ fn ticks<D: Disk, N: Naming, R: Wait + Abort>(
     let mut seat = shared.again(share);
     for _ in 0..times {
         if let Ok(receipt) = seat.report(rt, Report::Event(Event::TICK)) {
-            receipts.push(receipt).expect(rt, "a list grows");
+            let _ = receipts.push(receipt);
         }
     }
     (seat.end(), receipts)
 }
 
-// Looks while a sync is held. Sees nothing where none is.
+/// Looks while a sync is held. Sees nothing where none is.
 fn look_meanwhile<D: Disk, N: Naming, C: Clock>(
     clock: &C,
     gate: &Gate,
@@ -97,8 +94,9 @@ fn look_meanwhile<D: Disk, N: Naming, C: Clock>(
     (seat.end(), Some(status.summary.judged))
 }
 
-fn run<D: Disk, N: Naming, R: Wait + Abort + Clock>(
-    rt: &R,
+/// Does what the caller is to do.
+fn run<D: Disk, N: Naming, T: Wait + Clock>(
+    rt: &T,
     alloc: Global,
     gate: &Gate,
     shared: &Shared<D, Global, N>,
@@ -124,25 +122,16 @@ fn run<D: Disk, N: Naming, R: Wait + Abort + Clock>(
     (share, answers)
 }
 
-// That a type may go to another thread.
-fn crosses<T: Send>()
-    ensures { IsSend T.row }
-{}
-
 /// Runs each caller on a thread of its own, in the order of the list where no thread can be made.
-pub(crate) fn run_all<
-    D: Disk + Send,
-    N: Naming + Send + Sync,
-    R: Threads + Wait + Abort + Clock + Sync,
->(
+pub(crate) fn run_all<D: Disk + Send, N: Naming + Send + Sync, R: Threads + Wait + Clock + Sync>(
     rt: &R,
     alloc: Global,
     gate: &Gate,
     shared: &Shared<D, Global, N>,
     callers: Vec<Caller<N>, Global>,
-) -> Vec<(Share<N, Global>, Answers), Global> {
+) -> Result<Vec<(Share<N, Global>, Answers), Global>, AllocError> {
     // The parts of what lies under the lock: the proof that the whole may go to another thread asks for each.
-    crosses::<LegalHistory<Global>>();
+    legal_crosses();
     crosses::<Journal<D>>();
     crosses::<Option<Failed>>();
     crosses::<Spine<N>>();
@@ -152,5 +141,5 @@ pub(crate) fn run_all<
     crosses::<ledger::Book<N>>();
     crosses::<ledger::Share<N>>();
     let each = |caller: Caller<N>| run(rt, alloc, gate, shared, caller);
-    map_vec(rt, callers, &each).expect(rt, "a list is made")
+    map_vec(rt, callers, &each)
 }

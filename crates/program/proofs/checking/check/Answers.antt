@@ -1,12 +1,13 @@
 use Rattle.std.proofs.Common.{◌≡◌, ◌⊎◌, inl, sym, ◌∙◌, subst}
-use Rattle.session.specs.declared.fault.SessionError.{SessionError}
-use Rattle.session.specs.declared.fault.SessionError.TheVariants.{Device, Memory}
-use Rattle.session.specs.Replays.{IsUnopened}
+use Rattle.shared.specs.SessionError.{SessionError}
+use Rattle.shared.specs.SessionError.TheVariants.{Device, Memory}
+use Rattle.shared.specs.SessionFaults.{IsMemory}
+use Rattle.shared.specs.Replays.{IsUnopened}
 use Rattle.program.proofs.Results.{match_from}
 use Rattle.program.proofs.checking.check.Goals as goal
 
 pub returns-clause-only : goal.returns-clause-only
 returns-clause-only g c spec reads =
     match_from c.hear_alone.result (λ r. r.session.spec ≡ c.in-Ok.session.spec) (λ r. r.session.spec ≡ spec) (λ error. error ≡ Memory)
-    (λ error. IsUnopened spec error ⊎ (error ≡ Device))
-    (λ r is. is ∙ c.in-Ok.ensures.only spec reads) (λ error is. inl (subst (λ (x : SessionError). IsUnopened spec x) (sym is) tt)) c.hear_alone.ensures.spec c.hear_alone.ensures.memory
+    (λ error. IsMemory error ⊎ (IsUnopened spec error ⊎ (error ≡ Device)))
+    (λ r is. is ∙ c.in-Ok.ensures.only spec reads) (λ error is. inl (subst (λ (x : SessionError). IsMemory x) (sym is) tt)) c.hear_alone.ensures.spec c.hear_alone.ensures.memory

@@ -1,7 +1,10 @@
 use denote.Param.{param}
 use denote.Param.Send.{sendable}
 use Rattle.serving.proofs.Crossings.{alphabet_sync}
-use Rattle.shared.proofs.Crosses.{session_send, shared_sync}
+use Rattle.shared.proofs.Crossings.{session_send, shared_sync}
+use Rattle.std.proofs.Common.{◌++◌, ap, ◌∙◌}
+use Rattle.std.specs.Prelude.{map}
+use Rattle.connections.specs.Outcomes.{ending_of, places_of}
 use Rattle.serving.proofs.sessions.serve_at.Goals as goal
 
 pub serve_all-served-requires-sync-G : goal.serve_all-served-requires-sync-G
@@ -51,3 +54,11 @@ serve_all-served-requires-sync-G g c κs within =
       ),
     ) in
     record { shared = λ x b o κ. ((((λ q. tt), shared.shared _ _ _ _), (((λ q. tt), alphabet_sync.shared _ _ _ _), tt)), λ q. tt) }
+
+pub returns-in-Ok-clause-served : goal.returns-in-Ok-clause-served
+returns-in-Ok-clause-served g c = (
+  c.in-Ok.all.outcomes.items,
+  c.in-Ok.ensures.served,
+  c.part.ensures.places ∙ ap (λ l. l ++ places_of c.in-Ok.all.outcomes.items) c.requires.shares.0,
+  c.part.ensures.endings ∙ ap (λ l. l ++ map ending_of c.in-Ok.all.outcomes.items) c.requires.endings.0,
+)

@@ -3,7 +3,7 @@ use denote.Param.Send.{IsSync, sendable}
 use Rattle.std.proofs.Crossing.{crosses}
 use Rattle.std.specs.contracts.alloc.Global as Global
 use Rattle.shared_rows.specs.contracts.held.Gate as Gate
-use Rattle.shared.proofs.Crosses.{session_send, shared_sync}
+use Rattle.shared.proofs.Crossings.{session_send, shared_sync}
 use Rattle.shared_rows.proofs.callers.run_all.Goals as goal
 
 pub map_vec-requires-sync-F : goal.map_vec-requires-sync-F
@@ -11,13 +11,13 @@ map_vec-requires-sync-F g c κs within =
     let session = session_send (param 0 g.row.D) g.D.Disk (
       search sendable,
       (
-        record { owned = c.crosses.ensures.owned; leaving = λ k x w. search sendable },
+        record { owned = c.legal_crosses.ensures.legal.owned; leaving = c.legal_crosses.ensures.legal.leaving },
         (
-          record { owned = c.crosses-2.ensures.owned; leaving = λ k x w. search sendable },
+          record { owned = c.crosses.ensures.owned; leaving = λ k x w. search sendable },
           (
             search sendable,
             (
-              record { owned = c.crosses-3.ensures.owned; leaving = λ k x w. search sendable },
+              record { owned = c.crosses-2.ensures.owned; leaving = λ k x w. search sendable },
               tt,
             ),
           ),
@@ -27,17 +27,17 @@ map_vec-requires-sync-F g c κs within =
     let shared = shared_sync (param 0 g.row.D) (param 1 g.row.N) g.N.Naming g.N.Ledger _ g.D.Disk (
       record { owned = session.owned; leaving = session.leaving },
       (
-        record { owned = c.crosses-4.ensures.owned; leaving = λ k x w. search sendable },
+        record { owned = c.crosses-3.ensures.owned; leaving = λ k x w. search sendable },
         (
-          record { owned = c.crosses-5.ensures.owned; leaving = λ k x w. search sendable },
+          record { owned = c.crosses-4.ensures.owned; leaving = λ k x w. search sendable },
           (
-            record { owned = c.crosses-6.ensures.owned; leaving = λ k x w. search sendable },
+            record { owned = c.crosses-5.ensures.owned; leaving = λ k x w. search sendable },
             (
-              record { owned = c.crosses-7.ensures.owned; leaving = λ k x w. search sendable },
+              record { owned = c.crosses-6.ensures.owned; leaving = λ k x w. search sendable },
               (
-                record { owned = c.crosses-8.ensures.owned; leaving = λ k x w. search sendable },
+                record { owned = c.crosses-7.ensures.owned; leaving = λ k x w. search sendable },
                 (
-                  record { owned = c.crosses-9.ensures.owned; leaving = λ k x w. search sendable },
+                  record { owned = c.crosses-8.ensures.owned; leaving = λ k x w. search sendable },
                   (
                     search sendable,
                     (

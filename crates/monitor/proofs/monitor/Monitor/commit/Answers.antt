@@ -1,5 +1,5 @@
-use Rattle.std.proofs.Common.{◌≡◌, ◌<◌, ◌-◌, [], ◌∷◌, ◌++◌, sym, subst, vec_len, vec_capacity, arith}
-use Rattle.after.specs.Belonging.{Belongs}
+use Rattle.std.proofs.Common.{◌<◌, ◌-◌, [], ◌∷◌, ◌++◌, sym, subst, vec_len, vec_capacity, arith}
+use Rattle.spaces.specs.Spaces.{Belongs}
 use Rattle.monitor.specs.Monitors.{Follows}
 use Rattle.monitor.proofs.Judgments.{follows-event, pushed}
 use Rattle.monitor.proofs.monitor.Monitor.commit.Goals as goal

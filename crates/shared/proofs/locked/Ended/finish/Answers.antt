@@ -1,5 +1,5 @@
 use Rattle.std.proofs.Common.{◌≡◌, List, length, length-append, true, sym, ap, ◌∙◌, subst, arith}
-use Rattle.history.specs.declared.entry.Entry.{Entry}
+use Rattle.session.specs.Entry.{Entry}
 use Rattle.shared.specs.Told.{SeatTold}
 use Rattle.shared.specs.Seats.{AllWithin, AllTold, receipts, apart}
 use Rattle.shared.proofs.Leaving.{kept_legal}

@@ -1,7 +1,7 @@
 use Rattle.std.proofs.Common.{length, subst}
 use Rattle.std.specs.Prelude.{MatchBool, ◌<◌}
-use Rattle.history.specs.Beginnings.{StartsWith}
-use Rattle.history.proofs.Beginnings.{begins_after}
+use Rattle.session.specs.Beginnings.{StartsWith}
+use Rattle.session.proofs.Beginnings.{begins_after}
 use Rattle.shared.specs.Told.{SeatTold}
 use Rattle.shared.specs.Seats.{IsWithin}
 use Rattle.shared.proofs.Calls.{calls-longer}

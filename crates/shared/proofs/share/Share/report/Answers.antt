@@ -1,10 +1,10 @@
 use Rattle.std.proofs.Common.{◌≡◌, ℕ, ◌+◌, ◌++◌, ◌∷◌, [], List, length, refl, sym, ap, ◌∙◌, subst, arith, append_assoc, length-append}
 use Rattle.std.specs.Prelude.{vec_capacity, ◌||◌}
 use Rattle.std.proofs.lemmas.List.{append-nil}
-use Rattle.history.specs.Beginnings.{StartsWith}
-use Rattle.history.proofs.Beginnings.{begins_self}
+use Rattle.session.specs.Beginnings.{StartsWith}
+use Rattle.session.proofs.Beginnings.{begins_self}
 use Rattle.term.specs.Proc.{bodies_of}
-use Rattle.history.specs.declared.entry.Entry.{Entry}
+use Rattle.session.specs.Entry.{Entry}
 use Rattle.shared.specs.Told.{SeatTold}
 use Rattle.shared.specs.Faults.{Explained, Answers}
 use Rattle.shared.specs.Seats.{Answered}

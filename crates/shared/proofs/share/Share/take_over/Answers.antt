@@ -1,9 +1,9 @@
 use Rattle.std.proofs.Common.{◌≡◌, ◌++◌, List, length, ap, sym, ◌∙◌, subst}
 use Rattle.std.specs.Prelude.{MatchBool, ◌<◌}
-use Rattle.history.specs.declared.entry.Entry.{Entry}
-use Rattle.history.specs.Entries.{summary_of}
-use Rattle.history.specs.Beginnings.{StartsWith}
-use Rattle.history.proofs.Beginnings.{begins_after}
+use Rattle.session.specs.Entry.{Entry}
+use Rattle.session.specs.Entries.{summary_of}
+use Rattle.session.specs.Beginnings.{StartsWith}
+use Rattle.session.proofs.Beginnings.{begins_after}
 use Rattle.shared.proofs.Calls.{calls-longer}
 use Rattle.shared.proofs.share.Share.take_over.Goals as goal
 

@@ -1,0 +1,4 @@
+-- To believe.
+pub mod Commands
+-- Steps of the program.
+pub mod Statuses

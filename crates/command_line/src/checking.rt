@@ -1,0 +1,102 @@
+//! `cspwatch check`: the reports on the input, judged by what a script denotes.
+
+ghost use Rattle.std.specs.Prelude.{◌≡◌, ◌⊎◌, IfOk, IfErr};
+ghost use Rattle.command_line.specs.Commands.{IsRefusal, Judged};
+
+use crate::scripts::text_of;
+use crate::telling::{tell_fault, tell_opening, tell_script};
+use disk::Disk;
+use memory_disks::MemoryDisk;
+use program::{Checked, Exit, SessionError};
+use std::alloc::Global;
+use std::io::{IsTerminal, Write};
+use std::rt::Files;
+use std::sync::Wait;
+use wire::{End, Sink, Source, WireError};
+
+// How a conversation ended, and the exit status that it asks for.
+#[derive(Clone, Copy)]
+struct Talked {
+    end: Result<End, WireError>,
+    exit: Exit,
+}
+
+// Reports why no session of the script opens, and answers the exit status. A disk in memory fails only where memory runs out.
+fn tell_unopened<E: Write + IsTerminal>(
+    errors: &mut E,
+    name: &str,
+    script: &[u8],
+    error: SessionError,
+) -> Exit
+    ensures { IsRefusal result }
+{
+    match error {
+        SessionError::Script(fault) => tell_script(errors, name, script, &fault),
+        SessionError::Device => tell_opening(errors, name, SessionError::Memory),
+        error => tell_opening(errors, name, error),
+    }
+}
+
+// Reports the fault that ended the conversation, if one did.
+fn tell_end<E: Write>(errors: &mut E, name: &str, talked: Talked) -> Exit
+    ensures { result ≡ talked.exit }
+{
+    match talked.end {
+        Ok(_) => talked.exit,
+        Err(WireError::Read) => tell_fault(errors, "-", "cannot read", talked.exit),
+        Err(WireError::Write) => tell_fault(errors, "-", "cannot write", talked.exit),
+        Err(WireError::Memory) => tell_fault(errors, name, "40 memory", talked.exit),
+    }
+}
+
+// How the conversation ended, and its exit status. The session is dropped.
+fn talked_of<D: Disk + Drop>(checked: Checked<D>) -> Talked
+    ensures { (result.end ≡ checked.end) × (result.exit ≡ checked.exit) }
+{
+    Talked {
+        end: checked.end,
+        exit: checked.exit,
+    }
+}
+
+// Judges the lines of the reader by what the script denotes for the process.
+fn talk<R: Wait, T: Source, W: Sink>(
+    rt: &R,
+    alloc: Global,
+    script: &[u8],
+    process: &[u8],
+    reader: &mut T,
+    writer: &mut W,
+) -> Result<Talked, SessionError>
+    ensures judged { IfOk result (λ t. Judged process.now (T.left reader.old) (T.left reader.new) (W.contents writer.old) (W.contents writer.new) t.exit) }
+    ensures untouched { IfErr result (λ _. (reader.new ≡ reader.old) × (writer.new ≡ writer.old)) }
+{
+    let disk = MemoryDisk::new(Vec::new(alloc));
+    match program::check(rt, alloc, disk, script, process, reader, writer) {
+        Ok(checked) => Ok(talked_of(checked)),
+        Err(error) => Err(error),
+    }
+}
+
+/// Judges the lines of the reader by the process of the script in the file, and answers the exit status.
+pub fn check<R: Files + AllocGlobal + Wait, T: Source, W: Sink, E: Write + IsTerminal>(
+    rt: &R,
+    name: &str,
+    process: &str,
+    reader: &mut T,
+    writer: &mut W,
+    errors: &mut E,
+) -> Exit
+    // A conversation was judged, and the exit status is its own; or nothing was read or written, and it is that of a refusal.
+    ensures { Judged process.now (T.left reader.old) (T.left reader.new) (W.contents writer.old) (W.contents writer.new) result
+        ⊎ (IsRefusal result × (reader.new ≡ reader.old) × (writer.new ≡ writer.old)) }
+{
+    let script = match text_of(rt, name, errors) {
+        Ok(script) => script,
+        Err(exit) => return exit,
+    };
+    match talk(rt, rt.alloc(), &script, process.as_bytes(), reader, writer) {
+        Ok(talked) => tell_end(errors, name, talked),
+        Err(error) => tell_unopened(errors, name, &script, error),
+    }
+}

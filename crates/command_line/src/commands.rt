@@ -1,0 +1,224 @@
+//! The command line.
+use crate::addresses::address_of;
+use clap::error::ErrorKind;
+use clap::{Arg, ArgAction, ArgMatches, Command, Error};
+use serving::Connections;
+use std::alloc::{AllocError, Global};
+use std::convert::AsStr;
+use std::net::SocketAddrV4;
+
+/// The version of the program, as `--version` prints it.
+const VERSION: &str = "0.2.0";
+
+/// What the words ask for.
+#[derive(Clone, Copy)]
+pub(crate) enum Wish<'a> {
+    /// To judge the reports on standard input by the process of the script in the file `spec`.
+    Check { spec: &'a str, process: &'a str },
+    /// To print what the script in the file `spec` denotes for the process.
+    Print { spec: &'a str, process: &'a str },
+    /// To judge the records of the journal in the file anew.
+    Replay { journal: &'a str },
+    /// To judge the reports of connections by the process of the script in the file `spec`, with the journal in its file.
+    Serve(Service<'a>),
+}
+
+/// What is served, and where.
+#[derive(Clone, Copy)]
+pub(crate) struct Service<'a> {
+    pub(crate) spec: &'a str,
+    pub(crate) process: &'a str,
+    pub(crate) journal: &'a str,
+    /// The address as the word has it, and as it is read.
+    pub(crate) listen: &'a str,
+    pub(crate) address: SocketAddrV4,
+    /// How many connections are served.
+    pub(crate) connections: Connections,
+}
+
+// How a fault of the address is reported.
+const BAD_ADDRESS: &str = "ADDR is 127.x.y.z:port, in decimals without leading zeros";
+
+// What the help of the program ends with.
+const STATUSES: &str = "\
+Exit status: 0 all is done, 1 a report was rejected, 2 bad use, 3 the script is refused,
+4 the journal gives no session, 5 a file or a stream failed, 6 out of memory or at a limit";
+
+// An example of each command, at the end of its help.
+const CHECK_EXAMPLE: &str = "Example: printf 'E a\\nR a b\\n' | cspwatch check p.csp P";
+
+const PRINT_EXAMPLE: &str = "Example: cspwatch print p.csp P";
+
+const REPLAY_EXAMPLE: &str = "Example: cspwatch replay run.journal";
+
+const SERVE_EXAMPLE: &str =
+    "Example: cspwatch serve p.csp P run.journal --listen 127.0.0.1:7000 --connections 2";
+
+fn word<'a>(alloc: Global, id: &'a str, help: &'a str) -> Arg<'a> {
+    Arg::new(alloc, id)
+        .required(true)
+        .action(ArgAction::Set)
+        .help(help)
+}
+
+// A command on the process of a script, with an example of its use.
+fn on_process<'a>(
+    alloc: Global,
+    name: &'a str,
+    about: &'a str,
+    help: &'a str,
+    example: &'a str,
+) -> Result<Command<'a>, AllocError> {
+    Command::new(alloc, name)
+        .about(about)
+        .after_help(example)
+        .arg(word(alloc, "SPEC", "The file of the script"))?
+        .arg(word(alloc, "PROCESS", help))
+}
+
+fn check_command<'a>(alloc: Global) -> Result<Command<'a>, AllocError> {
+    on_process(
+        alloc,
+        "check",
+        "Judges the reports on standard input, and answers on standard output",
+        "The process of the script to judge by",
+        CHECK_EXAMPLE,
+    )
+}
+
+fn print_command<'a>(alloc: Global) -> Result<Command<'a>, AllocError> {
+    on_process(
+        alloc,
+        "print",
+        "Prints what a process of the script means, with numbers for its definitions",
+        "The process of the script to print",
+        PRINT_EXAMPLE,
+    )
+}
+
+fn replay_command<'a>(alloc: Global) -> Result<Command<'a>, AllocError> {
+    Command::new(alloc, "replay")
+        .about("Judges the records of a journal anew, and prints their summary")
+        .after_help(REPLAY_EXAMPLE)
+        .arg(word(alloc, "JOURNAL", "The file of the journal"))
+}
+
+fn serve_command<'a>(alloc: Global) -> Result<Command<'a>, AllocError> {
+    let listen = word(
+        alloc,
+        "ADDR",
+        "Where to listen, as 127.0.0.1:7000; port 0 for any",
+    )
+    .long("listen");
+    let connections = word(alloc, "N", "How many connections are served, 1 to 64")
+        .long("connections")
+        .value_parser(clap::value_parser!(u8).range(1..=64));
+    on_process(
+        alloc,
+        "serve",
+        "Judges the reports of connections, and keeps them in a journal",
+        "The process of the script to judge by",
+        SERVE_EXAMPLE,
+    )?
+    .arg(word(alloc, "JOURNAL", "The file of the journal"))?
+    .arg(listen)?
+    .arg(connections)
+}
+
+fn with_check<'a>(alloc: Global, command: Command<'a>) -> Result<Command<'a>, AllocError> {
+    command.subcommand(check_command(alloc)?)
+}
+
+fn with_print<'a>(alloc: Global, command: Command<'a>) -> Result<Command<'a>, AllocError> {
+    command.subcommand(print_command(alloc)?)
+}
+
+fn with_replay<'a>(alloc: Global, command: Command<'a>) -> Result<Command<'a>, AllocError> {
+    command.subcommand(replay_command(alloc)?)
+}
+
+fn with_serve<'a>(alloc: Global, command: Command<'a>) -> Result<Command<'a>, AllocError> {
+    command.subcommand(serve_command(alloc)?)
+}
+
+fn command<'a>(alloc: Global) -> Result<Command<'a>, AllocError> {
+    let command = Command::new(alloc, "cspwatch")
+        .version(VERSION)
+        .about("Judges reports of running components against a CSP specification")
+        .after_help(STATUSES)
+        .subcommand_required(true);
+    let command = with_serve(alloc, with_check(alloc, command)?)?;
+    with_replay(alloc, with_print(alloc, command)?)
+}
+
+// The wish to serve at this address.
+fn wish_at<'a>(matches: &ArgMatches<'a>, address: SocketAddrV4) -> Option<Wish<'a>> {
+    Some(Wish::Serve(Service {
+        spec: matches.get_str("SPEC")?,
+        process: matches.get_str("PROCESS")?,
+        journal: matches.get_str("JOURNAL")?,
+        listen: matches.get_str("ADDR")?,
+        address,
+        connections: Connections::new(matches.get_one::<u8>("N")?)?,
+    }))
+}
+
+// The fault of use of an address.
+fn bad_address(alloc: Global) -> Result<Error, AllocError> {
+    serve_command(alloc)?.error(ErrorKind::ValueValidation, BAD_ADDRESS)
+}
+
+// The wish to serve, or the fault of use of its address.
+fn serve_wish<'a>(alloc: Global, matches: &ArgMatches<'a>) -> Result<Option<Wish<'a>>, Error> {
+    let Some(listen) = matches.get_str("ADDR") else {
+        return Ok(None);
+    };
+    match address_of(alloc, listen)? {
+        Some(address) => Ok(wish_at(matches, address)),
+        None => Err(bad_address(alloc)?),
+    }
+}
+
+fn wish_of<'a>(matches: &ArgMatches<'a>) -> Option<Wish<'a>> {
+    let (name, inner) = matches.subcommand()?;
+    if name == "replay" {
+        let journal = inner.get_str("JOURNAL")?;
+        return Some(Wish::Replay { journal });
+    }
+    let spec = inner.get_str("SPEC")?;
+    let process = inner.get_str("PROCESS")?;
+    match name {
+        "check" => Some(Wish::Check { spec, process }),
+        "print" => Some(Wish::Print { spec, process }),
+        _ => None,
+    }
+}
+
+// The wish that the words were taken for.
+fn wish_in<'a>(alloc: Global, matches: &ArgMatches<'a>) -> Result<Option<Wish<'a>>, Error> {
+    match matches.subcommand() {
+        Some(("serve", inner)) => serve_wish(alloc, inner),
+        _ => Ok(wish_of(matches)),
+    }
+}
+
+/// Reads the words, the first of which is the program's name. What `clap` takes has the words of its command, but no
+/// clause here says so: `Ok(None)` is the answer where one is missing.
+pub(crate) fn read_words<'a, S: AsStr>(
+    alloc: Global,
+    words: &'a [S],
+) -> Result<Option<Wish<'a>>, Error> {
+    let matches = command(alloc)?.try_get_matches_from(words)?;
+    wish_in(alloc, &matches)
+}
+
+/// An example of the command that the words name, if they name one.
+pub(crate) fn example_of<S: AsStr>(words: &[S]) -> Option<&'static str> {
+    match words.get(1)?.as_str() {
+        "check" => Some(CHECK_EXAMPLE),
+        "print" => Some(PRINT_EXAMPLE),
+        "replay" => Some(REPLAY_EXAMPLE),
+        "serve" => Some(SERVE_EXAMPLE),
+        _ => None,
+    }
+}

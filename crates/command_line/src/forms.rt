@@ -1,0 +1,60 @@
+//! `cspwatch print`: the printed form of what a script denotes.
+
+ghost use Rattle.std.specs.Prelude.{◌≡◌, ◌⊎◌, IsTrue};
+ghost use Rattle.std.specs.Io.KnownBytes.{Appends};
+ghost use Rattle.program.specs.declared.exit.Exit.TheVariants.{Done, FileFailed};
+ghost use Rattle.command_line.specs.Commands.{Printed};
+
+use crate::scripts::text_of;
+use crate::telling::{tell_fault, tell_script};
+use program::{Exit, PrintError};
+use std::io::{IsTerminal, Write};
+use std::rt::Files;
+
+/// Writes the text, or reports that the output failed. Answers whether it was written.
+pub(crate) fn put_out<O: Write, E: Write>(text: &[u8], output: &mut O, errors: &mut E) -> bool
+    ensures { IsTrue result → Appends (O.contents output.old) (O.contents output.new) text.now }
+{
+    let is_written = output.write_all(text).is_ok() && output.flush().is_ok();
+    if !is_written {
+        tell_fault(errors, "-", "cannot write", Exit::FileFailed);
+    }
+    is_written
+}
+
+/// Writes the text, and answers this exit status, or that of the output that failed.
+pub(crate) fn write<O: Write, E: Write>(
+    text: &[u8],
+    exit: Exit,
+    output: &mut O,
+    errors: &mut E,
+) -> Exit
+    ensures { (result ≡ FileFailed) ⊎ ((result ≡ exit) × Appends (O.contents output.old) (O.contents output.new) text.now) }
+{
+    if put_out(text, output, errors) {
+        exit
+    } else {
+        Exit::FileFailed
+    }
+}
+
+/// Prints what the script in the file denotes for the process, and answers the exit status.
+pub fn print<R: Files + AllocGlobal, O: Write, E: Write + IsTerminal>(
+    rt: &R,
+    name: &str,
+    process: &str,
+    output: &mut O,
+    errors: &mut E,
+) -> Exit
+    ensures { result ≡ Done → Printed process.now (O.contents output.old) (O.contents output.new) }
+{
+    let script = match text_of(rt, name, errors) {
+        Ok(script) => script,
+        Err(exit) => return exit,
+    };
+    match program::print(rt.alloc(), &script, process.as_bytes()) {
+        Ok(text) => write(&text, Exit::Done, output, errors),
+        Err(PrintError::Script(fault)) => tell_script(errors, name, &script, &fault),
+        Err(PrintError::Memory) => tell_fault(errors, name, "40 memory", Exit::Limit),
+    }
+}

@@ -1,0 +1,27 @@
+//! The program as a function of its words and streams. `run` reads the words, does what they ask for, and answers the exit
+//! status; each command reports its faults on a stream of their own.
+//!
+//! What the commands promise is `program`'s and `serving`'s to say. Here stand the words, the files, the texts, and what binds
+//! them to those calls.
+#![tactic(auto)]
+
+mod addresses;
+mod checking;
+mod commands;
+mod forms;
+mod journal_files;
+mod patient;
+mod replaying;
+mod running;
+mod scripts;
+mod server;
+mod shown;
+mod telling;
+mod words;
+
+pub use checking::check;
+pub use forms::print;
+pub use replaying::replay;
+pub use running::run;
+pub use telling::tell_no_memory;
+pub use words::words_of;

@@ -1,0 +1,71 @@
+//! The script of the command line.
+ghost use Rattle.std.specs.Prelude.{IfOk, IfErr};
+ghost use Rattle.script.specs.Reading.{IsRead};
+ghost use Rattle.term.specs.Specs.{Specified};
+ghost use Rattle.command_line.specs.Commands.{IsRefusal};
+
+use crate::telling::{tell_fault, tell_script};
+use program::Exit;
+use script::read;
+use std::alloc::Global;
+use std::fs::OpenOptions;
+use std::io::{self, ErrorKind, IsTerminal, Read, Write};
+use std::rt::Files;
+use tokens::{ScriptError, ScriptErrorKind};
+
+/// One byte more than a script may have.
+const TOO_MANY: u64 = 65_537;
+
+/// That there is no memory for a script, which is read from its first line on.
+const NO_MEMORY: ScriptError = ScriptError {
+    line: 1,
+    kind: ScriptErrorKind::Memory,
+};
+
+// Appends the bytes of the file, of a large one so many as show that it is too large.
+fn read_file<R: Files>(rt: &R, name: &str, text: &mut Vec<u8>) -> io::Result<usize> {
+    let file = OpenOptions::new().read(true).open(rt, name)?;
+    file.take(TOO_MANY).read_to_end(text)
+}
+
+// Reports why the file can't be read, and answers the status.
+fn tell_unread<E: Write + IsTerminal>(errors: &mut E, name: &str, kind: ErrorKind) -> Exit
+    ensures { IsRefusal result }
+{
+    match kind {
+        ErrorKind::OutOfMemory => tell_script(errors, name, &[], &NO_MEMORY),
+        _ => tell_fault(errors, name, "cannot read", Exit::FileFailed),
+    }
+}
+
+/// The bytes of the script's file, of a larger one those that show it to be too large; or the status of the fault that was
+/// reported.
+pub(crate) fn text_of<R: Files + AllocGlobal, E: Write + IsTerminal>(
+    rt: &R,
+    name: &str,
+    errors: &mut E,
+) -> Result<Vec<u8>, Exit>
+    ensures { IfErr result IsRefusal }
+{
+    let mut text = Vec::new(rt.alloc());
+    match read_file(rt, name, &mut text) {
+        Ok(_) => Ok(text),
+        Err(fault) => Err(tell_unread(errors, name, fault.kind())),
+    }
+}
+
+/// That the script denotes a specification for this process, or the status of the fault that was reported.
+pub(crate) fn tell_read<E: Write + IsTerminal>(
+    alloc: Global,
+    name: &str,
+    script: &[u8],
+    process: &[u8],
+    errors: &mut E,
+) -> Result<(), Exit>
+    ensures { IfOk result (λ _. (spec : Specified) × IsRead script.now process.now spec) }
+{
+    match read(alloc, script, process) {
+        Ok(_) => Ok(()),
+        Err(fault) => Err(tell_script(errors, name, script, &fault)),
+    }
+}

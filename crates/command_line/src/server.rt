@@ -1,0 +1,203 @@
+//! `cspwatch serve`: the reports of connections, judged by one session with a journal.
+ghost use Rattle.std.specs.Prelude.{◌≡◌};
+ghost use Rattle.command_line.specs.Statuses.{run_exit};
+
+use crate::commands::Service;
+use crate::forms::put_out;
+use crate::journal_files::{journal_at, keep_name};
+use crate::scripts::{tell_read, text_of};
+use crate::telling::{tell_fault, tell_open};
+use disk::Disk;
+use file_disk::FileDisk;
+use program::{Exit, Session, Summary, summary_line};
+use serving::{Account, Closing, RunStatus, TcpAccept, open, serve_session};
+use std::alloc::{AllocError, Global};
+use std::fs::File;
+use std::io::{IsTerminal, Write};
+use std::net::{Net, SocketAddr, TcpListener, TcpStream};
+use std::rt::Files;
+use std::sync::Wait;
+use std::thread::Threads;
+
+// What is left of a run once its connections are over: the counts of its history, whether the journal failed in this run, and
+// what came of the connections.
+#[derive(Clone, Copy)]
+struct Ended {
+    summary: Summary,
+    closed: bool,
+    account: Account,
+}
+
+// The exit status of a run of the server.
+fn exit_of(status: RunStatus) -> Exit
+    ensures { result ≡ run_exit status }
+{
+    match status {
+        RunStatus::Done => Exit::Done,
+        RunStatus::Rejected => Exit::Rejected,
+        RunStatus::Closed => Exit::BadJournal,
+        RunStatus::AcceptFailed => Exit::FileFailed,
+        RunStatus::Limit => Exit::Limit,
+    }
+}
+
+// Reports how a run ended, and answers the status.
+fn tell_ended<O: Write, E: Write>(
+    alloc: Global,
+    service: &Service<'_>,
+    ended: Ended,
+    output: &mut O,
+    errors: &mut E,
+) -> Exit {
+    let mut account = ended.account;
+    if account.accept_failed {
+        tell_fault(errors, service.listen, "cannot accept", Exit::FileFailed);
+    }
+    let is_written = match summary_line(alloc, ended.summary, ended.closed) {
+        Ok(line) => put_out(&line, output, errors),
+        Err(AllocError) => {
+            tell_fault(errors, service.spec, "40 memory", Exit::Limit);
+            account.limit = true;
+            true
+        }
+    };
+    // An output that failed counts as a listener that did.
+    account.accept_failed |= !is_written;
+    exit_of(account.status(ended.closed))
+}
+
+// Listens at the address.
+fn listener_of<R: Net<Stream = TcpStream, Listener = TcpListener>>(
+    rt: &R,
+    service: &Service<'_>,
+) -> Option<(TcpListener, SocketAddr)> {
+    let listener = TcpListener::bind(rt, SocketAddr::V4(service.address)).ok()?;
+    let address = listener.local_addr().ok()?;
+    Some((listener, address))
+}
+
+// Puts the journal's name on the device, listens at the address, and says where; or answers the status of the fault that was
+// reported.
+fn listen_at<
+    R: Files<File = File> + Net<Stream = TcpStream, Listener = TcpListener>,
+    O: Write,
+    E: Write,
+>(rt: &R, service: &Service<'_>, output: &mut O, errors: &mut E) -> Result<TcpListener, Exit> {
+    if keep_name(rt, service.journal).is_err() {
+        return Err(tell_fault(errors, service.journal, "cannot write", Exit::FileFailed));
+    }
+    let Some((listener, address)) = listener_of(rt, service) else {
+        return Err(tell_fault(errors, service.listen, "cannot listen", Exit::FileFailed));
+    };
+    if writeln!(output, "listening {address}").is_err() || output.flush().is_err() {
+        return Err(tell_fault(errors, "-", "cannot write", Exit::FileFailed));
+    }
+    Ok(listener)
+}
+
+// Serves the connections of the listener at this session, and says what is left of the run.
+fn serve_to_end<
+    D: Disk + Drop + Send,
+    R: Net<Stream = TcpStream, Listener = TcpListener> + AllocGlobal + Threads + Wait + Sync,
+>(
+    rt: &R,
+    service: &Service<'_>,
+    session: Session<D, Global>,
+    listener: TcpListener,
+) -> Result<Ended, AllocError> {
+    let accept = TcpAccept::new(listener);
+    match serve_session(rt, rt.alloc(), session, accept, service.connections) {
+        Ok(closing) => Ok(Ended {
+            summary: closing.session.summary(),
+            closed: closing.session.is_closed(),
+            account: closing.account,
+        }),
+        Err((AllocError, _)) => Err(AllocError),
+    }
+}
+
+// Serves the connections of the address at this session, and answers the exit status.
+fn serve_at<
+    D: Disk + Drop + Send,
+    R: Files<File = File>
+        + Net<Stream = TcpStream, Listener = TcpListener>
+        + AllocGlobal
+        + Threads
+        + Wait
+        + Sync,
+    O: Write,
+    E: Write,
+>(
+    rt: &R,
+    service: &Service<'_>,
+    session: Session<D, Global>,
+    output: &mut O,
+    errors: &mut E,
+) -> Exit {
+    let listener = match listen_at(rt, service, output, errors) {
+        Ok(listener) => listener,
+        Err(exit) => return exit,
+    };
+    match serve_to_end(rt, service, session, listener) {
+        Ok(ended) => tell_ended(rt.alloc(), service, ended, output, errors),
+        Err(AllocError) => tell_fault(errors, service.spec, "40 memory", Exit::Limit),
+    }
+}
+
+// The session of the script on the journal in the file, or the status of the fault that was reported.
+fn session_at<R: Files<File = File> + AllocGlobal, E: Write + IsTerminal>(
+    rt: &R,
+    service: &Service<'_>,
+    script: &[u8],
+    errors: &mut E,
+) -> Result<Session<FileDisk<File>, Global>, Exit> {
+    let file = journal_at(rt, service.journal, errors)?;
+    match open(
+        rt.alloc(),
+        FileDisk::new(file),
+        script,
+        service.process.as_bytes(),
+    ) {
+        Ok(session) => Ok(session),
+        Err((error, _)) => Err(tell_open(errors, service.spec, script, service.journal, error)),
+    }
+}
+
+/// Judges the reports of so many connections by the process of the script in the file, each connection at a seat of its own of
+/// one session, whose journal is in a file of its own, and answers the exit status.
+pub(crate) fn serve<
+    R: Files<File = File>
+        + Net<Stream = TcpStream, Listener = TcpListener>
+        + AllocGlobal
+        + Threads
+        + Wait
+        + Sync,
+    O: Write,
+    E: Write + IsTerminal,
+>(rt: &R, service: &Service<'_>, output: &mut O, errors: &mut E) -> Exit {
+    let script = match script_of(rt, service, errors) {
+        Ok(script) => script,
+        Err(exit) => return exit,
+    };
+    match session_at(rt, service, &script, errors) {
+        Ok(session) => serve_at(rt, service, session, output, errors),
+        Err(exit) => exit,
+    }
+}
+
+// The text of a script that denotes a specification for the process, or the status of the fault that was reported.
+fn script_of<R: Files + AllocGlobal, E: Write + IsTerminal>(
+    rt: &R,
+    service: &Service<'_>,
+    errors: &mut E,
+) -> Result<Vec<u8>, Exit> {
+    let script = text_of(rt, service.spec, errors)?;
+    tell_read(
+        rt.alloc(),
+        service.spec,
+        &script,
+        service.process.as_bytes(),
+        errors,
+    )?;
+    Ok(script)
+}

@@ -1,0 +1,92 @@
+//! What a terminal shows below a fault: of a script its line and what it means, of the words an example.
+
+use std::io::{self, IsTerminal, Write};
+use tokens::{ScriptError, ScriptErrorKind};
+
+/// The most bytes of a line that are shown.
+const MOST_SHOWN: usize = 200;
+
+/// The text from the line with this number on, from 1; empty where there is no such line.
+fn from_line(text: &[u8], line: u32) -> &[u8] {
+    let mut rest = text;
+    for _ in 1..line {
+        match rest.iter().position(|byte| *byte == b'\n') {
+            Some(end) => rest = &rest[end + 1..],
+            None => return &[],
+        }
+    }
+    rest
+}
+
+/// The byte as it is shown: what a terminal doesn't print becomes `?`, a tab a blank.
+fn shown_byte(byte: u8) -> u8 {
+    match byte {
+        b'\t' => b' ',
+        b' '..=b'~' => byte,
+        _ => b'?',
+    }
+}
+
+/// Writes the first line of the text, as far as it is shown.
+fn write_line<E: Write>(errors: &mut E, text: &[u8]) -> io::Result<()> {
+    for byte in text.iter().take(MOST_SHOWN) {
+        if matches!(*byte, b'\n' | b'\r') {
+            break;
+        }
+        errors.write_all(&[shown_byte(*byte)])?;
+    }
+    errors.write_all(b"\n")
+}
+
+/// What the kind of fault means.
+fn meaning_of(kind: ScriptErrorKind) -> &'static str {
+    match kind {
+        ScriptErrorKind::BadByte => "a control character, or one that is not ASCII",
+        ScriptErrorKind::BadToken => "no token begins so, or a comment isn't closed",
+        ScriptErrorKind::Expected => "something else has to come here",
+        ScriptErrorKind::UnknownName => "a name isn't declared, or a value depends on itself",
+        ScriptErrorKind::Redeclared => "a name is declared twice",
+        ScriptErrorKind::WrongFields => "an event has too many or too few fields",
+        ScriptErrorKind::OutOfRange => "a number or a field's value is out of its range",
+        ScriptErrorKind::TooManyEvents => "the channels have more than 256 events",
+        ScriptErrorKind::TooDeep => "phrases or brackets are too deep in one another",
+        ScriptErrorKind::TooLarge => "the script, a set or the processes are too large",
+        ScriptErrorKind::Unsupported => "CSPM has this form, but cspwatch doesn't read it",
+        ScriptErrorKind::NoSuchProcess => "the script defines no process of this name",
+        ScriptErrorKind::Memory => "out of memory",
+    }
+}
+
+/// Whether the fault is that of its line, and not of the whole script.
+fn is_on_its_line(kind: ScriptErrorKind) -> bool {
+    !matches!(
+        kind,
+        ScriptErrorKind::NoSuchProcess | ScriptErrorKind::TooLarge | ScriptErrorKind::Memory
+    )
+}
+
+/// Shows, where the errors go to a terminal, the line of the script that the fault is on, and what the fault means. Where
+/// that fails there is nobody to tell.
+pub(crate) fn show_fault<E: Write + IsTerminal>(
+    errors: &mut E,
+    script: &[u8],
+    fault: &ScriptError,
+) {
+    if !errors.is_terminal() {
+        return;
+    }
+    if is_on_its_line(fault.kind) {
+        let _ = write!(errors, "{:>5} | ", fault.line);
+        let _ = write_line(errors, from_line(script, fault.line));
+    }
+    let _ = writeln!(errors, "        {}", meaning_of(fault.kind));
+}
+
+/// Shows, where the errors go to a terminal, an example of the command, if there is one.
+pub(crate) fn show_example<E: Write + IsTerminal>(errors: &mut E, example: Option<&str>) {
+    if let Some(example) = example {
+        if errors.is_terminal() {
+            let _ = writeln!(errors, "{example}");
+        }
+    }
+}

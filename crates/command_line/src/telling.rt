@@ -1,0 +1,102 @@
+//! How faults are reported, and the exit statuses that they ask for.
+ghost use Rattle.std.specs.Prelude.{◌≡◌};
+ghost use Rattle.program.specs.Exits.{script_exit, journal_exit, exit_code};
+ghost use Rattle.program.specs.declared.exit.Exit.TheVariants.{Limit};
+ghost use Rattle.command_line.specs.Statuses.{open_exit};
+
+use crate::shown::{show_example, show_fault};
+use clap::Error;
+use clap::error::ErrorKind;
+use program::{Exit, SessionError};
+use serving::OpenError;
+use std::io::{IsTerminal, Write};
+use tokens::ScriptError;
+
+/// Writes one line on the errors, and answers the status. Where that fails there is nobody to tell.
+pub(crate) fn tell_fault<E: Write>(errors: &mut E, name: &str, fault: &str, exit: Exit) -> Exit
+    ensures { result ≡ exit }
+{
+    let _ = writeln!(errors, "{name}: {fault}");
+    exit
+}
+
+/// Reports that there is no memory for the words, and answers the exit status.
+pub fn tell_no_memory<E: Write>(errors: &mut E) -> u8
+    ensures { result ≡ exit_code Limit }
+{
+    let _ = errors.write_all(b"cspwatch: 40 memory\n");
+    Exit::Limit.code()
+}
+
+/// Reports why the script is refused, on a terminal with its line.
+pub(crate) fn tell_script<E: Write + IsTerminal>(
+    errors: &mut E,
+    name: &str,
+    script: &[u8],
+    fault: &ScriptError,
+) -> Exit
+    ensures { result ≡ script_exit fault.now }
+{
+    let _ = writeln!(errors, "{name}:{fault}");
+    show_fault(errors, script, fault);
+    Exit::of_script(fault)
+}
+
+/// Reports which limit the specification's opening meets, or that memory ran out.
+pub(crate) fn tell_opening<E: Write>(errors: &mut E, name: &str, error: SessionError) -> Exit
+    ensures { result ≡ Limit }
+{
+    let _ = writeln!(errors, "{name}: {error}");
+    Exit::Limit
+}
+
+/// Writes the help on the output, a fault of use on the errors, there on a terminal with an example of the command.
+pub(crate) fn tell_use<O: Write, E: Write + IsTerminal>(
+    error: &Error,
+    example: Option<&str>,
+    output: &mut O,
+    errors: &mut E,
+) -> Exit {
+    if error.kind() == ErrorKind::OutOfMemory {
+        tell_fault(errors, "cspwatch", "40 memory", Exit::Limit)
+    } else if error.use_stderr() {
+        let _ = write!(errors, "{error}");
+        show_example(errors, example);
+        Exit::Misuse
+    } else if write!(output, "{error}").is_err() || output.flush().is_err() {
+        tell_fault(errors, "-", "cannot write", Exit::FileFailed)
+    } else {
+        Exit::Done
+    }
+}
+
+/// Reports why the journal gives no session, and answers the status.
+pub(crate) fn tell_journal<E: Write>(errors: &mut E, name: &str, error: SessionError) -> Exit
+    ensures { result ≡ journal_exit error }
+{
+    let _ = writeln!(errors, "{name}: {error}");
+    Exit::of_journal(&error)
+}
+
+/// Reports why there is no session of the script on the journal, and answers the status.
+pub(crate) fn tell_open<E: Write + IsTerminal>(
+    errors: &mut E,
+    spec: &str,
+    script: &[u8],
+    journal: &str,
+    error: OpenError,
+) -> Exit
+    ensures { result ≡ open_exit error }
+{
+    match error {
+        OpenError::Begin(SessionError::Script(fault)) => tell_script(errors, spec, script, &fault),
+        OpenError::Begin(SessionError::Device) => {
+            tell_journal(errors, journal, SessionError::Device)
+        }
+        OpenError::Begin(error) => tell_opening(errors, spec, error),
+        OpenError::Replay(error) => tell_journal(errors, journal, error),
+        OpenError::OtherSpecification => {
+            tell_fault(errors, journal, "54 specification", Exit::BadJournal)
+        }
+    }
+}

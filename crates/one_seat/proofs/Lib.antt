@@ -1,4 +1,0 @@
-pub mod LineLemmas
-pub mod AnswerLemmas
-pub mod SigmaLemmas
-pub mod CopyLemmas

@@ -1,0 +1,208 @@
+//! What may come in place of the full answers where requests for memory were refused.
+
+use crate::commands::Talk;
+use std::alloc::{AllocError, Global};
+use std::sync::Wait;
+
+/// Which requests are refused.
+#[derive(Clone, Copy, PartialEq, Eq)]
+pub(crate) enum Refused {
+    /// One.
+    One,
+    /// One, and all after it.
+    AllFrom,
+}
+
+/// The replies, and the exit status.
+fn parts_of_run(run: &str) -> (&str, &str) {
+    run.split_once(" status ").unwrap_or((run, ""))
+}
+
+/// Whether a report was answered so, which was judged.
+fn is_verdict(reply: &str) -> bool {
+    reply.starts_with("OK ") || reply.starts_with("NO ")
+}
+
+/// Whether a line was answered so since memory was refused for it.
+fn is_refusal(reply: &str) -> bool {
+    matches!(reply, "ERR 40 memory" | "ERR 30 journal")
+}
+
+/// Whether a line was answered so since memory was refused, for it or before.
+fn is_fault(reply: &str) -> bool {
+    is_refusal(reply) || reply == "ERR 31 closed"
+}
+
+/// How many lines were answered with a refusal.
+fn refusals(replies: &str) -> usize {
+    let mut count: usize = 0;
+    for reply in replies.split('$') {
+        if is_refusal(reply) {
+            count = count.saturating_add(1);
+        }
+    }
+    count
+}
+
+/// Whether the session is closed for reports once one was answered with `ERR 30 journal`, since the disk couldn't grow, and not before.
+fn closes_once(replies: &str) -> bool {
+    let mut closed = false;
+    for reply in replies.split('$') {
+        let is_journal = reply == "ERR 30 journal";
+        if closed && (is_journal || is_verdict(reply)) {
+            return false;
+        }
+        if !closed && reply == "ERR 31 closed" {
+            return false;
+        }
+        closed = closed || is_journal;
+    }
+    true
+}
+
+/// The lines that weren't answered with a fault.
+fn others(alloc: Global, lines: &str, replies: &str) -> Result<String, AllocError> {
+    let mut others = String::new(alloc);
+    let mut replies = replies.split('$');
+    for line in lines.lines() {
+        if !is_fault(replies.next().unwrap_or("")) {
+            others.push_str(line)?;
+            others.push('\n')?;
+        }
+    }
+    Ok(others)
+}
+
+/// Appends the reply to a line without a fault, which says that the session is closed, where it is by then.
+fn put_other(closed: bool, reply: &str, out: &mut String) -> Result<(), AllocError> {
+    match reply.split_once(" open") {
+        Some((counts, _)) if closed => write!(out, "{counts} closed"),
+        _ => out.push_str(reply),
+    }
+}
+
+/// The replies with these faults, where the other lines are answered so.
+fn expected(alloc: Global, replies: &str, others: &str) -> Result<String, AllocError> {
+    let mut out = String::new(alloc);
+    let mut others = others.split('$');
+    let mut closed = false;
+    for (place, reply) in replies.split('$').enumerate() {
+        out.push_str(if place > 0 { "$" } else { "" })?;
+        if is_fault(reply) {
+            out.push_str(reply)?;
+        } else {
+            put_other(closed, others.next().unwrap_or(""), &mut out)?;
+        }
+        closed = closed || reply == "ERR 30 journal";
+    }
+    Ok(out)
+}
+
+/// What comes of the lines that weren't answered with a fault, where no request is refused.
+fn run_without<T: Wait>(
+    rt: &T,
+    alloc: Global,
+    talk: &Talk,
+    replies: &str,
+) -> Result<String, AllocError> {
+    let lines = others(alloc, talk.lines, replies)?;
+    talk.in_full(rt, alloc, &lines)
+}
+
+/// Whether the lines without faults are answered as if the others weren't there, and the exit status is 1 where a report was rejected,
+/// else 6.
+fn is_as_without<T: Wait>(
+    rt: &T,
+    alloc: Global,
+    talk: &Talk,
+    came: &str,
+) -> Result<bool, AllocError> {
+    let (replies, status) = parts_of_run(came);
+    let run = run_without(rt, alloc, talk, replies)?;
+    let (others, other_status) = parts_of_run(&run);
+    let wanted = expected(alloc, replies, others)?;
+    let wanted_status = if other_status == "1" { "1" } else { "6" };
+    Ok(wanted.as_str() == replies && status == wanted_status)
+}
+
+/// Whether nothing came but the refusal, before there was anything to answer.
+fn is_memory(came: &str) -> bool {
+    matches!(came, "40 memory status 6" | "1: 40 memory status 6")
+}
+
+/// Whether this may come of lines that `check` answers: the full replies; nothing but the refusal; or replies of which one, or where
+/// more requests are refused some, are the refusal, and all others as if these lines weren't there. Where the disk in memory couldn't
+/// grow, the session is closed from then on.
+fn is_checked<T: Wait>(
+    rt: &T,
+    alloc: Global,
+    refused: Refused,
+    text: &str,
+    came: &str,
+) -> Result<bool, AllocError> {
+    let (replies, _) = parts_of_run(came);
+    let count = refusals(replies);
+    if count == 0 || (refused == Refused::One && count > 1) || !closes_once(replies) {
+        return Ok(false);
+    }
+    is_as_without(rt, alloc, &Talk::read(text), came)
+}
+
+/// Whether these are the full answers, with the refusal reported once among them.
+fn is_reported_once(alloc: Global, full: &str, came: &str) -> Result<bool, AllocError> {
+    let without = came.replacen(alloc, "ERR 40 memory; ", "", 1)?;
+    Ok(without.as_str() == full)
+}
+
+/// Whether this answers that something was done.
+fn is_done(answer: &str) -> bool {
+    is_verdict(answer) || matches!(answer.split_once(' '), Some(("J" | "true" | "false", _)))
+}
+
+/// Whether these are the full answers up to a refusal, and nothing is done after it.
+fn is_begun(full: &str, came: &str) -> bool {
+    let mut refused = false;
+    let mut answers = full.split("; ");
+    for answer in came.split("; ") {
+        refused = refused || is_refusal(answer);
+        if refused {
+            if is_done(answer) {
+                return false;
+            }
+        } else if answers.next() != Some(answer) {
+            return false;
+        }
+    }
+    true
+}
+
+/// Whether this may come of what a session is asked, where what is refused is asked again: nothing but the refusal; the full answers,
+/// with the refusal reported once; or the full answers up to where no more was granted, or where the disk couldn't grow.
+fn is_asked(alloc: Global, refused: Refused, full: &str, came: &str) -> Result<bool, AllocError> {
+    if matches!(came, "40 memory" | "script 1: 40 memory" | "30 journal") {
+        return Ok(true);
+    }
+    if refused == Refused::AllFrom || came.split("; ").any(|answer| answer == "ERR 30 journal") {
+        return Ok(is_begun(full, came));
+    }
+    is_reported_once(alloc, full, came)
+}
+
+/// Whether this may come of the row in place of the full answers.
+pub(crate) fn is_allowed<T: Wait>(
+    rt: &T,
+    alloc: Global,
+    refused: Refused,
+    row: &str,
+    full: &str,
+    came: &str,
+) -> Result<bool, AllocError> {
+    if came == full {
+        return Ok(true);
+    }
+    match row.split_once(' ').unwrap_or((row, "")) {
+        ("check", text) => { Ok(is_memory(came) || is_checked(rt, alloc, refused, text, came)?) }
+        ("replay" | "print", _) => Ok(is_memory(came)),
+        _ => is_asked(alloc, refused, full, came),
+    }
+}

@@ -1,0 +1,9 @@
+//! Connections in memory, served by threads, as tests.
+#![tactic(auto)]
+
+#[cfg(test)]
+mod ends;
+#[cfg(test)]
+mod gate;
+#[cfg(test)]
+mod tests;

@@ -1,0 +1,210 @@
+//! A session of a process that ends at once, shared by callers on threads of their own. The first report of tick is accepted, and
+//! each further one rejected.
+
+ghost use Rattle.std.specs.Prelude.{◌≡◌};
+
+use crate::callers::{Answers, Caller, Task, run_all};
+use crate::held::{Gate, HeldDisk};
+use crate::rows::{first_word, number_of, put_receipts};
+use disk::Disk;
+use memory_disks::MemoryDisk;
+use shared::{Naming, Opened, Session, Share, Shared};
+use std::alloc::{AllocError, Global};
+use std::marker::Brand;
+use std::sync::Wait;
+use std::sync::ledger::Blank;
+use std::thread::Threads;
+use std::time::Clock;
+
+/// What is done on threads, and how many of the shares are handed in at the end.
+#[derive(Drop)]
+struct Plan {
+    tasks: Vec<Task, Global>,
+    shares: usize,
+}
+
+impl Plan {
+    /// What the row `SHARES TASK TASK ..` asks for.
+    fn read(alloc: Global, row: &str) -> Result<Plan, AllocError> {
+        let (shares, words) = first_word(row);
+        let mut tasks = Vec::new(alloc);
+        for word in words.split(' ') {
+            tasks.push(match word {
+                "look" => Task::Look,
+                times => Task::Report(number_of(times) as usize),
+            })?;
+        }
+        Ok(Plan {
+            tasks,
+            shares: number_of(shares) as usize,
+        })
+    }
+}
+
+/// A place for each task.
+fn callers_of<D: Disk, N: Naming, T: Wait>(
+    rt: &T,
+    alloc: Global,
+    shared: &Shared<D, Global, N>,
+    tasks: &[Task],
+) -> Result<Vec<Caller<N>, Global>, AllocError> {
+    let mut callers = Vec::new(alloc);
+    for task in tasks {
+        match shared.seat(rt, alloc) {
+            Ok(seat) => callers.push(Caller {
+                share: seat.end(),
+                task: *task,
+            })?,
+            Err(_) => return Err(AllocError),
+        }
+    }
+    Ok(callers)
+}
+
+/// Gives each task its place, arms the gate, and runs them all.
+fn done_at<D: Disk + Send, N: Naming + Send + Sync, T: Threads + Wait + Clock + Sync>(
+    rt: &T,
+    alloc: Global,
+    gate: &Gate,
+    shared: &Shared<D, Global, N>,
+    tasks: &[Task],
+) -> Result<Vec<(Share<N, Global>, Answers), Global>, AllocError> {
+    let callers = callers_of(rt, alloc, shared, tasks)?;
+    gate.arm();
+    run_all(rt, alloc, gate, shared, callers)
+}
+
+/// Parts what was done into so many of the shares, and all answers.
+fn part<N: Naming>(
+    done: Vec<(Share<N, Global>, Answers), Global>,
+    kept: usize,
+    shares: &mut Vec<Share<N, Global>, Global>,
+    all: &mut Vec<Answers, Global>,
+) -> Result<(), AllocError> {
+    for (share, answers) in done {
+        if shares.len() < kept {
+            shares.push(share)?;
+        }
+        all.push(answers)?;
+    }
+    Ok(())
+}
+
+/// Runs all tasks. Their answers, and so many of their shares, are appended to the lists.
+fn run_plan<D: Disk + Send, N: Naming + Send + Sync, T: Threads + Wait + Clock + Sync>(
+    rt: &T,
+    alloc: Global,
+    gate: &Gate,
+    shared: &Shared<D, Global, N>,
+    plan: &Plan,
+    shares: &mut Vec<Share<N, Global>, Global>,
+    all: &mut Vec<Answers, Global>,
+) -> Result<(), AllocError> {
+    let done = done_at(rt, alloc, gate, shared, &plan.tasks)?;
+    part(done, plan.shares, shares, all)
+}
+
+/// Appends how many reports were answered with a receipt, judged and rejected, and whether the history explains all answers.
+fn put_end<D: Disk>(
+    count: Option<u64>,
+    session: &Session<D, Global>,
+    all: &[Answers],
+    out: &mut String,
+) -> Result<(), AllocError> {
+    let history = session.history();
+    let summary = session.summary();
+    let is_explained = all.iter().all(|answers| answers.are_in(history));
+    put_receipts(count, out)?;
+    write!(
+        out,
+        ", {} judged, {} rejected, ",
+        summary.judged, summary.rejected
+    )?;
+    out.push_str(if is_explained {
+        "explained"
+    } else {
+        "not explained"
+    })
+}
+
+/// Appends how many reports the status had that was looked at.
+fn put_seen(all: &[Answers], out: &mut String) -> Result<(), AllocError> {
+    match all.iter().find_map(|answers| answers.seen) {
+        Some(seen) => write!(out, ", a look at {seen}"),
+        None => Ok(()),
+    }
+}
+
+/// Appends what comes of the tasks at the seats of this session. The caller picks the names.
+fn share<D: Disk + Drop + Send, N: Naming + Send + Sync, T: Threads + Wait + Clock + Sync>(
+    rt: &T,
+    alloc: Global,
+    session: Session<D, Global>,
+    opened: Opened,
+    blank: Blank,
+    gate: &Gate,
+    plan: &Plan,
+    out: &mut String,
+) -> Result<(), AllocError>
+    requires story { (session.spec ≡ N.spec) × (session.history ≡ N.opening) }
+    requires book { opened.seen.book ≡ N.book }
+    requires ledger { (blank.name ≡ N.name) × (blank.parts ≡ N.parts) × (N.all ≡ N.parts) × (N.all ≡ 65) }
+{
+    let Ok(shared) = Shared::<D, Global, N>::new(alloc, session, opened, blank, 4) else {
+        return Err(AllocError);
+    };
+    let (mut shares, mut all) = (Vec::new(alloc), Vec::new(alloc));
+    let done = run_plan(rt, alloc, gate, &shared, plan, &mut shares, &mut all);
+    let (session, count) = shared.finish(rt, shares);
+    done.and(put_end(count, &session, &all, out))
+        .and(put_seen(&all, out))
+}
+
+/// Appends what comes of the tasks at the seats of a new session on this disk.
+fn on_disk<D: Disk + Drop + Send, T: Threads + Wait + Clock + Sync>(
+    rt: &T,
+    alloc: Global,
+    disk: D,
+    gate: &Gate,
+    plan: &Plan,
+    out: &mut String,
+) -> Result<(), AllocError> {
+    match Session::create(alloc, disk, b"P = SKIP\n", b"P") {
+        Ok(session) => {
+            share::<_, Brand, _>(
+                rt,
+                alloc,
+                session,
+                Opened::new(),
+                Blank::new(65),
+                gate,
+                plan,
+                out,
+            )
+        }
+        Err((error, _)) => write!(out, "{error}"),
+    }
+}
+
+/// Plays a row of these kinds. Whether it is one is answered.
+pub(crate) fn play<T: Threads + Wait + Clock + Sync>(
+    rt: &T,
+    alloc: Global,
+    kind: &str,
+    row: &str,
+    out: &mut String,
+) -> Result<bool, AllocError> {
+    if !matches!(kind, "threads" | "held") {
+        return Ok(false);
+    }
+    let plan = Plan::read(alloc, row)?;
+    let gate = Gate::new();
+    let disk = MemoryDisk::new(Vec::new(alloc));
+    let done = if kind == "held" {
+        on_disk(rt, alloc, HeldDisk::new(disk, &gate, rt), &gate, &plan, out)
+    } else {
+        on_disk(rt, alloc, disk, &gate, &plan, out)
+    };
+    done?;
+    Ok(true)
+}

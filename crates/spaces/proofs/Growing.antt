@@ -1,0 +1,141 @@
+-- What holds of a space goes on to hold while it grows.
+use Rattle.std.proofs.Common.{◌≡◌, ◌↔◌, ℕ, suc, ◌<◌, ◌≤◌, Option, None, Some, List, [], ◌∷◌, ◌++◌, length, get_or, map, refl, sym, ap, ◌∙◌, subst, arith}
+use Rattle.std.proofs.lemmas.List.{get_or-map}
+use Rattle.std.proofs.lemmas.List.Elements.{All-weaker}
+use Rattle.std.specs.List.{All}
+use Rattle.std.specs.declared.vec.Vec.{Vec}
+use Rattle.alphabet.specs.declared.events.Event.{Event}
+use Rattle.closures.specs.Label.TheVariants as label
+use Rattle.closures.specs.Cuts.{CutOf}
+use Rattle.term.specs.Limits.{Advance, NoLimit, Reach, most_states}
+use Rattle.term.specs.Meaning.{Trace}
+use Rattle.term.specs.Proc.{Proc, bodies_of, root}
+use Rattle.term.specs.Specs.{Specified}
+use Rattle.term.specs.Traces.{In}
+use Rattle.closures.specs.Looks.{look, AllBelow}
+use Rattle.closures.specs.Tables.{Tabled, Begins, HasGrown}
+use Rattle.closures.proofs.Listing.{begins-same, begins-at, begins-longer, begins-on}
+use Rattle.closures.proofs.Looking.{below-grown, look-grown}
+use Rattle.closures.specs.Numbered.{Numbered, KeepsNumbers}
+use Rattle.closures.specs.Closing.{AllShallow, TargetOf}
+use Rattle.spaces.specs.declared.facts.SetFacts.{SetFacts}
+use Rattle.spaces.specs.Answers.{IsAfter, IsAnswer, IsMemory}
+use Rattle.spaces.specs.Found.{Found, members, shown}
+use Rattle.spaces.specs.Known.{AreFactsOf, IsStored, IsSound, lists_of, found}
+use Rattle.spaces.specs.Spaces.{Spaced, GrewFrom, Belongs, states}
+
+pub grew-same : (s : Spaced) → GrewFrom s s
+grew-same s = record { spec = refl; sets = begins-same [] s.sets }
+
+pub grew-on : (s t u : Spaced) → GrewFrom s t → GrewFrom t u → GrewFrom s u
+grew-on s t u g h = record { spec = h.spec ∙ g.spec; sets = begins-on [] s.sets t.sets u.sets g.sets h.sets }
+
+module _ (s t : Spaced) (g : GrewFrom s t) where
+  pub states-on : (n : ℕ) → n < length s.sets → states t n ≡ states s n
+  states-on n h = begins-at [] s.sets t.sets n g.sets h
+
+  pub here-on : (n : ℕ) → n < length s.sets → n < length t.sets
+  here-on n h = let longer : length s.sets ≤ length t.sets = begins-longer [] s.sets t.sets g.sets in omega (arith, longer, h)
+
+  -- a set belongs to the same traces
+  pub belongs-on : (n : ℕ) (u : List Event) → Belongs s n u → Belongs t n u
+  belongs-on n u b =
+      record {
+        within = here-on n b.within;
+        exact = λ Q.
+            subst (λ (ps : List Proc). In Q ps ↔ Reach (bodies_of t.spec.bodies) root u Q) (sym (states-on n b.within))
+            (subst (λ (p : Specified). In Q (states s n) ↔ Reach (bodies_of p.bodies) root u Q) (sym g.spec) (b.exact Q));
+      }
+
+  -- and the other way round, where it was there before
+  pub belongs-back : (n : ℕ) (u : List Event) → n < length s.sets → Belongs t n u → Belongs s n u
+  belongs-back n u h b =
+      record {
+        within = h;
+        exact = λ Q.
+            subst (λ (ps : List Proc). In Q ps ↔ Reach (bodies_of s.spec.bodies) root u Q) (states-on n h)
+            (subst (λ (p : Specified). In Q (states t n) ↔ Reach (bodies_of p.bodies) root u Q) g.spec (b.exact Q));
+      }
+
+  pub cut-on : (n : ℕ) (x : Event) (first : List Proc) → n < length s.sets → CutOf (TargetOf (bodies_of s.spec.bodies) (states s n) (label.Event x)) most_states first → CutOf (TargetOf (bodies_of t.spec.bodies) (states t n) (label.Event x)) most_states first
+  cut-on n x first h c =
+      subst (λ (ps : List Proc). CutOf (TargetOf (bodies_of t.spec.bodies) ps (label.Event x)) most_states first) (sym (states-on n h))
+      (subst (λ (p : Specified). CutOf (TargetOf (bodies_of p.bodies) (states s n) (label.Event x)) most_states first) (sym g.spec) c)
+
+  -- answers stay exact
+  after-on : (a : Option ℕ) (v : List Event) → IsAfter s v a → IsAfter t v a
+  after-on None v h = subst (λ (p : Specified). Trace (bodies_of p.bodies) root v → ⊥) (sym g.spec) h
+  after-on (Some m) v h = (subst (λ (p : Specified). Trace (bodies_of p.bodies) root v) (sym g.spec) h.0, belongs-on m v h.1)
+
+  pub answer-on : (n : ℕ) (x : Event) (a : Option ℕ) → n < length s.sets → IsAnswer s n x a → IsAnswer t n x a
+  answer-on n x a h k =
+      record {
+        exact = λ u b. after-on a (u ++ x ∷ []) (k.exact u (belongs-back n u h b));
+        within = λ u b. subst (λ (p : Specified). NoLimit (bodies_of p.bodies) (Advance (bodies_of p.bodies) u x)) (sym g.spec) (k.within u (belongs-back n u h b));
+      }
+
+  pub memory-on : (es : List (ℕ × Option ℕ)) → IsMemory s es → IsMemory t es
+  memory-on es m =
+      record {
+        remembered = λ n x a i e.
+            let r = m.remembered n x a i e in
+            record { here = here-on n r.here; is = answer-on n x a r.here r.is };
+        few = m.few;
+      }
+
+-- ---- what is stored
+pub shown-at : (f : Found) (n : ℕ) → n < length f.sets → states (shown f) n ≡ look f.table.processes (members f n)
+shown-at f n h = get_or-map (look f.table.processes) f.sets n [] [] h
+
+module _ {A : Type 0} where
+  stored-on : (t u : Tabled) → HasGrown t u → (e : Vec ℕ A × SetFacts A) → IsStored t.processes e → IsStored u.processes e
+  stored-on t u g e s =
+      let same = sym (look-grown t u g e.0.items s.below) in
+      record {
+        below = below-grown t u g e.0.items s.below;
+        shallow = subst (λ (ps : List Proc). AllShallow ps) same s.shallow;
+        facts = subst (λ (ps : List Proc). AreFactsOf e.1 ps) same s.facts;
+      }
+
+  -- by its number
+  pub stored-at : (ps : List Proc) (es : List (Vec ℕ A × SetFacts A)) (n : ℕ) → All (IsStored ps) es → n < length es → (e : Vec ℕ A × SetFacts A) × (get_or (lists_of es) n [] ≡ e.0.items) × IsStored ps e
+  stored-at ps [] n all h = absurd (omega arith)
+  stored-at ps (e ∷ es) n all h = (get_or (e ∷ es) n e, get_or-map (λ (x : Vec ℕ A × SetFacts A). x.0.items) (e ∷ es) n e [] h, all n e h)
+
+  -- a table that grew shows the same sets
+  same-lists : (t u : Tabled) → HasGrown t u → (es : List (Vec ℕ A × SetFacts A)) → All (IsStored t.processes) es → map (look u.processes) (lists_of es) ≡ map (look t.processes) (lists_of es)
+  same-lists t u g [] all = refl
+  same-lists t u g (e ∷ es) all =
+      let first : IsStored t.processes e = all 0 e (omega arith) in
+      let head : look u.processes e.0.items ≡ look t.processes e.0.items = look-grown t u g e.0.items first.below in
+      let tail : map (look u.processes) (lists_of es) ≡ map (look t.processes) (lists_of es) = same-lists t u g es (λ k d h. all (suc k) d (omega arith)) in
+      ap (λ (l : List Proc). l ∷ map (look u.processes) (lists_of es)) head ∙ ap (λ (l : List (List Proc)). look t.processes e.0.items ∷ l) tail
+
+  pub table-grew : (spec : Specified) (t u : Tabled) (es : List (Vec ℕ A × SetFacts A)) → All (IsStored t.processes) es → HasGrown t u → GrewFrom (shown (found spec t es)) (shown (found spec u es))
+  table-grew spec t u es all g =
+      record {
+        spec = refl;
+        sets = subst (λ (l : List (List Proc)). Begins (map (look t.processes) (lists_of es)) l) (sym (same-lists t u g es all)) (begins-same [] (map (look t.processes) (lists_of es)));
+      }
+
+  module _ (spec : Specified) (es : List (Vec ℕ A × SetFacts A)) where
+    pub sound-on : (a b : Numbered) → IsSound spec a es → KeepsNumbers a b → IsSound spec b es
+    sound-on a b s k =
+        record {
+          closed = s.closed;
+          bodies = k.bodies ∙ s.bodies;
+          few = s.few;
+          stored = All-weaker (IsStored a.table.processes) (IsStored b.table.processes) (stored-on a.table b.table k.table) es s.stored;
+        }
+
+    -- a stored set
+    module _ (a : Numbered) (s : IsSound spec a es) (n : ℕ) (h : n < length es) where
+      pub sound-below : AllBelow (length a.table.processes) (get_or (lists_of es) n [])
+      sound-below =
+          let (e, f, k) = stored-at a.table.processes es n s.stored h in
+          subst (λ (ns : List ℕ). AllBelow (length a.table.processes) ns) (sym f) k.below
+
+      pub sound-shallow : AllShallow (look a.table.processes (get_or (lists_of es) n []))
+      sound-shallow =
+          let (e, f, k) = stored-at a.table.processes es n s.stored h in
+          subst (λ (ns : List ℕ). AllShallow (look a.table.processes ns)) (sym f) k.shallow

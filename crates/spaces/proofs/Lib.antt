@@ -1,0 +1,6 @@
+pub mod Members
+pub mod Growing
+pub mod Answering
+pub mod Entering
+pub mod Remembering
+pub mod Offering

@@ -1,0 +1,16 @@
+use Rattle.std.proofs.Common.{IfErr, sym, subst}
+use Rattle.term.specs.Limits.{Advance}
+use Rattle.term.specs.Proc.{bodies_of}
+use Rattle.closures.specs.Belonging.{MeetsLimit}
+use Rattle.spaces.specs.Found.{shown}
+use Rattle.spaces.specs.Spaces.{Spaced, Belongs}
+use Rattle.spaces.proofs.Growing.{memory-on}
+use Rattle.spaces.proofs.space.Space.find.Goals as goal
+
+pub invariant_of-self : goal.invariant_of-self
+invariant_of-self g c = memory-on (shown c.self.inside.found) (shown c.find.new.self) c.find.ensures.grown c.self.inside.answers.entries c.self.invariant
+
+pub returns-clause-limit : goal.returns-clause-limit
+returns-clause-limit g c = λ u b.
+    subst (λ (s : Spaced). IfErr c.find.result (MeetsLimit (bodies_of s.spec.bodies) (Advance (bodies_of s.spec.bodies) u c.args.event))) c.self.view_is
+    (c.find.ensures.limit u (subst (λ (s : Spaced). Belongs s c.args.set u) (sym c.self.view_is) b))

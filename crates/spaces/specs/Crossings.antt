@@ -1,0 +1,19 @@
+-- What may go to another thread.
+use Rattle.std.specs.Thread.{IsSend}
+use Rattle.std.specs.contracts.alloc.Global as Global
+use Rattle.std.specs.contracts.impls.GlobalAllocator.TheImpl.{ghosts}
+use Rattle.closures.specs.TableContracts as Table
+use Rattle.closures.specs.TransitionsContracts as Transitions
+use Rattle.spaces.specs.contracts.space.Space as Space
+
+-- a table of nodes
+abbrev pub TableCrosses : Type 0
+TableCrosses = IsSend (Table.the_row Global.the_row ghosts)
+
+-- the steps of its nodes
+abbrev pub TransitionsCross : Type 0
+TransitionsCross = IsSend (Transitions.the_row Global.the_row ghosts)
+
+-- the sets of states of a specification
+abbrev pub SpaceCrosses : Type 0
+SpaceCrosses = IsSend (Space.the_row Global.the_row ghosts)

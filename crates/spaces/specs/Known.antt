@@ -1,0 +1,42 @@
+-- What is kept with a set of states, and what always holds of the sets found so far.
+use Rattle.std.specs.Prelude.{◌≡◌, ◌↔◌, ℕ, ◌<◌, ◌^◌, IsTrue, List, length, map}
+use Rattle.std.specs.List.{All}
+use Rattle.std.specs.declared.vec.Vec.{Vec}
+use Rattle.alphabet.specs.declared.events.Event.{Event}
+use Rattle.alphabet.specs.EventSets.{member}
+use Rattle.term.specs.Proc.{Proc}
+use Rattle.term.specs.Specs.{Specified, IsClosed}
+use Rattle.term.specs.Traces.{In}
+use Rattle.closures.specs.Looks.{look, AllBelow}
+use Rattle.closures.specs.Tables.{Tabled}
+use Rattle.closures.specs.Numbered.{Numbered}
+use Rattle.closures.specs.Closing.{AllShallow, Takes}
+use Rattle.spaces.specs.declared.facts.SetFacts.{SetFacts}
+use Rattle.spaces.specs.Found.{Found}
+use Rattle.spaces.specs.Offers.{AreOffers}
+
+-- The facts are those of a set with these members.
+pub record AreFactsOf {A : Type 0} (facts : SetFacts A) (ps : List Proc) : Type 0 where
+  pub next_is : (x : Event) → IsTrue (member facts.next x) ↔ ((Q : Proc) × In Q ps × Takes Q x)
+  pub offers_are : AreOffers facts.offers.items ps
+
+-- What is stored of a set: the numbers of its members, none of which is too deep, and its facts.
+pub record IsStored {A : Type 0} (ps : List Proc) (e : Vec ℕ A × SetFacts A) : Type 0 where
+  pub below : AllBelow (length ps) e.0.items
+  pub shallow : AllShallow (look ps e.0.items)
+  pub facts : AreFactsOf e.1 (look ps e.0.items)
+
+-- The numbers of the stored sets' members.
+abbrev pub lists_of : {A : Type 0} → List (Vec ℕ A × SetFacts A) → List (List ℕ)
+lists_of {A} es = map (λ (e : Vec ℕ A × SetFacts A). e.0.items) es
+
+-- These stored sets, of this specification and with this table.
+abbrev pub found : {A : Type 0} → Specified → Tabled → List (Vec ℕ A × SetFacts A) → Found
+found spec t es = record { spec = spec; table = t; sets = lists_of es }
+
+-- What always holds: the specification is closed, the bodies are its own, and what is stored is so.
+pub record IsSound {A : Type 0} (spec : Specified) (all : Numbered) (es : List (Vec ℕ A × SetFacts A)) : Type 0 where
+  pub closed : IsClosed spec
+  pub bodies : all.bodies ≡ spec.bodies
+  pub few : length es < 2 ^ 32
+  pub stored : All (IsStored all.table.processes) es

@@ -1,0 +1,11 @@
+-- To believe.
+pub mod Spaces
+pub mod Crossings
+-- Steps of the program.
+pub mod Answers
+pub mod Found
+pub mod Offers
+pub mod Known
+-- Of the layers below, for those above.
+pub use Rattle.closures.specs.AfterFault
+pub use Rattle.closures.specs.Belonging

@@ -1,0 +1,250 @@
+//! The sets of states found so far.
+
+ghost use Rattle.std.specs.Prelude.{◌≡◌, ◌+◌, ◌<◌, ◌≤◌, ◌^◌, ◌∷◌, [], IfErr, IfNone, IfOk, IfSome, List, OnOk, ℕ, get_or, length};
+ghost use Rattle.alphabet.specs.declared.events.Event.{Event};
+ghost use Rattle.closures.specs.Label.TheVariants as label;
+ghost use Rattle.closures.specs.Cuts.{CutOf};
+ghost use Rattle.term.specs.Limits.{Advance, most_states};
+ghost use Rattle.term.specs.Proc.{bodies_of, root};
+ghost use Rattle.term.specs.Specs.{IsClosed};
+ghost use Rattle.closures.specs.Looks.{look, AllBelow};
+ghost use Rattle.closures.specs.Belonging.{MeetsLimit};
+ghost use Rattle.closures.specs.Closing.{AllShallow, Among, IsClosure, Opens, TargetOf};
+ghost use Rattle.spaces.specs.Answers.{HasMembers, IsAnswer, IsClosedSet};
+ghost use Rattle.spaces.specs.Found.{HasList, members, shown};
+ghost use Rattle.spaces.specs.Known.{AreFactsOf, lists_of};
+ghost use Rattle.spaces.specs.Spaces.{Belongs, GrewFrom, IsSetOf, states};
+
+use crate::facts::{SetFacts, facts_of};
+use crate::states::StateSet;
+use alphabet::Event;
+use closures::{AfterFault, Transitions, close, first_level};
+use indexmap::IndexMap;
+use std::alloc::{AllocError, Allocator};
+use std::hash::{BuildHasherDefault, FoldHasher};
+use std::marker::Model;
+use term::Spec;
+
+pub(crate) type Hashing = BuildHasherDefault<FoldHasher>;
+
+/// The numbers of the members of each set, with what is known of it.
+type Lists<A> = IndexMap<Vec<u32, A>, SetFacts<A>, Hashing, A>;
+
+/// The most sets.
+const MOST_SETS: usize = 4_294_967_295;
+
+/// The sets of states of a specification that were found so far, each once.
+#[derive(Drop)]
+pub(crate) struct FoundSets<A: Allocator> {
+    spec: Spec<A>,
+    all: Transitions<A>,
+    sets: Lists<A>,
+    alloc: A,
+}
+
+impl<A: Allocator> Model for FoundSets<A> {
+    ghost use Rattle.spaces.specs.Found.{Found, found_code};
+    ghost use Rattle.spaces.specs.Known.{IsSound, found};
+
+    ghost Value = { Found };
+
+    ghost coded = { found_code };
+
+    ghost view = { λ s. found s.spec s.all.table s.sets.entries };
+
+    ghost invariant = { λ s. IsSound s.spec s.all s.sets.entries };
+}
+
+impl<A: Allocator + Copy> FoundSets<A> {
+    /// No sets yet, of this specification, whose bodies stand in the table.
+    pub(crate) fn new(alloc: A, spec: Spec<A>, all: Transitions<A>) -> FoundSets<A>
+        requires { all.bodies ≡ spec.bodies }
+        ensures spec { result.spec ≡ spec }
+        ensures empty { result.sets ≡ [] }
+    {
+        // A specification is closed: a clause of its own says so.
+        let _bodies = spec.bodies();
+        FoundSets {
+            spec,
+            all,
+            sets: IndexMap::new(alloc),
+            alloc,
+        }
+    }
+
+    /// The set of all that hidden steps reach from the root's name.
+    pub(crate) fn opening(&mut self) -> Result<StateSet, AfterFault>
+        ensures set { IfOk result (IsClosedSet (shown self.new) (Among (root ∷ []))) }
+        ensures limit { IfErr result (MeetsLimit (bodies_of self.old.spec.bodies) (Among (root ∷ []))) }
+        ensures grown { GrewFrom (shown self.old) (shown self.new) }
+    {
+        let first = self.root_alone()?;
+        self.closed_set(first)
+    }
+
+    /// The number of the root's name, as a list.
+    fn root_alone(&mut self) -> Result<Vec<u32, A>, AllocError>
+        ensures below { IfOk result (λ first. AllBelow (length self.new.table.processes) first.items) }
+        ensures root { IfOk result (λ first. look self.new.table.processes first.items ≡ root ∷ []) }
+        ensures opens { IfOk result (λ first. Opens self.new.spec (look self.new.table.processes first.items)) }
+        ensures grown { GrewFrom (shown self.old) (shown self.new) }
+    {
+        let root = self.all.root()?;
+        let mut first = Vec::new(self.alloc);
+        first.push(root)?;
+        Ok(first)
+    }
+
+    /// What comes of the set by this event: none where no trace goes on so.
+    pub(crate) fn find(
+        &mut self,
+        set: StateSet,
+        event: Event,
+    ) -> Result<Option<StateSet>, AfterFault>
+        requires { IsSetOf (shown self.old) set }
+        ensures answer { IfOk result (IsAnswer (shown self.new) set event) }
+        ensures limit { (u : List Event) → Belongs (shown self.old) set u → IfErr result (MeetsLimit (bodies_of self.old.spec.bodies) (Advance (bodies_of self.old.spec.bodies) u event)) }
+        ensures grown { GrewFrom (shown self.old) (shown self.new) }
+    {
+        let first = match self.level_after(set, event) {
+            Ok(first) => first,
+            Err(fault) => return Err(fault),
+        };
+        if first.is_empty() {
+            return Ok(None);
+        }
+        match self.closed_set(first) {
+            Ok(next) => Ok(Some(next)),
+            Err(fault) => Err(fault),
+        }
+    }
+
+    /// The targets of the event from the set's members.
+    fn level_after(&mut self, set: StateSet, event: Event) -> Result<Vec<u32, A>, AfterFault>
+        requires { IsSetOf (shown self.old) set }
+        ensures below { IfOk result (λ first. AllBelow (length self.new.table.processes) first.items) }
+        ensures opens { IfOk result (λ first. Opens self.new.spec (look self.new.table.processes first.items)) }
+        ensures cut { IfOk result (λ first. CutOf (TargetOf (bodies_of self.old.spec.bodies) (states (shown self.old) set) (label.Event event)) most_states (look self.new.table.processes first.items)) }
+        ensures limit { IfErr result (MeetsLimit (bodies_of self.old.spec.bodies) (TargetOf (bodies_of self.old.spec.bodies) (states (shown self.old) set) (label.Event event))) }
+        ensures grown { GrewFrom (shown self.old) (shown self.new) }
+    {
+        let numbers = numbers_of(&self.sets, set);
+        first_level(&self.spec, &mut self.all, self.alloc, numbers, event)
+    }
+
+    /// The set of all that hidden steps reach from these processes.
+    fn closed_set(&mut self, first: Vec<u32, A>) -> Result<StateSet, AfterFault>
+        requires below { AllBelow (length self.old.table.processes) first.items }
+        requires first { Opens self.old.spec (look self.old.table.processes first.items) }
+        ensures set { IfOk result (IsClosedSet (shown self.new) (Among (look self.old.table.processes first.items))) }
+        ensures limit { IfErr result (MeetsLimit (bodies_of self.old.spec.bodies) (Among (look self.old.table.processes first.items))) }
+        ensures grown { GrewFrom (shown self.old) (shown self.new) }
+    {
+        let all = match self.closure(first) {
+            Ok(all) => all,
+            Err(fault) => return Err(fault),
+        };
+        let set = self.put(all)?;
+        Ok(set)
+    }
+
+    /// The numbers of all that hidden steps reach from these processes.
+    fn closure(&mut self, first: Vec<u32, A>) -> Result<Vec<u32, A>, AfterFault>
+        requires below { AllBelow (length self.old.table.processes) first.items }
+        requires first { Opens self.old.spec (look self.old.table.processes first.items) }
+        ensures below { IfOk result (λ all. AllBelow (length self.new.table.processes) all.items) }
+        ensures closure { IfOk result (λ all. IsClosure (bodies_of self.old.spec.bodies) (Among (look self.old.table.processes first.items)) (look self.new.table.processes all.items)) }
+        ensures limit { IfErr result (MeetsLimit (bodies_of self.old.spec.bodies) (Among (look self.old.table.processes first.items))) }
+        ensures grown { GrewFrom (shown self.old) (shown self.new) }
+    {
+        close(&self.spec, &mut self.all, self.alloc, first)
+    }
+
+    /// The set with these members.
+    fn put(&mut self, numbers: Vec<u32, A>) -> Result<StateSet, AllocError>
+        requires below { AllBelow (length self.old.table.processes) numbers.items }
+        requires shallow { AllShallow (look self.old.table.processes numbers.items) }
+        ensures set { IfOk result (HasMembers (shown self.new) (look self.old.table.processes numbers.items)) }
+        ensures grown { GrewFrom (shown self.old) (shown self.new) }
+    {
+        let mut sorted = numbers;
+        sorted.sort_unstable();
+        match self.set_of(&sorted) {
+            Some(set) => Ok(set),
+            None => match self.facts_of_new(&sorted) {
+                Ok(facts) => self.put_new(sorted, facts),
+                Err(refused) => Err(refused),
+            },
+        }
+    }
+
+    /// The set of which this list is stored.
+    fn set_of(&self, list: &[u32]) -> Option<StateSet>
+        ensures found { IfSome result (HasList (shown self.now) (look self.now.table.processes list.now)) }
+        ensures absent { IfNone result ((set : ℕ) → set < length self.now.sets → members self.now set ≡ list.now → ⊥) }
+    {
+        match self.sets.get_index_of(list) {
+            Some(place) => Some(StateSet::at(place as u32)),
+            None => None,
+        }
+    }
+
+    /// What is known of a set that isn't stored yet. Refused where no number is left for it.
+    fn facts_of_new(&self, numbers: &[u32]) -> Result<SetFacts<A>, AllocError>
+        requires { AllBelow (length self.now.table.processes) numbers.now }
+        ensures facts { IfOk result (λ facts. AreFactsOf facts (look self.now.table.processes numbers.now)) }
+        ensures few { OnOk result (length self.now.sets + 1 < 2 ^ 32) }
+    {
+        if self.sets.len() >= MOST_SETS {
+            return Err(AllocError);
+        }
+        facts_of(&self.all, self.alloc, numbers)
+    }
+
+    /// A set that isn't stored yet, of which this is known.
+    fn put_new(&mut self, list: Vec<u32, A>, facts: SetFacts<A>) -> Result<StateSet, AllocError>
+        requires below { AllBelow (length self.old.table.processes) list.items }
+        requires shallow { AllShallow (look self.old.table.processes list.items) }
+        requires facts { AreFactsOf facts (look self.old.table.processes list.items) }
+        requires few { length self.old.sets + 1 < 2 ^ 32 }
+        requires new { (set : ℕ) → set < length self.old.sets → members self.old set ≡ list.items → ⊥ }
+        ensures set { IfOk result (HasList (shown self.new) (look self.old.table.processes list.items)) }
+        ensures grown { GrewFrom (shown self.old) (shown self.new) }
+    {
+        let number = self.sets.len();
+        self.sets.insert(list, facts)?;
+        Ok(StateSet::at(number as u32))
+    }
+}
+
+impl<A: Allocator> FoundSets<A> {
+    /// The specification. Takes no memory.
+    pub(crate) fn spec(&self) -> &Spec<A>
+        ensures spec { result.now ≡ self.now.spec }
+        ensures closed { IsClosed self.now.spec }
+    {
+        &self.spec
+    }
+
+    /// What is known of the set; none where there is no such set.
+    pub(crate) fn facts(&self, set: StateSet) -> Option<&SetFacts<A>>
+        ensures known { IfSome result (λ facts. AreFactsOf facts.now (states (shown self.now) set)) }
+        ensures none { IfNone result (length (shown self.now).sets ≤ set) }
+    {
+        match self.sets.get_index(set.number() as usize) {
+            Some((_, facts)) => Some(facts),
+            None => None,
+        }
+    }
+}
+
+/// The numbers of the set's members.
+fn numbers_of<A: Allocator>(sets: &Lists<A>, set: StateSet) -> &[u32]
+    requires { set < length sets.now.entries }
+    ensures { result.now ≡ get_or (lists_of sets.now.entries) set [] }
+{
+    match sets.get_index(set.number() as usize) {
+        Some((numbers, _)) => numbers.as_slice(),
+        None => &[],
+    }
+}

@@ -1,0 +1,152 @@
+//! The space of a specification's sets of states, with the answers that it remembers.
+
+ghost use Rattle.std.specs.Prelude.{◌≡◌, ◌<◌, ◌≤◌, ◌∷◌, [], IfErr, IfNone, IfOk, IfSome, List, length};
+ghost use Rattle.alphabet.specs.declared.events.Event.{Event};
+ghost use Rattle.term.specs.Limits.{Advance};
+ghost use Rattle.term.specs.Proc.{bodies_of, root};
+ghost use Rattle.term.specs.Specs.{IsClosed};
+ghost use Rattle.closures.specs.Belonging.{MeetsLimit};
+ghost use Rattle.closures.specs.Closing.{Among};
+ghost use Rattle.spaces.specs.Answers.{IsAnswer, IsClosedSet};
+ghost use Rattle.spaces.specs.Known.{AreFactsOf};
+ghost use Rattle.spaces.specs.Spaces.{Belongs, GrewFrom, IsSetOf, most_remembered, states};
+
+use crate::facts::SetFacts;
+use crate::found::{FoundSets, Hashing};
+use crate::keys::key_of;
+use crate::states::StateSet;
+use alphabet::Event;
+use closures::{AfterFault, Transitions};
+use indexmap::IndexMap;
+use std::alloc::{AllocError, Allocator};
+use std::marker::Model;
+use term::Spec;
+
+/// The most answers that are remembered.
+pub const MOST_REMEMBERED: usize = 65_536;
+
+/// The sets of states of a specification, each once. What comes of a set by an event is found once, and remembered as
+/// long as there is room.
+#[derive(Drop)]
+pub struct Space<A: Allocator> {
+    found: FoundSets<A>,
+    answers: IndexMap<u64, Option<StateSet>, Hashing, A>,
+}
+
+impl<A: Allocator> Model for Space<A> {
+    ghost use Rattle.spaces.specs.Answers.{IsMemory};
+    ghost use Rattle.spaces.specs.Found.{shown};
+    ghost use Rattle.spaces.specs.Spaces.{Spaced, spaced_code};
+
+    ghost Value = { Spaced };
+
+    ghost coded = { spaced_code };
+
+    ghost view = { λ s. shown s.found };
+
+    ghost invariant = { λ s. IsMemory (shown s.found) s.answers.entries };
+}
+
+impl<A: Allocator + Copy> Space<A> {
+    /// The space of this specification, without sets. It grows in memory of `alloc`.
+    pub fn new(alloc: A, spec: Spec<A>) -> Result<Space<A>, AllocError>
+        ensures { IfOk result (λ space. space.spec ≡ spec) }
+    {
+        match Transitions::new(alloc, &spec) {
+            Ok(all) => Ok(Space {
+                found: FoundSets::new(alloc, spec, all),
+                answers: IndexMap::new(alloc),
+            }),
+            Err(refused) => Err(refused),
+        }
+    }
+
+    /// The set of all that hidden steps reach from the root's name.
+    pub(crate) fn opening(&mut self) -> Result<StateSet, AfterFault>
+        ensures set { IfOk result (IsClosedSet self.new (Among (root ∷ []))) }
+        ensures limit { IfErr result (MeetsLimit (bodies_of self.old.spec.bodies) (Among (root ∷ []))) }
+        ensures grown { GrewFrom self.old self.new }
+    {
+        self.found.opening()
+    }
+
+    /// What comes of the set by this event: none where no trace goes on so. What was asked before is remembered.
+    pub(crate) fn answer(
+        &mut self,
+        set: StateSet,
+        event: Event,
+    ) -> Result<Option<StateSet>, AfterFault>
+        requires { IsSetOf self.old set }
+        ensures answer { IfOk result (IsAnswer self.new set event) }
+        ensures limit { (u : List Event) → Belongs self.old set u → IfErr result (MeetsLimit (bodies_of self.old.spec.bodies) (Advance (bodies_of self.old.spec.bodies) u event)) }
+        ensures grown { GrewFrom self.old self.new }
+    {
+        if let Some(answer) = self.recall(set, event) {
+            return Ok(answer);
+        }
+        match self.find(set, event) {
+            Ok(answer) => {
+                self.remember(set, event, &answer);
+                Ok(answer)
+            }
+            Err(fault) => Err(fault),
+        }
+    }
+
+    /// The same without what is remembered.
+    fn find(&mut self, set: StateSet, event: Event) -> Result<Option<StateSet>, AfterFault>
+        requires { IsSetOf self.old set }
+        ensures answer { IfOk result (IsAnswer self.new set event) }
+        ensures limit { (u : List Event) → Belongs self.old set u → IfErr result (MeetsLimit (bodies_of self.old.spec.bodies) (Advance (bodies_of self.old.spec.bodies) u event)) }
+        ensures grown { GrewFrom self.old self.new }
+    {
+        self.found.find(set, event)
+    }
+
+    /// Remembers what comes of the set by the event, unless enough is remembered or memory is refused.
+    fn remember(&mut self, set: StateSet, event: Event, answer: &Option<StateSet>)
+        requires here { set < length self.old.sets }
+        requires answer { IsAnswer self.old set event answer.now }
+        ensures { self.new ≡ self.old }
+    {
+        if self.answers.len() >= MOST_REMEMBERED {
+            return;
+        }
+        let _ = self.answers.insert(key_of(set, event), *answer);
+    }
+}
+
+impl<A: Allocator> Space<A> {
+    /// The specification. Takes no memory.
+    pub fn spec(&self) -> &Spec<A>
+        ensures spec { result.now ≡ self.now.spec }
+        ensures closed { IsClosed self.now.spec }
+    {
+        self.found.spec()
+    }
+
+    /// How many answers are remembered. Takes no memory.
+    pub fn remembered(&self) -> usize
+        ensures { result ≤ most_remembered }
+    {
+        self.answers.len()
+    }
+
+    /// What is remembered of the set and the event.
+    fn recall(&self, set: StateSet, event: Event) -> Option<Option<StateSet>>
+        ensures { IfSome result (IsAnswer self.now set event) }
+    {
+        match self.answers.get(&key_of(set, event)) {
+            Some(answer) => Some(*answer),
+            None => None,
+        }
+    }
+
+    /// What is known of the set; none where there is no such set.
+    pub(crate) fn facts(&self, set: StateSet) -> Option<&SetFacts<A>>
+        ensures known { IfSome result (λ facts. AreFactsOf facts.now (states self.now set)) }
+        ensures none { IfNone result (length self.now.sets ≤ set) }
+    {
+        self.found.facts(set)
+    }
+}

@@ -1,0 +1,101 @@
+//! Sets of states.
+
+ghost use Rattle.std.specs.Prelude.{◌≡◌, ◌↔◌, ◌++◌, [], ◌∷◌, List, IfOk, IfErr, IfSome, IfNone, OnOk, IsTrue};
+ghost use Rattle.alphabet.specs.declared.events.Event.{Event};
+ghost use Rattle.alphabet.specs.EventSets.{member};
+ghost use Rattle.term.specs.Limits.{Advance, NoLimit, Opening};
+ghost use Rattle.term.specs.Meaning.{Failure, Trace};
+ghost use Rattle.term.specs.Proc.{bodies_of, root};
+ghost use Rattle.closures.specs.Belonging.{MeetsLimit};
+ghost use Rattle.spaces.specs.Spaces.{Belongs, GrewFrom, IsSetOf};
+
+use crate::space::Space;
+use alphabet::{Event, EventSet};
+use closures::AfterFault;
+use std::alloc::Allocator;
+use std::marker::Model;
+
+/// The processes in which the root may be after a trace, with hidden steps anywhere, also at the end: a set of a space, by
+/// its number there.
+#[derive(Clone, Copy)]
+pub struct StateSet {
+    number: u32,
+}
+
+impl Model for StateSet {
+    ghost use Rattle.std.specs.Prelude.{ℕ};
+
+    ghost Value = { ℕ };
+
+    ghost view = { λ s. s.number };
+
+    ghost inverse = { λ n. record { number = n } };
+}
+
+impl StateSet {
+    /// The set with this number.
+    pub(crate) fn at(number: u32) -> StateSet
+        ensures { result ≡ number }
+    {
+        StateSet { number }
+    }
+
+    /// The number of the set.
+    pub(crate) fn number(self) -> u32
+        ensures { result ≡ self }
+    {
+        self.number
+    }
+
+    /// The set of the empty trace. It is refused where a level from the root's name on meets a limit: the first that
+    /// does so decides, by `Depth` where it holds a process that is too deep, else by `States`.
+    pub fn start<A: Allocator + Copy>(space: &mut Space<A>) -> Result<StateSet, AfterFault>
+        ensures belongs { IfOk result (λ set. Belongs space.new set []) }
+        ensures within { OnOk result (NoLimit (bodies_of space.old.spec.bodies) Opening) }
+        ensures limit { IfErr result (MeetsLimit (bodies_of space.old.spec.bodies) Opening) }
+        ensures space { GrewFrom space.old space.new }
+    {
+        space.opening()
+    }
+
+    /// The set after this event more. The set is one of this space. None where no trace goes on so. It is refused where
+    /// a level from the event's targets on meets a limit: the first that does so decides, by `Depth` where it holds a
+    /// process that is too deep, else by `States`. What was asked before is remembered.
+    pub fn advance<A: Allocator + Copy>(
+        self,
+        space: &mut Space<A>,
+        event: Event,
+    ) -> Result<Option<StateSet>, AfterFault>
+        requires { IsSetOf space.old self }
+
+        // For each trace to which the set belongs.
+        ensures none { (u : List Event) → Belongs space.old self u → IfOk result (λ next. IfNone next (Trace (bodies_of space.old.spec.bodies) root (u ++ event ∷ []) → ⊥)) }
+        ensures some { (u : List Event) → Belongs space.old self u → IfOk result (λ next. IfSome next (λ set. Trace (bodies_of space.old.spec.bodies) root (u ++ event ∷ []) × Belongs space.new set (u ++ event ∷ []))) }
+        ensures within { (u : List Event) → Belongs space.old self u → OnOk result (NoLimit (bodies_of space.old.spec.bodies) (Advance (bodies_of space.old.spec.bodies) u event)) }
+        ensures limit { (u : List Event) → Belongs space.old self u → IfErr result (MeetsLimit (bodies_of space.old.spec.bodies) (Advance (bodies_of space.old.spec.bodies) u event)) }
+        ensures space { GrewFrom space.old space.new }
+    {
+        space.answer(self, event)
+    }
+
+    /// Whether the events of this set are refused after the trace: some state offers none of them and has no hidden
+    /// step, or may terminate while tick is not among them. The set is one of this space. Takes no memory.
+    pub fn refuses<A: Allocator>(self, space: &Space<A>, set: &EventSet) -> bool
+        ensures { (u : List Event) → Belongs space.now self u → (IsTrue result ↔ Failure (bodies_of space.now.spec.bodies) root u (member set.now)) }
+    {
+        match space.facts(self) {
+            Some(facts) => facts.refuse(set),
+            None => false,
+        }
+    }
+
+    /// The events that go on from the trace, tick among them. The set is one of this space. Takes no memory.
+    pub fn next<A: Allocator>(self, space: &Space<A>) -> EventSet
+        ensures { (u : List Event) → Belongs space.now self u → (x : Event) → IsTrue (member result x) ↔ Trace (bodies_of space.now.spec.bodies) root (u ++ x ∷ []) }
+    {
+        match space.facts(self) {
+            Some(facts) => facts.next,
+            None => EventSet::empty(),
+        }
+    }
+}

@@ -1,0 +1,100 @@
+#!/usr/bin/env python3
+"""What the built program shows on a terminal below a fault, and that it shows nothing of it elsewhere.
+
+    tests/terminal.py [--program FILE]
+
+Standard error is a pseudo-terminal of its own. Without --program the program is crates/cspwatch/out/cspwatch. The last line
+is `N passed, M failed`.
+"""
+import argparse
+import os
+import pty
+import subprocess
+import sys
+import tempfile
+
+ROOT = os.path.dirname(os.path.dirname(os.path.abspath(__file__)))
+PROGRAM = os.path.join(ROOT, "crates", "cspwatch", "out", "cspwatch")
+SECONDS = 60
+
+UNKNOWN = "        a name isn't declared, or a value depends on itself"
+NO_TOKEN = "        no token begins so, or a comment isn't closed"
+SERVE = ["serve", "p.csp", "P", "j", "--listen", "127.0.0.1:0", "--connections"]
+SERVE_EXAMPLE = "Example: cspwatch serve p.csp P run.journal --listen 127.0.0.1:7000 --connections 2"
+GOOD, UNDECLARED = b"channel a\nP = a -> STOP\n", b"channel a\nP = a -> Q\n"
+
+# What is tried, the command's words, the script's bytes, the fault on standard error wherever that goes (None: any text), what
+# a terminal shows below it, and the exit status.
+ROWS = [
+    ("a name that isn't declared", ["check", "p.csp", "P"], UNDECLARED, ["p.csp:2: 4 unknown"], ["    2 | P = a -> Q", UNKNOWN], 3),
+    ("the same when printing", ["print", "p.csp", "P"], UNDECLARED, ["p.csp:2: 4 unknown"], ["    2 | P = a -> Q", UNKNOWN], 3),
+    ("the same when serving", SERVE + ["1"], UNDECLARED, ["p.csp:2: 4 unknown"], ["    2 | P = a -> Q", UNKNOWN], 3),
+    ("a line without an end", ["check", "p.csp", "P"], b"channel a\n\nP = a -> Q",
+     ["p.csp:3: 4 unknown"], ["    3 | P = a -> Q", UNKNOWN], 3),
+    ("a line that ends with a carriage return", ["check", "p.csp", "P"], b"channel a\r\nP = a -> Q\r\n",
+     ["p.csp:2: 4 unknown"], ["    2 | P = a -> Q", UNKNOWN], 3),
+    ("a control character isn't sent to the terminal", ["check", "p.csp", "P"], b"channel a\nP =\ta -> \x1b[2J STOP\n",
+     ["p.csp:2: 1 byte"], ["    2 | P = a -> ?[2J STOP", "        a control character, or one that is not ASCII"], 3),
+    ("two hundred bytes of a long line", ["check", "p.csp", "P"], b"channel a\nP = $" + b" " * 300 + b"STOP\n",
+     ["p.csp:2: 2 token"], ["    2 | P = $" + " " * 195, NO_TOKEN], 3),
+    ("no line for a fault of the whole script", ["check", "p.csp", "Q"], GOOD,
+     ["p.csp:1: 12 process"], ["        the script defines no process of this name"], 3),
+    ("an example of the command that was used wrongly", SERVE + ["0"], GOOD, None, [SERVE_EXAMPLE], 2),
+    ("the same for a wrong address", SERVE[:5] + ["10.0.0.1:80", "--connections", "1"], GOOD, None, [SERVE_EXAMPLE], 2),
+    ("the same for a word that is missing", ["check", "p.csp"], GOOD, None,
+     ["Example: printf 'E a\\nR a b\\n' | cspwatch check p.csp P"], 2),
+    ("no example where no command was named", ["judge"], GOOD, None, [], 2),
+    ("nothing below other faults", ["replay", "j"], GOOD, ["j: cannot read"], [], 5),
+]
+
+
+def read_all(end):
+    """What was written to the other end of a pseudo-terminal, after its last writer has closed it."""
+    parts = []
+    while True:
+        try:
+            part = os.read(end, 65536)
+        except OSError:
+            break
+        if not part:
+            break
+        parts.append(part)
+    return b"".join(parts).decode("utf-8", "replace").replace("\r\n", "\n").splitlines()
+
+
+def on_terminal(command, folder):
+    mine, other = pty.openpty()
+    child = subprocess.Popen(command, cwd=folder, stdin=subprocess.DEVNULL, stdout=subprocess.DEVNULL, stderr=other)
+    os.close(other)
+    lines = read_all(mine)
+    os.close(mine)
+    return lines, child.wait(timeout=SECONDS)
+
+
+def elsewhere(command, folder):
+    done = subprocess.run(command, cwd=folder, stdin=subprocess.DEVNULL, capture_output=True, timeout=SECONDS)
+    return done.stderr.decode("utf-8", "replace").splitlines(), done.returncode
+
+
+def main():
+    parser = argparse.ArgumentParser(description=__doc__.split("\n")[0])
+    parser.add_argument("--program", default=PROGRAM)
+    program = os.path.abspath(parser.parse_args().program)
+    passed = failed = 0
+    for name, words, script, fault, below, status in ROWS:
+        with tempfile.TemporaryDirectory() as folder:
+            with open(os.path.join(folder, "p.csp"), "wb") as file:
+                file.write(script)
+            shown = on_terminal([program] + words, folder)
+            plain = elsewhere([program] + words, folder)
+        fault = fault or plain[0]
+        if fault and shown == (fault + below, status) and plain == (fault, status):
+            passed += 1
+        else:
+            failed += 1
+            print("%s: on a terminal %r, elsewhere %r" % (name, shown, plain))
+    print("%d passed, %d failed" % (passed, failed))
+    sys.exit(1 if failed else 0)
+
+
+main()
