@@ -6,4 +6,6 @@ mod ends;
 #[cfg(test)]
 mod gate;
 #[cfg(test)]
+mod meeting;
+#[cfg(test)]
 mod tests;

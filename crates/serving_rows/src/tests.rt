@@ -2,7 +2,8 @@
 
 use crate::ends::{Listed, Sent};
 use crate::gate::{Stop, Turns};
-use connections::{Account, Ending, Served, part, serve_all};
+use crate::meeting::{Client, Meeting};
+use connections::{Account, Ending, Gate, Served, part, serve_all};
 use std::alloc::Global;
 use std::sync::Wait;
 use std::test::*;
@@ -52,27 +53,32 @@ const ENDINGS: [Ending; 5] = [
     Ending::Refused(Fault::Seats),
 ];
 
-// How the connections ended, and what came of them together.
-fn ended<T: Threads + Wait + Sync>(
+// Places after their connections.
+type Places<G> = Vec<<G as Gate>::Place, Global>;
+
+// The places, how the connections ended, and what came of them together.
+fn ended<T: Threads + Wait + Sync, G: Gate + Sync>(
     rt: &T,
     alloc: Global,
+    gate: &G,
     count: u8,
-) -> Result<(Vec<Ending, Global>, Account), Fail> {
+) -> Result<(Places<G>, Vec<Ending, Global>, Account), Fail> {
     let (Ok(mut places), Ok(mut endings)) = (
         Vec::with_capacity(alloc, usize::from(count)),
         Vec::with_capacity(alloc, usize::from(count)),
     ) else {
         return Err(Fail::new("there is room"));
     };
-    let gate = Turns::new(&TURNS);
-    match serve_all(rt, alloc, Listed::new(&CLIENTS), &gate, count) {
-        Ok(Served {
-            outcomes,
-            accept_failed,
-        }) => {
+    match serve_all(rt, alloc, Listed::new(&CLIENTS), gate, count) {
+        Ok(
+            Served {
+                outcomes,
+                accept_failed,
+            },
+        ) => {
             part(outcomes, &mut places, &mut endings);
             let account = Account::of(&endings, accept_failed);
-            Ok((endings, account))
+            Ok((places, endings, account))
         }
         Err(_) => Err(Fail::new("connections are served")),
     }
@@ -81,12 +87,20 @@ fn ended<T: Threads + Wait + Sync>(
 // Six connections are asked for, and the sixth doesn't come.
 #[test]
 fn each_connection_is_reported(rt: HostRuntime) -> Result<(), Fail> {
-    let (endings, account) = ended(&rt, rt.alloc(), 6)?;
+    let (_, endings, account) = ended(&rt, rt.alloc(), &Turns::new(&TURNS), 6)?;
     let expected = Account {
         rejected: true,
         limit: true,
         accept_failed: true,
     };
     assert!(rt; endings.as_slice() == ENDINGS.as_slice() && account == expected);
+    Ok(())
+}
+
+// Two connections are served at the same time: the first is over only after the second.
+#[test]
+fn two_clients_meet(rt: HostRuntime) -> Result<(), Fail> {
+    let (places, _, _) = ended(&rt, rt.alloc(), &Meeting::new(&rt), 2)?;
+    assert!(rt; places.as_slice() == [Client::Met, Client::Second].as_slice());
     Ok(())
 }
