@@ -24,7 +24,7 @@ use Rattle.after.proofs.Keeping.{event-depth}
 use Rattle.after.proofs.Lists.{In-at}
 use Rattle.after.proofs.Expanding.{IsOnTheWay, cut-put, cut-told, target-more, target-less, way-cut, way-goes-on}
 use Rattle.closures.specs.Targets.{HasPutTargets}
-use Rattle.closures.proofs.Lying.{lies-small}
+use Rattle.step.proofs.Lying.{lies-small}
 
 pub In-taken : (ps : List Proc) (ns : List ℕ) (n : ℕ) (Q : Proc) → In Q (look ps (take n ns)) → In Q (look ps ns)
 In-taken ps ns n Q i =

@@ -1,5 +1,4 @@
 pub mod Putting
-pub mod Lying
 pub mod Levels
 -- Of the layers below, for those above.
 pub use Rattle.after.proofs.Advances

@@ -7,3 +7,4 @@ pub mod Offered
 pub mod Rest
 pub mod Renamed
 pub mod Settling
+pub mod Lying

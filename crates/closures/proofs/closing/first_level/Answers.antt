@@ -10,7 +10,7 @@ use Rattle.nodes.specs.Looks.{look}
 use Rattle.nodes.proofs.Looking.{below-at}
 use Rattle.transitions.proofs.Keeping.{at-kept, within-kept, hides-kept, kept-on}
 use Rattle.after.specs.Closing.{TargetOf}
-use Rattle.closures.proofs.Lying.{lies-small}
+use Rattle.step.proofs.Lying.{lies-small}
 use Rattle.closures.proofs.Putting.{look-more}
 use Rattle.closures.proofs.Levels.{In-look, first-put, first-many}
 use Rattle.closures.proofs.closing.first_level.Goals as goal

@@ -1,7 +1,7 @@
 use Rattle.std.proofs.Common.{◌≤◌, length}
 use Rattle.alphabet.specs.Channels.{event_count}
 use Rattle.term.specs.Proc.{proc}
-use Rattle.part_scenarios.proofs.Lying.{lies-small}
+use Rattle.step.proofs.Lying.{lies-small}
 use Rattle.part_scenarios.proofs.numbers.put_numbered.Goals as goal
 
 pub put_twice-requires : goal.put_twice-requires
