@@ -4,6 +4,7 @@ ghost use Rattle.command_line.specs.Statuses.{run_exit};
 
 use crate::commands::Service;
 use crate::forms::put_out;
+use crate::host::Host;
 use crate::journal_files::{journal_at, keep_name};
 use crate::scripts::{tell_read, text_of};
 use crate::telling::{tell_fault, tell_open};
@@ -14,10 +15,8 @@ use serving::{Account, Closing, RunStatus, TcpAccept, open, serve_session};
 use std::alloc::{AllocError, Global};
 use std::fs::File;
 use std::io::{IsTerminal, Write};
-use std::net::{Net, SocketAddr, TcpListener, TcpStream};
+use std::net::{SocketAddr, TcpListener};
 use std::rt::Files;
-use std::sync::Wait;
-use std::thread::Threads;
 
 // What is left of a run once its connections are over: the counts of its history, whether the journal failed in this run, and
 // what came of the connections.
@@ -67,10 +66,7 @@ fn tell_ended<O: Write, E: Write>(
 }
 
 // Listens at the address.
-fn listener_of<R: Net<Stream = TcpStream, Listener = TcpListener>>(
-    rt: &R,
-    service: &Service<'_>,
-) -> Option<(TcpListener, SocketAddr)> {
+fn listener_of<R: Host>(rt: &R, service: &Service<'_>) -> Option<(TcpListener, SocketAddr)> {
     let listener = TcpListener::bind(rt, SocketAddr::V4(service.address)).ok()?;
     let address = listener.local_addr().ok()?;
     Some((listener, address))
@@ -78,11 +74,12 @@ fn listener_of<R: Net<Stream = TcpStream, Listener = TcpListener>>(
 
 // Puts the journal's name on the device, listens at the address, and says where; or answers the status of the fault that was
 // reported.
-fn listen_at<
-    R: Files<File = File> + Net<Stream = TcpStream, Listener = TcpListener>,
-    O: Write,
-    E: Write,
->(rt: &R, service: &Service<'_>, output: &mut O, errors: &mut E) -> Result<TcpListener, Exit> {
+fn listen_at<R: Host, O: Write, E: Write>(
+    rt: &R,
+    service: &Service<'_>,
+    output: &mut O,
+    errors: &mut E,
+) -> Result<TcpListener, Exit> {
     if keep_name(rt, service.journal).is_err() {
         return Err(tell_fault(errors, service.journal, "cannot write", Exit::FileFailed));
     }
@@ -96,10 +93,7 @@ fn listen_at<
 }
 
 // Serves the connections of the listener at this session, and says what is left of the run.
-fn serve_to_end<
-    D: Disk + Drop + Send,
-    R: Net<Stream = TcpStream, Listener = TcpListener> + AllocGlobal + Threads + Wait + Sync,
->(
+fn serve_to_end<D: Disk + Drop + Send, R: Host>(
     rt: &R,
     service: &Service<'_>,
     session: Session<D, Global>,
@@ -117,17 +111,7 @@ fn serve_to_end<
 }
 
 // Serves the connections of the address at this session, and answers the exit status.
-fn serve_at<
-    D: Disk + Drop + Send,
-    R: Files<File = File>
-        + Net<Stream = TcpStream, Listener = TcpListener>
-        + AllocGlobal
-        + Threads
-        + Wait
-        + Sync,
-    O: Write,
-    E: Write,
->(
+fn serve_at<D: Disk + Drop + Send, R: Host, O: Write, E: Write>(
     rt: &R,
     service: &Service<'_>,
     session: Session<D, Global>,
@@ -145,7 +129,7 @@ fn serve_at<
 }
 
 // The session of the script on the journal in the file, or the status of the fault that was reported.
-fn session_at<R: Files<File = File> + AllocGlobal, E: Write + IsTerminal>(
+fn session_at<R: Host, E: Write + IsTerminal>(
     rt: &R,
     service: &Service<'_>,
     script: &[u8],
@@ -165,16 +149,12 @@ fn session_at<R: Files<File = File> + AllocGlobal, E: Write + IsTerminal>(
 
 /// Judges the reports of so many connections by the process of the script in the file, each connection at a seat of its own of
 /// one session, whose journal is in a file of its own, and answers the exit status.
-pub(crate) fn serve<
-    R: Files<File = File>
-        + Net<Stream = TcpStream, Listener = TcpListener>
-        + AllocGlobal
-        + Threads
-        + Wait
-        + Sync,
-    O: Write,
-    E: Write + IsTerminal,
->(rt: &R, service: &Service<'_>, output: &mut O, errors: &mut E) -> Exit {
+pub(crate) fn serve<R: Host, O: Write, E: Write + IsTerminal>(
+    rt: &R,
+    service: &Service<'_>,
+    output: &mut O,
+    errors: &mut E,
+) -> Exit {
     let script = match script_of(rt, service, errors) {
         Ok(script) => script,
         Err(exit) => return exit,
