@@ -33,6 +33,7 @@
 //! | `hidden TIMES in SCRIPT` | of the root's body in so many hidings of no event how deep and how large it is, the same as `targets` of its hidden steps, and a fault or the depths of the list that they are appended to, which has `SKIP` before |
 //! | `same TIMES in SCRIPT` | whether the first two bodies are the same in so many hidings of no event |
 //! | `bodies in SCRIPT` | how deep and how large each body is, and how many it equals; `?` where a copy differs |
+//! | `remembered NAME NAME .. in SCRIPT` | how many answers a space remembers after these events from the root on, each from the set before it, and after the same events once more |
 //! | `fault_text CRATE NAME` | a fault's number and word, and its text |
 //! | `requests K` | which of three requests for memory are granted where the K-th is refused, and whether one was refused |
 #![tactic(auto)]
@@ -43,6 +44,7 @@ mod faults;
 mod lines;
 mod numbers;
 mod playing;
+mod remembering;
 mod requests;
 mod rows;
 mod scripts;

@@ -1,5 +1,6 @@
 //! Rows over a script's text, which is read for the root `P`.
 
+use crate::remembering::put_remembered;
 use crate::rows::{bytes_of, put_word};
 use crate::{alphabets, steps};
 use alphabet::Alphabet;
@@ -54,6 +55,7 @@ fn put(
     text: &[u8],
 ) -> Result<(), AllocError> {
     match read(alloc, text, b"P") {
+        Ok(spec) if kind == "remembered" => put_remembered(into, alloc, spec, words),
         Ok(spec) => put_of_spec(into, alloc, kind, words, &spec),
         Err(error) => put_word(into, &error),
     }
