@@ -53,10 +53,12 @@ fn tell_end<E: Write>(errors: &mut E, name: &str, talked: Talked) -> Exit
 fn talked_of<D: Disk + Drop>(checked: Checked<D>) -> Talked
     ensures { (result.end ≡ checked.end) × (result.exit ≡ checked.exit) }
 {
-    Talked {
+    let talked = Talked {
         end: checked.end,
         exit: checked.exit,
-    }
+    };
+    drop(checked);
+    talked
 }
 
 // Judges the lines of the reader by what the script denotes for the process.

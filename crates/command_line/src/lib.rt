@@ -9,7 +9,6 @@ mod addresses;
 mod checking;
 mod commands;
 mod forms;
-mod host;
 mod journal_files;
 mod patient;
 mod replaying;
@@ -22,7 +21,6 @@ mod words;
 
 pub use checking::check;
 pub use forms::print;
-pub use host::Host;
 pub use replaying::replay;
 pub use running::run;
 pub use telling::tell_no_memory;

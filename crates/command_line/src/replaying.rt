@@ -24,11 +24,13 @@ fn line_of<D: Disk + Drop>(alloc: Global, disk: D) -> Result<(Vec<u8>, Exit), Se
     ensures { IfOk result (λ r. (h : List Entry) × (r.0.items ≡ status_text (status_of h false)) × (r.1 ≡ replay_exit h)) }
 {
     let Replayed {
-        session: _,
-        header: _,
+        session,
+        header,
         line,
         exit,
     } = program::replay(alloc, disk)?;
+    drop(session);
+    drop(header);
     Ok((line, exit))
 }
 

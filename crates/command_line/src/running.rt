@@ -6,24 +6,32 @@ ghost use Rattle.program.specs.Exits.{exit_code};
 use crate::checking::check;
 use crate::commands::{Wish, example_of, read_words};
 use crate::forms::print;
-use crate::host::Host;
 use crate::patient::Patient;
 use crate::replaying::replay;
 use crate::server::serve;
 use crate::telling::tell_use;
 use program::Exit;
 use std::convert::AsStr;
+use std::fs::File;
 use std::io::{IsTerminal, Read, Write};
+use std::net::{Net, TcpListener, TcpStream};
+use std::rt::Files;
+use std::sync::Wait;
+use std::thread::Threads;
 use wire::Plain;
 
 // Does what is wished for, and answers the exit status.
-fn fulfil<R: Host, I: Read, O: Write, E: Write + IsTerminal>(
-    rt: &R,
-    wish: &Wish<'_>,
-    input: &mut I,
-    output: &mut O,
-    errors: &mut E,
-) -> Exit {
+fn fulfil<
+    R: Files<File = File>
+        + Net<Stream = TcpStream, Listener = TcpListener>
+        + AllocGlobal
+        + Threads
+        + Wait
+        + Sync,
+    I: Read,
+    O: Write,
+    E: Write + IsTerminal,
+>(rt: &R, wish: &Wish<'_>, input: &mut I, output: &mut O, errors: &mut E) -> Exit {
     match wish {
         Wish::Check { spec, process } => {
             let mut reader = Plain::new(Patient::new(&mut *input));
@@ -37,13 +45,18 @@ fn fulfil<R: Host, I: Read, O: Write, E: Write + IsTerminal>(
 }
 
 // Reads the words, does what they ask for, and answers the exit status.
-fn fulfil_words<S: AsStr, R: Host, I: Read, O: Write, E: Write + IsTerminal>(
-    rt: &R,
-    words: &[S],
-    input: &mut I,
-    output: &mut O,
-    errors: &mut E,
-) -> Exit {
+fn fulfil_words<
+    S: AsStr,
+    R: Files<File = File>
+        + Net<Stream = TcpStream, Listener = TcpListener>
+        + AllocGlobal
+        + Threads
+        + Wait
+        + Sync,
+    I: Read,
+    O: Write,
+    E: Write + IsTerminal,
+>(rt: &R, words: &[S], input: &mut I, output: &mut O, errors: &mut E) -> Exit {
     match read_words(rt.alloc(), words) {
         Err(error) => tell_use(&error, example_of(words), output, errors),
         Ok(None) => Exit::Misuse,
@@ -56,13 +69,18 @@ fn fulfil_words<S: AsStr, R: Host, I: Read, O: Write, E: Write + IsTerminal>(
 /// 3 for a script that is refused, 4 for a journal that gives no session, 5 where a file, the input or the output failed, 6
 /// where memory runs out, at a limit of the states or with a full history. Of several it is in `check` the first of 5, 1, 6, 2,
 /// 0, in `serve` the first of 4 (the journal failed in this run), 5, 1, 6, 0.
-pub fn run<S: AsStr, R: Host, I: Read, O: Write, E: Write + IsTerminal>(
-    rt: &R,
-    words: &[S],
-    input: &mut I,
-    output: &mut O,
-    errors: &mut E,
-) -> u8
+pub fn run<
+    S: AsStr,
+    R: Files<File = File>
+        + Net<Stream = TcpStream, Listener = TcpListener>
+        + AllocGlobal
+        + Threads
+        + Wait
+        + Sync,
+    I: Read,
+    O: Write,
+    E: Write + IsTerminal,
+>(rt: &R, words: &[S], input: &mut I, output: &mut O, errors: &mut E) -> u8
     ensures { (exit : Status) × (result ≡ exit_code exit) }
 {
     fulfil_words(rt, words, input, output, errors).code()

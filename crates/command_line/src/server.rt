@@ -4,7 +4,6 @@ ghost use Rattle.command_line.specs.Statuses.{run_exit};
 
 use crate::commands::Service;
 use crate::forms::put_out;
-use crate::host::Host;
 use crate::journal_files::{journal_at, keep_name};
 use crate::scripts::{tell_read, text_of};
 use crate::telling::{tell_fault, tell_open};
@@ -15,8 +14,10 @@ use serving::{Account, Closing, RunStatus, TcpAccept, open, serve_session};
 use std::alloc::{AllocError, Global};
 use std::fs::File;
 use std::io::{IsTerminal, Write};
-use std::net::{SocketAddr, TcpListener};
+use std::net::{Net, SocketAddr, TcpListener, TcpStream};
 use std::rt::Files;
+use std::sync::Wait;
+use std::thread::Threads;
 
 // What is left of a run once its connections are over: the counts of its history, whether the journal failed in this run, and
 // what came of the connections.
@@ -66,7 +67,10 @@ fn tell_ended<O: Write, E: Write>(
 }
 
 // Listens at the address.
-fn listener_of<R: Host>(rt: &R, service: &Service<'_>) -> Option<(TcpListener, SocketAddr)> {
+fn listener_of<R: Net<Stream = TcpStream, Listener = TcpListener>>(
+    rt: &R,
+    service: &Service<'_>,
+) -> Option<(TcpListener, SocketAddr)> {
     let listener = TcpListener::bind(rt, SocketAddr::V4(service.address)).ok()?;
     let address = listener.local_addr().ok()?;
     Some((listener, address))
@@ -74,12 +78,11 @@ fn listener_of<R: Host>(rt: &R, service: &Service<'_>) -> Option<(TcpListener, S
 
 // Puts the journal's name on the device, listens at the address, and says where; or answers the status of the fault that was
 // reported.
-fn listen_at<R: Host, O: Write, E: Write>(
-    rt: &R,
-    service: &Service<'_>,
-    output: &mut O,
-    errors: &mut E,
-) -> Result<TcpListener, Exit> {
+fn listen_at<
+    R: Files<File = File> + Net<Stream = TcpStream, Listener = TcpListener>,
+    O: Write,
+    E: Write,
+>(rt: &R, service: &Service<'_>, output: &mut O, errors: &mut E) -> Result<TcpListener, Exit> {
     if keep_name(rt, service.journal).is_err() {
         return Err(tell_fault(errors, service.journal, "cannot write", Exit::FileFailed));
     }
@@ -92,8 +95,20 @@ fn listen_at<R: Host, O: Write, E: Write>(
     Ok(listener)
 }
 
+// What is left of the run that this is what came of.
+fn ended_of<D: Disk>(closing: &Closing<D>) -> Ended {
+    Ended {
+        summary: closing.session.summary(),
+        closed: closing.session.is_closed(),
+        account: closing.account,
+    }
+}
+
 // Serves the connections of the listener at this session, and says what is left of the run.
-fn serve_to_end<D: Disk + Drop + Send, R: Host>(
+fn serve_to_end<
+    D: Disk + Drop + Send,
+    R: Net<Stream = TcpStream, Listener = TcpListener> + AllocGlobal + Threads + Wait + Sync,
+>(
     rt: &R,
     service: &Service<'_>,
     session: Session<D, Global>,
@@ -101,17 +116,30 @@ fn serve_to_end<D: Disk + Drop + Send, R: Host>(
 ) -> Result<Ended, AllocError> {
     let accept = TcpAccept::new(listener);
     match serve_session(rt, rt.alloc(), session, accept, service.connections) {
-        Ok(closing) => Ok(Ended {
-            summary: closing.session.summary(),
-            closed: closing.session.is_closed(),
-            account: closing.account,
-        }),
-        Err((AllocError, _)) => Err(AllocError),
+        Ok(closing) => {
+            let ended = ended_of(&closing);
+            drop(closing);
+            Ok(ended)
+        }
+        Err((AllocError, accept)) => {
+            drop(accept);
+            Err(AllocError)
+        }
     }
 }
 
 // Serves the connections of the address at this session, and answers the exit status.
-fn serve_at<D: Disk + Drop + Send, R: Host, O: Write, E: Write>(
+fn serve_at<
+    D: Disk + Drop + Send,
+    R: Files<File = File>
+        + Net<Stream = TcpStream, Listener = TcpListener>
+        + AllocGlobal
+        + Threads
+        + Wait
+        + Sync,
+    O: Write,
+    E: Write,
+>(
     rt: &R,
     service: &Service<'_>,
     session: Session<D, Global>,
@@ -120,7 +148,10 @@ fn serve_at<D: Disk + Drop + Send, R: Host, O: Write, E: Write>(
 ) -> Exit {
     let listener = match listen_at(rt, service, output, errors) {
         Ok(listener) => listener,
-        Err(exit) => return exit,
+        Err(exit) => {
+            drop(session);
+            return exit;
+        }
     };
     match serve_to_end(rt, service, session, listener) {
         Ok(ended) => tell_ended(rt.alloc(), service, ended, output, errors),
@@ -129,7 +160,7 @@ fn serve_at<D: Disk + Drop + Send, R: Host, O: Write, E: Write>(
 }
 
 // The session of the script on the journal in the file, or the status of the fault that was reported.
-fn session_at<R: Host, E: Write + IsTerminal>(
+fn session_at<R: Files<File = File> + AllocGlobal, E: Write + IsTerminal>(
     rt: &R,
     service: &Service<'_>,
     script: &[u8],
@@ -149,12 +180,16 @@ fn session_at<R: Host, E: Write + IsTerminal>(
 
 /// Judges the reports of so many connections by the process of the script in the file, each connection at a seat of its own of
 /// one session, whose journal is in a file of its own, and answers the exit status.
-pub(crate) fn serve<R: Host, O: Write, E: Write + IsTerminal>(
-    rt: &R,
-    service: &Service<'_>,
-    output: &mut O,
-    errors: &mut E,
-) -> Exit {
+pub(crate) fn serve<
+    R: Files<File = File>
+        + Net<Stream = TcpStream, Listener = TcpListener>
+        + AllocGlobal
+        + Threads
+        + Wait
+        + Sync,
+    O: Write,
+    E: Write + IsTerminal,
+>(rt: &R, service: &Service<'_>, output: &mut O, errors: &mut E) -> Exit {
     let script = match script_of(rt, service, errors) {
         Ok(script) => script,
         Err(exit) => return exit,

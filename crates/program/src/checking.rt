@@ -1,6 +1,6 @@
 //! A conversation of one who reports alone, judged by what a script denotes.
 
-ghost use Rattle.std.specs.Prelude.{◌≡◌, ◌≢◌, ◌⊎◌, ◌<◌, [], false, true, ℕ, List, IfOk, IfErr, MatchResult, IsErrOf, Err, vec_len, vec_capacity};
+ghost use Rattle.std.specs.Prelude.{◌≡◌, ◌≢◌, ◌⊎◌, ◌<◌, [], false, true, ℕ, List, ◌∷◌, IfOk, IfErr, IfSome, IfNone, MatchResult, IsErrOf, Err, vec_len, vec_capacity};
 ghost use Rattle.term.specs.Proc.{bodies_of};
 ghost use Rattle.term.specs.Specs.{Specified};
 ghost use Rattle.shared.specs.Legal.{Legal};
@@ -21,7 +21,7 @@ use crate::exit::Exit;
 use alphabet::Alphabet;
 use disk::Disk;
 use seats::{SeatJudge, copy_of};
-use shared::{Naming, Opened, SeatFault, Session, SessionError, Share, Shared};
+use shared::{Naming, Opened, Session, SessionError, Share, Shared};
 use std::alloc::{Allocator, Global};
 use std::marker::Brand;
 use std::sync::Wait;
@@ -41,43 +41,11 @@ pub struct Checked<D: Disk, A: Allocator = Global> {
     pub exit: Exit,
 }
 
-// What the only seat has seen and done at the end, how its conversation ended, and what was answered.
-struct Heard<N: Naming, A: Allocator> {
-    share: Share<N, A>,
+// How a conversation ended, and what was answered.
+#[derive(Clone, Copy)]
+struct Talk {
     end: Result<End, WireError>,
     tally: Tally,
-}
-
-// Answers the lines of the reader from a seat.
-fn hear<R: Wait, D: Disk, A: Allocator + Copy + Drop, N: Naming, T: Source, W: Sink>(
-    rt: &R,
-    alloc: A,
-    shared: &Shared<D, A, N>,
-    alphabet: &Alphabet<A>,
-    reader: &mut T,
-    writer: &mut W,
-) -> Result<Heard<N, A>, SeatFault>
-    requires { alphabet.now ≡ N.spec.alphabet }
-    ensures serves { IfOk result (λ h. (first : SeatTold) × (first.mine ≡ []) × (first.closed ≡ false)
-        × Serves (LineReplies (Reports (bodies_of N.spec.bodies)) (Statuses (bodies_of N.spec.bodies)) (Nexts (bodies_of N.spec.bodies)) N.spec.alphabet)
-        (noted first no_answers) (noted h.share h.tally)
-        (T.left reader.old) (T.left reader.new) (W.contents writer.old) (W.contents writer.new) h.end) }
-    ensures untouched { IfErr result (λ _. (reader.new ≡ reader.old) × (writer.new ≡ writer.old)) }
-    ensures handed_on { IfOk result (λ h. W.has_handed_on writer.old → h.end ≢ Err WireError.Write → W.has_handed_on writer.new) }
-    ensures reader_failed { IfOk result (λ h. IsErrOf h.end WireError.Read → T.failures reader.old < T.failures reader.new) }
-    ensures writer_failed { IfOk result (λ h. IsErrOf h.end WireError.Write → W.failures writer.old < W.failures writer.new) }
-{
-    let mut judge = match shared.seat(rt, alloc) {
-        Ok(seat) => SeatJudge::new(rt, seat),
-        Err(fault) => return Err(fault),
-    };
-    let mut tally = Tally::new();
-    let end = judge.serve(alloc, reader, writer, alphabet, &mut tally);
-    Ok(Heard {
-        share: judge.end(),
-        end,
-        tally,
-    })
 }
 
 // Whether there is room for one share more.
@@ -86,6 +54,40 @@ fn has_room<N: Naming, A: Allocator>(shares: &mut Vec<Share<N, A>, A>) -> bool
     ensures room { result ≡ true → vec_len shares.new < vec_capacity shares.new }
 {
     shares.reserve(1).is_ok()
+}
+
+// Answers the lines of the reader from a seat, whose share comes to the shares. `None` where there is no memory for that.
+fn hear<R: Wait, D: Disk, A: Allocator + Copy + Drop, N: Naming, T: Source, W: Sink>(
+    rt: &R,
+    alloc: A,
+    shared: &Shared<D, A, N>,
+    alphabet: &Alphabet<A>,
+    reader: &mut T,
+    writer: &mut W,
+    shares: &mut Vec<Share<N, A>, A>,
+) -> Option<Talk>
+    requires alphabet { alphabet.now ≡ N.spec.alphabet }
+    requires none { shares.old.items ≡ [] }
+    ensures serves { IfSome result (λ t. (first : SeatTold) × (last : SeatTold) × (first.mine ≡ []) × (first.closed ≡ false) × (shares.new.items ≡ last ∷ [])
+        × Serves (LineReplies (Reports (bodies_of N.spec.bodies)) (Statuses (bodies_of N.spec.bodies)) (Nexts (bodies_of N.spec.bodies)) N.spec.alphabet)
+        (noted first no_answers) (noted last t.tally)
+        (T.left reader.old) (T.left reader.new) (W.contents writer.old) (W.contents writer.new) t.end) }
+    ensures untouched { IfNone result ((reader.new ≡ reader.old) × (writer.new ≡ writer.old)) }
+    ensures handed_on { IfSome result (λ t. W.has_handed_on writer.old → t.end ≢ Err WireError.Write → W.has_handed_on writer.new) }
+    ensures reader_failed { IfSome result (λ t. IsErrOf t.end WireError.Read → T.failures reader.old < T.failures reader.new) }
+    ensures writer_failed { IfSome result (λ t. IsErrOf t.end WireError.Write → W.failures writer.old < W.failures writer.new) }
+{
+    if !has_room(shares) {
+        return None;
+    }
+    let mut judge = match shared.seat(rt, alloc) {
+        Ok(seat) => SeatJudge::new(rt, seat),
+        Err(_) => return None,
+    };
+    let mut tally = Tally::new();
+    let end = judge.serve(alloc, reader, writer, alphabet, &mut tally);
+    shares.push_reserved(judge.end());
+    Some(Talk { end, tally })
 }
 
 // Answers the lines of the reader from the only seat of the session. The caller picks the names.
@@ -118,27 +120,57 @@ fn hear_alone<R: Wait, D: Disk + Drop, A: Allocator + Copy + Drop, N: Naming, T:
         return Err(SessionError::Memory);
     };
     let mut shares = Vec::new(alloc);
-    if !has_room(&mut shares) {
-        let (_session, _count) = shared.finish(rt, shares);
-        return Err(SessionError::Memory);
-    }
-    match hear(rt, alloc, &shared, alphabet, reader, writer) {
-        Ok(heard) => {
-            let Heard { share, end, tally } = heard;
-            shares.push_reserved(share);
-            let (session, _count) = shared.finish(rt, shares);
-            Ok(Checked {
-                session,
-                end,
-                tally,
-                exit: Exit::of(end, tally),
-            })
-        }
-        Err(_) => {
-            let (_session, _count) = shared.finish(rt, shares);
+    let talk = hear(rt, alloc, &shared, alphabet, reader, writer, &mut shares);
+    let (session, _count) = shared.finish(rt, shares);
+    match talk {
+        Some(talk) => Ok(Checked {
+            session,
+            end: talk.end,
+            tally: talk.tally,
+            exit: Exit::of(talk.end, talk.tally),
+        }),
+        None => {
+            drop(session);
             Err(SessionError::Memory)
         }
     }
+}
+
+// Judges the lines of the reader by a session without entries, and answers them on the writer.
+fn judge_by<R: Wait, D: Disk + Drop, A: Allocator + Copy + Drop, T: Source, W: Sink>(
+    rt: &R,
+    alloc: A,
+    session: Session<D, A>,
+    reader: &mut T,
+    writer: &mut W,
+) -> Result<Checked<D, A>, SessionError>
+    requires { session.history ≡ [] }
+    ensures spec { IfOk result (λ c. c.session.spec ≡ session.spec) }
+    ensures conversed { IfOk result (λ c. Conversed session.spec (T.left reader.old) (T.left reader.new) (W.contents writer.old) (W.contents writer.new)
+        c.end c.session.history c.tally) }
+    ensures legal { IfOk result (λ c. Legal (bodies_of session.spec.bodies) c.session.history) }
+    ensures exit { IfOk result (λ c. c.exit ≡ exit_of c.end c.tally) }
+    ensures memory { IfErr result (λ error. error ≡ SessionError.Memory) }
+    ensures untouched { IfErr result (λ _. (reader.new ≡ reader.old) × (writer.new ≡ writer.old)) }
+    ensures handed_on { IfOk result (λ c. W.has_handed_on writer.old → c.end ≢ Err WireError.Write → W.has_handed_on writer.new) }
+    ensures reader_failed { IfOk result (λ c. IsErrOf c.end WireError.Read → T.failures reader.old < T.failures reader.new) }
+    ensures writer_failed { IfOk result (λ c. IsErrOf c.end WireError.Write → W.failures writer.old < W.failures writer.new) }
+{
+    let Ok(alphabet) = copy_of(alloc, session.spec().alphabet()) else {
+        drop(session);
+        return Err(SessionError::Memory);
+    };
+    let opened = Opened::new();
+    hear_alone::<_, _, _, Brand, _, _>(
+        rt,
+        alloc,
+        session,
+        opened,
+        Blank::new(2),
+        &alphabet,
+        reader,
+        writer,
+    )
 }
 
 /// Judges the lines of the reader by what the script denotes for the process, and answers them on the writer, each report as the next of
@@ -174,22 +206,11 @@ pub fn check<R: Wait, D: Disk + Drop, A: Allocator + Copy + Drop, T: Source, W: 
     ensures reader_failed { IfOk result (λ c. IsErrOf c.end WireError.Read → T.failures reader.old < T.failures reader.new) }
     ensures writer_failed { IfOk result (λ c. IsErrOf c.end WireError.Write → W.failures writer.old < W.failures writer.new) }
 {
-    let session = match Session::create(alloc, disk, script, process) {
-        Ok(session) => session,
-        Err((error, _)) => return Err(error),
-    };
-    let Ok(alphabet) = copy_of(alloc, session.spec().alphabet()) else {
-        return Err(SessionError::Memory);
-    };
-    let opened = Opened::new();
-    hear_alone::<_, _, _, Brand, _, _>(
-        rt,
-        alloc,
-        session,
-        opened,
-        Blank::new(2),
-        &alphabet,
-        reader,
-        writer,
-    )
+    match Session::create(alloc, disk, script, process) {
+        Ok(session) => judge_by(rt, alloc, session, reader, writer),
+        Err((error, disk)) => {
+            drop(disk);
+            Err(error)
+        }
+    }
 }

@@ -66,7 +66,10 @@ pub fn replay<D: Disk + Drop, A: Allocator + Copy>(
 {
     let (session, header) = match Session::replay(alloc, disk) {
         Ok(replayed) => replayed,
-        Err((error, _)) => return Err(error),
+        Err((error, disk)) => {
+            drop(disk);
+            return Err(error);
+        }
     };
     let summary = session.summary();
     match summary_line(alloc, summary, false) {
@@ -76,6 +79,10 @@ pub fn replay<D: Disk + Drop, A: Allocator + Copy>(
             line,
             exit: exit_of(summary.rejected),
         }),
-        Err(_) => Err(SessionError::Memory),
+        Err(_) => {
+            drop(session);
+            drop(header);
+            Err(SessionError::Memory)
+        }
     }
 }

@@ -16,6 +16,29 @@ fn add_number<A: Allocator>(line: &mut Vec<u8, A>, number: u64) -> Result<(), Al
     line.extend_from_slice(buffer.format(number).as_bytes())
 }
 
+// Appends the line with these counts.
+fn add_line<A: Allocator>(
+    line: &mut Vec<u8, A>,
+    summary: Summary,
+    closed: bool,
+) -> Result<(), AllocError>
+    ensures { OnOk result (line.new.items ≡ line.old.items ++ status_text (status_by summary closed)) }
+{
+    line.extend_from_slice(b"S ")?;
+    add_number(line, summary.judged)?;
+    line.extend_from_slice(b" ")?;
+    add_number(line, summary.events)?;
+    line.extend_from_slice(b" ")?;
+    add_number(line, summary.refusals)?;
+    line.extend_from_slice(b" ")?;
+    add_number(line, summary.rejected)?;
+    if closed {
+        line.extend_from_slice(b" closed\n")
+    } else {
+        line.extend_from_slice(b" open\n")
+    }
+}
+
 /// The line with these counts, as `S` is answered: of a session that is closed, or of one that is open.
 pub fn summary_line<A: Allocator>(
     alloc: A,
@@ -25,18 +48,6 @@ pub fn summary_line<A: Allocator>(
     ensures { IfOk result (λ line. line.items ≡ status_text (status_by summary closed)) }
 {
     let mut line = Vec::new(alloc);
-    line.extend_from_slice(b"S ")?;
-    add_number(&mut line, summary.judged)?;
-    line.extend_from_slice(b" ")?;
-    add_number(&mut line, summary.events)?;
-    line.extend_from_slice(b" ")?;
-    add_number(&mut line, summary.refusals)?;
-    line.extend_from_slice(b" ")?;
-    add_number(&mut line, summary.rejected)?;
-    if closed {
-        line.extend_from_slice(b" closed\n")?;
-    } else {
-        line.extend_from_slice(b" open\n")?;
-    }
+    add_line(&mut line, summary, closed)?;
     Ok(line)
 }

@@ -8,6 +8,6 @@ use Rattle.program.proofs.checking.check.Goals as goal
 
 pub returns-clause-only : goal.returns-clause-only
 returns-clause-only g c spec reads =
-    match_from c.hear_alone.result (λ r. r.session.spec ≡ c.in-Ok.session.spec) (λ r. r.session.spec ≡ spec) (λ error. error ≡ Memory)
+    match_from c.judge_by.result (λ r. r.session.spec ≡ c.in-Ok.session.spec) (λ r. r.session.spec ≡ spec) (λ error. error ≡ Memory)
     (λ error. IsMemory error ⊎ (IsUnopened spec error ⊎ (error ≡ Device)))
-    (λ r is. is ∙ c.in-Ok.ensures.only spec reads) (λ error is. inl (subst (λ (x : SessionError). IsMemory x) (sym is) tt)) c.hear_alone.ensures.spec c.hear_alone.ensures.memory
+    (λ r is. is ∙ c.in-Ok.ensures.only spec reads) (λ error is. inl (subst (λ (x : SessionError). IsMemory x) (sym is) tt)) c.judge_by.ensures.spec c.judge_by.ensures.memory

@@ -1,4 +1,4 @@
-use Rattle.program.proofs.checking.check.Given as goal
+use Rattle.program.proofs.checking.judge_by.Given as goal
 
 abbrev pub ghosts-hear_alone-N-Naming : goal.ghosts-hear_alone-N-Naming
 ghosts-hear_alone-N-Naming g a = record { spec = a.session.spec; opening = a.session.history; book = a.opened.seen.book; all = a.blank.parts }
