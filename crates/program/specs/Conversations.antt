@@ -1,5 +1,5 @@
 -- A conversation of one who reports alone, from the first line on.
-use Rattle.std.specs.Prelude.{◌≡◌, ℕ, List, Bool, false, Option, Result}
+use Rattle.std.specs.Prelude.{◌≡◌, ℕ, List, false, Option, Result}
 use Rattle.term.specs.Proc.{bodies_of}
 use Rattle.term.specs.Specs.{Specified}
 use Rattle.shared.specs.Entry.{Entry}

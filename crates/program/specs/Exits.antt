@@ -4,7 +4,7 @@ use Rattle.shared.specs.Entry.{Entry}
 use Rattle.shared.specs.Entries.{summary_of}
 use Rattle.wire.specs.declared.answers.Tally.{Tally}
 use Rattle.wire.specs.declared.engine.End.{End}
-use Rattle.wire.specs.declared.engine.End.TheVariants.{Quit, Input, Line}
+use Rattle.wire.specs.declared.engine.End.TheVariants.{Line}
 use Rattle.wire.specs.declared.engine.WireError.{WireError}
 use Rattle.wire.specs.declared.engine.WireError.TheVariants.{Read, Write, Memory}
 use Rattle.shared.specs.SessionError.{SessionError}

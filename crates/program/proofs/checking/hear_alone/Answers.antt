@@ -1,4 +1,4 @@
-use Rattle.std.proofs.Common.{◌≡◌, List, [], ◌∷◌, length, suc, true, ap, arith}
+use Rattle.std.proofs.Common.{◌≡◌, List, [], ◌∷◌, length, true, ap, arith}
 use Rattle.std.specs.Prelude.{IsSome}
 use Rattle.shared.specs.Told.{SeatTold}
 use Rattle.shared.specs.Seats.{apart}
