@@ -161,7 +161,10 @@ fn close<D: Disk + Drop, L>(
                 answered,
             })
         }
-        Err(refused) => Err(refused),
+        Err(refused) => {
+            drop(session);
+            Err(refused)
+        }
     }
 }
 
@@ -197,11 +200,12 @@ fn over_seats<
         alphabet,
         mut endings,
     } = room;
-    let mut shares = Vec::new(alloc);
     let Ok(shared) = Shared::<D, Global, N>::new(alloc, session, opened, blank, u64::from(count))
     else {
+        drop(alphabet);
         return Err((AllocError, accept));
     };
+    let mut shares = Vec::new(alloc);
     let served = serve_in(
         rt,
         alloc,
