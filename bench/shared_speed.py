@@ -24,7 +24,7 @@ import tempfile
 HERE = os.path.dirname(os.path.abspath(__file__))
 TOP = os.path.dirname(HERE)
 NAME = "shared_speed"
-STANDS_ON = ["alphabet", "board", "disk", "history", "journal", "memory_disks", "session", "shared"]
+STANDS_ON = ["alphabet", "disk", "journal", "memory_disks", "shared"]
 STATUS_REPORTS = 200
 
 
