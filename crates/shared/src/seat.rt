@@ -21,6 +21,7 @@ use disk::Disk;
 use left_right::Absorb;
 use session::{Entry, Fault, Session, Summary};
 use std::alloc::Allocator;
+use std::hint::spin_loop;
 use std::sync::ledger::Blank;
 use std::sync::{Mutex, MutexGuard, Wait};
 
@@ -144,6 +145,23 @@ impl<D: Disk, A: Allocator + Copy, N: Naming> Seat<'_, D, A, N> {
     }
 }
 
+// How often a lock that is held is asked for again before the thread sleeps.
+const TRIES: u32 = 100;
+
+// Takes the lock. Most reports are over sooner than a thread that sleeps is woken.
+fn lock<'a, D: Disk, A: Allocator + Copy, N: Naming, R: Wait>(
+    rt: &R,
+    mutex: &'a Mutex<Locked<D, A, N>>,
+) -> MutexGuard<'a, Locked<D, A, N>> {
+    for _ in 0..TRIES {
+        if let Some(locked) = mutex.try_lock() {
+            return locked;
+        }
+        spin_loop();
+    }
+    mutex.lock(rt)
+}
+
 // Reports once the seat has seen what stands under the lock. No seat has seen more than that, so the first turn ends it.
 fn report_at<D: Disk, A: Allocator + Copy, N: Naming, R: Wait>(
     rt: &R,
@@ -157,7 +175,7 @@ fn report_at<D: Disk, A: Allocator + Copy, N: Naming, R: Wait>(
     ensures refused { IfErr result (λ f. Refused (bodies_of N.spec.bodies) share.old share.new report.now f) }
 {
     for _ in rt.forever() {
-        let mut locked = shared.locked.lock(rt);
+        let mut locked = lock(rt, &shared.locked);
         if share.catch_up(&locked) {
             let result = share.report(rt, &mut locked, report);
             MutexGuard::unlock(locked);
@@ -180,7 +198,7 @@ fn next_at<D: Disk, A: Allocator + Copy, N: Naming, R: Wait>(
     ensures closed { IsClosed N.spec }
 {
     for _ in rt.forever() {
-        let locked = shared.locked.lock(rt);
+        let locked = lock(rt, &shared.locked);
         if share.catch_up(&locked) {
             let _ = share.known();
             let next = locked.next();
