@@ -1,7 +1,7 @@
 #!/usr/bin/env python3
 """Makes a release of the built program, or compares the built program with the last release.
 
-    dist/make_release.py [--program FILE] [--build]    writes dist/RELEASE and dist/SHA256SUMS, and copies the program to dist/out
+    dist/make_release.py [--program FILE] [--build]    copies the program to dist/cspwatch, and writes dist/RELEASE and dist/SHA256SUMS
     dist/make_release.py --compare [--program FILE]    says whether the program is the released one, byte for byte
 
 Without --program the program is crates/cspwatch/out/cspwatch, which `rt` builds; with --build it is built first. A release is
@@ -22,7 +22,7 @@ ROOT = os.path.dirname(HERE)
 PROGRAM = os.path.join(ROOT, "crates", "cspwatch", "out", "cspwatch")
 RELEASE = os.path.join(HERE, "RELEASE")
 SUMS = os.path.join(HERE, "SHA256SUMS")
-COPIES = os.path.join(HERE, "out")
+COPY = os.path.join(HERE, "cspwatch")
 BUILD = [(["rt", "all", "check", "--jobs", "4"], ROOT), (["rt", "run", "--", "--version"], os.path.join(ROOT, "crates", "cspwatch"))]
 
 C_LIBRARY = re.compile(r"(linux-vdso|linux-gate|libc|libm|libpthread|libdl|ld-linux[\w-]*)\.so(\.\d+)*")
@@ -74,7 +74,7 @@ def kit():
 
 def commit():
     """The commit of this state, which has to be committed as a whole, the files of the release excepted."""
-    changed = output(["git", "status", "--porcelain", "--", ".", ":!dist/RELEASE", ":!dist/SHA256SUMS"])
+    changed = output(["git", "status", "--porcelain", "--", ".", ":!dist/RELEASE", ":!dist/SHA256SUMS", ":!dist/cspwatch"])
     if changed:
         raise Refused("these files are not committed:\n%s" % changed)
     return output(["git", "rev-parse", "HEAD"])
@@ -91,6 +91,7 @@ def facts_of(program):
         ("name", "cspwatch-%s-%s-%s" % (version, platform.machine(), platform.system().lower())),
         ("version", version),
         ("commit", commit()),
+        ("sources", sources()),
         ("kit", kit()),
         ("bytes", str(os.path.getsize(program))),
         ("sha256", digest(program)),
@@ -102,15 +103,14 @@ def facts_of(program):
 def make(program):
     """Writes the files of the release."""
     facts = facts_of(program)
-    name, total = dict(facts)["name"], dict(facts)["sha256"]
-    os.makedirs(COPIES, exist_ok=True)
-    shutil.copy(program, os.path.join(COPIES, name))
+    total = dict(facts)["sha256"]
+    shutil.copy(program, COPY)
     with open(RELEASE, "w", encoding="utf-8") as file:
         file.writelines("%s: %s\n" % fact for fact in facts)
     with open(SUMS, "w", encoding="utf-8") as file:
-        file.write("%s  %s\n" % (total, name))
+        file.write("%s  cspwatch\n" % total)
     print(open(RELEASE, encoding="utf-8").read(), end="")
-    print("the program is in dist/out/%s" % name)
+    print("the program is dist/cspwatch")
 
 
 def released():
@@ -121,8 +121,8 @@ def released():
         return dict(line.rstrip("\n").split(": ", 1) for line in file)
 
 
-def sources():
-    """The folders of the crates that the program is made of, with the list of all crates."""
+def folders():
+    """The folders of the crates that the program is made of."""
     with open(os.path.join(ROOT, "crates.txt"), encoding="utf-8") as file:
         lines = [line.split("#", 1)[0].partition(":") for line in file]
     named = {head.split()[0]: rest.split() for head, colon, rest in lines if colon}
@@ -135,6 +135,17 @@ def sources():
     return ["crates/%s/%s" % (crate, part) for crate in sorted(found) for part in ("src", "specs", "proofs")]
 
 
+def sources():
+    """The SHA-256 of the names and the bytes of all files of these folders."""
+    total = hashlib.sha256()
+    for folder in folders():
+        for at, below, names in os.walk(os.path.join(ROOT, folder)):
+            below.sort()
+            for path in sorted(os.path.join(at, name) for name in names):
+                total.update(("%s %s\n" % (os.path.relpath(path, ROOT), digest(path))).encode())
+    return total.hexdigest()
+
+
 def compare(program):
     """Prints what the comparison with the last release gives; answers whether it passes."""
     release = released()
@@ -142,26 +153,27 @@ def compare(program):
         print("there is no release to compare with")
         print("0 passed, 0 failed")
         return True
+    if not os.path.exists(COPY) or digest(COPY) != release["sha256"]:
+        print("dist/cspwatch is NOT the program that dist/RELEASE names")
+        print("0 passed, 1 failed")
+        return False
     here = digest(program) if os.path.exists(program) else None
     if here == release["sha256"]:
         print("the built program is that of release %s, byte for byte" % release["version"])
         print("1 passed, 0 failed")
         return True
-    changed = subprocess.run(["git", "diff", "--quiet", release["commit"], "--"] + sources(), cwd=ROOT).returncode
-    if here is not None and changed == 1:
+    if here is None:
+        print("%s: there is no such program" % program)
+    elif sources() != release["sources"]:
         print("the built program is another than that of release %s: its sources have changed since" % release["version"])
         print("1 passed, 0 failed")
         return True
-    if here is None:
-        print("%s: there is no such program" % program)
-    elif changed == 0 and kit() != release["kit"]:
+    elif kit() != release["kit"]:
         print("the built program is another than that of release %s, which was built by another kit: %s" % (release["version"], release["kit"]))
         print("1 passed, 0 failed")
         return True
-    elif changed == 0:
-        print("the built program is NOT that of release %s, though its sources are the same" % release["version"])
     else:
-        print("the commit of release %s, %s, is not in this repository" % (release["version"], release["commit"]))
+        print("the built program is NOT that of release %s, though its sources are the same" % release["version"])
     print("0 passed, 1 failed")
     return False
 
