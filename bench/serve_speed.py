@@ -1,12 +1,12 @@
 #!/usr/bin/env python3
 """Lines a second through `cspwatch serve`, against a plain Rust server of the same protocol, and on a disk against the bare loop.
 
-    serve_speed.py [--program FILE] [--turns 15] [--disk DIR]
+    serve_speed.py [--program FILE] [--turns 15] [--disk DIR] [--records 100]
 
 The journal is a file in memory (/dev/shm). Each line is the report of an event that is accepted; the process has two states. Program and
 peer run in turn, and which one goes first changes with each turn. A ratio is the peer's time over the program's, of the medians and as the
-median of the pairs; above 1 the program is faster. In the last measurement the journal is in DIR (the project's folder, if not said), and
-the peer is a loop that writes a record, syncs, writes its gate, and syncs.
+median of the pairs; above 1 the program is faster. In the last two measurements the journal is in DIR (the project's folder, if not said),
+with so many records; the peer is the plain server again, and then a loop that writes a record, syncs, writes its gate, and syncs.
 """
 import argparse
 import os
@@ -18,9 +18,8 @@ import tempfile
 HERE = os.path.dirname(os.path.abspath(__file__))
 PROGRAM = os.path.join(os.path.dirname(HERE), "crates", "cspwatch", "out", "cspwatch")
 SCRIPT = "channel a\nP = a -> Q\nQ = a -> P\n"
-# Connections, lines of each, and how they are sent.
+# Connections, lines of each, and how they are sent, with the journal in memory.
 MEASURED = [(1, 200_000, "ahead"), (64, 4_000, "ahead"), (1, 20_000, "turns"), (64, 1_000, "turns")]
-ON_DISK = 100
 
 
 def built(folder):
@@ -76,6 +75,7 @@ def main():
     parser.add_argument("--program", default=PROGRAM)
     parser.add_argument("--turns", type=int, default=15)
     parser.add_argument("--disk", default=os.path.dirname(HERE))
+    parser.add_argument("--records", type=int, default=100)
     options = parser.parse_args()
     program = os.path.abspath(options.program)
 
@@ -96,8 +96,10 @@ def main():
         for load in MEASURED:
             times = in_turn(options.turns, lambda: ours(folder, *load), lambda: theirs(folder, *load))
             row("%d connections, %d lines each, %s:" % load, load[0] * load[1], times, "plain Rust")
-        times = in_turn(4 * options.turns, lambda: ours(disk, 1, ON_DISK, "ahead"), lambda: looped(made["disk_loop"], disk, ON_DISK))
-        row("on a disk, 1 connection, %d lines:" % ON_DISK, ON_DISK, times, "the bare loop")
+        load = (1, options.records, "ahead")
+        for peer, run in (("plain Rust", lambda: theirs(disk, *load)), ("the bare loop", lambda: looped(made["disk_loop"], disk, options.records))):
+            times = in_turn(4 * options.turns, lambda: ours(disk, *load), run)
+            row("on a disk, 1 connection, %d lines:" % options.records, options.records, times, peer)
 
 
 main()

@@ -11,18 +11,18 @@ _cspwatch() {
     for ((index = 1; index < COMP_CWORD; index++)); do
         word=${COMP_WORDS[index]}
         case $word in
-            --listen | --connections) index=$((index + 1)) ;;
+            --listen | --connections | --format) index=$((index + 1)) ;;
             -*) ;;
             *) if [[ -z $command ]]; then command=$word; else place=$((place + 1)); fi ;;
         esac
     done
 
     if [[ -z $command ]]; then
-        COMPREPLY=($(compgen -W "check serve replay print help --help -h --version -V" -- "$current"))
+        COMPREPLY=($(compgen -W "check serve replay show print help --help -h --version -V" -- "$current"))
         return
     fi
     if [[ $command == help ]]; then
-        COMPREPLY=($(compgen -W "check serve replay print help" -- "$current"))
+        COMPREPLY=($(compgen -W "check serve replay show print help" -- "$current"))
         return
     fi
     case $previous in
@@ -31,16 +31,21 @@ _cspwatch() {
             return
             ;;
         --connections) return ;;
+        --format)
+            COMPREPLY=($(compgen -W "text json" -- "$current"))
+            return
+            ;;
     esac
     if [[ $current == -* ]]; then
         case $command in
             serve) COMPREPLY=($(compgen -W "--listen --connections --help -h" -- "$current")) ;;
+            show) COMPREPLY=($(compgen -W "--rejected --coverage --format --help -h" -- "$current")) ;;
             *) COMPREPLY=($(compgen -W "--help -h" -- "$current")) ;;
         esac
         return
     fi
     case $command:$place in
-        check:0 | serve:0 | print:0 | replay:0 | serve:2)
+        check:0 | serve:0 | print:0 | replay:0 | show:0 | serve:2)
             compopt -o filenames 2>/dev/null
             mapfile -t COMPREPLY < <(compgen -f -- "$current")
             ;;
@@ -58,7 +63,7 @@ _cspwatch_script() {
     for ((index = 1; index < COMP_CWORD; index++)); do
         word=${COMP_WORDS[index]}
         case $word in
-            --listen | --connections) index=$((index + 1)) ;;
+            --listen | --connections | --format) index=$((index + 1)) ;;
             -*) ;;
             *)
                 if [[ -n $command ]]; then

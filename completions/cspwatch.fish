@@ -1,5 +1,5 @@
 # Completion for fish. Copy this file to ~/.config/fish/completions.
-set -l commands check serve replay print help
+set -l commands check serve replay show print help
 
 # How many words of the command stand before the cursor, without options and what follows them.
 function __cspwatch_place
@@ -9,7 +9,7 @@ function __cspwatch_place
     for word in $words[2..-1]
         if test $skip = 1
             set skip 0
-        else if string match -q -- '--listen' $word; or string match -q -- '--connections' $word
+        else if string match -q -- '--listen' $word; or string match -q -- '--connections' $word; or string match -q -- '--format' $word
             set skip 1
         else if not string match -q -- '-*' $word
             set count (math $count + 1)
@@ -30,11 +30,15 @@ complete -c cspwatch -n "not __fish_seen_subcommand_from $commands" -s V -l vers
 complete -c cspwatch -n "not __fish_seen_subcommand_from $commands" -a check -d 'judge the reports on standard input'
 complete -c cspwatch -n "not __fish_seen_subcommand_from $commands" -a serve -d 'judge the reports of connections as one history'
 complete -c cspwatch -n "not __fish_seen_subcommand_from $commands" -a replay -d 'judge the records of a journal again'
+complete -c cspwatch -n "not __fish_seen_subcommand_from $commands" -a show -d 'print the reports of a journal and why some were rejected'
 complete -c cspwatch -n "not __fish_seen_subcommand_from $commands" -a print -d 'print what a process means'
 complete -c cspwatch -n "not __fish_seen_subcommand_from $commands" -a help -d 'print help'
 complete -c cspwatch -n "__fish_seen_subcommand_from help" -a "$commands"
 complete -c cspwatch -n "__fish_seen_subcommand_from serve" -l listen -x -a '127.0.0.1:0' -d 'the address to listen on'
 complete -c cspwatch -n "__fish_seen_subcommand_from serve" -l connections -x -d 'how many connections are taken'
-complete -c cspwatch -n "__fish_seen_subcommand_from check serve print replay; and test (__cspwatch_place) = 1" -F
+complete -c cspwatch -n "__fish_seen_subcommand_from show" -l rejected -d 'print the rejected reports alone'
+complete -c cspwatch -n "__fish_seen_subcommand_from show" -l coverage -d 'print how often each event came and could have come'
+complete -c cspwatch -n "__fish_seen_subcommand_from show" -l format -x -a 'text json' -d 'how to print'
+complete -c cspwatch -n "__fish_seen_subcommand_from check serve print replay show; and test (__cspwatch_place) = 1" -F
 complete -c cspwatch -n "__fish_seen_subcommand_from check serve print; and test (__cspwatch_place) = 2" -a '(__cspwatch_processes)' -d process
 complete -c cspwatch -n "__fish_seen_subcommand_from serve; and test (__cspwatch_place) = 3" -F

@@ -206,7 +206,7 @@ int fstat64(int fd, struct stat64 *into) { return fstat(fd, (struct stat *)into)
 
 int statx(int fd, const char *path, int flags, unsigned mask, struct statx *into)
 {
-    if (path && !*path && counts(fd) && is_turn("statx", 0, 0) && !(how == SHORT || how == ZERO))
+    if (!*path && counts(fd) && is_turn("statx", 0, 0) && !(how == SHORT || how == ZERO))
         return (int)ended(0);
     return (int)syscall(SYS_statx, fd, path, flags, mask, into);
 }

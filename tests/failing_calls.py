@@ -17,7 +17,10 @@ makes the k-th fail, for each k of a run in which none does.
 - `streams`: `check`, whose k-th read of standard input or write to standard output fails: the replies before it stand, status 5.
 - `memory`: `check` on five conversations, `print` and `replay`: the k-th request for memory is refused, alone, with the four after it, and
   with all after it. A run then tells 40 before the first reply, or its replies are those of the run without the lines that were answered
-  `ERR 40 memory`, or `ERR 30 journal` and then `ERR 31 closed`.
+  `ERR 40 memory`, or `ERR 30 journal` and then `ERR 31 closed`. And `serve` with two connections, one after the other, on a new journal
+  and on one with records: a run tells 40 before it listens, or each reply is that of the run without the lines that were answered
+  `ERR 40 memory`, and the journal holds exactly the reports that were answered; a connection for which there is no memory is closed after
+  `ERR 40 memory` or without a reply.
 
 The last line is `N passed, M failed`, over the runs.
 """
@@ -38,6 +41,8 @@ from sweeping import (  # noqa: E402
 
 KINDS = ["device", "stops", "streams", "memory"]
 ALWAYS = 1_000_000_000
+# What the second connection of a run asks.
+VISIT = [b"E a", b"S"]
 LINES = [b"E a", b"N", b"E a", b"R a c.0", b"S", b"E b", b"N", b"S", b"R"]
 OPENED = [b"E c.2", b"R a", b"E a"]
 ERRORS = ("nothing", "part", "all")
@@ -442,6 +447,101 @@ def whole_or_40(memory, name, words, files):
         note(memory, name, first, span, outcome, [] if done == plain or memory.told_40(done) else ["%s" % (done,)], files)
 
 
+class Visits:
+    """What came of a run of `serve` over two connections, one after the other: LINES over the first, two lines over the second."""
+
+    def __init__(self, program, folder, environment):
+        self.listened, self.replies = False, [[], []]
+        server = Server(program, folder, connections=2, environment=environment)
+        if server.listening():
+            self.listened = True
+            for place, lines in enumerate((LINES, VISIT)):
+                self.replies[place] = self.visit(server.port, lines)
+        self.end = server.end()
+
+    def visit(self, port, lines):
+        try:
+            link = Link(port)
+        except OSError:
+            return []
+        replies = []
+        for line in lines:
+            reply = link.ask(line)
+            if reply is None:
+                break
+            replies.append(reply)
+        link.close()
+        return replies
+
+
+def visit_problems(history, replies, lines, seat):
+    """What is wrong with the replies of the connection at this seat. The history goes on."""
+    for line, reply in zip(lines, replies):
+        wanted = b"ERR 40 memory" if reply == b"ERR 40 memory" and line != b"S" else history.answer(line, seat)
+        if reply != wanted:
+            return ["%s was answered %s in place of %s" % (line, reply, wanted)]
+    return []
+
+
+def served_problems(folder, history, done):
+    """What is wrong with a run of `serve` that listened. Where a connection got no answer, a line was answered 40 or the summary couldn't
+    be made, the status is 6 unless a report was rejected."""
+    journal = journal_of(read_file(os.path.join(folder, "j")))
+    first, last = seat_after(history), journal.records[-1][0] if journal.records else 1
+    problems = visit_problems(history, done.replies[0], LINES, first)
+    # A connection without an answer may have used up its seat's number.
+    problems += visit_problems(history, done.replies[1], VISIT, first + 1 if done.replies[0] or last > first else first)
+    if journal.records != history.entries:
+        problems.append("the journal holds %s" % (journal.records,))
+    short = any(len(replies) < len(lines) or b"ERR 40 memory" in replies for replies, lines in zip(done.replies, (LINES, VISIT)))
+    told = b"" if short or not done.end.out else history.summary() + b"\n"
+    answered = [reply for replies in done.replies for reply in replies]
+    rejected = any(reply.startswith(b"NO ") for reply in answered)
+    statuses = {1} if rejected else {6} if short else {0, 6}
+    if done.end.status not in statuses | ({5} if b"cannot accept" in done.end.err else set()):
+        problems.append("status %s" % done.end.status)
+    if told and done.end.out != told:
+        problems.append("the summary is %s" % done.end.out)
+    return problems
+
+
+def serve_memory(memory, name, opened):
+    """`serve` over two connections."""
+    words, folder = "serve, " + name, memory.folder
+    prepared(folder, opened)
+    journal = read_file(os.path.join(folder, "j"))
+    for span, count in SPANS.items():
+        for first in range(1, 1_000_000):
+            for path, data in (("j", journal), ("refused", None)):
+                if os.path.exists(os.path.join(folder, path)):
+                    os.remove(os.path.join(folder, path))
+                if data is not None:
+                    write_file(os.path.join(folder, path), data)
+            environment = failing(memory.library, 0, 0, FAILING_MEMORY_FROM=first, FAILING_MEMORY_TO=first + count - 1, FAILING_REFUSED=memory.refused_file)
+            done = Visits(memory.options.program, folder, environment)
+            history = prepared_history(opened)
+            if not done.listened:
+                good = done.end.status == 6 and ONE_LINE_OF_40.fullmatch(done.end.err)
+                outcome, problems = "told `%s`" % done.end.err[:-1].decode(), [] if good else ["%s" % (done.end,)]
+            else:
+                problems = served_problems(folder, history, done)
+                replies = done.replies[0] + done.replies[1]
+                cut = len(replies) < len(LINES) + len(VISIT)
+                outcome = "a connection without an answer" if cut else "a reply 40" if b"ERR 40 memory" in replies else "all answered"
+            problems = ["%s %s: %s" % (done.replies, done.end, problem) for problem in problems]
+            note(memory, words, first, span, outcome, problems, {"p.csp": SCRIPT})
+            if not os.path.exists(memory.refused_file):
+                break
+    memory.book.tell("memory " + words)
+
+
+def prepared_history(opened):
+    history = History()
+    for line in OPENED if opened else []:
+        history.add(1, *report_of(line))
+    return history
+
+
 def try_memory(options, library, book):
     with tempfile.TemporaryDirectory(prefix="failing-", dir=options.folder) as folder:
         memory = Memory(options, library, book, folder)
@@ -453,6 +553,9 @@ def try_memory(options, library, book):
             book.tell("memory print, " + name)
         whole_or_40(memory, "replay", ["replay", "j"], {"j": JOURNAL})
         book.tell("memory replay")
+        os.remove(os.path.join(folder, "j"))
+        serve_memory(memory, "a new journal", False)
+        serve_memory(memory, "a journal with records", True)
 
 
 def built(folder):

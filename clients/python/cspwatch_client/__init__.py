@@ -12,8 +12,10 @@
 from .client import Client
 from .replies import BadReply, CspwatchError, Fault, FaultCode, NoReply, Status, Verdict
 from .running import Checker, Outcome, Server, StartFailed
+from .shown import BadLine
 
 __all__ = [
+    "BadLine",
     "BadReply",
     "Checker",
     "Client",

@@ -1,11 +1,10 @@
 -- Levels of processes by number.
-use Rattle.std.proofs.Common.{◌≡◌, ℕ, zero, suc, ◌+◌, ◌-◌, ◌<◌, ◌≤◌, ◌⊎◌, ◌↔◌, Bool, IsTrue, List, [], ◌∷◌, ◌++◌, length, map, take, drop, get_or, refl, sym, ap, ◌∙◌, subst, arith}
-use Rattle.std.proofs.lemmas.List.{length-map, length-append, take_rest, get_or-map, get_or_append_left, map-append, take-append-drop}
+use Rattle.std.proofs.Common.{◌≡◌, ℕ, zero, suc, ◌+◌, ◌<◌, ◌≤◌, ◌⊎◌, ◌↔◌, Bool, IsTrue, List, [], ◌∷◌, ◌++◌, length, take, drop, get_or, refl, sym, ap, ◌∙◌, subst, arith}
+use Rattle.std.proofs.lemmas.List.{length-map, length-append, get_or-map, get_or_append_left, map-append, take-append-drop}
 use Rattle.alphabet.specs.declared.events.Event.{Event}
 use Rattle.alphabet.specs.Channels.{event_count}
 use Rattle.term.specs.Traces.{In}
 use Rattle.term.specs.Proc.{Proc, stop, bodies_of}
-use Rattle.term.specs.Sizes.{depth}
 use Rattle.term.specs.Specs.{Specified}
 use Rattle.term.specs.Limits.{IsStates, HasDeep, most_states}
 use Rattle.step.specs.declared.targets.Label.{Label}
@@ -16,7 +15,6 @@ use Rattle.step.proofs.ActList.{In-append_l}
 use Rattle.targets.specs.Cuts.{CutOf}
 use Rattle.targets.proofs.Cutting.{cut-to}
 use Rattle.nodes.specs.Shapes.{at}
-use Rattle.nodes.specs.Tables.{Tabled}
 use Rattle.nodes.specs.Looks.{look, AllBelow}
 use Rattle.transitions.specs.Numbered.{Numbered, HidesEvents}
 use Rattle.after.specs.Closing.{AllLie, AllShallow, TargetOf, WithHidden}
@@ -45,21 +43,18 @@ below-drop m zero ns a = a
 below-drop m (suc k) [] a = tt
 below-drop m (suc k) (n ∷ ns) a = below-drop m k ns a.1
 
-tail-slice : (xs ys : List ℕ) (k : ℕ) → ys ≡ xs → take (length ys - k) (drop k ys) ≡ drop k xs
-tail-slice xs ys k e = take_rest ys k ∙ ap (drop k) e
-
 look-drop : (ps : List Proc) (k : ℕ) (ns : List ℕ) → look ps (drop k ns) ≡ drop k (look ps ns)
 look-drop ps zero ns = refl
 look-drop ps (suc k) [] = refl
 look-drop ps (suc k) (n ∷ ns) = look-drop ps k ns
 
-pub tail-below : (m : ℕ) (xs ys : List ℕ) (k : ℕ) → ys ≡ xs → AllBelow m xs → AllBelow m (take (length ys - k) (drop k ys))
-tail-below m xs ys k e a = subst (AllBelow m) (sym (tail-slice xs ys k e)) (below-drop m k xs a)
+pub tail-below : (m : ℕ) (xs ys : List ℕ) (k : ℕ) → ys ≡ drop k xs → AllBelow m xs → AllBelow m ys
+tail-below m xs ys k e a = subst (AllBelow m) (sym e) (below-drop m k xs a)
 
-pub tail-look : (ps : List Proc) (xs ys : List ℕ) (k : ℕ) → ys ≡ xs → look ps (take (length ys - k) (drop k ys)) ≡ drop k (look ps xs)
-tail-look ps xs ys k e = ap (look ps) (tail-slice xs ys k e) ∙ look-drop ps k xs
+pub tail-look : (ps : List Proc) (xs ys : List ℕ) (k : ℕ) → ys ≡ drop k xs → look ps ys ≡ drop k (look ps xs)
+tail-look ps xs ys k e = ap (look ps) e ∙ look-drop ps k xs
 
-pub deep-tail : (s : Specified) (t : Numbered) (xs ys : List ℕ) (k : ℕ) (b : Bool) → t.bodies ≡ s.bodies → ys ≡ xs → IsTrue b ↔ HasDeep (TargetOf (bodies_of t.bodies) (look t.table.processes (take (length ys - k) (drop k ys))) label.Tau) → IsTrue b ↔ HasDeep (TargetOf (bodies_of s.bodies) (drop k (look t.table.processes xs)) label.Tau)
+pub deep-tail : (s : Specified) (t : Numbered) (xs ys : List ℕ) (k : ℕ) (b : Bool) → t.bodies ≡ s.bodies → ys ≡ drop k xs → IsTrue b ↔ HasDeep (TargetOf (bodies_of t.bodies) (look t.table.processes ys) label.Tau) → IsTrue b ↔ HasDeep (TargetOf (bodies_of s.bodies) (drop k (look t.table.processes xs)) label.Tau)
 deep-tail s t xs ys k b f e d =
     subst (λ (B : List Proc). IsTrue b ↔ HasDeep (TargetOf (bodies_of B) (drop k (look t.table.processes xs)) label.Tau)) f
     (subst (λ (l : List Proc). IsTrue b ↔ HasDeep (TargetOf (bodies_of t.bodies) l label.Tau)) (tail-look t.table.processes xs ys k e) d)

@@ -12,7 +12,7 @@ ghost use Rattle.transitions.specs.Numbered.{KeepsNumbers};
 ghost use Rattle.after.specs.Belonging.{MeetsLimit};
 ghost use Rattle.after.specs.Closing.{AllLie, AllShallow, Among, Grows, IsClosure, IsStuck, Opens, TargetOf};
 
-use crate::numbers::put_targets;
+use crate::numbers::{Numbers, put_targets};
 use after::AfterFault;
 use alphabet::Event;
 use std::alloc::{AllocError, Allocator};
@@ -26,15 +26,37 @@ pub fn close<A: Allocator + Copy>(
     spec: &Spec<A>,
     all: &mut Transitions<A>,
     alloc: A,
-    first: Vec<u32, A>,
+    first: Numbers<A>,
 ) -> Result<Vec<u32, A>, AfterFault>
     requires closed { IsClosed spec.now }
     requires bodies { all.old.bodies ≡ spec.now.bodies }
-    requires here { AllBelow (length all.old.table.processes) first.items }
-    requires first { Opens spec.now (look all.old.table.processes first.items) }
+    requires here { AllBelow (length all.old.table.processes) first }
+    requires first { Opens spec.now (look all.old.table.processes first) }
     ensures here { IfOk result (λ set. AllBelow (length all.new.table.processes) set.items) }
-    ensures ok { IfOk result (λ set. IsClosure (bodies_of spec.now.bodies) (Among (look all.old.table.processes first.items)) (look all.new.table.processes set.items)) }
-    ensures err { IfErr result (MeetsLimit (bodies_of spec.now.bodies) (Among (look all.old.table.processes first.items))) }
+    ensures ok { IfOk result (λ set. IsClosure (bodies_of spec.now.bodies) (Among (look all.old.table.processes first)) (look all.new.table.processes set.items)) }
+    ensures err { IfErr result (MeetsLimit (bodies_of spec.now.bodies) (Among (look all.old.table.processes first))) }
+    ensures kept { KeepsNumbers all.old all.new }
+{
+    match closed(spec, all, alloc, first) {
+        Ok(seen) => Ok(seen.into_vec(alloc)?),
+        Err(fault) => Err(fault),
+    }
+}
+
+// The numbers of all that hidden steps reach from these processes.
+fn closed<A: Allocator + Copy>(
+    spec: &Spec<A>,
+    all: &mut Transitions<A>,
+    alloc: A,
+    first: Numbers<A>,
+) -> Result<Numbers<A>, AfterFault>
+    requires closed { IsClosed spec.now }
+    requires bodies { all.old.bodies ≡ spec.now.bodies }
+    requires here { AllBelow (length all.old.table.processes) first }
+    requires first { Opens spec.now (look all.old.table.processes first) }
+    ensures here { IfOk result (λ set. AllBelow (length all.new.table.processes) set) }
+    ensures ok { IfOk result (λ set. IsClosure (bodies_of spec.now.bodies) (Among (look all.old.table.processes first)) (look all.new.table.processes set)) }
+    ensures err { IfErr result (MeetsLimit (bodies_of spec.now.bodies) (Among (look all.old.table.processes first))) }
     ensures kept { KeepsNumbers all.old all.new }
 {
     let events = spec.alphabet().len();
@@ -56,28 +78,29 @@ fn add_level<A: Allocator + Copy>(
     spec: &Spec<A>,
     all: &mut Transitions<A>,
     alloc: A,
-    seen: &mut Vec<u32, A>,
+    seen: &mut Numbers<A>,
     from: usize,
 ) -> Result<(), AfterFault>
     requires events { event_count spec.now.alphabet ≤ 256 }
     requires bodies { all.old.bodies ≡ spec.now.bodies }
-    requires here { AllBelow (length all.old.table.processes) seen.old.items }
-    requires once { Distinct (look all.old.table.processes seen.old.items) }
-    requires few { length seen.old.items ≤ most_states }
-    requires from { from ≤ length seen.old.items }
-    requires lies { AllLie spec.now (look all.old.table.processes seen.old.items) }
-    requires shallow { AllShallow (look all.old.table.processes seen.old.items) }
-    ensures here { OnOk result (AllBelow (length all.new.table.processes) seen.new.items) }
-    ensures ok { OnOk result (Grows (bodies_of spec.now.bodies) (drop from (look all.old.table.processes seen.old.items)) (look all.old.table.processes seen.old.items) (look all.new.table.processes seen.new.items)) }
-    ensures err { IfErr result (IsStuck (bodies_of spec.now.bodies) (drop from (look all.old.table.processes seen.old.items)) (look all.old.table.processes seen.old.items)) }
+    requires here { AllBelow (length all.old.table.processes) seen.old }
+    requires once { Distinct (look all.old.table.processes seen.old) }
+    requires few { length seen.old ≤ most_states }
+    requires from { from ≤ length seen.old }
+    requires lies { AllLie spec.now (look all.old.table.processes seen.old) }
+    requires shallow { AllShallow (look all.old.table.processes seen.old) }
+    ensures here { OnOk result (AllBelow (length all.new.table.processes) seen.new) }
+    ensures ok { OnOk result (Grows (bodies_of spec.now.bodies) (drop from (look all.old.table.processes seen.old)) (look all.old.table.processes seen.old) (look all.new.table.processes seen.new)) }
+    ensures err { IfErr result (IsStuck (bodies_of spec.now.bodies) (drop from (look all.old.table.processes seen.old)) (look all.old.table.processes seen.old)) }
     ensures kept { KeepsNumbers all.old all.new }
 {
-    if any_deep_target(all, &seen[from..])? {
+    if any_deep_target(all, seen.tail(from))? {
         return Err(AfterFault::Depth);
     }
     let level = seen.len();
     for place in from..level {
-        put_targets(all, alloc, seen[place], Label::Tau, seen)?;
+        let number = seen.number(place);
+        put_targets(all, alloc, number, Label::Tau, seen)?;
         if seen.len() > MOST_STATES {
             return Err(AfterFault::States);
         }
@@ -110,20 +133,20 @@ pub fn first_level<A: Allocator + Copy>(
     alloc: A,
     numbers: &[u32],
     event: Event,
-) -> Result<Vec<u32, A>, AfterFault>
+) -> Result<Numbers<A>, AfterFault>
     requires bodies { all.old.bodies ≡ spec.now.bodies }
     requires here { AllBelow (length all.old.table.processes) numbers.now }
     requires lies { AllLie spec.now (look all.old.table.processes numbers.now) }
     requires shallow { AllShallow (look all.old.table.processes numbers.now) }
-    ensures here { IfOk result (λ first. AllBelow (length all.new.table.processes) first.items) }
-    ensures all { IfOk result (λ first. CutOf (TargetOf (bodies_of spec.now.bodies) (look all.old.table.processes numbers.now) (label.Event event)) most_states (look all.new.table.processes first.items)) }
-    ensures few { IfOk result (λ first. length first.items ≤ most_states) }
+    ensures here { IfOk result (λ first. AllBelow (length all.new.table.processes) first) }
+    ensures all { IfOk result (λ first. CutOf (TargetOf (bodies_of spec.now.bodies) (look all.old.table.processes numbers.now) (label.Event event)) most_states (look all.new.table.processes first)) }
+    ensures few { IfOk result (λ first. length first ≤ most_states) }
     ensures err { IfErr result (MeetsLimit (bodies_of spec.now.bodies) (TargetOf (bodies_of spec.now.bodies) (look all.old.table.processes numbers.now) (label.Event event))) }
     ensures kept { KeepsNumbers all.old all.new }
 {
     let events = spec.alphabet().len();
     prove!(events <= 256);
-    let mut first = Vec::new(alloc);
+    let mut first = Numbers::new(alloc);
     for number in numbers {
         put_targets(all, alloc, *number, Label::Event(event), &mut first)?;
         if first.len() > MOST_STATES {

@@ -7,4 +7,5 @@ mod numbers;
 pub use after::AfterFault;
 pub use closing::{close, first_level};
 pub use nodes::{Facts, Table};
+pub use numbers::Numbers;
 pub use transitions::Transitions;

@@ -1,7 +1,8 @@
-//! Lists of numbers that grow at their ends.
+//! Lists of numbers that grow at their ends, each number once.
 
-ghost use Rattle.std.specs.Prelude.{OnOk, ◌<◌, ◌∷◌, [], length};
+ghost use Rattle.std.specs.Prelude.{◌≡◌, OnOk, IfOk, ◌<◌, ◌≤◌, ◌∷◌, [], drop, get_or, length, nat_eq};
 ghost use Rattle.term.specs.Proc.{bodies_of};
+ghost use Rattle.indexmap.specs.IndexSet.{insert_key};
 ghost use Rattle.step.specs.Labels.{Step};
 ghost use Rattle.nodes.specs.Shapes.{at};
 ghost use Rattle.nodes.specs.Looks.{look, AllBelow};
@@ -9,9 +10,97 @@ ghost use Rattle.transitions.specs.Numbered.{HidesEvents, KeepsNumbers};
 ghost use Rattle.after.specs.Closing.{HasPut};
 ghost use Rattle.closures.specs.Targets.{HasPutTargets};
 
+use indexmap::IndexSet;
 use std::alloc::{AllocError, Allocator};
+use std::hash::{BuildHasherDefault, FoldHasher};
+use std::marker::Model;
 use step::Label;
 use transitions::Transitions;
+
+/// Numbers in the order in which they came, each once. Contracts see the list.
+#[derive(Drop)]
+pub struct Numbers<A: Allocator> {
+    set: IndexSet<u32, BuildHasherDefault<FoldHasher>, A>,
+}
+
+impl<A: Allocator> Model for Numbers<A> {
+    ghost use Rattle.std.specs.Prelude.{ℕ, List};
+
+    ghost Value = { List ℕ };
+
+    ghost view = { λ n. n.set.keys };
+}
+
+impl<A: Allocator + Copy> Numbers<A> {
+    /// No numbers. Takes no memory.
+    pub fn new(alloc: A) -> Numbers<A>
+        ensures { result ≡ [] }
+    {
+        Numbers {
+            set: IndexSet::new(alloc),
+        }
+    }
+
+    /// The list by itself.
+    pub(crate) fn into_vec(self, alloc: A) -> Result<Vec<u32, A>, AllocError>
+        ensures { IfOk result (λ list. list.items ≡ self) }
+    {
+        let mut list = Vec::new(alloc);
+        let done = list.extend_from_slice(self.as_slice());
+        drop(self);
+        done?;
+        Ok(list)
+    }
+}
+
+impl<A: Allocator> Numbers<A> {
+    /// How many there are.
+    pub fn len(&self) -> usize
+        ensures { result ≡ length self.now }
+    {
+        self.set.len()
+    }
+
+    /// Whether there are none.
+    pub fn is_empty(&self) -> bool
+        ensures { result ≡ nat_eq (length self.now) 0 }
+    {
+        self.len() == 0
+    }
+
+    /// The list.
+    pub fn as_slice(&self) -> &[u32]
+        ensures { result.now ≡ self.now }
+    {
+        self.set.as_slice()
+    }
+
+    /// The numbers from this place on.
+    pub(crate) fn tail(&self, from: usize) -> &[u32]
+        requires { from ≤ length self.now }
+        ensures { result.now ≡ drop from self.now }
+    {
+        &self.as_slice()[from..]
+    }
+
+    /// The number at this place.
+    pub(crate) fn number(&self, place: usize) -> u32
+        requires { place < length self.now }
+        ensures { result ≡ get_or self.now place result }
+    {
+        self.as_slice()[place]
+    }
+
+    /// Appends the number, unless it is there. Costs one look-up by its hash.
+    pub fn put(&mut self, number: u32) -> Result<(), AllocError>
+        ensures { OnOk result (self.new ≡ insert_key nat_eq self.old number) }
+    {
+        match self.set.insert(number) {
+            Ok(_) => Ok(()),
+            Err(_) => Err(AllocError),
+        }
+    }
+}
 
 /// Appends those targets of the steps with this label that aren't in the list.
 pub(crate) fn put_targets<A: Allocator + Copy>(
@@ -19,13 +108,13 @@ pub(crate) fn put_targets<A: Allocator + Copy>(
     alloc: A,
     number: u32,
     label: Label,
-    into: &mut Vec<u32, A>,
+    into: &mut Numbers<A>,
 ) -> Result<(), AllocError>
     requires number { number < length all.old.table.processes }
     requires hides { HidesEvents all.old number }
-    requires here { AllBelow (length all.old.table.processes) into.old.items }
-    ensures here { OnOk result (AllBelow (length all.new.table.processes) into.new.items) }
-    ensures put { OnOk result (HasPutTargets (Step (bodies_of all.old.bodies) (at all.old.table.processes number) label) (look all.old.table.processes into.old.items) (look all.new.table.processes into.new.items)) }
+    requires here { AllBelow (length all.old.table.processes) into.old }
+    ensures here { OnOk result (AllBelow (length all.new.table.processes) into.new) }
+    ensures put { OnOk result (HasPutTargets (Step (bodies_of all.old.bodies) (at all.old.table.processes number) label) (look all.old.table.processes into.old) (look all.new.table.processes into.new)) }
     ensures kept { KeepsNumbers all.old all.new }
 {
     let mut found = Vec::new(alloc);
@@ -37,12 +126,12 @@ pub(crate) fn put_targets<A: Allocator + Copy>(
 fn put_all<A: Allocator>(
     all: &Transitions<A>,
     numbers: &[u32],
-    into: &mut Vec<u32, A>,
+    into: &mut Numbers<A>,
 ) -> Result<(), AllocError>
     requires numbers { AllBelow (length all.now.table.processes) numbers.now }
-    requires here { AllBelow (length all.now.table.processes) into.old.items }
-    ensures here { OnOk result (AllBelow (length all.now.table.processes) into.new.items) }
-    ensures put { OnOk result (HasPut (look all.now.table.processes numbers.now) (look all.now.table.processes into.old.items) (look all.now.table.processes into.new.items)) }
+    requires here { AllBelow (length all.now.table.processes) into.old }
+    ensures here { OnOk result (AllBelow (length all.now.table.processes) into.new) }
+    ensures put { OnOk result (HasPut (look all.now.table.processes numbers.now) (look all.now.table.processes into.old) (look all.now.table.processes into.new)) }
 {
     for number in numbers {
         put_one(all, *number, into)?;
@@ -54,17 +143,13 @@ fn put_all<A: Allocator>(
 fn put_one<A: Allocator>(
     all: &Transitions<A>,
     number: u32,
-    into: &mut Vec<u32, A>,
+    into: &mut Numbers<A>,
 ) -> Result<(), AllocError>
     requires number { number < length all.now.table.processes }
-    requires here { AllBelow (length all.now.table.processes) into.old.items }
-    ensures here { OnOk result (AllBelow (length all.now.table.processes) into.new.items) }
-    ensures put { OnOk result (HasPut (at all.now.table.processes number ∷ []) (look all.now.table.processes into.old.items) (look all.now.table.processes into.new.items)) }
+    requires here { AllBelow (length all.now.table.processes) into.old }
+    ensures here { OnOk result (AllBelow (length all.now.table.processes) into.new) }
+    ensures put { OnOk result (HasPut (at all.now.table.processes number ∷ []) (look all.now.table.processes into.old) (look all.now.table.processes into.new)) }
 {
     all.once();
-    if into.contains(&number) {
-        return Ok(());
-    }
-    into.push(number)?;
-    Ok(())
+    into.put(number)
 }

@@ -11,7 +11,9 @@ use Rattle.script.specs.Reading.{IsRead}
 use Rattle.program.specs.Conversations.{Conversed}
 use Rattle.program.specs.Courses.{status_of}
 use Rattle.program.specs.Exits.{exit_of, replay_exit}
+use Rattle.program.specs.Options.{Options}
 use Rattle.program.specs.Prints.{IsPrinted}
+use Rattle.program.specs.Showings.{Displays}
 use Rattle.program.specs.declared.exit.Exit.{Exit}
 use Rattle.program.specs.declared.exit.Exit.TheVariants.{BadScript, FileFailed, Limit}
 
@@ -46,4 +48,14 @@ pub record Printed (process : List ℕ) (old new : Option (List ℕ)) : Type 0 w
 pub record Counted (old new : Option (List ℕ)) (exit : Exit) : Type 0 where
   pub history : List Entry
   pub appended : Appends old new (status_text (status_of history false))
+  pub exit_is : exit ≡ replay_exit history
+
+-- What was written is what is shown of a history, judged by some specification, and the exit status says whether it has a rejected
+-- report.
+pub record Shown (options : Options) (old new : Option (List ℕ)) (exit : Exit) : Type 0 where
+  pub spec : Specified
+  pub history : List Entry
+  pub text : List ℕ
+  pub displays : Displays spec history options text
+  pub appended : Appends old new text
   pub exit_is : exit ≡ replay_exit history

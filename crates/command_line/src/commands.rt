@@ -2,13 +2,14 @@
 use crate::addresses::address_of;
 use clap::error::ErrorKind;
 use clap::{Arg, ArgAction, ArgMatches, Command, Error};
+use program::{Format, Options, Selection};
 use serving::Connections;
 use std::alloc::{AllocError, Global};
 use std::convert::AsStr;
 use std::net::SocketAddrV4;
 
 /// The version of the program, as `--version` prints it.
-const VERSION: &str = "0.2.0";
+const VERSION: &str = "0.3.0";
 
 /// What the words ask for.
 #[derive(Clone, Copy)]
@@ -19,6 +20,8 @@ pub(crate) enum Wish<'a> {
     Print { spec: &'a str, process: &'a str },
     /// To judge the records of the journal in the file anew.
     Replay { journal: &'a str },
+    /// To print the reports of the journal in the file, and why those that were rejected were.
+    Show { journal: &'a str, options: Options },
     /// To judge the reports of connections by the process of the script in the file `spec`, with the journal in its file.
     Serve(Service<'a>),
 }
@@ -50,6 +53,8 @@ const CHECK_EXAMPLE: &str = "Example: printf 'E a\\nR a b\\n' | cspwatch check p
 const PRINT_EXAMPLE: &str = "Example: cspwatch print p.csp P";
 
 const REPLAY_EXAMPLE: &str = "Example: cspwatch replay run.journal";
+
+const SHOW_EXAMPLE: &str = "Example: cspwatch show --rejected run.journal";
 
 const SERVE_EXAMPLE: &str =
     "Example: cspwatch serve p.csp P run.journal --listen 127.0.0.1:7000 --connections 2";
@@ -103,6 +108,46 @@ fn replay_command<'a>(alloc: Global) -> Result<Command<'a>, AllocError> {
         .arg(word(alloc, "JOURNAL", "The file of the journal"))
 }
 
+// An option without a value.
+fn flag<'a>(alloc: Global, name: &'a str, help: &'a str) -> Arg<'a> {
+    Arg::new(alloc, name)
+        .long(name)
+        .action(ArgAction::SetTrue)
+        .help(help)
+}
+
+// The forms in which a journal is shown.
+const FORMATS: [&str; 2] = ["text", "json"];
+
+// The option for the form in which a journal is shown.
+fn format_option<'a>(alloc: Global) -> Arg<'a> {
+    Arg::new(alloc, "FORMAT")
+        .long("format")
+        .action(ArgAction::Set)
+        .value_parser(&FORMATS[..])
+        .help("How to print: text (as it is without this), or json, one object a line")
+}
+
+fn show_command<'a>(alloc: Global) -> Result<Command<'a>, AllocError> {
+    let rejected = flag(alloc, "rejected", "Print the rejected reports alone");
+    let coverage = flag(
+        alloc,
+        "coverage",
+        "Print after the reports how often each event came, and could have come",
+    );
+    Command::new(alloc, "show")
+        .about("Prints the reports of a journal, judged anew, and why they were rejected")
+        .after_help(SHOW_EXAMPLE)
+        .arg(word(
+            alloc,
+            "JOURNAL",
+            "The file of the journal, opened as by replay",
+        ))?
+        .arg(rejected)?
+        .arg(coverage)?
+        .arg(format_option(alloc))
+}
+
 fn serve_command<'a>(alloc: Global) -> Result<Command<'a>, AllocError> {
     let listen = word(
         alloc,
@@ -137,6 +182,10 @@ fn with_replay<'a>(alloc: Global, command: Command<'a>) -> Result<Command<'a>, A
     command.subcommand(replay_command(alloc)?)
 }
 
+fn with_show<'a>(alloc: Global, command: Command<'a>) -> Result<Command<'a>, AllocError> {
+    command.subcommand(show_command(alloc)?)
+}
+
 fn with_serve<'a>(alloc: Global, command: Command<'a>) -> Result<Command<'a>, AllocError> {
     command.subcommand(serve_command(alloc)?)
 }
@@ -148,7 +197,7 @@ fn command<'a>(alloc: Global) -> Result<Command<'a>, AllocError> {
         .after_help(STATUSES)
         .subcommand_required(true);
     let command = with_serve(alloc, with_check(alloc, command)?)?;
-    with_replay(alloc, with_print(alloc, command)?)
+    with_show(alloc, with_replay(alloc, with_print(alloc, command)?)?)
 }
 
 // The wish to serve at this address.
@@ -179,6 +228,31 @@ fn serve_wish<'a>(alloc: Global, matches: &ArgMatches<'a>) -> Result<Option<Wish
     }
 }
 
+// Which reports are shown.
+fn selection_of(rejected: bool) -> Selection {
+    if rejected {
+        Selection::Rejected
+    } else {
+        Selection::All
+    }
+}
+
+// The wish to show a journal.
+fn wish_to_show<'a>(matches: &ArgMatches<'a>) -> Option<Wish<'a>> {
+    let format = match matches.get_str("FORMAT") {
+        Some("json") => Format::Json,
+        _ => Format::Text,
+    };
+    Some(Wish::Show {
+        journal: matches.get_str("JOURNAL")?,
+        options: Options {
+            entries: selection_of(matches.get_flag("rejected")),
+            coverage: matches.get_flag("coverage"),
+            format,
+        },
+    })
+}
+
 fn wish_of<'a>(matches: &ArgMatches<'a>) -> Option<Wish<'a>> {
     let (name, inner) = matches.subcommand()?;
     if name == "replay" {
@@ -198,6 +272,7 @@ fn wish_of<'a>(matches: &ArgMatches<'a>) -> Option<Wish<'a>> {
 fn wish_in<'a>(alloc: Global, matches: &ArgMatches<'a>) -> Result<Option<Wish<'a>>, Error> {
     match matches.subcommand() {
         Some(("serve", inner)) => serve_wish(alloc, inner),
+        Some(("show", inner)) => Ok(wish_to_show(inner)),
         _ => Ok(wish_of(matches)),
     }
 }
@@ -218,6 +293,7 @@ pub(crate) fn example_of<S: AsStr>(words: &[S]) -> Option<&'static str> {
         "check" => Some(CHECK_EXAMPLE),
         "print" => Some(PRINT_EXAMPLE),
         "replay" => Some(REPLAY_EXAMPLE),
+        "show" => Some(SHOW_EXAMPLE),
         "serve" => Some(SERVE_EXAMPLE),
         _ => None,
     }

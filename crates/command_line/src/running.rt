@@ -9,6 +9,7 @@ use crate::forms::print;
 use crate::patient::Patient;
 use crate::replaying::replay;
 use crate::server::serve;
+use crate::showing::show;
 use crate::telling::tell_use;
 use program::Exit;
 use std::convert::AsStr;
@@ -40,6 +41,7 @@ fn fulfil<
         }
         Wish::Print { spec, process } => print(rt, spec, process, output, errors),
         Wish::Replay { journal } => replay(rt, journal, output, errors),
+        Wish::Show { journal, options } => show(rt, journal, *options, output, errors),
         Wish::Serve(service) => serve(rt, service, output, errors),
     }
 }

@@ -14,5 +14,5 @@ pub use crossing::legal_crosses;
 pub use entry::{Entry, Summary};
 pub use history::{HISTORY_LIMIT, History};
 pub use legal::{Candidate, LegalHistory};
-pub use monitor::{AfterFault, crosses};
+pub use monitor::{AfterFault, Monitor, crosses};
 pub use seat::SeatNumber;

@@ -7,6 +7,7 @@ ghost use Rattle.term.specs.Limits.{NoLimit, Opening};
 ghost use Rattle.term.specs.Meaning.{Trace};
 ghost use Rattle.term.specs.Proc.{bodies_of, root};
 ghost use Rattle.term.specs.Verdict.{Verdict};
+ghost use Rattle.spaces.specs.Acceptances.{AreAcceptances};
 ghost use Rattle.spaces.specs.Belonging.{MeetsLimit};
 ghost use Rattle.spaces.specs.Spaces.{Belongs, GrewFrom, IsSetOf};
 ghost use Rattle.monitor.specs.TraceAfter.{trace_after};
@@ -14,7 +15,7 @@ ghost use Rattle.monitor.specs.Monitors.{IsJudgment, IsOf, MeetsNone, Stops, spa
 
 use alphabet::{Event, EventSet, Report};
 use spaces::{AfterFault, Space, StateSet};
-use std::alloc::Allocator;
+use std::alloc::{AllocError, Allocator};
 use std::marker::Model;
 use term::Spec;
 
@@ -135,6 +136,16 @@ impl<A: Allocator + Copy> Monitor<A> {
             let _ = self.trace.push(event);
             self.states = states;
         }
+    }
+}
+
+impl<A: Allocator + Copy> Monitor<A> {
+    /// The minimal acceptances after the present trace, in a fixed order: of two sets the first event that is in one of
+    /// them alone tells which stands first, by having it. Refused only where memory is.
+    pub fn acceptances(&self, alloc: A) -> Result<Vec<EventSet, A>, AllocError>
+        ensures { IfOk result (λ sets. AreAcceptances (bodies_of self.now.spec.bodies) root self.now.trace sets.items) }
+    {
+        self.states.acceptances(&self.space, alloc)
     }
 }
 

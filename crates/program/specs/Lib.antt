@@ -3,6 +3,8 @@ pub mod Courses
 pub mod Exits
 pub mod Conversations
 pub mod Prints
+pub mod Showings
 -- Of the layers below, for those above.
 pub use Rattle.shared.specs.Entry
 pub use Rattle.shared.specs.SessionError
+pub use Rattle.shown.specs.declared.options.Options

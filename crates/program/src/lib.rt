@@ -1,13 +1,14 @@
 //! What the commands do, over any reader, writer and disk. Each call's contract is the promise of its command.
 //!
-//! `check` judges the lines of a reader by what a script denotes, `replay` judges a journal's records anew, and `print` prints what a
-//! script denotes. An `Exit` is the program's exit status.
+//! `check` judges the lines of a reader by what a script denotes, `replay` judges a journal's records anew, `show` writes what it found
+//! of each, and `print` prints what a script denotes. An `Exit` is the program's exit status.
 #![tactic(auto)]
 
 mod checking;
 mod exit;
 mod forms;
 mod replaying;
+mod showing;
 mod summaries;
 
 pub use checking::{Checked, check};
@@ -15,4 +16,6 @@ pub use exit::Exit;
 pub use forms::{PrintError, print};
 pub use replaying::{Replayed, replay};
 pub use shared::{Session, SessionError, Summary};
+pub use showing::{Displayed, show};
+pub use shown::{Format, Options, Selection};
 pub use summaries::summary_line;

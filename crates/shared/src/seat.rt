@@ -148,6 +148,16 @@ impl<D: Disk, A: Allocator + Copy, N: Naming> Seat<'_, D, A, N> {
 // How often a lock that is held is asked for again before the thread sleeps.
 const TRIES: u32 = 100;
 
+// How many pauses there are between two tries. Each try takes the lock's word away from the thread that holds the lock.
+const PAUSES: u32 = 30;
+
+// Waits for a moment, some microseconds at most.
+fn pause() {
+    for _ in 0..PAUSES {
+        spin_loop();
+    }
+}
+
 // Takes the lock. Most reports are over sooner than a thread that sleeps is woken.
 fn lock<'a, D: Disk, A: Allocator + Copy, N: Naming, R: Wait>(
     rt: &R,
@@ -157,7 +167,7 @@ fn lock<'a, D: Disk, A: Allocator + Copy, N: Naming, R: Wait>(
         if let Some(locked) = mutex.try_lock() {
             return locked;
         }
-        spin_loop();
+        pause();
     }
     mutex.lock(rt)
 }

@@ -4,3 +4,5 @@ pub mod Answering
 pub mod Entering
 pub mod Remembering
 pub mod Offering
+pub mod Ordering
+pub mod Accepting

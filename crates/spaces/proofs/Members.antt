@@ -10,7 +10,7 @@ use Rattle.closures.specs.Looks.{look, AllBelow}
 use Rattle.closures.specs.Closing.{AllShallow, IsClosure}
 
 -- ---- what is in a list is so at some place
-In-contains : {X : Type 0} {x : X} {xs : List X} → In x xs → Contains xs x
+pub In-contains : {X : Type 0} {x : X} {xs : List X} → In x xs → Contains xs x
 In-contains (here {x = x} {xs = xs}) = (0, omega arith, refl)
 In-contains (there {x = x} {y = y} {xs = xs} i) = let (k, h, e) = In-contains i in (suc k, omega arith, e)
 

@@ -22,19 +22,20 @@ use Rattle.closures.specs.Known.{IsKnown}
 use Rattle.closures.specs.Closing.{Takes}
 use Rattle.spaces.specs.declared.facts.SetFacts.{SetFacts}
 use Rattle.spaces.specs.Known.{AreFactsOf}
-use Rattle.spaces.specs.Offers.{AreOffers, HasApart, HasPart, HasPutOffer, IsOffer, IsPart, Waits}
+use Rattle.spaces.specs.Acceptances.{AreLeast, HasApart, IsPart}
+use Rattle.spaces.specs.Offers.{AreOffers, HasPart, HasPutOffer, IsOffer, Waits}
 use Rattle.spaces.proofs.Members.{In-permuted}
 
 -- ---- tests
-and-left : (a b : Bool) → (a && b) ≡ true → a ≡ true
+pub and-left : (a b : Bool) → (a && b) ≡ true → a ≡ true
 and-left true b e = refl
 and-left false b e = absurd (cc)
 
-and-right : (a b : Bool) → (a && b) ≡ true → b ≡ true
+pub and-right : (a b : Bool) → (a && b) ≡ true → b ≡ true
 and-right true b e = e
 and-right false b e = absurd (cc)
 
-both : (a b : Bool) → a ≡ true → b ≡ true → (a && b) ≡ true
+pub both : (a b : Bool) → a ≡ true → b ≡ true → (a && b) ≡ true
 both true b e f = f
 both false b e f = absurd (cc)
 
@@ -42,7 +43,7 @@ pub not-on : (b : Bool) → not b ≡ true → b ≡ false
 not-on true e = absurd (cc)
 not-on false e = refl
 
-off-not : (b : Bool) → b ≡ false → not b ≡ true
+pub off-not : (b : Bool) → b ≡ false → not b ≡ true
 off-not true e = absurd (cc)
 off-not false e = refl
 
@@ -50,7 +51,7 @@ pub off-on : (b : Bool) → not b ≡ false → b ≡ true
 off-on true e = refl
 off-on false e = absurd (cc)
 
-is-off : (b : Bool) → (b ≡ true → ⊥) → b ≡ false
+pub is-off : (b : Bool) → (b ≡ true → ⊥) → b ≡ false
 is-off true h = absurd (h refl)
 is-off false h = refl
 
@@ -85,7 +86,7 @@ next-more ps P old one new x a b e = (
 
 -- ---- sets of what waiting states offer
 pub offers-none : AreOffers [] []
-offers-none = record { only = λ O i. elim i [ ]; all = λ P i w. elim i [ ] }
+offers-none = record { only = λ O i. elim i [ ]; all = λ P i w. elim i [ ]; least = λ M O i. elim i [ ] }
 
 pub offers-same : (sets : List Set) (ps : List Proc) (P : Proc) → AreOffers sets ps → (Waits P → ⊥) → AreOffers sets (ps ++ P ∷ [])
 offers-same sets ps P a n =
@@ -96,6 +97,7 @@ offers-same sets ps P a n =
             | inl j ↦ a.all Q j w
             | inr j ↦ absurd (n (subst (λ (R : Proc). Waits R) (one-In j refl) w))
           ];
+      least = a.least;
     }
 
 pub offers-more : (old new : List Set) (O : Set) (ps : List Proc) (P : Proc) → AreOffers old ps → Waits P → IsOffer O P → HasPutOffer old O new → AreOffers new (ps ++ P ∷ [])
@@ -111,6 +113,7 @@ offers-more old new O ps P a v o p =
             | inl j ↦ let (M, k, h) = a.all Q j w in let (N, l, part) = p.kept M k in (N, l, λ b y. h b (part (ev b) y))
             | inr j ↦ let (N, l, part) = p.added in (N, l, λ b y. ap (λ (R : Proc). offered R b) (one-In j refl) ∙ sym (o.events b) ∙ part (ev b) y)
           ];
+      least = p.least a.least;
     }
 
 -- from what is known of the state
@@ -131,7 +134,7 @@ single : {M O : Set} → In M (O ∷ []) → M ≡ O
 single here = refl
 single (there i) = elim i [ ]
 
-first-or : {M O : Set} {sets : List Set} → In M (O ∷ sets) → In M sets ⊎ (M ≡ O)
+pub first-or : {M O : Set} {sets : List Set} → In M (O ∷ sets) → In M sets ⊎ (M ≡ O)
 first-or here = inr refl
 first-or (there i) = inl i
 
@@ -143,7 +146,7 @@ set-more sets i O S e h (M, j, s) =
       | inr k ↦ inr (subst S (single k ∙ sym e) s)
     ]
 
-at-In : (sets : List Set) (i : ℕ) (d : Set) → i < length sets → In (get_or sets i d) sets
+pub at-In : (sets : List Set) (i : ℕ) (d : Set) → i < length sets → In (get_or sets i d) sets
 at-In [] i d h = absurd (omega arith)
 at-In (M ∷ sets) zero d h = here
 at-In (M ∷ sets) (suc i) d h = there (at-In sets i d (omega arith))
@@ -152,14 +155,29 @@ pub set-at : (sets : List Set) (i : ℕ) (O : Set) → O ≡ get_or sets i O →
 set-at sets i O e h = subst (λ (M : Set). In M sets) (sym e) (at-In sets i O h)
 
 pub put-part : (old : List Set) (O : Set) → HasPart old O → HasPutOffer old O old
-put-part old O h = record { only = λ M i. inl i; kept = λ M i. (M, i, λ x y. y); added = h }
+put-part old O h = record { only = λ M i. inl i; kept = λ M i. (M, i, λ x y. y); added = h; least = λ l. l }
 
-pub put-last : (old left : List Set) (O : Set) → ((M : Set) → In M left → In M old) → ((M : Set) → In M old → In M left ⊎ IsPart O M) → HasPutOffer old O (left ++ O ∷ [])
-put-last old left O only kept =
+-- a last set more, which lies in none of the others, nor one of them in it
+least-last : (left : List Set) (O : Set) → AreLeast left → ((M : Set) → In M left → IsPart O M → ⊥) → ((M : Set) → In M left → IsPart M O → ⊥) → AreLeast (left ++ O ∷ [])
+least-last left O l out none M N i j part =
+    elim (append-In left (O ∷ []) M i) [
+      | inl k ↦ elim (append-In left (O ∷ []) N j) [
+        | inl m ↦ l M N k m part
+        | inr m ↦ absurd (none M k (subst (λ (S : Set). IsPart M S) (single m) part))
+      ]
+      | inr k ↦ elim (append-In left (O ∷ []) N j) [
+        | inl m ↦ absurd (out N m (subst (λ (S : Set). IsPart S N) (single k) part))
+        | inr m ↦ single k ∙ sym (single m)
+      ]
+    ]
+
+pub put-last : (old left : List Set) (O : Set) → ((M : Set) → In M left → In M old) → ((M : Set) → In M old → In M left ⊎ IsPart O M) → ((M : Set) → In M left → IsPart O M → ⊥) → (HasPart old O → ⊥) → HasPutOffer old O (left ++ O ∷ [])
+put-last old left O only kept out none =
     record {
       only = λ M i. elim (append-In left (O ∷ []) M i) [ inl j ↦ inl (only M j) | inr j ↦ inr (single j) ];
       kept = λ M i. elim (kept M i) [ inl j ↦ (M, In-append_l j (O ∷ []), λ x y. y) | inr part ↦ (O, In-append_r left here, part) ];
       added = (O, In-append_r left here, λ x y. y);
+      least = λ l. least-last left O (λ M N i j part. l M N (only M i) (only N j) part) out (λ M i part. none (M, only M i, part));
     }
 
 -- a list without what stood at a place
@@ -183,21 +201,27 @@ module _ {A : Type 0} (facts : SetFacts A) (ps : List Proc) (B : ℕ → Proc) (
       let (Q, i, t) = (k.next_is tick).0 (and-left (member facts.next tick) (not (member X tick)) e) in
       (Q, i, inr (t, not-on (member X tick) (and-right (member facts.next tick) (not (member X tick)) e)))
 
+  rest-refuses : HasApart facts.offers.items X → (Q : Proc) × In Q ps × Refuses B (member X) Q
+  rest-refuses (O, i, apart) =
+      let (P, j, w, o) = k.offers_are.only O i in
+      (P, j, inl ((resting-says B P).0 w.0, w.1, (λ a P' x d. apart (ev a) (o.events a ∙ Act-offered d) x)))
+
+  apart-of : (M : Set) (P : Proc) → In M facts.offers.items → ((a : ℕ) → has M a ≡ true → offered P a ≡ true) → ((a : ℕ) → member X (ev a) ≡ true → Offers P a → ⊥) → (x : Event) → IsTrue (member M x) → IsTrue (member X x) → ⊥
+  apart-of M P i part n tick m y = let (Q, j, w, o) = k.offers_are.only M i in true≢false (sym m ∙ o.no_tick)
+  apart-of M P i part n (ev a) m y = n a y (offered-Offers P a (part a m))
+
+  refused-by : ((Q : Proc) × In Q ps × Refuses B (member X) Q) → ((member facts.next tick && not (member X tick)) ≡ true) ⊎ HasApart facts.offers.items X
+  refused-by (Q, i, inl (s, n, r)) =
+      let (M, j, part) = k.offers_are.all Q i ((resting-says B Q).1 s, n) in
+      inr (M, j, apart-of M Q j part (λ a y (Q', d). r a Q' y d))
+  refused-by (Q, i, inr (t, f)) = inl (both (member facts.next tick) (not (member X tick)) ((k.next_is tick).1 (Q, i, t)) (off-not (member X tick) f))
+
   pub refuse-rest : (b : Bool) → (member facts.next tick && not (member X tick)) ≡ false → IsTrue b ↔ HasApart facts.offers.items X → IsTrue b ↔ ((Q : Proc) × In Q ps × Refuses B (member X) Q)
-  refuse-rest b e h = (forth, back)
-    where
-      forth : IsTrue b → (Q : Proc) × In Q ps × Refuses B (member X) Q
-      forth t =
-          let (O, i, apart) = h.0 t in
-          let (P, j, w, o) = k.offers_are.only O i in
-          (P, j, inl ((resting-says B P).0 w.0, w.1, (λ a P' x d. apart (ev a) (o.events a ∙ Act-offered d) x)))
+  refuse-rest b e h = (
+    (λ t. rest-refuses (h.0 t)),
+    (λ w. elim (refused-by w) [ inl t ↦ absurd (true≢false (sym t ∙ e)) | inr a ↦ h.1 a ]),
+  )
 
-      apart-of : (M : Set) (P : Proc) → In M facts.offers.items → ((a : ℕ) → has M a ≡ true → offered P a ≡ true) → ((a : ℕ) → member X (ev a) ≡ true → Offers P a → ⊥) → (x : Event) → IsTrue (member M x) → IsTrue (member X x) → ⊥
-      apart-of M P i part n tick m y = let (Q, j, w, o) = k.offers_are.only M i in true≢false (sym m ∙ o.no_tick)
-      apart-of M P i part n (ev a) m y = n a y (offered-Offers P a (part a m))
-
-      back : ((Q : Proc) × In Q ps × Refuses B (member X) Q) → IsTrue b
-      back (Q, i, inl (s, n, r)) =
-          let (M, j, part) = k.offers_are.all Q i ((resting-says B Q).1 s, n) in
-          h.1 (M, j, apart-of M Q j part (λ a y (Q', d). r a Q' y d))
-      back (Q, i, inr (t, f)) = absurd (true≢false (sym (both (member facts.next tick) (not (member X tick)) ((k.next_is tick).1 (Q, i, t)) (off-not (member X tick) f)) ∙ e))
+  -- how it is refused
+  pub refuse-says : ((Q : Proc) × In Q ps × Refuses B (member X) Q) ↔ (((member facts.next tick && not (member X tick)) ≡ true) ⊎ HasApart facts.offers.items X)
+  refuse-says = (refused-by, λ w. elim w [ inl e ↦ refuse-end e | inr a ↦ rest-refuses a ])

@@ -1,5 +1,6 @@
 -- To believe.
 pub mod Spaces
+pub mod Acceptances
 pub mod Crossings
 -- Steps of the program.
 pub mod Answers

@@ -11,9 +11,10 @@ ghost use Rattle.closures.specs.Known.{IsKnown};
 ghost use Rattle.closures.specs.Looks.{look, AllBelow};
 ghost use Rattle.closures.specs.Closing.{Takes};
 ghost use Rattle.spaces.specs.Known.{AreFactsOf};
-ghost use Rattle.spaces.specs.Offers.{AreOffers};
+ghost use Rattle.spaces.specs.Acceptances.{AreOrdered};
+ghost use Rattle.spaces.specs.Offers.{AreLeastOf, AreOffers, AreSmall};
 
-use crate::offers::{put_offer, some_apart};
+use crate::offers::{in_order, put_offer, some_apart};
 use alphabet::{Event, EventSet};
 use closures::{Facts, Transitions};
 use std::alloc::{AllocError, Allocator};
@@ -92,6 +93,28 @@ fn put_offers<A: Allocator>(facts: Facts, into: &mut Vec<EventSet, A>) -> Result
         return Ok(());
     }
     put_offer(facts.offers, into)
+}
+
+impl<A: Allocator + Copy> SetFacts<A> {
+    /// What the states accept at least: the offers, and tick alone where some state can terminate. Of two such sets, one
+    /// within the other, only the smaller is there, and they are in the order of their first differences.
+    pub(crate) fn acceptances(&self, alloc: A) -> Result<Vec<EventSet, A>, AllocError>
+        ensures { IfOk result (λ sets. AreLeastOf self.now.next self.now.offers.items sets.items × (AreSmall self.now.offers.items → AreOrdered sets.items)) }
+    {
+        let least = self.least(alloc)?;
+        in_order(alloc, &least)
+    }
+
+    /// The same in any order.
+    fn least(&self, alloc: A) -> Result<Vec<EventSet, A>, AllocError>
+        ensures { IfOk result (λ sets. AreLeastOf self.now.next self.now.offers.items sets.items) }
+    {
+        let mut sets = Vec::from_slice(alloc, &self.offers)?;
+        if self.next.contains(Event::Tick) {
+            put_offer(EventSet::empty().with(Event::Tick), &mut sets)?;
+        }
+        Ok(sets)
+    }
 }
 
 impl<A: Allocator> SetFacts<A> {

@@ -18,7 +18,7 @@ ghost use Rattle.spaces.specs.Spaces.{Belongs, GrewFrom, IsSetOf, states};
 use crate::facts::{SetFacts, facts_of};
 use crate::states::StateSet;
 use alphabet::Event;
-use closures::{AfterFault, Transitions, close, first_level};
+use closures::{AfterFault, Numbers, Transitions, close, first_level};
 use indexmap::IndexMap;
 use std::alloc::{AllocError, Allocator};
 use std::hash::{BuildHasherDefault, FoldHasher};
@@ -83,15 +83,15 @@ impl<A: Allocator + Copy> FoundSets<A> {
     }
 
     /// The number of the root's name, as a list.
-    fn root_alone(&mut self) -> Result<Vec<u32, A>, AllocError>
-        ensures below { IfOk result (λ first. AllBelow (length self.new.table.processes) first.items) }
-        ensures root { IfOk result (λ first. look self.new.table.processes first.items ≡ root ∷ []) }
-        ensures opens { IfOk result (λ first. Opens self.new.spec (look self.new.table.processes first.items)) }
+    fn root_alone(&mut self) -> Result<Numbers<A>, AllocError>
+        ensures below { IfOk result (λ first. AllBelow (length self.new.table.processes) first) }
+        ensures root { IfOk result (λ first. look self.new.table.processes first ≡ root ∷ []) }
+        ensures opens { IfOk result (λ first. Opens self.new.spec (look self.new.table.processes first)) }
         ensures grown { GrewFrom (shown self.old) (shown self.new) }
     {
         let root = self.all.root()?;
-        let mut first = Vec::new(self.alloc);
-        first.push(root)?;
+        let mut first = Numbers::new(self.alloc);
+        first.put(root)?;
         Ok(first)
     }
 
@@ -120,11 +120,11 @@ impl<A: Allocator + Copy> FoundSets<A> {
     }
 
     /// The targets of the event from the set's members.
-    fn level_after(&mut self, set: StateSet, event: Event) -> Result<Vec<u32, A>, AfterFault>
+    fn level_after(&mut self, set: StateSet, event: Event) -> Result<Numbers<A>, AfterFault>
         requires { IsSetOf (shown self.old) set }
-        ensures below { IfOk result (λ first. AllBelow (length self.new.table.processes) first.items) }
-        ensures opens { IfOk result (λ first. Opens self.new.spec (look self.new.table.processes first.items)) }
-        ensures cut { IfOk result (λ first. CutOf (TargetOf (bodies_of self.old.spec.bodies) (states (shown self.old) set) (label.Event event)) most_states (look self.new.table.processes first.items)) }
+        ensures below { IfOk result (λ first. AllBelow (length self.new.table.processes) first) }
+        ensures opens { IfOk result (λ first. Opens self.new.spec (look self.new.table.processes first)) }
+        ensures cut { IfOk result (λ first. CutOf (TargetOf (bodies_of self.old.spec.bodies) (states (shown self.old) set) (label.Event event)) most_states (look self.new.table.processes first)) }
         ensures limit { IfErr result (MeetsLimit (bodies_of self.old.spec.bodies) (TargetOf (bodies_of self.old.spec.bodies) (states (shown self.old) set) (label.Event event))) }
         ensures grown { GrewFrom (shown self.old) (shown self.new) }
     {
@@ -133,11 +133,11 @@ impl<A: Allocator + Copy> FoundSets<A> {
     }
 
     /// The set of all that hidden steps reach from these processes.
-    fn closed_set(&mut self, first: Vec<u32, A>) -> Result<StateSet, AfterFault>
-        requires below { AllBelow (length self.old.table.processes) first.items }
-        requires first { Opens self.old.spec (look self.old.table.processes first.items) }
-        ensures set { IfOk result (IsClosedSet (shown self.new) (Among (look self.old.table.processes first.items))) }
-        ensures limit { IfErr result (MeetsLimit (bodies_of self.old.spec.bodies) (Among (look self.old.table.processes first.items))) }
+    fn closed_set(&mut self, first: Numbers<A>) -> Result<StateSet, AfterFault>
+        requires below { AllBelow (length self.old.table.processes) first }
+        requires first { Opens self.old.spec (look self.old.table.processes first) }
+        ensures set { IfOk result (IsClosedSet (shown self.new) (Among (look self.old.table.processes first))) }
+        ensures limit { IfErr result (MeetsLimit (bodies_of self.old.spec.bodies) (Among (look self.old.table.processes first))) }
         ensures grown { GrewFrom (shown self.old) (shown self.new) }
     {
         let all = match self.closure(first) {
@@ -149,12 +149,12 @@ impl<A: Allocator + Copy> FoundSets<A> {
     }
 
     /// The numbers of all that hidden steps reach from these processes.
-    fn closure(&mut self, first: Vec<u32, A>) -> Result<Vec<u32, A>, AfterFault>
-        requires below { AllBelow (length self.old.table.processes) first.items }
-        requires first { Opens self.old.spec (look self.old.table.processes first.items) }
+    fn closure(&mut self, first: Numbers<A>) -> Result<Vec<u32, A>, AfterFault>
+        requires below { AllBelow (length self.old.table.processes) first }
+        requires first { Opens self.old.spec (look self.old.table.processes first) }
         ensures below { IfOk result (λ all. AllBelow (length self.new.table.processes) all.items) }
-        ensures closure { IfOk result (λ all. IsClosure (bodies_of self.old.spec.bodies) (Among (look self.old.table.processes first.items)) (look self.new.table.processes all.items)) }
-        ensures limit { IfErr result (MeetsLimit (bodies_of self.old.spec.bodies) (Among (look self.old.table.processes first.items))) }
+        ensures closure { IfOk result (λ all. IsClosure (bodies_of self.old.spec.bodies) (Among (look self.old.table.processes first)) (look self.new.table.processes all.items)) }
+        ensures limit { IfErr result (MeetsLimit (bodies_of self.old.spec.bodies) (Among (look self.old.table.processes first))) }
         ensures grown { GrewFrom (shown self.old) (shown self.new) }
     {
         close(&self.spec, &mut self.all, self.alloc, first)

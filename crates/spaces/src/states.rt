@@ -7,12 +7,13 @@ ghost use Rattle.term.specs.Limits.{Advance, NoLimit, Opening};
 ghost use Rattle.term.specs.Meaning.{Failure, Trace};
 ghost use Rattle.term.specs.Proc.{bodies_of, root};
 ghost use Rattle.closures.specs.Belonging.{MeetsLimit};
+ghost use Rattle.spaces.specs.Acceptances.{AreAcceptances};
 ghost use Rattle.spaces.specs.Spaces.{Belongs, GrewFrom, IsSetOf};
 
 use crate::space::Space;
 use alphabet::{Event, EventSet};
 use closures::AfterFault;
-use std::alloc::Allocator;
+use std::alloc::{AllocError, Allocator};
 use std::marker::Model;
 
 /// The processes in which the root may be after a trace, with hidden steps anywhere, also at the end: a set of a space, by
@@ -86,6 +87,23 @@ impl StateSet {
         match space.facts(self) {
             Some(facts) => facts.refuse(set),
             None => false,
+        }
+    }
+
+    /// The minimal acceptances after the trace, in a fixed order: of two sets the first event that is in one of them
+    /// alone tells which stands first, by having it. The set is one of this space. Refused only where memory is.
+    pub fn acceptances<A: Allocator + Copy>(
+        self,
+        space: &Space<A>,
+        alloc: A,
+    ) -> Result<Vec<EventSet, A>, AllocError>
+        ensures { (u : List Event) → Belongs space.now self u → IfOk result (λ sets. AreAcceptances (bodies_of space.now.spec.bodies) root u sets.items) }
+    {
+        // All events of the sets are of this alphabet.
+        let _ = space.spec().alphabet().len();
+        match space.facts(self) {
+            Some(facts) => facts.acceptances(alloc),
+            None => Ok(Vec::new(alloc)),
         }
     }
 

@@ -8,6 +8,6 @@ use Rattle.closures.proofs.closing.add_level.Given as goal
 abbrev pub invariant-loop-place : goal.invariant-loop-place
 invariant-loop-place g l = record {
   kept : KeepsNumbers l.fn.all l.all;
-  here : AllBelow (length l.all.table.processes) l.seen.items;
-  way : IsOnTheWay (bodies_of l.spec.bodies) (look l.fn.all.table.processes l.fn.seen.items) l.from l.place (look l.all.table.processes l.seen.items);
+  here : AllBelow (length l.all.table.processes) l.seen;
+  way : IsOnTheWay (bodies_of l.spec.bodies) (look l.fn.all.table.processes l.fn.seen) l.from l.place (look l.all.table.processes l.seen);
 }

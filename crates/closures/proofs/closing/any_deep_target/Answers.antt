@@ -1,4 +1,4 @@
-use Rattle.std.proofs.Common.{◌≡◌, ◌<◌, ◌≤◌, ◌↔◌, ◌∙◌, inl, inr, IsTrue, List, length, take, get_or, refl, sym, subst, true≢false}
+use Rattle.std.proofs.Common.{◌<◌, ◌≤◌, ◌↔◌, ◌∙◌, inl, inr, IsTrue, List, length, take, get_or, refl, sym, subst, true≢false}
 use Rattle.term.specs.Proc.{Proc, bodies_of}
 use Rattle.term.specs.Sizes.{depth}
 use Rattle.term.specs.Steps.{Hid}

@@ -1,4 +1,4 @@
-use Rattle.std.proofs.Common.{◌≡◌, ◌<◌, ◌≤◌, ◌+◌, ◌∙◌, ◌++◌, ◌∷◌, [], List, length, take, get_or, sym, ap, subst, arith}
+use Rattle.std.proofs.Common.{ℕ, ◌≤◌, ◌+◌, ◌∙◌, ◌++◌, ◌∷◌, [], List, length, take, get_or, sym, subst, arith}
 use Rattle.std.proofs.lemmas.List.{length-map}
 use Rattle.alphabet.specs.Channels.{event_count}
 use Rattle.term.specs.Limits.{most_states}
@@ -6,14 +6,29 @@ use Rattle.term.specs.Proc.{Proc, bodies_of}
 use Rattle.step.specs.declared.targets.Label.TheVariants as label
 use Rattle.targets.specs.Cuts.{CutOf}
 use Rattle.nodes.specs.Shapes.{at}
-use Rattle.nodes.specs.Looks.{look}
+use Rattle.nodes.specs.Looks.{look, AllBelow}
 use Rattle.nodes.proofs.Looking.{below-at}
-use Rattle.transitions.proofs.Keeping.{at-kept, within-kept, hides-kept, kept-on}
+use Rattle.transitions.proofs.Keeping.{at-kept, within-kept, hides-kept, kept-on, kept-same}
 use Rattle.after.specs.Closing.{TargetOf}
 use Rattle.step.proofs.Lying.{lies-small}
 use Rattle.closures.proofs.Putting.{look-more}
 use Rattle.closures.proofs.Levels.{In-look, first-put, first-many}
+use Rattle.targets.proofs.Cutting.{cut-none}
 use Rattle.closures.proofs.closing.first_level.Goals as goal
+
+pub loop-number-init : goal.loop-number-init
+loop-number-init g c =
+    let s = c.args.all.now in
+    let x = label.Event c.args.event in
+    let B = bodies_of c.args.spec.now.bodies in
+    let none : CutOf (TargetOf B [] x) most_states [] = cut-none (TargetOf B [] x) most_states (λ Q (P, i, d). elim i [ ]) in
+    let empty = sym c.new-first.ensures in
+    record {
+      kept = kept-same s;
+      here = subst (λ (l : List ℕ). AllBelow (length s.table.processes) l) empty tt;
+      cut = subst (λ (l : List ℕ). CutOf (TargetOf B [] x) most_states (look s.table.processes l)) empty none;
+      few = subst (λ (l : List ℕ). length (look s.table.processes l) ≤ most_states) empty (omega arith);
+    }
 
 pub put_targets-requires-clause-number : goal.put_targets-requires-clause-number
 put_targets-requires-clause-number g c =
@@ -46,12 +61,12 @@ returns-then-len-gt-MOST_STATES-clause-err g c =
     let B = bodies_of c.args.spec.now.bodies in
     let inv = c.loop-number.invariant in
     let within = below-at (length s.table.processes) ns i 0 c.requires.here c.loop-number-test.true in
-    let new = look u.table.processes c.put_targets.new.into.items in
+    let new = look u.table.processes c.put_targets.new.into in
     let cut : CutOf (TargetOf B (look s.table.processes (take (i + 1) ns)) x) most_states new =
     subst (λ (ps : List Proc). CutOf (TargetOf B ps x) most_states new) (sym (look-more s.table.processes ns i 0 c.loop-number-test.true))
     (subst (λ (P : Proc). CutOf (TargetOf B (look s.table.processes (take i ns) ++ P ∷ []) x) most_states new) (at-kept s l inv.kept n within)
-    (first-put c.args.spec.now l (inv.kept.bodies ∙ c.requires.bodies) (look s.table.processes (take i ns)) (at l.table.processes n) x (look l.table.processes c.loop-number.first.items) new inv.cut inv.few c.in_ok-put_targets.ensures.put)) in
-    first-many B s.table.processes ns (i + 1) c.args.event new c.requires.shallow cut (omega (arith, length-map c.put_targets.new.into.items (at u.table.processes), c.len.ensures))
+    (first-put c.args.spec.now l (inv.kept.bodies ∙ c.requires.bodies) (look s.table.processes (take i ns)) (at l.table.processes n) x (look l.table.processes c.loop-number.first) new inv.cut inv.few c.in_ok-put_targets.ensures.put)) in
+    first-many B s.table.processes ns (i + 1) c.args.event new c.requires.shallow cut (omega (arith, length-map c.put_targets.new.into (at u.table.processes), c.len.ensures))
 
 pub loop-number-preserved : goal.loop-number-preserved
 loop-number-preserved g c =
@@ -65,12 +80,18 @@ loop-number-preserved g c =
     let B = bodies_of c.args.spec.now.bodies in
     let inv = c.loop-number.invariant in
     let within = below-at (length s.table.processes) ns i 0 c.requires.here c.loop-number-test.true in
-    let new = look u.table.processes c.put_targets.new.into.items in
+    let new = look u.table.processes c.put_targets.new.into in
     record {
       kept = kept-on s l u inv.kept c.put_targets.ensures.kept;
       here = c.in_ok-put_targets.ensures.here;
       cut = subst (λ (ps : List Proc). CutOf (TargetOf B ps x) most_states new) (sym (look-more s.table.processes ns i 0 c.loop-number-test.true))
           (subst (λ (P : Proc). CutOf (TargetOf B (look s.table.processes (take i ns) ++ P ∷ []) x) most_states new) (at-kept s l inv.kept n within)
-          (first-put c.args.spec.now l (inv.kept.bodies ∙ c.requires.bodies) (look s.table.processes (take i ns)) (at l.table.processes n) x (look l.table.processes c.loop-number.first.items) new inv.cut inv.few c.in_ok-put_targets.ensures.put));
-      few = omega (arith, length-map c.put_targets.new.into.items (at u.table.processes), c.len.ensures);
+          (first-put c.args.spec.now l (inv.kept.bodies ∙ c.requires.bodies) (look s.table.processes (take i ns)) (at l.table.processes n) x (look l.table.processes c.loop-number.first) new inv.cut inv.few c.in_ok-put_targets.ensures.put));
+      few = omega (arith, length-map c.put_targets.new.into (at u.table.processes), c.len.ensures);
     }
+
+pub returns-in_err-put_targets-clause-kept : goal.returns-in_err-put_targets-clause-kept
+returns-in_err-put_targets-clause-kept g c = kept-on c.args.all.now c.loop-number.all c.put_targets.new.all c.loop-number.invariant.kept c.put_targets.ensures.kept
+
+pub returns-then-len-gt-MOST_STATES-clause-kept : goal.returns-then-len-gt-MOST_STATES-clause-kept
+returns-then-len-gt-MOST_STATES-clause-kept g c = kept-on c.args.all.now c.loop-number.all c.put_targets.new.all c.loop-number.invariant.kept c.put_targets.ensures.kept

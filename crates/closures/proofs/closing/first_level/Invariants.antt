@@ -11,7 +11,7 @@ use Rattle.closures.proofs.closing.first_level.Given as goal
 abbrev pub invariant-loop-number : goal.invariant-loop-number
 invariant-loop-number g l = record {
   kept : KeepsNumbers l.fn.all l.all;
-  here : AllBelow (length l.all.table.processes) l.first.items;
-  cut : CutOf (TargetOf (bodies_of l.spec.bodies) (look l.fn.all.table.processes (take l.number-index l.numbers)) (label.Event l.event)) most_states (look l.all.table.processes l.first.items);
-  few : length (look l.all.table.processes l.first.items) ≤ most_states;
+  here : AllBelow (length l.all.table.processes) l.first;
+  cut : CutOf (TargetOf (bodies_of l.spec.bodies) (look l.fn.all.table.processes (take l.number-index l.numbers)) (label.Event l.event)) most_states (look l.all.table.processes l.first);
+  few : length (look l.all.table.processes l.first) ≤ most_states;
 }

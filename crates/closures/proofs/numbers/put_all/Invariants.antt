@@ -5,6 +5,6 @@ use Rattle.closures.proofs.numbers.put_all.Given as goal
 
 abbrev pub invariant-loop-number : goal.invariant-loop-number
 invariant-loop-number g l = record {
-  here : AllBelow (length l.all.table.processes) l.into.items;
-  put : HasPut (look l.all.table.processes (take l.number-index l.numbers)) (look l.all.table.processes l.initial.into.items) (look l.all.table.processes l.into.items);
+  here : AllBelow (length l.all.table.processes) l.into;
+  put : HasPut (look l.all.table.processes (take l.number-index l.numbers)) (look l.all.table.processes l.initial.into) (look l.all.table.processes l.into);
 }

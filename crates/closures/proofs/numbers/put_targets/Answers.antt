@@ -16,7 +16,7 @@ put_all-requires-clause-numbers g c =
     subst (λ (ns : List ℕ). AllBelow (length c.put_targets.new.self.table.processes) ns) (sym c.deref.ensures.value) c.in_ok-put_targets.ensures.targets.here
 
 pub put_all-requires-clause-here : goal.put_all-requires-clause-here
-put_all-requires-clause-here g c = below-grown c.args.all.now.table c.put_targets.new.self.table c.put_targets.ensures.kept.table c.args.into.now.items c.requires.here
+put_all-requires-clause-here g c = below-grown c.args.all.now.table c.put_targets.new.self.table c.put_targets.ensures.kept.table c.args.into.now c.requires.here
 
 pub returns-clause-put : goal.returns-clause-put
 returns-clause-put g c =
@@ -33,6 +33,6 @@ returns-clause-put g c =
     (λ p. (
       found,
       cut,
-      subst (λ (ns : List ℕ). HasPut (look u.table.processes ns) (look s.table.processes c.args.into.now.items) (look u.table.processes c.put_all.new.into.items)) c.deref.ensures.value
-          (subst (λ (old : List Proc). HasPut (look u.table.processes c.deref.result.now) old (look u.table.processes c.put_all.new.into.items)) (look-grown s.table u.table k.table c.args.into.now.items c.requires.here) p),
+      subst (λ (ns : List ℕ). HasPut (look u.table.processes ns) (look s.table.processes c.args.into.now) (look u.table.processes c.put_all.new.into)) c.deref.ensures.value
+          (subst (λ (old : List Proc). HasPut (look u.table.processes c.deref.result.now) old (look u.table.processes c.put_all.new.into)) (look-grown s.table u.table k.table c.args.into.now c.requires.here) p),
     ))

@@ -1,7 +1,8 @@
 use Rattle.std.proofs.Common.{◌≤◌, ◌∙◌, List, inl, inr, length, refl, sym, subst, true≢false, arith}
 use Rattle.std.proofs.lemmas.List.{take_all}
 use Rattle.alphabet.specs.EventSets.{Set}
-use Rattle.spaces.specs.Offers.{HasPart, IsPart}
+use Rattle.spaces.specs.Acceptances.{IsPart}
+use Rattle.spaces.specs.Offers.{HasPart}
 use Rattle.spaces.proofs.Offering.{set-at, set-more}
 use Rattle.spaces.proofs.offers.has_part.Goals as goal
 

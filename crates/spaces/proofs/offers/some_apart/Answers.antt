@@ -2,7 +2,7 @@ use Rattle.std.proofs.Common.{◌≤◌, ◌∙◌, List, IsTrue, inl, inr, leng
 use Rattle.std.proofs.lemmas.List.{take_all}
 use Rattle.alphabet.specs.EventSets.{Set, member}
 use Rattle.alphabet.specs.declared.events.Event.{Event}
-use Rattle.spaces.specs.Offers.{HasApart}
+use Rattle.spaces.specs.Acceptances.{HasApart}
 use Rattle.spaces.proofs.Offering.{set-at, set-more}
 use Rattle.spaces.proofs.offers.some_apart.Goals as goal
 

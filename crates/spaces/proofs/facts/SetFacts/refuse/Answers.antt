@@ -1,6 +1,6 @@
 use Rattle.std.proofs.Common.{◌↔◌, ◌∙◌, IsTrue, List, refl, sym, subst}
 use Rattle.alphabet.specs.EventSets.{Set}
-use Rattle.spaces.specs.Offers.{HasApart}
+use Rattle.spaces.specs.Acceptances.{HasApart}
 use Rattle.spaces.proofs.Offering.{refuse-end, refuse-rest}
 use Rattle.spaces.proofs.facts.SetFacts.refuse.Goals as goal
 

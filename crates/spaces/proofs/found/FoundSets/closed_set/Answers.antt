@@ -16,7 +16,7 @@ returns-in_err-set-clause-grown g c = grew-on (shown c.args.self.now) (shown c.c
 
 pub returns-clause-set : goal.returns-clause-set
 returns-clause-set g c =
-    let L = Among (look c.args.self.now.table.processes c.args.first.items) in
+    let L = Among (look c.args.self.now.table.processes c.args.first) in
     let ps = look c.closure.new.self.table.processes c.in-Ok.all.items in
     closed-set (shown c.put.new.self) L ps c.in_ok-set.set
     (subst (λ (p : Specified). IsClosure (bodies_of p.bodies) L ps) (sym (grew-on (shown c.args.self.now) (shown c.closure.new.self) (shown c.put.new.self) c.in-Ok.ensures.grown c.put.ensures.grown).spec) c.in-Ok.ensures.closure)

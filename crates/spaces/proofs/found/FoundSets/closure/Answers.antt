@@ -24,4 +24,4 @@ returns-clause-grown g c =
     (table-grew c.self.inside.spec c.self.inside.all.table c.close.new.all.table c.self.inside.sets.entries c.self.invariant.stored c.close.ensures.kept.table)
 
 pub returns-clause-limit : goal.returns-clause-limit
-returns-clause-limit g c = subst (λ (f : Found). IfErr c.close.result (MeetsLimit (bodies_of f.spec.bodies) (Among (look f.table.processes c.args.first.items)))) c.self.view_is c.close.ensures.err
+returns-clause-limit g c = subst (λ (f : Found). IfErr c.close.result (MeetsLimit (bodies_of f.spec.bodies) (Among (look f.table.processes c.args.first)))) c.self.view_is c.close.ensures.err

@@ -1,4 +1,4 @@
-use Rattle.std.proofs.Common.{◌∙◌, sym, subst, arith}
+use Rattle.std.proofs.Common.{◌∙◌, sym, subst, length, refl}
 use Rattle.term.specs.Proc.{bodies_of}
 use Rattle.term.specs.Specs.{Specified}
 use Rattle.closures.specs.Looks.{look}
@@ -17,9 +17,9 @@ returns-then-is_empty-clause-answer g c =
     let s = shown c.args.self.now in
     let t = shown c.level_after.new.self in
     let qs = c.level_after.new.self.table.processes in
-    let first = look qs c.in-Ok.first.items in
+    let first = look qs c.in-Ok.first in
     let cut = cut-on s t c.in-Ok.ensures.grown c.args.set c.args.event first c.requires.1.within c.in-Ok.ensures.cut in
-    answer-none t c.args.set c.args.event first cut c.in-Ok.ensures.opens.few (no-number qs c.in-Ok.first.items c.in-Ok.first.len (omega (arith, c.in-Ok.first.ok.0)) (sym c.is_empty.ensures ∙ c.if-is_empty.true))
+    answer-none t c.args.set c.args.event first cut c.in-Ok.ensures.opens.few (no-number qs c.in-Ok.first (length c.in-Ok.first) refl (sym c.is_empty.ensures ∙ c.if-is_empty.true))
 
 pub returns-in-Ok-closed_set-clause-answer : goal.returns-in-Ok-closed_set-clause-answer
 returns-in-Ok-closed_set-clause-answer g c =
@@ -27,10 +27,10 @@ returns-in-Ok-closed_set-clause-answer g c =
     let t = shown c.level_after.new.self in
     let u = shown c.closed_set.new.self in
     let qs = c.level_after.new.self.table.processes in
-    let first = look qs c.in-Ok.first.items in
+    let first = look qs c.in-Ok.first in
     let grown = grew-on s t u c.in-Ok.ensures.grown c.in-Ok-closed_set.ensures.grown in
     let cut = cut-on s u grown c.args.set c.args.event first c.requires.1.within c.in-Ok.ensures.cut in
-    let (Q, i) = some-number qs c.in-Ok.first.items c.in-Ok.first.len (omega (arith, c.in-Ok.first.ok.0)) (sym c.is_empty.ensures ∙ c.if-is_empty.false) in
+    let (Q, i) = some-number qs c.in-Ok.first (length c.in-Ok.first) refl (sym c.is_empty.ensures ∙ c.if-is_empty.false) in
     answer-some u c.args.set c.args.event first cut c.in-Ok.ensures.opens.few c.in-Ok-closed_set.next Q i c.in-Ok-closed_set.ensures.set
 
 pub returns-in-Ok-closed_set-clause-grown : goal.returns-in-Ok-closed_set-clause-grown
@@ -39,7 +39,7 @@ returns-in-Ok-closed_set-clause-grown g c = grew-on (shown c.args.self.now) (sho
 pub returns-in-Err-closed_set-clause-limit : goal.returns-in-Err-closed_set-clause-limit
 returns-in-Err-closed_set-clause-limit g c =
     λ u b.
-    let first = look c.level_after.new.self.table.processes c.in-Ok.first.items in
+    let first = look c.level_after.new.self.table.processes c.in-Ok.first in
     limit-after (shown c.args.self.now) c.args.set c.args.event first c.in-Ok.ensures.cut c.in-Ok.ensures.opens.few u b c.in-Err-closed_set.fault
     (subst (λ (p : Specified). MeetsLimit (bodies_of p.bodies) (Among first) c.in-Err-closed_set.fault) c.in-Ok.ensures.grown.spec c.in-Err-closed_set.ensures.limit)
 

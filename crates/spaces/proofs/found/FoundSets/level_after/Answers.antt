@@ -79,17 +79,17 @@ returns-clause-opens g c =
     let ps = look c.self.inside.all.table.processes c.numbers_of-numbers.result.now in
     let qs = c.first_level.new.all.table.processes in
     if-both c.first_level.result _ _ _ c.first_level.ensures.all c.first_level.ensures.few
-    (λ (first : Vec ℕ g.row.A.Denot) cut few.
-    first-opens c.self.inside.spec ps c.args.event (look qs first.items) cut (omega (arith, few, length-map first.items (at qs))) c.self.invariant.closed (lies g a) (shallow g a))
+    (λ first cut few.
+    first-opens c.self.inside.spec ps c.args.event (look qs first) cut (omega (arith, few, length-map first (at qs))) c.self.invariant.closed (lies g a) (shallow g a))
 
 pub returns-clause-cut : goal.returns-clause-cut
 returns-clause-cut g c =
     let a = (goal.at.returns-clause-cut g c).After-numbers_of-numbers in
     let qs = c.first_level.new.all.table.processes in
     IfOk-weaker c.first_level.result _ _
-    (λ (first : Vec ℕ g.row.A.Denot) cut.
-    subst (λ (f : Found). CutOf (TargetOf (bodies_of f.spec.bodies) (states (shown c.args.self.now) c.args.set) (label.Event c.args.event)) most_states (look qs first.items)) c.self.view_is
-    (subst (λ (ps : List Proc). CutOf (TargetOf (bodies_of c.self.inside.spec.bodies) ps (label.Event c.args.event)) most_states (look qs first.items)) (listed g a) cut))
+    (λ first cut.
+    subst (λ (f : Found). CutOf (TargetOf (bodies_of f.spec.bodies) (states (shown c.args.self.now) c.args.set) (label.Event c.args.event)) most_states (look qs first)) c.self.view_is
+    (subst (λ (ps : List Proc). CutOf (TargetOf (bodies_of c.self.inside.spec.bodies) ps (label.Event c.args.event)) most_states (look qs first)) (listed g a) cut))
     c.first_level.ensures.all
 
 pub returns-clause-limit : goal.returns-clause-limit

@@ -1,4 +1,5 @@
-use Rattle.std.proofs.Common.{◌≡◌, ◌++◌, ◌∷◌, [], ℕ, List, length, sym, ap, ◌∙◌, subst}
+use Rattle.indexmap.specs.IndexSet.{insert_key}
+use Rattle.std.proofs.Common.{◌≡◌, nat_eq, ◌∷◌, [], ℕ, List, length, sym, ap, ◌∙◌, subst}
 use Rattle.closures.specs.Looks.{look, AllBelow}
 use Rattle.term.specs.Proc.{root}
 use Rattle.closures.proofs.Advances.{root-opens}
@@ -7,13 +8,13 @@ use Rattle.spaces.specs.Known.{found}
 use Rattle.spaces.specs.Spaces.{GrewFrom}
 use Rattle.spaces.proofs.Growing.{sound-on, table-grew}
 use Rattle.spaces.proofs.found.FoundSets.root_alone.Goals as goal
-use Rattle.spaces.proofs.found.FoundSets.root_alone.Goals.{In_ok-push}
+use Rattle.spaces.proofs.found.FoundSets.root_alone.Goals.{In_ok-put}
 
 pub invariant_of-self : goal.invariant_of-self
 invariant_of-self g c = sound-on c.self.inside.spec c.self.inside.sets.entries c.self.inside.all c.root.new.self c.self.invariant c.root.ensures.kept
 
-pub invariant_of-self-in_err-push : goal.invariant_of-self-in_err-push
-invariant_of-self-in_err-push g c = sound-on c.self.inside.spec c.self.inside.sets.entries c.self.inside.all c.root.new.self c.self.invariant c.root.ensures.kept
+pub invariant_of-self-in_err-put : goal.invariant_of-self-in_err-put
+invariant_of-self-in_err-put g c = sound-on c.self.inside.spec c.self.inside.sets.entries c.self.inside.all c.root.new.self c.self.invariant c.root.ensures.kept
 
 pub invariant_of-self-2 : goal.invariant_of-self-2
 invariant_of-self-2 g c = sound-on c.self.inside.spec c.self.inside.sets.entries c.self.inside.all c.root.new.self c.self.invariant c.root.ensures.kept
@@ -23,16 +24,16 @@ returns-in_err-root-clause-grown g c =
     subst (λ (f : Found). GrewFrom (shown f) (shown (found c.self.inside.spec c.root.new.self.table c.self.inside.sets.entries))) c.self.view_is
     (table-grew c.self.inside.spec c.self.inside.all.table c.root.new.self.table c.self.inside.sets.entries c.self.invariant.stored c.root.ensures.kept.table)
 
-pub returns-in_err-push-clause-grown : goal.returns-in_err-push-clause-grown
-returns-in_err-push-clause-grown g c =
+pub returns-in_err-put-clause-grown : goal.returns-in_err-put-clause-grown
+returns-in_err-put-clause-grown g c =
     subst (λ (f : Found). GrewFrom (shown f) (shown (found c.self.inside.spec c.root.new.self.table c.self.inside.sets.entries))) c.self.view_is
     (table-grew c.self.inside.spec c.self.inside.all.table c.root.new.self.table c.self.inside.sets.entries c.self.invariant.stored c.root.ensures.kept.table)
 
-module _ (g : _) (c : In_ok-push g) where
-  items : c.push.new.self.items ≡ c.in_ok-root.root ∷ []
-  items = c.in_ok-push.ensures.items ∙ ap (λ (l : List ℕ). l ++ c.in_ok-root.root ∷ []) c.new-first.ensures.items
+module _ (g : _) (c : In_ok-put g) where
+  items : c.put.new.self ≡ c.in_ok-root.root ∷ []
+  items = c.in_ok-put.ensures ∙ ap (λ (l : List ℕ). insert_key nat_eq l c.in_ok-root.root) c.new-first.ensures
 
-  listed : look c.root.new.self.table.processes c.push.new.self.items ≡ root ∷ []
+  listed : look c.root.new.self.table.processes c.put.new.self ≡ root ∷ []
   listed = ap (look c.root.new.self.table.processes) items ∙ ap (λ P. P ∷ []) c.in_ok-root.ensures.number.is
 
 pub returns-clause-below : goal.returns-clause-below
@@ -42,7 +43,7 @@ pub returns-clause-root : goal.returns-clause-root
 returns-clause-root g c = listed g c
 
 pub returns-clause-opens : goal.returns-clause-opens
-returns-clause-opens g c = root-opens c.self.inside.spec c.self.invariant.closed (look c.root.new.self.table.processes c.push.new.self.items) (listed g c)
+returns-clause-opens g c = root-opens c.self.inside.spec c.self.invariant.closed (look c.root.new.self.table.processes c.put.new.self) (listed g c)
 
 pub returns-clause-grown : goal.returns-clause-grown
 returns-clause-grown g c =

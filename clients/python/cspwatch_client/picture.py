@@ -1,0 +1,377 @@
+"""A picture of a journal: what `cspwatch show --format json` prints, as one HTML page that needs nothing else.
+
+    cspwatch show --format json JOURNAL | python -m cspwatch_client.picture > page.html
+"""
+from __future__ import annotations
+
+import argparse
+import math
+import pkgutil
+import sys
+from collections import Counter
+from html import escape
+from typing import Dict, Iterable, List, Optional, Tuple
+
+from .replies import Status
+from .shown import BadLine, Count, Coverage, Entry, Names, Shown, read
+
+TITLE = "A journal of cspwatch"
+
+GROUP = 200
+"""How many rows a group has. A browser lays out only the groups that are seen."""
+
+LONG = 160
+"""The most characters of a row's text. The whole of a longer one is a note at the end of the page."""
+
+WIDE, LANES = 28, 640
+"""The most pixels of a lifeline, and of all together."""
+
+CROWDED = 8
+"""Below so many pixels for each, the lifelines are drawn as one field."""
+
+BUCKETS = 400
+"""The most parts of the strip that shows where in the history entries were rejected."""
+
+PAGE = """<!DOCTYPE html>
+<html lang="en">
+<head>
+<meta charset="utf-8">
+<meta name="viewport" content="width=device-width, initial-scale=1">
+<meta http-equiv="Content-Security-Policy" content="default-src 'none'; style-src 'unsafe-inline'; script-src 'unsafe-inline'">
+<title>%(title)s</title>
+<style>
+%(style)s</style>
+</head>
+<body>
+<header>
+<h1>%(title)s</h1>
+%(summary)s
+%(legend)s
+%(ways)s
+</header>
+<main>
+%(history)s
+%(coverage)s
+%(notes)s
+</main>
+<footer>Made from what <code>cspwatch show</code> printed.</footer>
+<script>
+%(script)s</script>
+</body>
+</html>
+"""
+
+LEGEND = """<ul class="legend" aria-label="Legend">
+<li><i class="event"></i> event, accepted</li>
+<li class="no"><i class="event"></i> event, rejected</li>
+<li><i class="refusal"></i> refusal, accepted</li>
+<li class="no"><i class="refusal"></i> refusal, rejected</li>
+<li><span class="broken"></span> entries between are not shown</li>
+</ul>
+<details>
+<summary>How to read this page</summary>
+<p>Each line from top to bottom is the lifeline of a seat. The entries stand in the order of their places, the first at the top.</p>
+<p>A circle is the report that an event happened. A square is the report that the system refuses every event of a set.</p>
+<p><b>expected</b>: the events that could have come. <b>expected nothing</b>: no event could have come.</p>
+<p><b>must offer one of</b>: the process may come to rest offering just one of these sets. It refuses a set of events
+exactly where that shares no event with one of them, whichever that is.</p>
+<p><b>never comes to rest</b>: the process goes on by itself, so it refuses no set, not even the empty one.</p>
+<p><code>_tick</code> is termination.</p>
+</details>"""
+
+TOOLS = """<div class="tools" id="tools" hidden>
+<button type="button" id="previous">Previous rejected <kbd>p</kbd></button>
+<button type="button" id="next">Next rejected <kbd>n</kbd></button>
+%s<form id="to"><label>Go to place <input type="number" id="place" min="1" required></label> <button type="submit">Go</button></form>
+<output id="said"></output>
+</div>"""
+
+ONLY = """<label><input type="checkbox" id="only"> Rejected only <kbd>r</kbd></label>
+"""
+
+
+class Notes:
+    """The texts that are too long for their rows. Each is kept once."""
+
+    def __init__(self) -> None:
+        self.numbers: Dict[str, int] = {}
+
+    def short(self, text: str) -> str:
+        """The text, or its beginning and a link to the note that has all of it."""
+        if len(text) <= LONG:
+            return "<code>%s</code>" % escape(text)
+        number = self.numbers.setdefault(text, len(self.numbers) + 1)
+        end = text.rfind(" ", 0, LONG)
+        return '<code>%s …</code> <a href="#note%d">all in note %d</a>' % (
+            escape(text[: end if end > 0 else LONG]),
+            number,
+            number,
+        )
+
+    def page(self) -> str:
+        """The notes, as a part of the page."""
+        if not self.numbers:
+            return ""
+        rows = ['<li id="note%d"><code>%s</code></li>' % (number, escape(text)) for text, number in self.numbers.items()]
+        return '<section class="notes" id="notes">\n<h2>Notes</h2>\n<ol>\n%s\n</ol>\n</section>' % "\n".join(rows)
+
+
+def render(lines: Iterable[str], title: str = TITLE) -> str:
+    """The page of what `cspwatch show --format json` printed. A line that isn't of that form raises `BadLine`."""
+    shown = read(lines)
+    notes = Notes()
+    return PAGE % {
+        "title": escape(title),
+        "style": part("picture.css"),
+        "script": part("picture.js"),
+        "summary": summary(shown),
+        "legend": LEGEND,
+        "history": history(shown, notes),
+        "coverage": coverage(shown.coverage, notes),
+        "notes": notes.page(),
+        "ways": ways(shown, notes),
+    }
+
+
+def part(name: str) -> str:
+    """A file that lies beside this one."""
+    found = pkgutil.get_data(__package__, name)
+    assert found is not None
+    return found.decode("utf-8")
+
+
+def summary(shown: Shown) -> str:
+    """The counts of the journal, and how much of it is on the page."""
+    counts = shown.summary
+    figures = [
+        ("Judged", number(counts.judged), ""),
+        ("Accepted events", number(counts.events), ""),
+        ("Accepted refusals", number(counts.refusals), ""),
+        ("Rejected", number(counts.rejected), ' class="bad"' if counts.rejected else ""),
+        ("Session", "closed" if counts.closed else "open", ""),
+    ]
+    cells = ["<div%s><dt>%s</dt><dd>%s</dd></div>" % (kind, name, figure) for name, figure, kind in figures]
+    return '<dl class="figures">%s</dl>%s' % ("".join(cells), left_out(shown.entries, counts))
+
+
+def left_out(entries: Tuple[Entry, ...], counts: Status) -> str:
+    """A sentence on the entries that the page doesn't have."""
+    if len(entries) == counts.judged:
+        return ""
+    if len(entries) == counts.rejected and not any(entry.accepted for entry in entries):
+        return "\n<p>This page has the rejected entries only: %s of %s.</p>" % (number(len(entries)), number(counts.judged))
+    return "\n<p>This page has %s of %s entries.</p>" % (number(len(entries)), number(counts.judged))
+
+
+def number(count: int) -> str:
+    return format(count, ",")
+
+
+def ways(shown: Shown, notes: Notes) -> str:
+    """Links to the parts of a page that has more than the entries."""
+    parts = [("history", "Entries", True), ("coverage", "Coverage", shown.coverage is not None), ("notes", "Notes", bool(notes.numbers))]
+    links = ['<a href="#%s">%s</a>' % (place, name) for place, name, there in parts if there]
+    return "<nav>%s</nav>" % "".join(links) if len(links) > 1 else ""
+
+
+def history(shown: Shown, notes: Notes) -> str:
+    """The lifelines of the seats with their entries."""
+    entries = shown.entries
+    if not entries:
+        return '<h2 id="history">Entries</h2>\n<p>There are none.</p>'
+    seats = sorted({entry.seat for entry in entries})
+    column = {seat: at for at, seat in enumerate(seats)}
+    filtered = TOOLS % (ONLY if any(entry.accepted for entry in entries) else "")
+    return '<h2>Entries</h2>\n<div class="history%s" id="history" style="%s">\n<div class="top" id="top">\n%s\n%s%s\n</div>\n%s\n</div>' % (
+        " crowded" if width_of(len(seats)) < CROWDED else "",
+        "--p:%dpx;--n:%d;--wide:%gpx" % (max(40, 9 * len(str(entries[-1].place))), len(seats), width_of(len(seats))),
+        filtered,
+        whole(shown),
+        heads(seats),
+        groups(entries, column, notes),
+    )
+
+
+def width_of(lanes: int) -> float:
+    """How many pixels wide each of so many lifelines is: a whole number where it is drawn by itself."""
+    width = LANES / lanes
+    return min(WIDE, int(width)) if width >= CROWDED else width
+
+
+def heads(seats: List[int]) -> str:
+    """The row above the entries, with the numbers of the seats. Where they are too close, only some of them are shown."""
+    width = width_of(len(seats))
+    digits = len(str(seats[-1]))
+    upright = width < 7 * digits + 2
+    every = max(1, math.ceil(10 / width)) if upright else 1
+    in_print = max(every, (len(seats) + 15) // 16)
+    labels = []
+    for at, seat in enumerate(seats):
+        kind = ' class="few"' if at % every else ' class="print-few"' if at % in_print else ""
+        labels.append('<span style="--c:%d"%s>%d</span>' % (at, kind, seat))
+    return (
+        '<div class="row" aria-hidden="true"><span>Place</span><div class="seats%s" style="--tall:%dpx">%s</div>'
+        "<span>Seat</span><span>Its report</span><span>What was reported</span><span>Verdict</span></div>"
+    ) % (" upright" if upright else "", 8 * digits + 2, "".join(labels))
+
+
+def whole(shown: Shown) -> str:
+    """A strip from the first place to the last, with a mark wherever entries were rejected: the more there were, the higher."""
+    last = shown.summary.judged
+    rejected = [entry.place for entry in shown.entries if not entry.accepted]
+    if not rejected or len(shown.entries) <= 30:
+        return ""
+    buckets = min(last, BUCKETS)
+    marked = Counter((place - 1) * buckets // last for place in rejected)
+    most = max(marked.values())
+    path = "".join("M%d 9h1v-%dh-1z" % (bucket, 3 + 6 * count // most) for bucket, count in sorted(marked.items()))
+    return (
+        '<div class="whole" id="whole" data-last="%d" aria-hidden="true" title="Where entries were rejected, from the first place to the last">'
+        '<svg viewBox="0 0 %d 9" preserveAspectRatio="none"><path d="%s"/></svg><div hidden></div></div>\n'
+    ) % (last, buckets, path)
+
+
+def groups(entries: Tuple[Entry, ...], column: Dict[int, int], notes: Notes) -> str:
+    """The rows of the entries, in groups."""
+    written = []
+    before: Optional[Entry] = None
+    for begin in range(0, len(entries), GROUP):
+        group = entries[begin : begin + GROUP]
+        rows = []
+        for entry in group:
+            rows.append(row(entry, before, column[entry.seat], notes))
+            before = entry
+        written.append(
+            '<ol aria-label="Places %d to %d" style="--all:%d;--no:%d">\n%s\n</ol>'
+            % (group[0].place, group[-1].place, len(group), sum(not entry.accepted for entry in group), "\n".join(rows))
+        )
+    return '<div class="entries" id="entries">\n<div class="lanes" aria-hidden="true">%s</div>\n%s\n</div>' % (
+        "".join('<i style="--c:%d"></i>' % at for at in column.values() if width_of(len(column)) >= CROWDED),
+        "\n".join(written),
+    )
+
+
+def row(entry: Entry, before: Optional[Entry], column: int, notes: Notes) -> str:
+    """The row of an entry. `before` is the one above it on the page."""
+    kinds = ["row"] + ([] if entry.accepted else ["no"])
+    if before is not None and before.place < entry.place - 1:
+        kinds.append("gap")
+    elif before is not None and not entry.accepted and before.accepted:
+        # Among the rejected entries alone there is a gap above this one.
+        kinds.append("alone")
+    return '<li id="p%d" class="%s"><span>%d</span><i class="%s" style="--c:%d"></i><span>%d</span><span>%d</span>%s<span>%s</span></li>' % (
+        entry.place,
+        " ".join(kinds),
+        entry.place,
+        "refusal" if entry.refusal else "event",
+        column,
+        entry.seat,
+        entry.number,
+        report(entry, notes),
+        "accepted" if entry.accepted else "<strong>rejected</strong>: " + reason(entry, notes),
+    )
+
+
+def report(entry: Entry, notes: Notes) -> str:
+    """What was reported, as a cell."""
+    if entry.refusal:
+        return '<span><span class="kind">refusal</span> %s</span>' % notes.short(braced(entry.events))
+    return '<span><span class="kind">event</span> %s</span>' % notes.short(entry.events[0])
+
+
+def reason(entry: Entry, notes: Notes) -> str:
+    """Why the entry was rejected."""
+    if not entry.refusal:
+        return "expected " + (notes.short(" ".join(entry.expected)) if entry.expected else "nothing")
+    if not entry.acceptances:
+        return "never comes to rest"
+    return "must offer one of " + notes.short(" ".join(braced(one) for one in entry.acceptances))
+
+
+def braced(names: Names) -> str:
+    return "{%s}" % " ".join(names)
+
+
+def coverage(covered: Optional[Coverage], notes: Notes) -> str:
+    """How often each event came, and how often it could have come."""
+    if covered is None:
+        return ""
+    most = max([1] + [max(count.accepted, count.rejected, count.possible) for count in covered.counts])
+    never, not_possible = set(covered.never_came), set(covered.could_never_come)
+    rows = []
+    for count in covered.counts:
+        remark = "could never come" if count.event in not_possible else "never came" if count.event in never else ""
+        rows.append(counted(count, most, remark, notes))
+    return """<section class="coverage" id="coverage">
+<h2>Coverage</h2>
+<p>Events that never came: %s. Events that could never come: %s.</p>
+<ul class="legend">
+<li><span class="bar accepted"></span> how often it was accepted</li>
+<li><span class="bar rejected"></span> how often it was rejected</li>
+<li><span class="bar possible"></span> before how many entries it could have come</li>
+</ul>
+<table>
+<thead><tr><th scope="col">Event</th><th scope="col" class="number">Accepted</th><th scope="col" class="number">Rejected</th>\
+<th scope="col" class="number">Possible</th><th scope="col" class="bars">As bars</th><th scope="col">Remark</th></tr></thead>
+<tbody>
+%s
+</tbody>
+</table>
+</section>""" % (
+        listed(covered.never_came),
+        listed(covered.could_never_come),
+        "\n".join(rows),
+    )
+
+
+def listed(names: Names) -> str:
+    return " ".join("<code>%s</code>" % escape(name) for name in names) or "none"
+
+
+def counted(count: Count, most: int, remark: str, notes: Notes) -> str:
+    """The row of an event, with bars of which the longest stands for `most`."""
+    parts = [("accepted", count.accepted), ("rejected", count.rejected), ("possible", count.possible)]
+    return '<tr><td>%s</td>%s<td class="bars">%s</td><td>%s</td></tr>' % (
+        notes.short(count.event),
+        "".join('<td class="number">%s</td>' % number(figure) for _, figure in parts),
+        "".join('<div class="bar %s" style="width:%.4g%%"></div>' % (kind, 100 * figure / most) for kind, figure in parts if figure),
+        remark,
+    )
+
+
+def main(words: Optional[List[str]] = None) -> int:
+    """Reads a file, or standard input, and writes the page on standard output."""
+    parser = argparse.ArgumentParser(prog="python -m cspwatch_client.picture", description=(__doc__ or "").split("\n")[0])
+    parser.add_argument("--title", default=TITLE, help="the title of the page")
+    parser.add_argument("file", metavar="FILE", nargs="?", help="what `cspwatch show --format json` printed; standard input where there is none")
+    options = parser.parse_args(words)
+    name = options.file or "standard input"
+    try:
+        page = page_of(options.file, options.title)
+        name = "standard output"
+        with open(sys.stdout.fileno(), "wb", closefd=False) as out:
+            out.write(page.encode("utf-8", "replace"))
+    except OSError as error:
+        print("%s: %s" % (name, error.strerror), file=sys.stderr)
+        return 5
+    except BadLine as error:
+        print("%s: %s" % (name, error), file=sys.stderr)
+        return 1
+    return 0
+
+
+def page_of(file: Optional[str], title: str) -> str:
+    """The page of what a file has, or standard input where there is none."""
+    if file is None:
+        return render(text_of(sys.stdin.buffer), title)
+    with open(file, "rb") as lines:
+        return render(text_of(lines), title)
+
+
+def text_of(lines: Iterable[bytes]) -> Iterable[str]:
+    """The lines as text. A byte that isn't UTF-8 becomes a character that no event's name has."""
+    return (line.decode("utf-8", "replace") for line in lines)
+
+
+if __name__ == "__main__":
+    sys.exit(main())

@@ -1,0 +1,5 @@
+pub mod Texts
+pub mod MemberCounts
+pub mod Coverages
+pub mod EntryLines
+pub mod Showing

@@ -1,0 +1,9 @@
+-- To believe.
+pub mod Names
+pub mod Lines
+pub mod Findings
+pub mod Coverage
+pub mod Shows
+-- Steps of the program.
+pub mod Slots
+pub mod Steps

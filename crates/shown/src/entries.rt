@@ -1,0 +1,111 @@
+//! The lines of entries, with what the monitor finds of them.
+
+ghost use Rattle.std.specs.Prelude.{◌≡◌, ◌++◌, ◌↔◌, ℕ, suc, [], ◌∷◌, IsTrue, List, length, OnOk};
+ghost use Rattle.term.specs.Proc.{bodies_of};
+ghost use Rattle.term.specs.Verdict.{Verdict};
+ghost use Rattle.history.specs.declared.entry.Entry.{Entry as entry_type};
+ghost use Rattle.history.specs.Entries.{events};
+ghost use Rattle.monitor.specs.Monitors.{MeetsNone};
+ghost use Rattle.shown.specs.Lines.{Finding, finding_text};
+ghost use Rattle.shown.specs.Findings.{Finds, HasLine, ShowsEntry};
+
+use crate::lines::{put_accepted, put_expected, put_head, put_offered, put_report};
+use crate::options::{Format, Options};
+use alphabet::Report;
+use history::{AfterFault, Entry};
+use monitor::Monitor;
+use std::alloc::{AllocError, Allocator};
+
+/// Appends what is found of the entry after the monitor's trace.
+fn put_finding<A: Allocator + Copy>(
+    text: &mut Vec<u8, A>,
+    monitor: &Monitor<A>,
+    alloc: A,
+    entry: &Entry,
+    format: Format,
+) -> Result<(), AllocError>
+    ensures { (before : List entry_type) → monitor.now.trace ≡ events before →
+        OnOk result ((finding : Finding) × Finds (bodies_of monitor.now.spec.bodies) before entry.now.verdict entry.now.report finding
+        × (text.new.items ≡ text.old.items ++ finding_text format monitor.now.spec.alphabet finding)) }
+{
+    let alphabet = monitor.spec().alphabet();
+    if entry.verdict {
+        return put_accepted(text, format);
+    }
+    if let Report::Event(_) = entry.report {
+        return put_expected(text, alphabet, monitor.next(), format);
+    }
+    let sets = monitor.acceptances(alloc)?;
+    let put = put_offered(text, alphabet, &sets, format);
+    drop(sets);
+    put
+}
+
+/// Appends the line of the entry at this place, which comes after the monitor's trace.
+fn put_entry<A: Allocator + Copy>(
+    text: &mut Vec<u8, A>,
+    monitor: &Monitor<A>,
+    alloc: A,
+    place: u64,
+    entry: &Entry,
+    format: Format,
+) -> Result<(), AllocError>
+    ensures { (before : List entry_type) → monitor.now.trace ≡ events before → place ≡ suc (length before) →
+        OnOk result ((line : List ℕ) × HasLine format monitor.now.spec before entry.now line × (text.new.items ≡ text.old.items ++ line)) }
+{
+    put_head(text, place, entry.seat.get(), entry.number, format)?;
+    put_report(text, monitor.spec().alphabet(), &entry.report, format)?;
+    put_finding(text, monitor, alloc, entry, format)?;
+    text.extend_from_slice(format.ending())
+}
+
+/// Appends the line of the entry, if it gets one.
+pub(crate) fn put_part<A: Allocator + Copy>(
+    text: &mut Vec<u8, A>,
+    monitor: &Monitor<A>,
+    alloc: A,
+    place: u64,
+    entry: &Entry,
+    options: Options,
+) -> Result<(), AllocError>
+    ensures { (before : List entry_type) → monitor.now.trace ≡ events before → place ≡ suc (length before) →
+        OnOk result ((part : List ℕ) × ShowsEntry options monitor.now.spec before entry.now part × (text.new.items ≡ text.old.items ++ part)) }
+{
+    if options.entries.has(entry.verdict) {
+        put_entry(text, monitor, alloc, place, entry, options.format)
+    } else {
+        Ok(())
+    }
+}
+
+/// Memory was refused.
+pub(crate) fn refused(_fault: AfterFault) -> AllocError
+    requires { _fault ≡ AfterFault.Memory }
+{
+    AllocError
+}
+
+/// Makes the trace longer by the entry, if it is an accepted event. That meets no limit, since it met none when it was judged.
+pub(crate) fn follow<A: Allocator + Copy>(
+    monitor: &mut Monitor<A>,
+    entry: &Entry,
+) -> Result<(), AllocError>
+    requires within { MeetsNone (bodies_of monitor.old.spec.bodies) monitor.old.trace entry.now.report }
+    requires verdict { IsTrue entry.now.verdict ↔ Verdict (bodies_of monitor.old.spec.bodies) monitor.old.trace entry.now.report }
+    ensures spec { monitor.new.spec ≡ monitor.old.spec }
+    ensures trace { (before : List entry_type) → monitor.old.trace ≡ events before → OnOk result (monitor.new.trace ≡ events (before ++ entry.now ∷ [])) }
+{
+    if !entry.verdict {
+        return Ok(());
+    }
+    if let Report::Refusal(_) = entry.report {
+        return Ok(());
+    }
+    match monitor.judge(&entry.report) {
+        Ok(judged) => {
+            monitor.commit(judged);
+            Ok(())
+        }
+        Err(fault) => Err(refused(fault)),
+    }
+}

@@ -1,0 +1,13 @@
+//! What a judged history looks like: a line for each entry, and how often each event came and could come.
+#![tactic(auto)]
+
+mod counts;
+mod coverage;
+mod entries;
+mod lines;
+mod names;
+mod options;
+mod whole;
+
+pub use options::{Format, Options, Selection};
+pub use whole::show;
