@@ -9,6 +9,7 @@ mod addresses;
 mod checking;
 mod commands;
 mod forms;
+mod hints;
 mod journal_files;
 mod patient;
 mod replaying;
@@ -16,7 +17,6 @@ mod running;
 mod scripts;
 mod server;
 mod showing;
-mod shown;
 mod telling;
 mod words;
 

@@ -4,7 +4,7 @@ ghost use Rattle.program.specs.Exits.{script_exit, journal_exit, exit_code};
 ghost use Rattle.program.specs.declared.exit.Exit.TheVariants.{Limit};
 ghost use Rattle.command_line.specs.Statuses.{open_exit};
 
-use crate::shown::{show_example, show_fault};
+use crate::hints::{show_example, show_fault};
 use clap::Error;
 use clap::error::ErrorKind;
 use program::{Exit, SessionError};
