@@ -13,7 +13,8 @@ use Rattle.syntax.specs.declared.form.Form.TheVariants as forms
 use Rattle.syntax.specs.declared.operator.Operator.{Operator}
 use Rattle.syntax.specs.Grammar.{Syntax, Called, Numeral, Node, Syntaxes, NoSyntax, MoreSyntax}
 use Rattle.values.specs.Values.{◌>>=◌, Name, value_cmp, is_among, limited, set_of, union, intersection, difference, fitting_set, numbers_from, range}
-use Rattle.values.specs.Worths.{Worth, one, many, Known, the_value, the_number, the_set, the_only, the_two, two_numbers, two_sets, all_values, set_of_all, nothing_of, calculated, computed, negated, set_with, range_with, union_with, intersection_with, difference_with, formed, worth, worths}
+use Rattle.values.specs.Worths.{Worth, one, many, truth, Known, the_value, the_number, the_set, the_truth, the_only, the_two, two_numbers, two_sets, all_values, set_of_all, nothing_of, truth_of, calculated, computed, compared, is_comparison, comparison, operated, negated, negated_truth, set_with, range_with, union_with, intersection_with, difference_with, formed, worth}
+use Rattle.values.proofs.Keeps.{EachWorth, worth_keeps}
 use Rattle.declared_names.proofs.Chains.{bind_some, some_same, left, right, both}
 use Rattle.declarations.specs.Passing.{passes, all_pass, pass}
 
@@ -93,6 +94,7 @@ module _ (p : Name → Bool) where
   unfolding the_set
   sets_pass (one v) vs h k = absurd cc
   sets_pass (many us) vs h k = ap (all_pass p) (sym (some_same h)) ∙ k
+  sets_pass (truth b) vs h k = absurd cc
 
   two_sets_pass : (ws : List Worth) (x : Values × Values) → two_sets ws ≡ Some x → list_pass ws ≡ true → (all_pass p x.0 ≡ true) × (all_pass p x.1 ≡ true)
   unfolding two_sets
@@ -115,6 +117,7 @@ module _ (p : Name → Bool) where
       here : (w : Worth) (v : FieldValue) → the_value w ≡ Some v → pass p w ≡ true → passes p v ≡ true
       here (one u) v h k = ap (passes p) (sym (some_same h)) ∙ k
       here (many us) v h k = absurd cc
+      here (truth b) v h k = absurd cc
 
   -- ---- forms
 
@@ -124,6 +127,33 @@ module _ (p : Name → Bool) where
       let (q, a, b) = bind_some (two_numbers ws) (λ q. calculated op q.0 q.1 >>= λ z. Some (one (number z))) w h in
       let (z, c, d) = bind_some (calculated op q.0 q.1) (λ z. Some (one (number z))) w b in
       ap (pass p) (sym (some_same d))
+
+  comparison_pass : (op : Operator) (ws : List Worth) (w : Worth) → comparison op ws ≡ Some w → pass p w ≡ true
+  unfolding comparison
+  comparison_pass op ws w h =
+      let (q, a, b) = bind_some (the_two ws) (λ q. compared op q.0 q.1 >>= λ b. Some (truth b)) w h in
+      let (c, d, e) = bind_some (compared op q.0 q.1) (λ b. Some (truth b)) w b in
+      ap (pass p) (sym (some_same e))
+
+  operated_pass : (op : Operator) (ws : List Worth) (w : Worth) → operated op ws ≡ Some w → pass p w ≡ true
+  unfolding operated
+  operated_pass op ws w h = by (is_comparison op) h
+    where
+      by : (b : Bool) → cond b (comparison op ws) (computed op ws) ≡ Some w → pass p w ≡ true
+      by true h = comparison_pass op ws w h
+      by false h = computed_pass op ws w h
+
+  truth_pass : (b : Bool) (ws : List Worth) (w : Worth) → truth_of b ws ≡ Some w → pass p w ≡ true
+  unfolding truth_of
+  truth_pass b [] w h = ap (pass p) (sym (some_same h))
+  truth_pass b (v ∷ ws) w h = absurd cc
+
+  other_pass : (ws : List Worth) (w : Worth) → negated_truth ws ≡ Some w → pass p w ≡ true
+  unfolding negated_truth
+  other_pass ws w h =
+      let (v, a, b) = bind_some (the_only ws) (λ w. the_truth w >>= λ b. Some (truth (not b))) w h in
+      let (c, d, e) = bind_some (the_truth v) (λ b. Some (truth (not b))) w b in
+      ap (pass p) (sym (some_same e))
 
   negated_pass : (ws : List Worth) (w : Worth) → negated ws ≡ Some w → pass p w ≡ true
   unfolding negated
@@ -179,7 +209,10 @@ module _ (p : Name → Bool) where
   formed_pass forms.Brackets ws w h k = only_pass ws w h k
   formed_pass forms.Negation ws w h k = negated_pass ws w h
   formed_pass forms.NegativeNumber ws w h k = negated_pass ws w h
-  formed_pass (forms.Operation op) ws w h k = computed_pass op ws w h
+  formed_pass forms.True ws w h k = truth_pass true ws w h
+  formed_pass forms.False ws w h k = truth_pass false ws w h
+  formed_pass forms.Not ws w h k = other_pass ws w h
+  formed_pass (forms.Operation op) ws w h k = operated_pass op ws w h
   formed_pass forms.EmptySet ws w h k = nothing_pass ws w h
   formed_pass forms.Set ws w h k = listed_pass ws w h k
   formed_pass forms.Range ws w h k = ranged_pass ws w h
@@ -188,21 +221,9 @@ module _ (p : Name → Bool) where
   formed_pass forms.Difference ws w h k = parted_pass ws w h k
   formed_pass f ws w h k = absurd cc
 
-  mutual
-    unfolding worth
+  each_pass : (ws : List Worth) → EachWorth (λ w. pass p w ≡ true) ws → list_pass ws ≡ true
+  each_pass [] h = refl
+  each_pass (w ∷ ws) h = both (pass p w) (list_pass ws) h.0 (each_pass ws h.1)
 
-    pub worth_pass : (known : Known) → ((n : Name) (w : Worth) → known n ≡ Some w → pass p w ≡ true) → (t : Syntax) (w : Worth) → worth known t ≡ Some w → pass p w ≡ true
-    worth_pass known h (Called n) w e = h n w e
-    worth_pass known h (Numeral n) w e =
-        let (z, a, b) = bind_some (limited (pos n)) (λ z. Some (one (number z))) w e in
-        ap (pass p) (sym (some_same b))
-    worth_pass known h (Node f ts) w e =
-        let (ws, a, b) = bind_some (worths known ts) (formed f) w e in
-        formed_pass f ws w b (worths_pass known h ts ws a)
-
-    pub worths_pass : (known : Known) → ((n : Name) (w : Worth) → known n ≡ Some w → pass p w ≡ true) → (ts : Syntaxes) (ws : List Worth) → worths known ts ≡ Some ws → list_pass ws ≡ true
-    worths_pass known h NoSyntax ws e = ap list_pass (sym (some_same e))
-    worths_pass known h (MoreSyntax t ts) ws e =
-        let (w, a, b) = bind_some (worth known t) (λ w. worths known ts >>= λ ws. Some (w ∷ ws)) ws e in
-        let (us, c, d) = bind_some (worths known ts) (λ ws. Some (w ∷ ws)) ws b in
-        ap list_pass (sym (some_same d)) ∙ both (pass p w) (list_pass us) (worth_pass known h t w a) (worths_pass known h ts us c)
+  pub worth_pass : (known : Known) → ((n : Name) (w : Worth) → known n ≡ Some w → pass p w ≡ true) → (t : Syntax) (w : Worth) → worth known t ≡ Some w → pass p w ≡ true
+  worth_pass known h t w e = worth_keeps (λ w. pass p w ≡ true) (λ y z e. refl) (λ b. refl) (λ f ws w e k. formed_pass f ws w e (each_pass ws k)) known h t w e

@@ -11,7 +11,7 @@ use Rattle.syntax.specs.declared.form.Form.TheVariants as forms
 use Rattle.syntax.specs.Grammar.{Syntax, Called, Numeral, Node, Syntaxes, NoSyntax, MoreSyntax}
 use Rattle.values.specs.Values.{◌>>=◌, Name}
 use Rattle.values.specs.Worths.{Known}
-use Rattle.values.specs.Names.{Meaning, channel, datatype, constant_name, definition, Entry, same_name, names_of, listed_names, field_sets, entries_of, declared_by, declared_by_all, are_distinct}
+use Rattle.values.specs.Names.{Meaning, channel, datatype, constant_name, definition, parametric, Entry, same_name, names_of, listed_names, field_sets, entries_of, declared_by, declared_by_all, are_distinct}
 use Rattle.values.specs.Channels.{fields_of, with_channel, channels_of}
 use Rattle.declared_names.specs.Steps.{steps, only_of, two_of}
 use Rattle.declared_names.specs.Entering.{has_name, list_parts}
@@ -60,6 +60,7 @@ both_channels known (e ∷ es) fs = ap (λ o. o >>= with_channel known e.0 e.1) 
     inner ds (datatype ns) (Some cs) = refl
     inner ds constant_name (Some cs) = refl
     inner ds (definition t) (Some cs) = refl
+    inner ds (parametric xs t) (Some cs) = refl
 
     by : (o : Option (List Channel)) → ((o >>= λ ds. channels_of known es >>= λ cs. some_of (cs ++ ds)) >>= with_channel known e.0 e.1) ≡ (o >>= λ ds. (channels_of known es >>= with_channel known e.0 e.1) >>= λ cs. some_of (cs ++ ds))
     by None = refl
@@ -137,6 +138,12 @@ entered_form known cs forms.Definition (MoreSyntax (Called n) (MoreSyntax t NoSy
   where
     none : (channels_of known ((n, definition t) ∷ []) >>= enter_all cs) ≡ Some cs
     none = refl
+entered_form known cs forms.DefinitionWithParameters (MoreSyntax (Called n) (MoreSyntax t (MoreSyntax u NoSyntax))) es h =
+    let (xs, a, b) = bind_some (listed_names t) (λ xs. Some ((n, parametric xs u) ∷ [])) es h in
+    sym (ap (λ ys. channels_of known ys >>= enter_all cs) (sym (some_same b)) ∙ none xs)
+  where
+    none : (xs : List Name) → (channels_of known ((n, parametric xs u) ∷ []) >>= enter_all cs) ≡ Some cs
+    none xs = refl
 entered_form known cs f ts es h = absurd cc
 
 entered_declaration : (known : Known) (cs : List Channel) (t : Syntax) (es : List Entry) → declared_by t ≡ Some es → enter_declaration known cs t ≡ (channels_of known es >>= enter_all cs)
@@ -288,6 +295,7 @@ channel_named known (e ∷ es) ds n h k =
     by cs a (datatype ns) b = later (same_name n e.0) (a (ap (λ xs. is_declared xs n) (some_same b) ∙ k))
     by cs a constant_name b = later (same_name n e.0) (a (ap (λ xs. is_declared xs n) (some_same b) ∙ k))
     by cs a (definition t) b = later (same_name n e.0) (a (ap (λ xs. is_declared xs n) (some_same b) ∙ k))
+    by cs a (parametric xs t) b = later (same_name n e.0) (a (ap (λ xs. is_declared xs n) (some_same b) ∙ k))
 
 has_is : (e : Entry) (es : List Entry) → has_name es e.0 ≡ list_any (λ f. same_name e.0 f.0) es
 has_is e es = refl
@@ -312,6 +320,7 @@ channels_distinct known (e ∷ es) ds h k =
     by cs a ih (datatype ns) b = ap are_apart_names (sym (some_same b)) ∙ ih
     by cs a ih constant_name b = ap are_apart_names (sym (some_same b)) ∙ ih
     by cs a ih (definition t) b = ap are_apart_names (sym (some_same b)) ∙ ih
+    by cs a ih (parametric xs t) b = ap are_apart_names (sym (some_same b)) ∙ ih
 
 -- the channels that are entered are those that are declared, if they have no more than 256 events
 pub entire : (known : Known) (ts : Syntaxes) (es : List Entry) → declared_by_all ts ≡ Some es → are_distinct es ≡ true

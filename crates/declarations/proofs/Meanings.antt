@@ -9,7 +9,7 @@ use Rattle.syntax.specs.declared.form.Form.TheVariants as forms
 use Rattle.syntax.specs.Grammar.{Syntax, Called, Numeral, Node, Syntaxes, NoSyntax, MoreSyntax}
 use Rattle.values.specs.Values.{◌>>=◌, Name}
 use Rattle.values.specs.Worths.{Worth, Known}
-use Rattle.values.specs.Names.{Meaning, channel, datatype, constant_name, definition, Entry, same_name, names_of, listed_names, field_sets, entries_of, declared_by, declared_by_all, meaning, are_distinct, worth_of, known_in, Stands}
+use Rattle.values.specs.Names.{Meaning, channel, datatype, constant_name, definition, parametric, is_constant, Entry, same_name, names_of, listed_names, field_sets, entries_of, declared_by, declared_by_all, meaning, are_distinct, worth_of, known_in, Stands}
 use Rattle.declared_names.specs.Naming.{has_names, have_names}
 use Rattle.declarations.specs.Passing.{all_pass, pass}
 use Rattle.declared_names.specs.Steps.{only_of, two_of}
@@ -120,6 +120,7 @@ form_closed forms.Datatype (MoreSyntax (Called m) (MoreSyntax t NoSyntax)) es n 
     name_list (channel sets) = []
     name_list constant_name = []
     name_list (definition t) = []
+    name_list (parametric xs t) = []
 
     by : (ns : List Name) → (let a : Entry = (m, datatype ns) in let b : Entry = (n, datatype cs) in a ≡ b) ⊎ In (n, datatype cs) (map (λ c. (c, constant_name)) ns) → AllIn cs ((m, datatype ns) ∷ map (λ c. (c, constant_name)) ns)
     by ns k = elim k [
@@ -130,6 +131,12 @@ form_closed forms.Definition (MoreSyntax (Called m) (MoreSyntax t NoSyntax)) es 
   where
     by : (let a : Entry = (m, definition t) in let b : Entry = (n, datatype cs) in a ≡ b) ⊎ ⊥ → AllIn cs es
     by k = elim k [ inl l ↦ absurd (let e : definition t ≡ datatype cs = ap (λ (x : Entry). x.1) l in cc) | inr l ↦ absurd l ]
+form_closed forms.DefinitionWithParameters (MoreSyntax (Called m) (MoreSyntax t (MoreSyntax u NoSyntax))) es n cs h k =
+    let (xs, a, b) = bind_some (listed_names t) (λ xs. Some ((m, parametric xs u) ∷ [])) es h in
+    by xs (subst (In (n, datatype cs)) (sym (some_same b)) k)
+  where
+    by : (xs : List Name) → (let a : Entry = (m, parametric xs u) in let b : Entry = (n, datatype cs) in a ≡ b) ⊎ ⊥ → AllIn cs es
+    by xs k = elim k [ inl l ↦ absurd (let e : parametric xs u ≡ datatype cs = ap (λ (x : Entry). x.1) l in cc) | inr l ↦ absurd l ]
 form_closed f ts es n cs h k = absurd cc
 
 by_closed : (t : Syntax) (es : List Entry) (n : Name) (cs : List Name) → declared_by t ≡ Some es → In (n, datatype cs) es → AllIn cs es
@@ -193,6 +200,9 @@ form_named forms.Datatype (MoreSyntax (Called m) (MoreSyntax t NoSyntax)) es h k
     let (ns, a, b) = bind_some (listed_names t) (λ ns. Some ((m, datatype ns) ∷ map (λ c. (c, constant_name)) ns)) es h in
     subst AreNamed (some_same b) (left (is_name m) (has_names t && true) k, listed_named constant_name t ns a (left (has_names t) true (right (is_name m) (has_names t && true) k)))
 form_named forms.Definition (MoreSyntax (Called m) (MoreSyntax t NoSyntax)) es h k = subst AreNamed (some_same h) (left (is_name m) (has_names t && true) k, tt)
+form_named forms.DefinitionWithParameters (MoreSyntax (Called m) (MoreSyntax t (MoreSyntax u NoSyntax))) es h k =
+    let (xs, a, b) = bind_some (listed_names t) (λ xs. Some ((m, parametric xs u) ∷ [])) es h in
+    subst AreNamed (some_same b) (left (is_name m) (has_names t && (has_names u && true)) k, tt)
 form_named f ts es h k = absurd cc
 
 pub named : (ts : Syntaxes) (es : List Entry) → declared_by_all ts ≡ Some es → have_names ts ≡ true → AreNamed es
@@ -210,18 +220,12 @@ named (MoreSyntax t ts) es h k =
 
 -- ---- the test that parts constants from channels
 
-abbrev pub is_constant : Option Meaning → Bool
-is_constant None = false
-is_constant (Some (channel sets)) = false
-is_constant (Some (datatype ns)) = false
-is_constant (Some constant_name) = true
-is_constant (Some (definition t)) = false
-
 -- a constant's name, which is a name of the language
 abbrev pub is_declared_constant : List Entry → Name → Bool
 is_declared_constant es n = is_constant (meaning es n) && is_name n
 
 all_constants : (es : List Entry) (cs : List Name) → are_distinct es ≡ true → AreNamed es → AllIn cs es → all_pass (is_declared_constant es) (map constant cs) ≡ true
+unfolding is_constant
 all_constants es [] h k l = refl
 all_constants es (c ∷ cs) h k l =
     both (is_declared_constant es c) (all_pass (is_declared_constant es) (map constant cs))
@@ -230,7 +234,7 @@ all_constants es (c ∷ cs) h k l =
 
 -- what names stand for has declared constants only
 steps_pass : (ts : Syntaxes) (es : List Entry) → declared_by_all ts ≡ Some es → are_distinct es ≡ true → AreNamed es → (k : ℕ) (n : Name) (w : Worth) → known_in es k n ≡ Some w → pass (is_declared_constant es) w ≡ true
-unfolding known_in worth_of
+unfolding known_in worth_of is_constant
 steps_pass ts es d h k zero n w e = absurd cc
 steps_pass ts es d h k (suc j) n w e =
     let (m, a, b) = bind_some (meaning es n) (worth_of (known_in es j) n) w e in
@@ -241,10 +245,11 @@ steps_pass ts es d h k (suc j) n w e =
     by (datatype cs) a b rec = ap (pass (is_declared_constant es)) (sym (some_same b)) ∙ set_pass (is_declared_constant es) (map constant cs) (all_constants es cs h k (closed ts es n cs d (meant es n (datatype cs) a)))
     by constant_name a b rec = ap (pass (is_declared_constant es)) (sym (some_same b)) ∙ both (is_constant (meaning es n)) (is_name n) (ap is_constant a) (in_named es (n, constant_name) k (meant es n constant_name a))
     by (definition t) a b rec = worth_pass (is_declared_constant es) (known_in es j) rec t w b
+    by (parametric xs t) a b rec = absurd cc
 
 -- names of channels
 channel_names : (all : List Entry) (sets : Syntaxes) (ts : Syntaxes) (ns : List Name) → names_of ts ≡ Some ns → ((n : Name) → In (n, channel sets) (map (λ n. (n, channel sets)) ns) → (is_name n ≡ true) × (meaning all n ≡ Some (channel sets))) → are_channels (is_declared_constant all) ts ≡ true
-unfolding names_of are_channels
+unfolding names_of are_channels is_constant
 channel_names all sets NoSyntax ns h k = refl
 channel_names all sets (MoreSyntax (Called n) ts) ns h k =
     let (ms, a, b) = bind_some (names_of ts) (λ ms. Some (n ∷ ms)) ns h in
@@ -272,6 +277,7 @@ channel_form all forms.ChannelsWithFields (MoreSyntax t (MoreSyntax u NoSyntax))
     channel_list all sets t ns a (λ n l. k (n, channel sets) (subst (In (n, channel sets)) (some_same d) l))
 channel_form all forms.Datatype (MoreSyntax (Called m) (MoreSyntax t NoSyntax)) es h k = refl
 channel_form all forms.Definition (MoreSyntax (Called m) (MoreSyntax t NoSyntax)) es h k = refl
+channel_form all forms.DefinitionWithParameters (MoreSyntax (Called m) (MoreSyntax t (MoreSyntax u NoSyntax))) es h k = refl
 channel_form all f ts es h k = absurd cc
 
 channel_declarations : (all : List Entry) (ts : Syntaxes) (es : List Entry) → declared_by_all ts ≡ Some es → ((e : Entry) → In e es → (is_name e.0 ≡ true) × (meaning all e.0 ≡ Some e.1)) → declare_channels (is_declared_constant all) ts ≡ true

@@ -2,23 +2,25 @@
 use Rattle.std.proofs.Common.{◌≡◌, ◌≤◌, List, [], Bool, true, false, cond, Option, Some, None, refl, sym, ap, subst, ◌∙◌, arith}
 use Rattle.std.proofs.lemmas.Bool.{ltb-true, ltb-false}
 use Rattle.std.specs.Prelude.{nat_lt}
+use Rattle.std.specs.List.{list_all}
 use Rattle.alphabet.specs.Channels.{Channel, event_count}
 use Rattle.tokens.specs.declared.error.ScriptErrorKind.{ScriptErrorKind}
-use Rattle.tokens.specs.declared.error.ScriptErrorKind.TheVariants.{Memory}
+use Rattle.tokens.specs.declared.error.ScriptErrorKind.TheVariants.{Memory, Expected}
 use Rattle.syntax.specs.declared.form.Form.TheVariants as forms
 use Rattle.syntax.specs.Grammar.{Syntax, Called, Numeral, Node, Syntaxes}
 use Rattle.values.specs.Values.{◌>>=◌, Name}
 use Rattle.values.specs.Worths.{Worth, Known}
-use Rattle.values.specs.Names.{Entry, declared, are_distinct, Stands}
+use Rattle.values.specs.Names.{Entry, declared, are_distinct, have_parameters, Stands}
 use Rattle.values.specs.Channels.{channels_of, Declares}
 use Rattle.values.specs.View.{Fails}
 use Rattle.values.proofs.Lists.{fails_on}
 use Rattle.declared_names.specs.Steps.{steps}
 use Rattle.declared_names.specs.Naming.{has_names, have_names}
 use Rattle.declared_names.specs.Entering.{script_parts, distinct_entries}
+use Rattle.declarations.specs.Fitting.{fitting, fitting_entries}
 use Rattle.declarations.specs.Sigma.{enter_declaration, KeepDeclared}
 use Rattle.declared_names.proofs.Chains.{bind_some, some_same}
-use Rattle.declared_names.proofs.Scripts.{parts_declared, parts_none}
+use Rattle.declared_names.proofs.Scripts.{parts_declared, parts_none, fails_too}
 use Rattle.declarations.proofs.Entire.{entire}
 use Rattle.declarations.proofs.Meanings.{keeps}
 
@@ -33,16 +35,30 @@ parts_named (Node f us) ts h k = absurd cc
 
 -- ---- what is found
 
-distinct : (t : Syntax) (es : List Entry) → distinct_entries t ≡ Some es → (declared t ≡ Some es) × (are_distinct es ≡ true)
-unfolding distinct_entries
-distinct t es h =
-    let (fs, a, b) = bind_some (declared t) (λ es. cond (are_distinct es) (Some es) None) es h in
-    let r = by fs (are_distinct fs) refl b in
-    (a ∙ ap (λ xs. let o : Option (List Entry) = Some xs in o) r.0, ap are_distinct (sym r.0) ∙ r.1)
-  where
-    by : (fs : List Entry) (b : Bool) → are_distinct fs ≡ b → cond b (Some fs) None ≡ Some es → (fs ≡ es) × (are_distinct fs ≡ true)
-    by fs true p q = (some_same q, p)
-    by fs false p q = absurd cc
+-- a chosen list of names is the one that is there
+chosen : {A : Type 0} (x y : A) (b : Bool) → cond b (Some x) None ≡ Some y → (x ≡ y) × (b ≡ true)
+chosen x y true h = (some_same h, refl)
+chosen x y false h = absurd cc
+
+-- the names are those that are declared, none twice, with parameters that are in order
+record AreFitting (t : Syntax) (es : List Entry) : Type 0 where
+  named : declared t ≡ Some es
+  once : are_distinct es ≡ true
+  parameters : list_all (λ e. have_parameters es e.1) es ≡ true
+
+are_fitting : (t : Syntax) (es : List Entry) → fitting_entries t ≡ Some es → AreFitting t es
+unfolding fitting_entries fitting distinct_entries
+are_fitting t es h =
+    let (fs, a, b) = bind_some (distinct_entries t) (λ es. fitting es) es h in
+    let (gs, c, d) = bind_some (declared t) (λ es. cond (are_distinct es) (Some es) None) fs a in
+    let fits = chosen fs es (list_all (λ e. have_parameters fs e.1) fs) b in
+    let once = chosen gs fs (are_distinct gs) d in
+    let same : gs ≡ es = once.0 ∙ fits.0 in
+    record {
+      named = c ∙ ap (λ xs. let o : Option (List Entry) = Some xs in o) same;
+      once = ap are_distinct (sym same) ∙ once.1;
+      parameters = ap (λ xs. list_all (λ e. have_parameters xs e.1) xs) (sym fits.0) ∙ fits.1;
+    }
 
 small_one : (known : Known) (es : List Entry) (cs : List Channel) → (channels_of known es >>= λ cs. cond (nat_lt 256 (event_count cs)) None (Some cs)) ≡ Some cs → (channels_of known es ≡ Some cs) × (event_count cs ≤ 256)
 small_one known es cs h =
@@ -55,16 +71,16 @@ small_one known es cs h =
     by ds false p q = (some_same q, ltb-false 256 (event_count ds) p)
 
 module _ (t : Syntax) (ts : Syntaxes) where
-  pub found : (es : List Entry) (f : Known) (cs : List Channel) → script_parts t ≡ Some ts → distinct_entries t ≡ Some es → Stands es f → steps (enter_declaration f) [] ts ≡ Some cs → Declares t es f cs
+  pub found : (es : List Entry) (f : Known) (cs : List Channel) → script_parts t ≡ Some ts → fitting_entries t ≡ Some es → Stands es f → steps (enter_declaration f) [] ts ≡ Some cs → Declares t es f cs
   found es f cs p e s h =
-      let d = distinct t es e in
-      let r = small_one f es cs (sym (entire f ts es (sym (parts_declared t ts p) ∙ d.0) d.1) ∙ h) in
-      record { named = d.0; once = d.1; stands = s; fielded = r.0; small = r.1 }
+      let d = are_fitting t es e in
+      let r = small_one f es cs (sym (entire f ts es (sym (parts_declared t ts p) ∙ d.named) d.once) ∙ h) in
+      record { named = d.named; once = d.once; parameters = d.parameters; stands = s; fielded = r.0; small = r.1 }
 
-  pub keeps_declared : (es : List Entry) (f : Known) → has_names t ≡ true → script_parts t ≡ Some ts → distinct_entries t ≡ Some es → Stands es f → KeepDeclared f [] ts
+  pub keeps_declared : (es : List Entry) (f : Known) → has_names t ≡ true → script_parts t ≡ Some ts → fitting_entries t ≡ Some es → Stands es f → KeepDeclared f [] ts
   keeps_declared es f n p e s =
-      let d = distinct t es e in
-      keeps ts es f (sym (parts_declared t ts p) ∙ d.0) d.1 (parts_named t ts p n) s
+      let d = are_fitting t es e in
+      keeps ts es f (sym (parts_declared t ts p) ∙ d.named) d.once (parts_named t ts p n) s
 
 -- ---- what is declared is found
 
@@ -80,11 +96,14 @@ one_table es f g h k = λ i n. same n i
     same : (n : Name) → f n ≡ g n
     same n = by n (f n) (g n) refl refl
 
-pub declares_entries : (t : Syntax) (es : List Entry) (f : Known) (cs : List Channel) → Declares t es f cs → distinct_entries t ≡ Some es
-unfolding distinct_entries
-declares_entries t es f cs d = ap (λ o. o >>= λ es. cond (are_distinct es) (Some es) None) d.named ∙ ap (λ b. cond b (Some es) None) d.once
+pub declares_entries : (t : Syntax) (es : List Entry) (f : Known) (cs : List Channel) → Declares t es f cs → fitting_entries t ≡ Some es
+unfolding fitting_entries fitting distinct_entries
+declares_entries t es f cs d =
+    ap (λ o. (o >>= λ es. cond (are_distinct es) (Some es) None) >>= λ es. fitting es) d.named
+    ∙ ap (λ b. cond b (Some es) None >>= λ es. fitting es) d.once
+    ∙ ap (λ b. cond b (Some es) None) d.parameters
 
-pub declares_channels : (t : Syntax) (ts : Syntaxes) (es fs : List Entry) (f g : Known) (cs : List Channel) → Declares t es f cs → script_parts t ≡ Some ts → distinct_entries t ≡ Some fs → Stands fs g → (fs ≡ es) × (g ≡ f) × (steps (enter_declaration g) [] ts ≡ Some cs)
+pub declares_channels : (t : Syntax) (ts : Syntaxes) (es fs : List Entry) (f g : Known) (cs : List Channel) → Declares t es f cs → script_parts t ≡ Some ts → fitting_entries t ≡ Some fs → Stands fs g → (fs ≡ es) × (g ≡ f) × (steps (enter_declaration g) [] ts ≡ Some cs)
 declares_channels t ts es fs f g cs d p e s =
     let same : fs ≡ es = some_same (sym e ∙ declares_entries t es f cs d) in
     let table : g ≡ f = one_table es g f (subst (λ xs. Stands xs g) same s) d.stands in
@@ -103,16 +122,38 @@ declares_channels t ts es fs f g cs d p e s =
 fails_some : {X Y : Type 0} (k : ScriptErrorKind) (o : Option X) (x : X) (p : Option Y) → o ≡ Some x → Fails k o → Fails k p
 fails_some k o x p h e = fails_on k o p (λ n. absurd (let z : None ≡ Some x = sym n ∙ h in cc)) e
 
-pub entries_fail : {Y : Type 0} (k : ScriptErrorKind) (t : Syntax) (es : List Entry) (f : Known) (cs : List Channel) (p : Option Y) → Declares t es f cs → Fails k (distinct_entries t) → Fails k p
-entries_fail k t es f cs p d e = fails_some k (distinct_entries t) es p (declares_entries t es f cs d) e
+-- where names aren't distinct, they don't fit
+pub entries_none : (k : ScriptErrorKind) (t : Syntax) → Fails k (distinct_entries t) → Fails k (fitting_entries t)
+unfolding fitting_entries
+entries_none k t h = fails_on k (distinct_entries t) (fitting_entries t) (λ n. ap (λ o. o >>= λ es. fitting es) n) h
+
+-- another fault may be told for one that isn't want of memory
+pub other_fails : (k l : ScriptErrorKind) (t : Syntax) → Fails k (distinct_entries t) → (k ≡ Memory → ⊥) → Fails l (fitting_entries t)
+other_fails k l t h n = entries_none l t (fails_too k l (distinct_entries t) h (λ m. absurd (n m)))
+
+-- names whose parameters are in order, and others
+pub fit_same : (es : List Entry) → list_all (λ e. have_parameters es e.1) es ≡ true → fitting es ≡ Some es
+unfolding fitting
+fit_same es h = ap (λ b. cond b (Some es) None) h
+
+pub unfit_fails : (k : ScriptErrorKind) (es : List Entry) → list_all (λ e. have_parameters es e.1) es ≡ false → Fails k (fitting es)
+unfolding fitting
+unfit_fails k es h = fails_too Expected k (fitting es) (ap (λ b. cond b (Some es) None) h) (λ m. absurd (let e : Expected ≡ Memory = m in cc))
+
+pub entries_found : (t : Syntax) (es : List Entry) → distinct_entries t ≡ Some es → fitting es ≡ fitting_entries t
+unfolding fitting_entries
+entries_found t es h = sym (ap (λ o. o >>= λ es. fitting es) h)
+
+pub entries_fail : {Y : Type 0} (k : ScriptErrorKind) (t : Syntax) (es : List Entry) (f : Known) (cs : List Channel) (p : Option Y) → Declares t es f cs → Fails k (fitting_entries t) → Fails k p
+entries_fail k t es f cs p d e = fails_some k (fitting_entries t) es p (declares_entries t es f cs d) e
 
 pub parts_fail : {Y : Type 0} (k : ScriptErrorKind) (t : Syntax) (es : List Entry) (f : Known) (cs : List Channel) (p : Option Y) → Declares t es f cs → Fails k (script_parts t) → Fails k p
-parts_fail k t es f cs p d e = entries_fail k t es f cs p d (parts_none k t e)
+parts_fail k t es f cs p d e = entries_fail k t es f cs p d (entries_none k t (parts_none k t e))
 
 pub memory_fails : {Y : Type 0} (k : ScriptErrorKind) (p : Option Y) → k ≡ Memory → Fails k p
 memory_fails k p h = subst (λ x. Fails x p) (sym h) tt
 
-pub channels_fail : {Y : Type 0} (k : ScriptErrorKind) (t : Syntax) (ts : Syntaxes) (es fs : List Entry) (f g : Known) (cs : List Channel) (p : Option Y) → Declares t es f cs → script_parts t ≡ Some ts → distinct_entries t ≡ Some fs → Stands fs g → Fails k (steps (enter_declaration g) [] ts) → Fails k p
+pub channels_fail : {Y : Type 0} (k : ScriptErrorKind) (t : Syntax) (ts : Syntaxes) (es fs : List Entry) (f g : Known) (cs : List Channel) (p : Option Y) → Declares t es f cs → script_parts t ≡ Some ts → fitting_entries t ≡ Some fs → Stands fs g → Fails k (steps (enter_declaration g) [] ts) → Fails k p
 channels_fail k t ts es fs f g cs p d q e s h = fails_some k (steps (enter_declaration g) [] ts) cs p (declares_channels t ts es fs f g cs d q e s).2 h
 
 pub same_all : (es fs : List Entry) (f g : Known) (cs ds : List Channel) → es ≡ fs → f ≡ g → cs ≡ ds → (let a : Option (List Entry × Known × List Channel) = Some (es, f, cs) in let b : Option (List Entry × Known × List Channel) = Some (fs, g, ds) in a ≡ b)

@@ -9,13 +9,16 @@ ghost use Rattle.values.specs.View.{Gives};
 ghost use Rattle.values.specs.Worths.{Known as Knowledge};
 ghost use Rattle.declared_names.specs.Naming.{has_names};
 ghost use Rattle.declared_names.specs.View.{entries as entries_of};
+ghost use Rattle.declarations.specs.Fitting.{fitting as fitting_of, fitting_entries as fitting_entries_of};
 
 use crate::diagnosis::told_alphabet;
 use alphabet::Alphabet;
-use declared_names::{Entries, declarations_of, distinct_entries, table_of_names};
+use declared_names::{
+    Entries, declarations_of, distinct_entries, fault_of_names, parameters_fit, table_of_names,
+};
 use std::alloc::Allocator;
 use syntax::Tree;
-use tokens::ScriptError;
+use tokens::{ScriptError, ScriptErrorKind};
 use values::Known;
 
 /// What a script declares.
@@ -29,11 +32,43 @@ pub struct Declared<'a, A: Allocator> {
     pub alphabet: Alphabet<A>,
 }
 
+/// The names, where the parameters are in order.
+#[tactic(auto, using(crate::proofs::Whole::fit_same, crate::proofs::Whole::unfit_fails))]
+fn fitting<'a, A: Allocator + Copy>(
+    entries: Entries<'a, A>,
+    tree: &'a Tree<A>,
+) -> Result<Entries<'a, A>, ScriptError>
+    ensures { Gives entries_of result (fitting_of (entries_of entries.entry)) }
+{
+    if parameters_fit(&entries) {
+        Ok(entries)
+    } else {
+        Err(fault_of_names(tree))
+    }
+}
+
+/// The names that the script declares, none twice, and with parameters that are in order.
+fn fitting_entries<'a, A: Allocator + Copy>(
+    alloc: A,
+    tree: &'a Tree<A>,
+) -> Result<Entries<'a, A>, ScriptError>
+    ensures { Gives entries_of result (fitting_entries_of (shape tree.now)) }
+{
+    match distinct_entries(alloc, tree) {
+        Ok(entries) => fitting(entries, tree),
+        Err(error) => match error.kind {
+            ScriptErrorKind::Memory => Err(error),
+            _ => Err(fault_of_names(tree)),
+        },
+    }
+}
+
 /// What the script with this tree declares. Each name in the tree is a name of the language.
 ///
-/// Tells `Unsupported` at the first definition with parameters; else `Redeclared` where a name stands for the second
-/// time; else, for the first channel that is at fault, the first fault in the sets of its fields and in the definitions that
-/// they need, or `TooManyEvents` at its name where there would be more than 256 events. `Memory` is told on line 1.
+/// Tells the first fault in its names, in text order: `Redeclared` where a name stands for the second time, or a parameter
+/// for the second time in its list, and `Unsupported` at a parameter with the name of a constant; else, for the first channel
+/// that is at fault, the first fault in the sets of its fields and in the definitions that they need, or `TooManyEvents` at
+/// its name where there would be more than 256 events. `Memory` is told on line 1.
 ///
 /// Costs a turn for each name and each use of one, and what it takes to find what each named number and set stands for,
 /// once: also of those that nothing uses.
@@ -48,7 +83,7 @@ pub fn declare<'a, A: Allocator + Copy>(
     ensures only { (es : List Entry) (known : Knowledge) (cs : List Channel) → Declares (shape tree.now) es known cs
         → Gives {Y = List Entry × Knowledge × List Channel} (λ d. (entries_of d.entries, table d.known, d.alphabet)) result (Some (es, known, cs)) }
 {
-    let entries = distinct_entries(alloc, tree)?;
+    let entries = fitting_entries(alloc, tree)?;
     let known = table_of_names(alloc, &entries)?;
     let alphabet = told_alphabet(alloc, &entries, &known, declarations_of(tree)?)?;
     Ok(Declared {

@@ -1,7 +1,6 @@
 //! Kinds of phrases, as faults speak of them.
-use declared_names::is_process_form;
+
 use syntax::{Form, Operator};
-use tokens::ScriptErrorKind;
 
 /// What a phrase is.
 #[derive(Clone, Copy, Debug, PartialEq, Eq)]
@@ -15,6 +14,7 @@ pub(crate) enum Kind {
     /// The set without members, which is one of both sorts.
     Nothing,
     Event,
+    Truth,
     Process,
 }
 
@@ -34,6 +34,10 @@ pub enum Wanted {
     Set,
     /// A value or an event, in a set.
     Member,
+    /// A truth, as of a condition.
+    Truth,
+    /// What can be compared with one of its kind: a number, a constant or a truth.
+    Comparable,
 }
 
 /// Whether a phrase of this kind is wanted.
@@ -46,6 +50,8 @@ pub(crate) fn takes(wanted: Wanted, kind: Kind) -> bool {
         Wanted::Events => matches!(kind, Kind::Events | Kind::Nothing),
         Wanted::Set => matches!(kind, Kind::Values | Kind::Events | Kind::Nothing),
         Wanted::Member => matches!(kind, Kind::Number | Kind::Constant | Kind::Event),
+        Wanted::Truth => matches!(kind, Kind::Truth),
+        Wanted::Comparable => matches!(kind, Kind::Number | Kind::Constant | Kind::Truth),
     }
 }
 
@@ -57,6 +63,26 @@ pub(crate) fn is_number_form(form: Form) -> bool {
             | Form::NegativeNumber
             | Form::Operation(
                 Operator::Plus | Operator::Minus | Operator::Times | Operator::Remainder
+            )
+    )
+}
+
+/// Whether phrases of this form are truths.
+pub(crate) fn is_truth_form(form: Form) -> bool {
+    matches!(
+        form,
+        Form::True
+            | Form::False
+            | Form::Not
+            | Form::Operation(
+                Operator::And
+                    | Operator::Or
+                    | Operator::Equal
+                    | Operator::NotEqual
+                    | Operator::Less
+                    | Operator::LessOrEqual
+                    | Operator::Greater
+                    | Operator::GreaterOrEqual
             )
     )
 }
@@ -77,20 +103,14 @@ fn is_set_form(form: Form) -> bool {
     )
 }
 
-/// Whether a phrase of this form, which is no name, can be what is wanted.
+/// Whether a phrase of this form can be what is wanted. It is no name, no call and no condition, which say it by more than
+/// their form.
 pub(crate) fn takes_form(wanted: Wanted, form: Form) -> bool {
     match wanted {
         Wanted::Anything => true,
         Wanted::Number | Wanted::Value | Wanted::Member => is_number_form(form),
         Wanted::Values | Wanted::Events | Wanted::Set => is_set_form(form),
-    }
-}
-
-/// What is told of a phrase of this form where another kind is wanted: `Unsupported` for a form that is left out.
-pub(crate) fn misplaced(form: Form) -> ScriptErrorKind {
-    if is_number_form(form) || is_set_form(form) || is_process_form(form) {
-        ScriptErrorKind::Expected
-    } else {
-        ScriptErrorKind::Unsupported
+        Wanted::Truth => is_truth_form(form),
+        Wanted::Comparable => is_number_form(form) || is_truth_form(form),
     }
 }

@@ -3,9 +3,15 @@
 
 mod declared;
 mod diagnosis;
+mod found;
 mod kinds;
+mod needs;
+mod phrase_kinds;
+mod sight;
 mod sigma;
 
 pub use declared::{Declared, declare};
-pub use diagnosis::{fault_of_beginning, fault_of_channel, fault_of_name, fault_of_phrase};
+pub use diagnosis::{
+    fault_of_beginning, fault_of_call, fault_of_channel, fault_of_name, fault_of_phrase,
+};
 pub use kinds::Wanted;

@@ -6,9 +6,9 @@ use Rattle.syntax.specs.declared.form.Form.{Form}
 use Rattle.syntax.specs.declared.form.Form.TheVariants as forms
 use Rattle.syntax.specs.Grammar.{Syntax, Called, Numeral, Node, Syntaxes, NoSyntax, MoreSyntax}
 use Rattle.values.specs.Values.{◌>>=◌, Name}
-use Rattle.values.specs.Names.{Meaning, channel, datatype, constant_name, definition, Entry, same_name, names_of, listed_names, field_sets, entries_of, declared_by, declared_by_all, are_distinct}
-use Rattle.declared_names.specs.Steps.{steps, only_of, two_of}
-use Rattle.declared_names.specs.Entering.{has_name, put, put_name, add_name, list_parts, put_channels, put_fielded, put_datatype, put_typed, put_defined, put_form, put_declaration}
+use Rattle.values.specs.Names.{Meaning, channel, datatype, constant_name, definition, parametric, Entry, same_name, names_of, listed_names, field_sets, entries_of, declared_by, declared_by_all, are_distinct}
+use Rattle.declared_names.specs.Steps.{steps, only_of, two_of, three_of}
+use Rattle.declared_names.specs.Entering.{has_name, put, put_name, add_name, list_parts, put_channels, put_fielded, put_datatype, put_typed, put_defined, put_parametric, put_form, put_declaration}
 
 abbrev some_of : {X : Type 0} → X → Option X
 some_of x = Some x
@@ -82,6 +82,27 @@ datatypes es n ts = ap (λ o. o >>= λ ns. put es (n, datatype ns) >>= λ fs. st
     by None h = refl
     by (Some ns) h = inner ns h (put es (n, datatype ns))
 
+last_put : (o : Option (List Entry)) → o ≡ (o >>= λ gs. some_of gs)
+last_put None = refl
+last_put (Some gs) = refl
+
+-- a definition with parameters in such a list
+with_listed : (es : List Entry) (n : Name) (u : Syntax) (ts : Syntaxes) → (steps add_name [] ts >>= λ xs. put es (n, parametric xs u)) ≡ ((names_of ts >>= λ xs. some_of ((n, parametric xs u) ∷ [])) >>= put_all es)
+unfolding put_all
+with_listed es n u ts = ap (λ o. o >>= λ xs. put es (n, parametric xs u)) (added [] ts) ∙ by (names_of ts)
+  where
+    by : (o : Option (List Name)) → ((o >>= λ xs. some_of ([] ++ xs)) >>= λ xs. put es (n, parametric xs u)) ≡ ((o >>= λ xs. some_of ((n, parametric xs u) ∷ [])) >>= put_all es)
+    by None = refl
+    by (Some xs) = last_put (put es (n, parametric xs u))
+
+with_parameters : (es : List Entry) (n : Name) (t u : Syntax) → put_parametric es (Called n) t u ≡ ((listed_names t >>= λ xs. some_of ((n, parametric xs u) ∷ [])) >>= put_all es)
+unfolding put_parametric
+with_parameters es n t u = by (list_parts t) ∙ ap (λ o. (o >>= λ xs. some_of ((n, parametric xs u) ∷ [])) >>= put_all es) (sym (parts_names t))
+  where
+    by : (o : Option Syntaxes) → (o >>= λ ts. steps add_name [] ts >>= λ xs. put es (n, parametric xs u)) ≡ (((o >>= names_of) >>= λ xs. some_of ((n, parametric xs u) ∷ [])) >>= put_all es)
+    by None = refl
+    by (Some ts) = with_listed es n u ts
+
 fielded : (es : List Entry) (t u : Syntax) → put_fielded es t u ≡ ((listed_names t >>= λ ns. field_sets u >>= λ sets. some_of (map (λ n. (n, channel sets)) ns)) >>= put_all es)
 unfolding put_fielded
 fielded es t u = by (field_sets u) (listed_names t) (channels es t)
@@ -93,7 +114,7 @@ fielded es t u = by (field_sets u) (listed_names t) (channels es t)
     by (Some sets) (Some ns) h = h sets
 
 pub formed : (es : List Entry) (f : Form) (ts : Syntaxes) → put_form es f ts ≡ (entries_of f ts >>= put_all es)
-unfolding put_form entries_of put_typed put_defined put_all only_of two_of
+unfolding put_form entries_of put_typed put_defined put_parametric put_all only_of two_of three_of
 formed es forms.Channels (MoreSyntax t NoSyntax) = channels es t NoSyntax ∙ by (listed_names t)
   where
     by : (o : Option (List Name)) → (o >>= λ ns. put_all es (map (λ n. (n, channel NoSyntax)) ns)) ≡ ((o >>= λ ns. some_of (map (λ n. (n, channel NoSyntax)) ns)) >>= put_all es)
@@ -109,11 +130,8 @@ formed es forms.Datatype (MoreSyntax (Called n) (MoreSyntax t NoSyntax)) = by (l
     by : (o : Option Syntaxes) → (o >>= λ ts. put_datatype es n ts) ≡ (((o >>= names_of) >>= λ ns. some_of ((n, datatype ns) ∷ map (λ c. (c, constant_name)) ns)) >>= put_all es)
     by None = refl
     by (Some ts) = datatypes es n ts ∙ inner (names_of ts)
-formed es forms.Definition (MoreSyntax (Called n) (MoreSyntax t NoSyntax)) = by (put es (n, definition t))
-  where
-    by : (o : Option (List Entry)) → o ≡ (o >>= λ gs. some_of gs)
-    by None = refl
-    by (Some gs) = refl
+formed es forms.Definition (MoreSyntax (Called n) (MoreSyntax t NoSyntax)) = last_put (put es (n, definition t))
+formed es forms.DefinitionWithParameters (MoreSyntax (Called n) (MoreSyntax t (MoreSyntax u NoSyntax))) = with_parameters es n t u
 formed es forms.Datatype (MoreSyntax (Numeral n) NoSyntax) = refl
 formed es forms.Datatype (MoreSyntax (Numeral n) (MoreSyntax u NoSyntax)) = refl
 formed es forms.Datatype (MoreSyntax (Numeral n) (MoreSyntax u (MoreSyntax v vs))) = refl
@@ -126,6 +144,14 @@ formed es forms.Definition (MoreSyntax (Numeral n) (MoreSyntax u (MoreSyntax v v
 formed es forms.Definition (MoreSyntax (Node g us) NoSyntax) = refl
 formed es forms.Definition (MoreSyntax (Node g us) (MoreSyntax u NoSyntax)) = refl
 formed es forms.Definition (MoreSyntax (Node g us) (MoreSyntax u (MoreSyntax v vs))) = refl
+formed es forms.DefinitionWithParameters (MoreSyntax (Numeral n) NoSyntax) = refl
+formed es forms.DefinitionWithParameters (MoreSyntax (Numeral n) (MoreSyntax t NoSyntax)) = refl
+formed es forms.DefinitionWithParameters (MoreSyntax (Numeral n) (MoreSyntax t (MoreSyntax u NoSyntax))) = refl
+formed es forms.DefinitionWithParameters (MoreSyntax (Numeral n) (MoreSyntax t (MoreSyntax u (MoreSyntax v vs)))) = refl
+formed es forms.DefinitionWithParameters (MoreSyntax (Node g us) NoSyntax) = refl
+formed es forms.DefinitionWithParameters (MoreSyntax (Node g us) (MoreSyntax t NoSyntax)) = refl
+formed es forms.DefinitionWithParameters (MoreSyntax (Node g us) (MoreSyntax t (MoreSyntax u NoSyntax))) = refl
+formed es forms.DefinitionWithParameters (MoreSyntax (Node g us) (MoreSyntax t (MoreSyntax u (MoreSyntax v vs)))) = refl
 formed es f ts = refl
 
 -- ---- lists of entries

@@ -3,7 +3,9 @@ pub mod Shapes
 pub mod Loops
 pub mod Tables
 pub mod Entered
+pub mod FormFaults
 pub mod Learning
+pub mod ParameterNames
 pub mod Scripts
 pub mod TreeNames
 pub mod ProcessNames

@@ -10,12 +10,12 @@ use Rattle.values.specs.View.{Fails}
 use Rattle.values.proofs.Lists.{fails_on}
 use Rattle.declared_names.specs.Steps.{steps}
 
-pub cell : {A : Type 0} (ts : List (Tree A)) (i : ℕ) (t : Tree A) → i < length ts → t ≡ get_or ts i t → drop i ts ≡ t ∷ drop (i + 1) ts
+pub cell : {X : Type 0} (ts : List X) (i : ℕ) (t : X) → i < length ts → t ≡ get_or ts i t → drop i ts ≡ t ∷ drop (i + 1) ts
 cell ts i t h is =
     let e : suc i ≡ i + 1 = omega arith in
     drop-cons ts i t h ∙ ap (λ (k : ℕ). get_or ts i t ∷ drop k ts) e ∙ ap (λ x. x ∷ drop (i + 1) ts) (sym is)
 
-pub none_left : {A : Type 0} (ts : List (Tree A)) (i : ℕ) → length ts ≤ i → drop i ts ≡ []
+pub none_left : {X : Type 0} (ts : List X) (i : ℕ) → length ts ≤ i → drop i ts ≡ []
 none_left [] zero h = refl
 none_left [] (suc i) h = refl
 none_left (t ∷ ts) zero h = absurd (omega (arith, h))

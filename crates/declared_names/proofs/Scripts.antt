@@ -67,7 +67,3 @@ fails_too kinds.TooDeep l o h m = none_fails l o h
 fails_too kinds.TooLarge l o h m = none_fails l o h
 fails_too kinds.Unsupported l o h m = none_fails l o h
 fails_too kinds.NoSuchProcess l o h m = none_fails l o h
-
-pub none_declared : (k : ScriptErrorKind) (t : Syntax) (ts : Syntaxes) → script_parts t ≡ Some ts → declared_by_all ts ≡ None → Fails k (distinct_entries t)
-unfolding distinct_entries
-none_declared k t ts h n = none_fails k (distinct_entries t) (ap (λ o. o >>= λ es. cond (are_distinct es) (Some es) None) (parts_declared t ts h ∙ n))

@@ -1,20 +1,16 @@
 -- A tree and one level of it.
-use Rattle.std.proofs.Common.{◌≡◌, ◌≢◌, ℕ, zero, suc, List, [], ◌∷◌, ◌++◌, ◌<◌, true, map, length, drop, get_or, Option, Some, None, Vec, refl, sym, ap, ap₂, ◌∙◌, arith}
+use Rattle.std.proofs.Common.{◌≡◌, ◌≢◌, ℕ, List, [], ◌∷◌, map, length, drop, get_or, Option, Some, None, Vec, refl, sym, ap, ap₂, ◌∙◌, arith}
 use Rattle.syntax.specs.declared.form.Form.{Form}
 use Rattle.syntax.specs.declared.tree.Tree.{Tree, Node as TreeNode}
-use Rattle.syntax.specs.Grammar.{Node, Called, Numeral}
+use Rattle.syntax.specs.Grammar.{Node}
 use Rattle.syntax.specs.Parsing.{syntaxes}
 use Rattle.syntax.specs.View.{shape, shapes}
 use Rattle.syntax.specs.Grammar.{Syntax}
-use Rattle.values.specs.Values.{◌>>=◌}
-use Rattle.values.specs.Names.{Entry, entries_of, declared_by, declared_by_all}
 use Rattle.values.specs.declared.input.Input.{Input}
 use Rattle.values.specs.Worths.{Known, worth}
 use Rattle.values.specs.Tables.{input, behind}
 use Rattle.values.proofs.Parts.{node_shape}
-use Rattle.declared_names.specs.Steps.{only_of, two_of}
-use Rattle.declared_names.specs.Entering.{takes_parameters}
-use Rattle.syntax.specs.declared.form.Form.TheVariants as forms
+use Rattle.declared_names.specs.Steps.{only_of, two_of, three_of}
 
 pub node_part : {A : Type 0} (tree : Tree A) (line : ℕ) (form : Form) (v : Vec (Tree A) A) (ts : List (Tree A)) → tree ≡ TreeNode line form v → ts ≡ v.items → shape tree ≡ Node form (syntaxes (shapes ts))
 node_part tree line form v ts h is = ap shape h ∙ node_shape line form v ∙ ap (λ xs. Node form (syntaxes (shapes xs))) (sym is)
@@ -47,27 +43,27 @@ not_two (x ∷ []) n = refl
 not_two (x ∷ y ∷ []) n = absurd (n refl)
 not_two (x ∷ y ∷ z ∷ us) n = refl
 
+pub are_three : {A : Type 0} (ts : List (Tree A)) (t u v : Tree A) → length ts ≡ 3 → t ≡ get_or ts 0 t → u ≡ get_or ts 1 u → v ≡ get_or ts 2 v → three_of (syntaxes (shapes ts)) ≡ Some (shape t, shape u, shape v)
+unfolding three_of
+are_three [] t u v h k l m = absurd (omega (arith, h))
+are_three (x ∷ []) t u v h k l m = absurd (omega (arith, h))
+are_three (x ∷ y ∷ []) t u v h k l m = absurd (omega (arith, h))
+are_three (x ∷ y ∷ z ∷ []) t u v h k l m =
+    ap₂ (λ a b. let o : Option (Syntax × Syntax × Syntax) = Some (shape a, shape b, shape z) in o) (sym k) (sym l)
+    ∙ ap (λ c. let o : Option (Syntax × Syntax × Syntax) = Some (shape t, shape u, shape c) in o) (sym m)
+are_three (x ∷ y ∷ z ∷ w ∷ us) t u v h k l m = absurd (omega (arith, h))
+
+pub not_three : {A : Type 0} (ts : List (Tree A)) → (length ts ≢ 3) → three_of (syntaxes (shapes ts)) ≡ None
+unfolding three_of
+not_three [] n = refl
+not_three (x ∷ []) n = refl
+not_three (x ∷ y ∷ []) n = refl
+not_three (x ∷ y ∷ z ∷ []) n = absurd (n refl)
+not_three (x ∷ y ∷ z ∷ w ∷ us) n = refl
+
 pub behind_all : {X : Type 0} (xs : List X) → drop (length xs) xs ≡ []
 behind_all [] = refl
 behind_all (x ∷ xs) = behind_all xs
-
-no_meaning : (t : Syntax) → takes_parameters t ≡ true → declared_by t ≡ None
-unfolding takes_parameters declared_by entries_of
-no_meaning (Called n) h = absurd cc
-no_meaning (Numeral n) h = absurd cc
-no_meaning (Node forms.DefinitionWithParameters ts) h = refl
-no_meaning (Node f ts) h = absurd cc
-
--- a definition with parameters among the declarations
-pub refused : {A : Type 0} (ts : List (Tree A)) (i : ℕ) (t : Tree A) → i < length ts → t ≡ get_or ts i t → takes_parameters (shape t) ≡ true → declared_by_all (syntaxes (shapes ts)) ≡ None
-unfolding declared_by_all
-refused [] i t h is k = absurd (omega (arith, h))
-refused (u ∷ us) zero t h is k = ap (λ o. o >>= λ es. declared_by_all (syntaxes (shapes us)) >>= λ fs. Some (es ++ fs)) (no_meaning (shape u) (ap (λ x. takes_parameters (shape x)) (sym is) ∙ k))
-refused (u ∷ us) (suc i) t h is k = by (declared_by (shape u)) (refused us i t (omega (arith, h)) is k)
-  where
-    by : (o : Option (List Entry)) → declared_by_all (syntaxes (shapes us)) ≡ None → (o >>= λ es. declared_by_all (syntaxes (shapes us)) >>= λ fs. Some (es ++ fs)) ≡ None
-    by None n = refl
-    by (Some es) n = ap (λ o. o >>= λ fs. Some (es ++ fs)) n
 
 -- what a phrase stands for behind no inputs
 pub alone : {A : Type 0} (known : Known) (is : List (Input A)) (t : Syntax) → is ≡ [] → worth (behind known (map input is)) t ≡ worth known t

@@ -1,12 +1,12 @@
 -- How the declared names are entered one by one, as the program does it. They are those that are declared, if none is there twice.
-use Rattle.std.specs.Prelude.{List, [], ◌∷◌, ◌++◌, Bool, true, false, Option, Some, None, if◌then◌else◌}
+use Rattle.std.specs.Prelude.{List, [], ◌∷◌, ◌++◌, Bool, Option, Some, None, if◌then◌else◌}
 use Rattle.std.specs.List.{list_any}
 use Rattle.syntax.specs.declared.form.Form.{Form}
 use Rattle.syntax.specs.declared.form.Form.TheVariants as forms
 use Rattle.syntax.specs.Grammar.{Syntax, Called, Numeral, Node, Syntaxes, NoSyntax}
 use Rattle.values.specs.Values.{◌>>=◌, Name}
-use Rattle.values.specs.Names.{Meaning, channel, datatype, constant_name, definition, Entry, same_name, field_sets, declared, are_distinct}
-use Rattle.declared_names.specs.Steps.{steps, only_of, two_of}
+use Rattle.values.specs.Names.{Meaning, channel, datatype, constant_name, definition, parametric, Entry, same_name, field_sets, declared, are_distinct}
+use Rattle.declared_names.specs.Steps.{steps, only_of, two_of, three_of}
 
 abbrev pub has_name : List Entry → Name → Bool
 has_name es n = list_any (λ e. same_name n e.0) es
@@ -54,23 +54,25 @@ put_defined es (Called n) t = put es (n, definition t)
 put_defined es (Numeral n) t = None
 put_defined es (Node f us) t = None
 
+-- a definition with parameters
+unfoldable pub put_parametric : List Entry → Syntax → Syntax → Syntax → Option (List Entry)
+put_parametric es (Called n) t u = list_parts t >>= λ ts. steps add_name [] ts >>= λ xs. put es (n, parametric xs u)
+put_parametric es (Numeral n) t u = None
+put_parametric es (Node f us) t u = None
+
 -- the names of a declaration of this form
 unfoldable pub put_form : List Entry → Form → Syntaxes → Option (List Entry)
 put_form es forms.Channels ts = only_of ts >>= λ t. put_channels es t NoSyntax
 put_form es forms.ChannelsWithFields ts = two_of ts >>= λ p. put_fielded es p.0 p.1
 put_form es forms.Datatype ts = two_of ts >>= λ p. put_typed es p.0 p.1
 put_form es forms.Definition ts = two_of ts >>= λ p. put_defined es p.0 p.1
+put_form es forms.DefinitionWithParameters ts = three_of ts >>= λ p. put_parametric es p.0 p.1 p.2
 put_form es f ts = None
 
 unfoldable pub put_declaration : List Entry → Syntax → Option (List Entry)
 put_declaration es (Node f ts) = put_form es f ts
 put_declaration es (Called n) = None
 put_declaration es (Numeral n) = None
-
--- a definition with parameters
-unfoldable pub takes_parameters : Syntax → Bool
-takes_parameters (Node forms.DefinitionWithParameters ts) = true
-takes_parameters t = false
 
 -- the declarations of a script
 unfoldable pub script_parts : Syntax → Option Syntaxes

@@ -16,3 +16,8 @@ only_of ts = None
 unfoldable pub two_of : Syntaxes → Option (Syntax × Syntax)
 two_of (MoreSyntax t (MoreSyntax u NoSyntax)) = Some (t, u)
 two_of ts = None
+
+-- the three parts
+unfoldable pub three_of : Syntaxes → Option (Syntax × Syntax × Syntax)
+three_of (MoreSyntax t (MoreSyntax u (MoreSyntax v NoSyntax))) = Some (t, u, v)
+three_of ts = None

@@ -7,7 +7,7 @@ use std::alloc::Allocator;
 use std::hash::{BuildHasherDefault, FoldHasher};
 use syntax::Tree;
 
-type Hashing = BuildHasherDefault<FoldHasher>;
+pub(crate) type Hashing = BuildHasherDefault<FoldHasher>;
 
 /// What a name is declared as.
 #[derive(Drop)]
@@ -20,6 +20,14 @@ pub enum Meaning<'a, A: Allocator> {
     Constant,
     /// A definition without parameters, with its body.
     Definition(&'a Tree<A>),
+    /// A definition with parameters.
+    WithParameters {
+        /// The parameters, as they are written.
+        written: &'a [Tree<A>],
+        /// The names of the parameters.
+        names: Vec<Vec<u8, A>, A>,
+        body: &'a Tree<A>,
+    },
 }
 
 /// A declared name's line and what it is declared as.
@@ -34,7 +42,7 @@ pub struct Entry<'a, A: Allocator> {
 #[derive(Drop)]
 pub struct Entries<'a, A: Allocator> {
     pub(crate) table: IndexMap<Vec<u8, A>, Entry<'a, A>, Hashing, A>,
-    /// Whether the name at each place is one of a process, where it was found; `None` in a circle of names, which is one.
+    /// Whether the name at each place may be one of a process, where it was found; `None` in a circle of names, which is one.
     pub(crate) answers: Vec<Option<bool>, A>,
     ghost answered: { AreAnswers (listed table.entries) answers.items },
 }

@@ -1,20 +1,20 @@
 //! The names of declarations, in text order.
-ghost use Rattle.std.specs.Prelude.{◌≡◌, None, [], map, IfErr};
+ghost use Rattle.std.specs.Prelude.{◌≡◌, [], map};
 ghost use Rattle.syntax.specs.View.{shape, shapes};
 ghost use Rattle.syntax.specs.Parsing.{syntaxes};
-ghost use Rattle.values.specs.Names.{declared_by_all, field_sets};
+ghost use Rattle.values.specs.Names.{field_sets};
 ghost use Rattle.values.specs.View.{Gives};
 ghost use Rattle.declared_names.specs.View.{entries as entries_of, role};
 ghost use Rattle.declared_names.specs.Steps.{steps};
-ghost use Rattle.declared_names.specs.Entering.{add_name, list_parts, put_name, put_channels, put_fielded, put_datatype, put_typed, put_defined, put_form, put_declaration, script_parts, takes_parameters as takes_parameters_of, distinct_entries as distinct_entries_of};
+ghost use Rattle.declared_names.specs.Entering.{add_name, list_parts, put_name, put_channels, put_fielded, put_datatype, put_typed, put_defined, put_parametric, put_form, put_declaration, script_parts, distinct_entries as distinct_entries_of};
 
 use crate::entries::{Entries, Meaning};
-use crate::part::{Part, fault, no_parts, only_part, part_of, two_parts};
+use crate::part::{Part, fault, no_parts, only_part, part_of, three_parts, two_parts};
 use std::alloc::Allocator;
 use syntax::{Form, Tree};
 use tokens::{ScriptError, ScriptErrorKind};
 
-/// The parts of a list of names, as of channels or of a datatype's constants; `Expected` where it is none.
+/// The parts of a list of names, as of channels, of a datatype's constants or of parameters; `Expected` where it is none.
 #[tactic(auto, unfolding(crate::specs::Entering::list_parts))]
 pub fn name_list<A: Allocator>(tree: &Tree<A>) -> Result<&[Tree<A>], ScriptError>
     ensures { Gives (λ ts. syntaxes (shapes ts.now)) result (list_parts (shape tree.now)) }
@@ -78,7 +78,7 @@ fn with_names<'a, A: Allocator + Copy>(
 }
 
 /// The names in a list of names.
-fn constant_names<A: Allocator + Copy>(
+fn names_in<A: Allocator + Copy>(
     alloc: A,
     parts: &[Tree<A>],
 ) -> Result<Vec<Vec<u8, A>, A>, ScriptError>
@@ -86,14 +86,14 @@ fn constant_names<A: Allocator + Copy>(
 {
     let mut names = Vec::new(alloc);
     for part in parts {
-        names = with_constant(alloc, names, part)?;
+        names = with_name_of(alloc, names, part)?;
     }
     Ok(names)
 }
 
 /// The names and one more.
 #[tactic(auto, unfolding(crate::specs::Entering::add_name), using(crate::proofs::Tables::pushed))]
-fn with_constant<A: Allocator + Copy>(
+fn with_name_of<A: Allocator + Copy>(
     alloc: A,
     names: Vec<Vec<u8, A>, A>,
     part: &Tree<A>,
@@ -147,7 +147,7 @@ fn with_datatype<'a, A: Allocator + Copy>(
 ) -> Result<Entries<'a, A>, ScriptError>
     ensures { Gives entries_of result (put_datatype (entries_of entries.entry) name.now (syntaxes (shapes constants.now))) }
 {
-    let names = constant_names(alloc, constants)?;
+    let names = names_in(alloc, constants)?;
     let entries = entries.with(name, line, Meaning::Datatype(names))?;
     with_names(entries, constants, None)
 }
@@ -186,6 +186,35 @@ fn with_defined<'a, A: Allocator + Copy>(
     }
 }
 
+/// The names and that of a definition with these parameters and this body.
+#[tactic(auto, unfolding(crate::specs::Entering::put_parametric))]
+fn with_parametric<'a, A: Allocator + Copy>(
+    alloc: A,
+    entries: Entries<'a, A>,
+    name: &'a Tree<A>,
+    parameters: &'a Tree<A>,
+    body: &'a Tree<A>,
+) -> Result<Entries<'a, A>, ScriptError>
+    ensures { Gives entries_of result (put_parametric (entries_of entries.entry) (shape name.now) (shape parameters.now) (shape body.now)) }
+{
+    match part_of(name) {
+        Part::Name(text) => {
+            let written = name_list(parameters)?;
+            let names = names_in(alloc, written)?;
+            entries.with(
+                text,
+                name.line(),
+                Meaning::WithParameters {
+                    written,
+                    names,
+                    body,
+                },
+            )
+        }
+        _ => Err(fault(name.line(), ScriptErrorKind::Expected)),
+    }
+}
+
 /// The names and those of a declaration of this form.
 #[tactic(auto, unfolding(crate::specs::Entering::put_form))]
 fn with_form<'a, A: Allocator + Copy>(
@@ -213,6 +242,10 @@ fn with_form<'a, A: Allocator + Copy>(
         Form::Definition => {
             let (name, body) = two_parts(parts, line)?;
             with_defined(entries, name, body)
+        }
+        Form::DefinitionWithParameters => {
+            let (name, parameters, body) = three_parts(parts, line)?;
+            with_parametric(alloc, entries, name, parameters, body)
         }
         _ => Err(fault(line, ScriptErrorKind::Expected)),
     }
@@ -248,32 +281,6 @@ fn with_declarations<'a, A: Allocator + Copy>(
     Ok(entries)
 }
 
-/// Whether it is a definition with parameters.
-#[tactic(auto, unfolding(crate::specs::Entering::takes_parameters))]
-fn takes_parameters<A: Allocator>(declaration: &Tree<A>) -> bool
-    ensures { result ≡ takes_parameters_of (shape declaration.now) }
-{
-    match part_of(declaration) {
-        Part::Node(form, _) => match form {
-            Form::DefinitionWithParameters => true,
-            _ => false,
-        },
-        _ => false,
-    }
-}
-
-/// Refuses definitions with parameters: `Unsupported` at the first one.
-fn without_parameters<A: Allocator>(declarations: &[Tree<A>]) -> Result<(), ScriptError>
-    ensures { IfErr result (λ e. declared_by_all (syntaxes (shapes declarations.now)) ≡ None) }
-{
-    for declaration in declarations {
-        if takes_parameters(declaration) {
-            return Err(fault(declaration.line(), ScriptErrorKind::Unsupported));
-        }
-    }
-    Ok(())
-}
-
 /// The declarations of a script; `Expected` where the tree is none of a script.
 #[tactic(auto, unfolding(crate::specs::Entering::script_parts))]
 pub fn declarations_of<A: Allocator>(tree: &Tree<A>) -> Result<&[Tree<A>], ScriptError>
@@ -288,8 +295,8 @@ pub fn declarations_of<A: Allocator>(tree: &Tree<A>) -> Result<&[Tree<A>], Scrip
     }
 }
 
-/// The names that a script declares, in text order, none twice. `Unsupported` at the first definition with parameters,
-/// else `Redeclared` where a name stands for the second time.
+/// The names that a script declares, in text order, none twice: `Redeclared` where a name stands for the second time. Looks
+/// at no parameters.
 pub fn distinct_entries<'a, A: Allocator + Copy>(
     alloc: A,
     tree: &'a Tree<A>,
@@ -297,7 +304,6 @@ pub fn distinct_entries<'a, A: Allocator + Copy>(
     ensures { Gives entries_of result (distinct_entries_of (shape tree.now)) }
 {
     let declarations = declarations_of(tree)?;
-    without_parameters(declarations)?;
     let entries = with_declarations(alloc, declarations)?;
     entries.complete(alloc)
 }

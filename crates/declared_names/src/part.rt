@@ -6,7 +6,7 @@ ghost use Rattle.syntax.specs.View.{shape, shapes};
 ghost use Rattle.values.specs.Tables.{table};
 ghost use Rattle.values.specs.View.{Gives, worth as worth_of};
 ghost use Rattle.values.specs.Worths.{worth as worth_in};
-ghost use Rattle.declared_names.specs.Steps.{only_of, two_of};
+ghost use Rattle.declared_names.specs.Steps.{only_of, three_of, two_of};
 ghost use Rattle.declared_names.specs.View.{part_shape};
 
 use std::alloc::Allocator;
@@ -65,6 +65,20 @@ pub fn two_parts<A: Allocator>(
 {
     match parts {
         [first, second] => Ok((first, second)),
+        _ => Err(fault(line, ScriptErrorKind::Expected)),
+    }
+}
+
+/// The three parts; `Expected` on this line where there is another number of parts.
+#[tactic(auto, using(crate::proofs::Shapes::are_three, crate::proofs::Shapes::not_three))]
+pub(crate) fn three_parts<A: Allocator>(
+    parts: &[Tree<A>],
+    line: u32,
+) -> Result<(&Tree<A>, &Tree<A>, &Tree<A>), ScriptError>
+    ensures { Gives {Y = Syntax × Syntax × Syntax} (λ p. (shape p.0.now, shape p.1.now, shape p.2.now)) result (three_of (syntaxes (shapes parts.now))) }
+{
+    match parts {
+        [first, second, third] => Ok((first, second, third)),
         _ => Err(fault(line, ScriptErrorKind::Expected)),
     }
 }

@@ -1,4 +1,4 @@
-//! Which names are those of processes.
+//! Which names may be those of processes. A condition may choose a value too, and passes whatever it chooses.
 ghost use Rattle.std.specs.Prelude.{◌≡◌, ℕ, suc, Bool};
 ghost use Rattle.syntax.specs.declared.form.Form.TheVariants.{Event};
 ghost use Rattle.syntax.specs.Grammar.{Node};
@@ -14,12 +14,12 @@ use crate::part::{Part, part_of};
 use std::alloc::Allocator;
 use syntax::{Form, Operator, Tree};
 
-/// What is seen at once of whether a phrase is a process.
+/// What is seen at once of whether a phrase may be a process.
 #[derive(Clone, Copy)]
 pub enum Answer<'a> {
-    /// It is one, or it isn't.
+    /// It may be one, or it isn't.
     Known(bool),
-    /// It is one where this name is one of a process.
+    /// It may be one where this name may be one of a process.
     SameAs(&'a [u8]),
 }
 
@@ -38,24 +38,31 @@ fn is_process_operator(operator: Operator) -> bool
         | Operator::Alphabetised
         | Operator::Interleaving
         | Operator::Hiding
-        | Operator::Renaming => true,
+        | Operator::Renaming
+        | Operator::Guard => true,
         _ => false,
     }
 }
 
-/// Whether phrases of this form are processes.
+/// Whether phrases of this form may be processes; a condition may choose a value too.
 #[tactic(auto, unfolding(values::specs::Names::is_process_form))]
 pub fn is_process_form(form: Form) -> bool
     ensures { result ≡ is_process_form_of form }
 {
     match form {
-        Form::Stop | Form::Skip => true,
+        Form::Stop
+        | Form::Skip
+        | Form::Call
+        | Form::If
+        | Form::ReplicatedExternal
+        | Form::ReplicatedInternal
+        | Form::ReplicatedInterleaving => true,
         Form::Operation(operator) => is_process_operator(operator),
         _ => false,
     }
 }
 
-/// Whether an event phrase with these parts is a process: it is, where it is the bare name of one.
+/// Whether an event phrase with these parts may be a process: it may, where it is the bare name of one.
 #[tactic(auto, using(crate::proofs::ProcessNames::one_name, crate::proofs::ProcessNames::one_number, crate::proofs::ProcessNames::one_node, crate::proofs::ProcessNames::not_one))]
 fn answer_of_event<A: Allocator>(parts: &[Tree<A>]) -> Answer<'_>
     ensures { (name : Name → Bool) → is_process_by name (Node Event (syntaxes (shapes parts.now))) ≡ says name result }
@@ -69,7 +76,7 @@ fn answer_of_event<A: Allocator>(parts: &[Tree<A>]) -> Answer<'_>
     }
 }
 
-/// Whether the phrase is a process, as far as it says so itself: looks through brackets, and at no definition.
+/// Whether the phrase may be a process, as far as it says so itself: looks through brackets, and at no definition.
 #[tactic(auto, unfolding(values::specs::Names::is_process_by), using(crate::proofs::ProcessNames::inside, crate::proofs::ProcessNames::not_inside, crate::proofs::ProcessNames::by_event, crate::proofs::ProcessNames::by_form))]
 pub fn answer_of<A: Allocator>(phrase: &Tree<A>) -> Answer<'_>
     ensures { (name : Name → Bool) → is_process_by name (shape phrase.now) ≡ says name result }
@@ -88,7 +95,7 @@ pub fn answer_of<A: Allocator>(phrase: &Tree<A>) -> Answer<'_>
 }
 
 impl<'a, A: Allocator> Entries<'a, A> {
-    /// Whether the name is one of a process, as far as its own definition says.
+    /// Whether the name may be one of a process, as far as its own definition says.
     #[tactic(auto, unfolding(values::specs::Names::is_process_in, values::specs::Names::is_process_meaning))]
     pub(crate) fn answer(&self, name: &[u8]) -> Answer<'_>
         ensures { (k : ℕ) → is_process_in (entries_of self.now) (suc k) name.now ≡ says (is_process_in (entries_of self.now) k) result }
@@ -102,7 +109,7 @@ impl<'a, A: Allocator> Entries<'a, A> {
         }
     }
 
-    /// Whether the name is one of a process. Follows the names that it leads to.
+    /// Whether the name may be one of a process. Follows the names that it leads to.
     fn is_process_at_last(&self, name: &[u8]) -> bool
         ensures { result ≡ is_process_of (entries_of self.now) name.now }
     {
@@ -119,8 +126,8 @@ impl<'a, A: Allocator> Entries<'a, A> {
         }
     }
 
-    /// Whether the name is one of a process: of a definition whose body has the form of one, or is the name of one. Names
-    /// that lead to each other in a circle are those of processes.
+    /// Whether the name may be one of a process: of a definition without parameters whose body has a form that may be one, or
+    /// is the name of one. Names that lead to each other in a circle are those of processes.
     /// Costs a look-up by its hash.
     #[tactic(auto, using(crate::proofs::ProcessNames::undeclared))]
     pub fn is_process(&self, name: &[u8]) -> bool

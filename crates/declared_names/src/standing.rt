@@ -32,6 +32,7 @@ fn worth_of_entry<'a, A: Allocator + Copy>(
             Ok(Worth::One(Value::Constant(constant)))
         }
         Meaning::Definition(body) => worth_alone(alloc, known, body),
+        Meaning::WithParameters { .. } => Err(fault(entry.line, ScriptErrorKind::Expected)),
     }
 }
 

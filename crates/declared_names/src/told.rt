@@ -1,4 +1,4 @@
-//! Which names are those of processes, found for all names at once.
+//! Which names may be those of processes, found for all names at once.
 ghost use Rattle.std.specs.Prelude.{◌≡◌, ℕ, suc, Bool, true, ◌<◌, length, IfOk, MatchOption};
 ghost use Rattle.declared_names.specs.Told.{AreAnswers, AreTold, IsAnswer, LeadsOn, MayLeadOn, count_told, told_in};
 ghost use Rattle.declared_names.specs.View.{entries as entries_of};
@@ -18,7 +18,7 @@ fn told_at(told: &[Option<bool>], place: usize) -> Option<bool>
     }
 }
 
-/// Whether the name is one of a process, if its own definition says so or is a name that is told of.
+/// Whether the name may be one of a process, if its own definition says so or is a name that is told of.
 fn answer_by<'a, A: Allocator>(
     entries: &Entries<'a, A>,
     told: &[Option<bool>],
@@ -102,7 +102,7 @@ fn all_lead_on<'a, A: Allocator>(entries: &Entries<'a, A>, told: &[Option<bool>]
     true
 }
 
-/// Whether the name at each place is one of a process: `None` where it leads on for ever. Empty where not all was found,
+/// Whether the name at each place may be one of a process: `None` where it leads on for ever. Empty where not all was found,
 /// which doesn't happen when each name comes behind the one that it leads to.
 pub(crate) fn answers<'a, A: Allocator + Copy>(
     alloc: A,

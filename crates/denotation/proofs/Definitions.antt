@@ -1,13 +1,15 @@
 -- What is made of a definition's body, step by step.
-use Rattle.std.proofs.Common.{◌≡◌, [], true, false, cond, Option, Some, None, refl, sym, ap, subst, ◌∙◌}
+use Rattle.std.proofs.Common.{◌≡◌, List, [], ◌∷◌, length, true, false, cond, nat_eq, Option, Some, None, refl, ap, ◌∙◌}
+use Rattle.std.proofs.lemmas.Bool.{true≢false}
+use Rattle.alphabet.specs.Channels.{FieldValue, Values}
 use Rattle.syntax.specs.Grammar.{Syntax}
-use Rattle.tokens.specs.declared.error.ScriptErrorKind.{ScriptErrorKind}
 use Rattle.values.specs.Values.{◌>>=◌, Name}
-use Rattle.values.specs.Names.{Meaning, channel, datatype, constant_name, definition, meaning, is_process}
-use Rattle.values.specs.View.{Fails}
-use Rattle.event_phrases.specs.Scopes.{Scope}
-use Rattle.denotation.specs.Making.{Count, Made, make, shallow, make_by, make_body}
-use Rattle.event_phrases.proofs.Options.{step, fails_at}
+use Rattle.values.specs.Names.{Meaning, channel, datatype, constant_name, definition, parametric, meaning, is_process}
+use Rattle.values.specs.declared.value.Value.{Value}
+use Rattle.event_phrases.specs.Scopes.{Scope, within}
+use Rattle.event_phrases.specs.View.{listed}
+use Rattle.denotation.specs.Denotes.{paired}
+use Rattle.denotation.specs.Making.{Count, Made, make, shallow, make_by, make_called, make_body}
 
 none_by : (s : Scope) (m : Option Meaning) (w : Count) → ((t : Syntax) → m ≡ Some (definition t) → ⊥) → make_by s m w ≡ None
 unfolding make_by
@@ -16,6 +18,7 @@ none_by s (Some (channel ts)) w h = refl
 none_by s (Some (datatype ns)) w h = refl
 none_by s (Some constant_name) w h = refl
 none_by s (Some (definition t)) w h = absurd (h t refl)
+none_by s (Some (parametric xs t)) w h = refl
 
 module _ (s : Scope) (n : Name) (w : Count) where
   pub no_process : is_process s.entries n ≡ false → make_body s (n, []) w ≡ None
@@ -30,13 +33,38 @@ module _ (s : Scope) (n : Name) (w : Count) where
     pub no_definition : ((t : Syntax) → meaning s.entries n ≡ Some (definition t) → ⊥) → make_body s (n, []) w ≡ None
     no_definition d = body_by h ∙ none_by s (meaning s.entries n) w d
 
-    module _ (t : Syntax) (d : meaning s.entries n ≡ Some (definition t)) where
-      body_from : make_body s (n, []) w ≡ (make t s w >>= shallow)
-      unfolding make_by
-      body_from = body_by h ∙ ap (λ m. make_by s m w) d
+    pub body_from : (t : Syntax) → meaning s.entries n ≡ Some (definition t) → make_body s (n, []) w ≡ (make t s w >>= shallow)
+    unfolding make_by
+    body_from t d = body_by h ∙ ap (λ m. make_by s m w) d
 
-      pub body_fails : (k : ScriptErrorKind) → Fails k (make t s w) → Fails k (make_body s (n, []) w)
-      body_fails k f = subst (λ o. Fails k o) (sym body_from) (fails_at k (make t s w) shallow f)
+-- ---- definitions with parameters
 
-      pub body_so : (x : Made) → make t s w ≡ Some x → make_body s (n, []) w ≡ shallow x
-      body_so x m = body_from ∙ step (make t s w) shallow x m
+pub no_call : (s : Scope) (m : Option Meaning) (vs : Values) (w : Count) → ((xs : List Name) (t : Syntax) → m ≡ Some (parametric xs t) → ⊥) → make_called s m vs w ≡ None
+unfolding make_called
+no_call s None vs w h = refl
+no_call s (Some (channel ts)) vs w h = refl
+no_call s (Some (datatype ns)) vs w h = refl
+no_call s (Some constant_name) vs w h = refl
+no_call s (Some (definition t)) vs w h = refl
+no_call s (Some (parametric xs t)) vs w h = absurd (h xs t refl)
+
+module _ (s : Scope) (m : Option Meaning) (vs : Values) (w : Count) (xs : List Name) (t : Syntax) (d : m ≡ Some (parametric xs t)) where
+  abbrev behind_parameters : Option (List (Name × FieldValue)) → Option Made
+  behind_parameters o = o >>= λ is. make t (within s is) w >>= shallow
+
+  call_by : make_called s m vs w ≡ behind_parameters (paired xs vs)
+  unfolding make_called
+  call_by = ap (λ m. make_called s m vs w) d
+
+  pub unmatched : paired xs vs ≡ None → make_called s m vs w ≡ None
+  unmatched e = call_by ∙ ap behind_parameters e
+
+  pub matched : (is : List (Name × FieldValue)) → paired xs vs ≡ Some is → make_called s m vs w ≡ (make t (within s is) w >>= shallow)
+  matched is e = call_by ∙ ap behind_parameters e
+
+-- ---- by the values of parameters
+
+pub with_values : {A : Type 0} (s : Scope) (n : Name) (vs : List (Value A)) (w : Count) → nat_eq (length vs) 0 ≡ false → make_body s (n, listed vs) w ≡ make_called s (meaning s.entries n) (listed vs) w
+unfolding make_body
+with_values s n [] w h = absurd (true≢false h)
+with_values s n (v ∷ vs) w h = refl

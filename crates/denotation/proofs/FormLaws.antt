@@ -10,11 +10,12 @@ use Rattle.syntax.specs.declared.operator.Operator.TheVariants as operators
 use Rattle.syntax.specs.Grammar.{Syntax, Called, Numeral, Node, Syntaxes, NoSyntax, MoreSyntax}
 use Rattle.values.specs.Values.{◌>>=◌}
 use Rattle.event_phrases.specs.Forms.{part_list, node_of, name_of, if_none, first_of, one_of, two_of, three_of, four_of}
-use Rattle.denotation.specs.Forms.{Phrase, joined_phrase, operation_phrase, form_phrase, phrase_of}
+use Rattle.denotation.specs.Forms.{Phrase, joined_phrase, generators_form, generators_of, replicated_phrase, operation_phrase, form_phrase, phrase_of}
 use Rattle.event_phrases.specs.Scopes.{Scope, events_by}
 use Rattle.event_phrases.specs.Events.{Events, both, set_below, set_of, masked, pairs_of}
 use Rattle.event_phrases.specs.EventForms.{outside}
-use Rattle.denotation.specs.Making.{Count, Made, make, make_form, make_phrase, make_one, make_above, make_renamed, make_alphabetised, join_of}
+use Rattle.denotation.specs.declared.forms.Join.TheVariants as joins
+use Rattle.denotation.specs.Making.{Count, Made, make, make_form, make_phrase, make_one, make_above, make_renamed, make_alphabetised, make_over, make_replicated, make_called_with, join_of}
 use Rattle.event_phrases.proofs.Shapes.{list_forth}
 use Rattle.event_phrases.proofs.SetsBelow.{below_same, inside_is}
 
@@ -90,10 +91,62 @@ operation_is operators.Alphabetised (MoreSyntax t (MoreSyntax a (MoreSyntax b (M
 operation_is operators.Alphabetised (MoreSyntax t (MoreSyntax a (MoreSyntax b (MoreSyntax u (MoreSyntax v ts))))) s w = refl
 operation_is operators.Renaming NoSyntax s w = refl
 operation_is operators.Renaming (MoreSyntax t ts) s w = λ i. make t s w >>= λ p. pairs_of s.channels s.known (sym (list_forth ts) i) >>= λ R. make_renamed (event_count s.channels) R p
+operation_is operators.Guard NoSyntax s w = refl
+operation_is operators.Guard (MoreSyntax c NoSyntax) s w = refl
+operation_is operators.Guard (MoreSyntax c (MoreSyntax t NoSyntax)) s w = refl
+operation_is operators.Guard (MoreSyntax c (MoreSyntax t (MoreSyntax u ts))) s w = refl
 operation_is op ts s w = refl
 
+external_is : (ts : Syntaxes) (s : Scope) (w : Count) → make_form forms.ReplicatedExternal ts s w ≡ (replicated_phrase joins.External (part_list ts) >>= λ p. make_phrase p s w)
+unfolding make make_phrase replicated_phrase generators_of generators_form node_of part_list two_of one_of if_none
+external_is NoSyntax s w = refl
+external_is (MoreSyntax (Called n) NoSyntax) s w = refl
+external_is (MoreSyntax (Called n) (MoreSyntax t NoSyntax)) s w = refl
+external_is (MoreSyntax (Called n) (MoreSyntax t (MoreSyntax u ts))) s w = refl
+external_is (MoreSyntax (Numeral n) NoSyntax) s w = refl
+external_is (MoreSyntax (Numeral n) (MoreSyntax t NoSyntax)) s w = refl
+external_is (MoreSyntax (Numeral n) (MoreSyntax t (MoreSyntax u ts))) s w = refl
+external_is (MoreSyntax (Node forms.Generators gs) NoSyntax) s w = refl
+external_is (MoreSyntax (Node forms.Generators gs) (MoreSyntax t NoSyntax)) s w = λ i. make_over (sym (list_forth gs) i) (make t) s w >>= λ x. make_replicated joins.External x
+external_is (MoreSyntax (Node forms.Generators gs) (MoreSyntax t (MoreSyntax u ts))) s w = refl
+external_is (MoreSyntax (Node f gs) NoSyntax) s w = refl
+external_is (MoreSyntax (Node f gs) (MoreSyntax t NoSyntax)) s w = refl
+external_is (MoreSyntax (Node f gs) (MoreSyntax t (MoreSyntax u ts))) s w = refl
+
+internal_is : (ts : Syntaxes) (s : Scope) (w : Count) → make_form forms.ReplicatedInternal ts s w ≡ (replicated_phrase joins.Internal (part_list ts) >>= λ p. make_phrase p s w)
+unfolding make make_phrase replicated_phrase generators_of generators_form node_of part_list two_of one_of if_none
+internal_is NoSyntax s w = refl
+internal_is (MoreSyntax (Called n) NoSyntax) s w = refl
+internal_is (MoreSyntax (Called n) (MoreSyntax t NoSyntax)) s w = refl
+internal_is (MoreSyntax (Called n) (MoreSyntax t (MoreSyntax u ts))) s w = refl
+internal_is (MoreSyntax (Numeral n) NoSyntax) s w = refl
+internal_is (MoreSyntax (Numeral n) (MoreSyntax t NoSyntax)) s w = refl
+internal_is (MoreSyntax (Numeral n) (MoreSyntax t (MoreSyntax u ts))) s w = refl
+internal_is (MoreSyntax (Node forms.Generators gs) NoSyntax) s w = refl
+internal_is (MoreSyntax (Node forms.Generators gs) (MoreSyntax t NoSyntax)) s w = λ i. make_over (sym (list_forth gs) i) (make t) s w >>= λ x. make_replicated joins.Internal x
+internal_is (MoreSyntax (Node forms.Generators gs) (MoreSyntax t (MoreSyntax u ts))) s w = refl
+internal_is (MoreSyntax (Node f gs) NoSyntax) s w = refl
+internal_is (MoreSyntax (Node f gs) (MoreSyntax t NoSyntax)) s w = refl
+internal_is (MoreSyntax (Node f gs) (MoreSyntax t (MoreSyntax u ts))) s w = refl
+
+interleaving_is : (ts : Syntaxes) (s : Scope) (w : Count) → make_form forms.ReplicatedInterleaving ts s w ≡ (replicated_phrase joins.Interleaving (part_list ts) >>= λ p. make_phrase p s w)
+unfolding make make_phrase replicated_phrase generators_of generators_form node_of part_list two_of one_of if_none
+interleaving_is NoSyntax s w = refl
+interleaving_is (MoreSyntax (Called n) NoSyntax) s w = refl
+interleaving_is (MoreSyntax (Called n) (MoreSyntax t NoSyntax)) s w = refl
+interleaving_is (MoreSyntax (Called n) (MoreSyntax t (MoreSyntax u ts))) s w = refl
+interleaving_is (MoreSyntax (Numeral n) NoSyntax) s w = refl
+interleaving_is (MoreSyntax (Numeral n) (MoreSyntax t NoSyntax)) s w = refl
+interleaving_is (MoreSyntax (Numeral n) (MoreSyntax t (MoreSyntax u ts))) s w = refl
+interleaving_is (MoreSyntax (Node forms.Generators gs) NoSyntax) s w = refl
+interleaving_is (MoreSyntax (Node forms.Generators gs) (MoreSyntax t NoSyntax)) s w = λ i. make_over (sym (list_forth gs) i) (make t) s w >>= λ x. make_replicated joins.Interleaving x
+interleaving_is (MoreSyntax (Node forms.Generators gs) (MoreSyntax t (MoreSyntax u ts))) s w = refl
+interleaving_is (MoreSyntax (Node f gs) NoSyntax) s w = refl
+interleaving_is (MoreSyntax (Node f gs) (MoreSyntax t NoSyntax)) s w = refl
+interleaving_is (MoreSyntax (Node f gs) (MoreSyntax t (MoreSyntax u ts))) s w = refl
+
 form_is : (f : Form) (ts : Syntaxes) (s : Scope) (w : Count) → make_form f ts s w ≡ (form_phrase f (part_list ts) >>= λ p. make_phrase p s w)
-unfolding make make_phrase form_phrase part_list one_of if_none name_of
+unfolding make make_phrase form_phrase part_list first_of one_of two_of three_of if_none name_of
 form_is forms.Stop NoSyntax s w = refl
 form_is forms.Stop (MoreSyntax t ts) s w = refl
 form_is forms.Skip NoSyntax s w = refl
@@ -109,6 +162,18 @@ form_is forms.Brackets NoSyntax s w = refl
 form_is forms.Brackets (MoreSyntax t NoSyntax) s w = refl
 form_is forms.Brackets (MoreSyntax t (MoreSyntax u ts)) s w = refl
 form_is (forms.Operation op) ts s w = operation_is op ts s w
+form_is forms.If NoSyntax s w = refl
+form_is forms.If (MoreSyntax c NoSyntax) s w = refl
+form_is forms.If (MoreSyntax c (MoreSyntax t NoSyntax)) s w = refl
+form_is forms.If (MoreSyntax c (MoreSyntax t (MoreSyntax u NoSyntax))) s w = refl
+form_is forms.If (MoreSyntax c (MoreSyntax t (MoreSyntax u (MoreSyntax v ts)))) s w = refl
+form_is forms.Call NoSyntax s w = refl
+form_is forms.Call (MoreSyntax (Called n) ts) s w = λ i. make_called_with n (sym (list_forth ts) i) s w
+form_is forms.Call (MoreSyntax (Numeral n) ts) s w = refl
+form_is forms.Call (MoreSyntax (Node f us) ts) s w = refl
+form_is forms.ReplicatedExternal ts s w = external_is ts s w
+form_is forms.ReplicatedInternal ts s w = internal_is ts s w
+form_is forms.ReplicatedInterleaving ts s w = interleaving_is ts s w
 form_is f ts s w = refl
 
 -- a phrase makes what its form says

@@ -1,39 +1,8 @@
 -- Places in a list of definitions that none stands in twice.
-use Rattle.std.proofs.Common.{◌≡◌, suc, List, [], ◌∷◌, ◌++◌, Bool, true, false, cond, ◌&&◌, refl, ap, ap₂, ◌∙◌}
-use Rattle.std.specs.Cmp.Lexicographic.{pointwise, slice_cmp}
-use Rattle.std.specs.Cmp.{nat_eq_equiv}
-use Rattle.std.specs.Ordering.{ordering_reverse, int_cmp, nat_cmp, is_eq}
-use Rattle.std.specs.declared.cmp.Ordering.{Ordering}
-use Rattle.std.specs.declared.cmp.Ordering.TheVariants.{Less, Equal, Greater}
-use Rattle.std.proofs.lemmas.Cmp.{int_cmp_total, nat_list_cmp_total}
-use Rattle.alphabet.specs.Channels.{FieldValue, number, constant, Values}
-use Rattle.values.specs.Values.{Name, is_same}
-use Rattle.values.specs.Names.{same_name}
+use Rattle.std.proofs.Common.{◌≡◌, suc, List, [], ◌∷◌, ◌++◌, Bool, true, false, cond, refl, ap, ◌∙◌}
+pub use Rattle.denotation.specs.CallLaws.{key_is, key_same}
 use Rattle.denotation.specs.Bodies.{Key, same_key}
 use Rattle.denotation.specs.Denotes.{place, has_key, with_key, with_keys}
-
--- what is the same in both orders is equal
-same_both : (o : Ordering) → o ≡ ordering_reverse o → is_eq o ≡ true
-same_both Less h = absurd (cc)
-same_both Equal h = refl
-same_both Greater h = absurd (cc)
-
-value_same : (v : FieldValue) → is_same v v ≡ true
-unfolding is_same
-value_same (number z) = same_both (int_cmp z z) (int_cmp_total.antisymm z z)
-value_same (constant n) = same_both (slice_cmp nat_cmp n n) (nat_list_cmp_total.antisymm n n)
-
-values_same : (vs : Values) → pointwise is_same vs vs ≡ true
-values_same [] = refl
-values_same (v ∷ vs) = ap₂ (λ a b. a && b) (value_same v) (values_same vs)
-
-name_same : (n : Name) → same_name n n ≡ true
-name_same [] = refl
-name_same (b ∷ bs) = ap₂ (λ x y. x && y) (nat_eq_equiv.refl b) (name_same bs)
-
-pub key_same : (k : Key) → same_key k k ≡ true
-unfolding same_key
-key_same k = ap₂ (λ a b. a && b) (name_same k.0) (values_same k.1)
 
 -- ---- places stay
 

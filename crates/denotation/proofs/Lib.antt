@@ -3,9 +3,13 @@ pub mod Reached
 pub mod Unique
 pub mod Keys
 pub mod Told
+pub mod Rooms
+pub mod HalvesMade
+pub mod OverMade
 pub mod Made
 pub mod Progress
 pub mod Choices
+pub mod Replications
 pub mod FirstPlaces
 pub mod Steps
 pub mod Prefixes
@@ -15,3 +19,5 @@ pub mod Whole
 pub mod Shapes
 pub mod FormLaws
 pub mod Turns
+pub mod CallTests
+pub mod Arguments

@@ -1,8 +1,7 @@
 -- What is made of a phrase is made of the body that it denotes.
-use Rattle.std.proofs.Common.{◌≡◌, ℕ, zero, suc, ◌+◌, ◌-◌, ◌<◌, ◌≤◌, List, [], ◌∷◌, ◌++◌, map, Bool, true, false, cond, Option, Some, None, refl, sym, ap, ap₂, ◌∙◌, arith, append-nil}
+use Rattle.std.proofs.Common.{◌≡◌, ℕ, zero, suc, ◌+◌, List, [], ◌∷◌, ◌++◌, map, Bool, true, false, cond, Option, Some, None, refl, sym, ap, ap₂, ◌∙◌, arith, append-nil}
 use Rattle.std.specs.List.{flat_map}
-use Rattle.std.proofs.lemmas.List.{length-map}
-use Rattle.alphabet.specs.Channels.{Values, Parts, events, event_count}
+use Rattle.alphabet.specs.Channels.{FieldValue, Values, Parts, events, event_count}
 use Rattle.term.specs.Traces.{Pairs}
 use Rattle.term.specs.Proc as procs
 use Rattle.term.specs.Proc.{Proc}
@@ -11,82 +10,48 @@ use Rattle.syntax.specs.declared.form.Form.TheVariants as forms
 use Rattle.syntax.specs.declared.operator.Operator.TheVariants as operators
 use Rattle.syntax.specs.Grammar.{Syntax, Called, Numeral, Node, Syntaxes, NoSyntax, MoreSyntax}
 use Rattle.values.specs.Values.{◌>>=◌, Name}
-use Rattle.values.specs.Worths.{Worth, one, many}
-use Rattle.values.specs.Names.{Meaning, channel, datatype, constant_name, definition, meaning, same_name, is_process}
+use Rattle.values.specs.Worths.{Worth, condition}
+use Rattle.values.specs.Names.{Meaning, channel, datatype, constant_name, definition, parametric, meaning, same_name, is_process}
 use Rattle.event_phrases.specs.Events.{Events, unless_value, channel_fields, set_of, pairs_of, in_order}
 use Rattle.denotation.specs.Bodies.{Key, Body, stop, skip, prefix, ext, int, seq, par, hide, ren, intr, name, names, numbered, choice_of}
 use Rattle.event_phrases.specs.Fitting.{fitting, has_all}
-use Rattle.event_phrases.specs.Scopes.{Scope, events_by}
-use Rattle.denotation.specs.Phrases.{with_branch, branches, prefixed, renamed, alphabetised, denoted, denoted_form}
-use Rattle.denotation.specs.Denotes.{place, with_key, with_keys, nodes, body_by, body_of}
-use Rattle.denotation.specs.Making.{Count, Made, AllMade, FoundBranch, room_left, spend, size_of, sizes_of, told, all_told, made, all_made, choice_over, choice_nodes, make_choice, refer, put, make_behind, make_branch, make_branches, make_prefixed, make_one, make_above, make_two, make_renamed, make_alphabetised, make, make_form, shallow, make_by, make_body}
+use Rattle.event_phrases.specs.Scopes.{Scope, within, events_by}
+use Rattle.denotation.specs.Phrases.{with_branch, branches, prefixed, renamed, alphabetised, takes, arguments, called_with, over, denoted, denoted_form}
+use Rattle.denotation.specs.Denotes.{place, with_keys, nodes, body_by, paired, called_by, body_of}
+use Rattle.denotation.specs.declared.forms.Join.TheVariants as joins
+use Rattle.denotation.specs.Making.{Count, Made, AllMade, FoundBranch, room_left, spend, size_of, sizes_of, told, all_told, made, all_made, make_choice, make_stop, refer, put, make_behind, make_branch, make_branches, make_prefixed, make_one, make_above, make_two, make_renamed, make_alphabetised, make_replicated, make_called_with, make, make_form, shallow, make_by, make_called, make_body}
 use Rattle.denotation.proofs.Keys.{keys_append}
-use Rattle.denotation.proofs.Told.{stays, numbered_choice, names_choice, size_choice}
+use Rattle.denotation.proofs.Told.{stays}
+use Rattle.denotation.proofs.Rooms.{some_made, some_all, rooms, spend_then, stop_is, skip_is, none_is, make_stop_is, refer_is, hidden_is, test_is}
+use Rattle.denotation.proofs.HalvesMade.{external_is, interleaving_is, internal_is}
+use Rattle.denotation.proofs.OverMade.{over_is}
 use Rattle.event_phrases.proofs.Options.{bind_none, bind_assoc, bind_same}
-
--- ---- options
-
-abbrev some_made : Proc → List Key → ℕ → Option Made
-some_made p ks r = Some (p, (ks, r))
-
-abbrev some_all : List Proc → List Key → ℕ → Option AllMade
-some_all ps ks r = Some (ps, (ks, r))
-
--- ---- room
-
-pub split : (P : Type 0) (m n : ℕ) → (m ≤ n → P) → (n < m → P) → P
-split P zero n f g = f (omega arith)
-split P (suc m) zero f g = g (omega arith)
-split P (suc m) (suc n) f g = split P m n (λ h. f (omega (arith, h))) (λ h. g (omega (arith, h)))
-
-pub room_enough : (n room : ℕ) → n ≤ room → room_left n room ≡ Some (room - n)
-unfolding room_left
-room_enough n room h = grind (arith, h)
-
-pub room_less : (n room : ℕ) → room < n → room_left n room ≡ None
-unfolding room_left
-room_less n room h = grind (arith, h)
-
-rooms : {C : Type 0} (m n room : ℕ) (f : ℕ → Option C) → (room_left m room >>= λ r. room_left n r >>= f) ≡ (room_left (m + n) room >>= f)
-rooms m n room f = split _ m room enough less
-  where
-    less : room < m → (room_left m room >>= λ r. room_left n r >>= f) ≡ (room_left (m + n) room >>= f)
-    less h = ap (λ o. o >>= λ r. room_left n r >>= f) (room_less m room h) ∙ sym (ap (λ o. o >>= f) (room_less (m + n) room (omega (arith, h))))
-
-    enough : m ≤ room → (room_left m room >>= λ r. room_left n r >>= f) ≡ (room_left (m + n) room >>= f)
-    enough h = ap (λ o. o >>= λ r. room_left n r >>= f) (room_enough m room h) ∙ split _ n (room - m)
-        (λ k. let e : room - m - n ≡ room - (m + n) = omega (arith, h, k) in
-        ap (λ o. o >>= f) (room_enough n (room - m) k) ∙ ap f e ∙ sym (ap (λ o. o >>= f) (room_enough (m + n) room (omega (arith, h, k)))))
-        (λ k. ap (λ o. o >>= f) (room_less n (room - m) k) ∙ sym (ap (λ o. o >>= f) (room_less (m + n) room (omega (arith, h, k)))))
-
-spend_then : {C : Type 0} (n : ℕ) (w : Count) (f : Count → Option C) → (spend n w >>= f) ≡ (room_left n w.1 >>= λ r. f (w.0, r))
-unfolding spend
-spend_then n w f = bind_assoc (room_left n w.1) (λ r. Some (w.0, r)) f
 
 -- ---- nodes
 
-leaf : (w : Count) (p : Proc) → (spend 1 w >>= λ u. Some (p, u)) ≡ (room_left 1 w.1 >>= λ r. some_made p w.0 r)
-leaf w p = spend_then 1 w (λ u. Some (p, u))
-
-stop_is : (w : Count) → (spend 1 w >>= λ u. Some (procs.stop, u)) ≡ made w (Some stop)
-unfolding made numbered names with_keys
-stop_is w = leaf w procs.stop
-
-skip_is : (w : Count) → (spend 1 w >>= λ u. Some (procs.skip, u)) ≡ made w (Some skip)
-unfolding made numbered names with_keys
-skip_is w = leaf w procs.skip
-
-refer_is : (w : Count) (k : Key) → refer k w ≡ made w (Some (name k))
-unfolding refer made numbered names with_keys
-refer_is w k = spend_then 1 w (λ u. some_made (procs.name (place (with_key u.0 k) k)) (with_key u.0 k) u.1)
-
 event_is : (w : Count) (k : Key) (o : Option Worth) (t : Bool) → unless_value o (cond t (refer k w) None) ≡ made w (unless_value o (cond t (Some (name k)) None))
+event_is w k o t = hidden_is w o (cond t (refer k w) None) (cond t (Some (name k)) None) (test_is w t (refer k w) (Some (name k)) (refer_is w k))
+
+-- a call refers to the definition with the values of its arguments
+arguments_are : (f : Name) (w : Count) (o : Option Values) → (o >>= λ vs. refer (f, vs) w) ≡ made w (o >>= λ vs. Some (name (f, vs)))
 unfolding made
-event_is w k None true = refer_is w k
-event_is w k None false = refl
-event_is w k (Some (one v)) t = refl
-event_is w k (Some (many vs)) true = refer_is w k
-event_is w k (Some (many vs)) false = refl
+arguments_are f w None = refl
+arguments_are f w (Some vs) = refer_is w (f, vs)
+
+call_is : (f : Name) (ts : Syntaxes) (s : Scope) (w : Count) → make_called_with f ts s w ≡ made w (called_with f ts s)
+unfolding make_called_with called_with
+call_is f ts s w =
+    let m = arguments s.known ts >>= λ vs. refer (f, vs) w in
+    let b = arguments s.known ts >>= λ vs. Some (name (f, vs)) in
+    let t = takes (meaning s.entries f) ts in
+    hidden_is w (s.known f) (cond t m None) (cond t b None) (test_is w t m b (arguments_are f w (arguments s.known ts)))
+
+-- what a condition chooses
+chosen_is : (w : Count) (o : Option Bool) (m n : Option Made) (a b : Option Body) → m ≡ made w a → n ≡ made w b → (o >>= λ t. cond t m n) ≡ made w (o >>= λ t. cond t a b)
+unfolding made
+chosen_is w None m n a b h k = refl
+chosen_is w (Some true) m n a b h k = h
+chosen_is w (Some false) m n a b h k = k
 
 -- a node above one body
 pub one_is : (f : Proc → Proc) (g : Body → Body) (w : Count) (a : Body) → ((h : Key → ℕ) → numbered h (g a) ≡ f (numbered h a)) → names (g a) ≡ names a → size_of (g a) ≡ size_of a + 1 → (made w (Some a) >>= make_one f) ≡ made w (Some (g a))
@@ -243,34 +208,12 @@ module _ (next : Scope → Count → Option Made) (body : Scope → Option Body)
   module _ (c : Name) (ts : Syntaxes) (sets : List Values) (s : Scope) where
     pub branches_is : (a : ℕ) (ps : List Parts) (w : Count) → make_branches next c ts sets s a ps w ≡ all_made w (branches body c ts sets s a ps)
     unfolding make_branches make_branch branches all_made with_keys nodes
-    branches_is a [] w = sym (ap (λ o. o >>= λ r. some_all [] w.0 r) (room_enough 0 w.1 (omega arith)) ∙ ap (λ r. some_all [] w.0 r) (omega arith))
+    branches_is a [] w = none_is w
     branches_is a (p ∷ ps) w =
         (λ i. make_branch next c ts sets s a p w >>= λ x. branches_is (suc a) ps x.1 i >>= λ y. Some (put x.0 y.0, y.1))
         ∙ turn_is w a (same_name c p.channel) (fitting ts sets p.values s) (branches body c ts sets s (suc a) ps)
 
 -- ---- the choice over the branches
-
-map_nodes : (f : Body → Proc) (bs : List Body) → choice_nodes (map f bs) ≡ choice_nodes bs
-unfolding choice_nodes
-map_nodes f [] = refl
-map_nodes f (b ∷ bs) = length-map bs f
-
-choice_is : (w : Count) (B : Option (List Body)) → (all_made w B >>= make_choice) ≡ made w (B >>= λ bs. Some (choice_of bs))
-unfolding all_made made make_choice
-choice_is w None = refl
-choice_is w (Some bs) =
-    let ks = with_keys w.0 (flat_map names bs) in
-    let x = all_told w.0 bs in
-    bind_assoc (room_left (sizes_of bs) w.1) (λ r. some_all x ks r) make_choice
-    ∙ (λ i. room_left (sizes_of bs) w.1 >>= λ r. spend_then (choice_nodes x) (ks, r) (λ u. Some (choice_over x, u)) i)
-    ∙ rooms (sizes_of bs) (choice_nodes x) w.1 (λ r. some_made (choice_over x) ks r)
-    ∙ (λ i. room_left (size i) w.1 >>= λ r. some_made (paid i) (with_keys w.0 (sym (names_choice bs) i)) r)
-  where
-    size : sizes_of bs + choice_nodes (all_told w.0 bs) ≡ size_of (choice_of bs)
-    size = ap (λ n. sizes_of bs + n) (map_nodes _ bs) ∙ sym (size_choice bs)
-
-    paid : choice_over (all_told w.0 bs) ≡ told w.0 (choice_of bs)
-    paid = numbered_choice (place (with_keys w.0 (flat_map names bs))) bs ∙ ap (λ ns. numbered (place (with_keys w.0 ns)) (choice_of bs)) (sym (names_choice bs))
 
 module _ (s : Scope) (next : Scope → Count → Option Made) (body : Scope → Option Body) (h : (s : Scope) (w : Count) → next s w ≡ made w (body s)) where
   channel_is : (c : Name) (ts : Syntaxes) (w : Count) (o : Option (List Values)) →
@@ -281,7 +224,7 @@ module _ (s : Scope) (next : Scope → Count → Option Made) (body : Scope → 
     where
       by_test : (t : Bool) → cond t (make_branches next c ts sets s 0 (events s.channels) w >>= make_choice) None ≡ made w (cond t (branches body c ts sets s 0 (events s.channels) >>= λ ps. Some (choice_of ps)) None)
       by_test false = refl
-      by_test true = ap (λ o. o >>= make_choice) (branches_is next body h c ts sets s 0 (events s.channels) w) ∙ choice_is w (branches body c ts sets s 0 (events s.channels))
+      by_test true = ap (λ o. o >>= make_choice) (branches_is next body h c ts sets s 0 (events s.channels) w) ∙ external_is w (branches body c ts sets s 0 (events s.channels))
 
   prefixed_is : (e : Syntax) (w : Count) → make_prefixed s e next w ≡ made w (prefixed s e body)
   unfolding make_prefixed prefixed made
@@ -291,7 +234,7 @@ module _ (s : Scope) (next : Scope → Count → Option Made) (body : Scope → 
 -- ---- phrases
 
 mutual
-  unfolding make denoted made
+  unfolding make denoted made make_replicated
 
   pub made_is : (t : Syntax) (s : Scope) (w : Count) → make t s w ≡ made w (denoted t s)
   made_is (Called n) s w = refl
@@ -317,6 +260,15 @@ mutual
       (λ i. made_is t s w i >>= λ p. events_by s a >>= λ A. make_one (procs.hide (set_of s.channels A)) p) ∙ hiding_is (set_of s.channels) w (denoted t s) (events_by s a)
   form_is (forms.Operation operators.Renaming) (MoreSyntax t ts) s w =
       (λ i. made_is t s w i >>= λ p. pairs_of s.channels s.known ts >>= λ R. make_renamed (event_count s.channels) R p) ∙ renaming_is (event_count s.channels) w (denoted t s) (pairs_of s.channels s.known ts)
+  form_is (forms.Operation operators.Guard) (MoreSyntax c (MoreSyntax t NoSyntax)) s w = chosen_is w (condition s.known c) (make t s w) (make_stop w) (denoted t s) (Some stop) (made_is t s w) (make_stop_is w)
+  form_is forms.If (MoreSyntax c (MoreSyntax t (MoreSyntax u NoSyntax))) s w = chosen_is w (condition s.known c) (make t s w) (make u s w) (denoted t s) (denoted u s) (made_is t s w) (made_is u s w)
+  form_is forms.Call (MoreSyntax (Called f) ts) s w = call_is f ts s w
+  form_is forms.ReplicatedExternal (MoreSyntax (Node forms.Generators gs) (MoreSyntax t NoSyntax)) s w =
+      (λ i. over_is (make t) (denoted t) (made_is t) gs s w i >>= λ x. make_replicated joins.External x) ∙ external_is w (over gs (denoted t) s)
+  form_is forms.ReplicatedInternal (MoreSyntax (Node forms.Generators gs) (MoreSyntax t NoSyntax)) s w =
+      (λ i. over_is (make t) (denoted t) (made_is t) gs s w i >>= λ x. make_replicated joins.Internal x) ∙ internal_is w (over gs (denoted t) s)
+  form_is forms.ReplicatedInterleaving (MoreSyntax (Node forms.Generators gs) (MoreSyntax t NoSyntax)) s w =
+      (λ i. over_is (make t) (denoted t) (made_is t) gs s w i >>= λ x. make_replicated joins.Interleaving x) ∙ interleaving_is w (over gs (denoted t) s)
   form_is f ts s w = refl
 
 -- ---- bodies
@@ -328,6 +280,22 @@ by_is s (Some (channel ts)) w = refl
 by_is s (Some (datatype ns)) w = refl
 by_is s (Some constant_name) w = refl
 by_is s (Some (definition t)) w = ap (λ o. o >>= shallow) (made_is t s w)
+by_is s (Some (parametric xs t)) w = refl
+
+-- with values of parameters
+paired_is : (s : Scope) (t : Syntax) (w : Count) (o : Option (List (Name × FieldValue))) → (o >>= λ is. make t (within s is) w >>= shallow) ≡ (made w (o >>= λ is. denoted t (within s is)) >>= shallow)
+unfolding made
+paired_is s t w None = refl
+paired_is s t w (Some is) = ap (λ o. o >>= shallow) (made_is t (within s is) w)
+
+called_is : (s : Scope) (m : Option Meaning) (vs : Values) (w : Count) → make_called s m vs w ≡ (made w (called_by s m vs) >>= shallow)
+unfolding make_called called_by made
+called_is s None vs w = refl
+called_is s (Some (channel ts)) vs w = refl
+called_is s (Some (datatype ns)) vs w = refl
+called_is s (Some constant_name) vs w = refl
+called_is s (Some (definition t)) vs w = refl
+called_is s (Some (parametric xs t)) vs w = paired_is s t w (paired xs vs)
 
 pub body_is : (s : Scope) (k : Key) (w : Count) → make_body s k w ≡ (made w (body_of s k) >>= shallow)
 unfolding make_body body_of made
@@ -336,4 +304,4 @@ body_is s (n, []) w = by_test (is_process s.entries n)
     by_test : (t : Bool) → cond t (make_by s (meaning s.entries n) w) None ≡ (made w (cond t (body_by s (meaning s.entries n)) None) >>= shallow)
     by_test true = by_is s (meaning s.entries n) w
     by_test false = refl
-body_is s (n, v ∷ vs) w = refl
+body_is s (n, v ∷ vs) w = called_is s (meaning s.entries n) (v ∷ vs) w

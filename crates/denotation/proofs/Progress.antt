@@ -13,7 +13,8 @@ use Rattle.denotation.specs.Denotes.{body_of, place, with_keys, met, nodes, Reac
 use Rattle.denotation.specs.Making.{Count, Made, size_of, sizes_of, told, made, shallow, make_body, Gathered}
 use Rattle.denotation.proofs.Keys.{keys_append}
 use Rattle.denotation.proofs.Told.{stays, same_depth, same_nodes}
-use Rattle.denotation.proofs.Made.{split, room_enough, room_less, body_is}
+use Rattle.denotation.proofs.Rooms.{split, room_enough, room_less}
+use Rattle.denotation.proofs.Made.{body_is}
 use Rattle.event_phrases.proofs.Options.{some_is}
 use Rattle.event_phrases.proofs.Scopes.{take_whole}
 use Rattle.denotation.proofs.Reached.{get_or_view, get_front, keys_grow, met_front, one_reached}

@@ -1,5 +1,5 @@
 -- What is made of a phrase by its form, step by step.
-use Rattle.std.proofs.Common.{◌≡◌, ℕ, List, Option, Some, None, refl, sym, ap, subst, ◌∙◌}
+use Rattle.std.proofs.Common.{◌≡◌, ℕ, List, Bool, true, false, cond, Option, Some, None, refl, sym, ap, subst, ◌∙◌}
 use Rattle.alphabet.specs.Channels.{Channel, event_count}
 use Rattle.alphabet.specs.EventSets.{Set, has}
 use Rattle.term.specs.Proc.{par, hide}
@@ -9,12 +9,13 @@ use Rattle.syntax.specs.Parsing.{syntaxes}
 use Rattle.tokens.specs.declared.error.ScriptErrorKind.{ScriptErrorKind}
 use Rattle.values.specs.Values.{◌>>=◌}
 use Rattle.values.specs.View.{Fails}
+use Rattle.values.specs.Worths.{condition}
 use Rattle.event_phrases.specs.EventForms.{two_masked}
 use Rattle.denotation.specs.Parts.{make_renamed_by}
 use Rattle.event_phrases.specs.Events.{Events, masked, pairs_of}
-use Rattle.denotation.specs.Forms.{joined, sharing, alphabetised, hiding, renaming}
+use Rattle.denotation.specs.Forms.{stops, joined, sharing, alphabetised, hiding, renaming, conditional, guarded, replicated}
 use Rattle.denotation.specs.declared.forms.Join.{Join}
-use Rattle.denotation.specs.Making.{Count, Made, make, make_phrase, make_above, make_one, make_renamed, make_alphabetised, join_of}
+use Rattle.denotation.specs.Making.{Count, Made, AllMade, make, make_phrase, make_above, make_one, make_renamed, make_alphabetised, make_over, make_replicated, make_stop, join_of}
 use Rattle.event_phrases.specs.Scopes.{Scope, events_by}
 use Rattle.event_phrases.proofs.Options.{step, fails_at}
 
@@ -117,3 +118,47 @@ module _ (s : Scope) (w : Count) (t e g u : Syntax) where
 
       pub alphabetised_so : (q : Made) → make u s p.1 ≡ Some q → make_phrase (alphabetised t e g u) s w ≡ make_above 5 (make_alphabetised s (has x.0) (has x.1)) p q
       alphabetised_so q d = alphabetised_with x b ∙ step (make u s p.1) (make_above 5 (make_alphabetised s (has x.0) (has x.1)) p) q d
+
+-- ---- conditions
+
+module _ (s : Scope) (w : Count) (c t : Syntax) where
+  module _ (u : Syntax) where
+    pub conditional_fails : (k : ScriptErrorKind) → Fails k (condition s.known c) → Fails k (make_phrase (conditional c t u) s w)
+    unfolding make_phrase
+    conditional_fails k f = fails_at k (condition s.known c) (λ b. cond b (make t s w) (make u s w)) f
+
+    pub conditional_so : (b : Bool) → condition s.known c ≡ Some b → make_phrase (conditional c t u) s w ≡ cond b (make t s w) (make u s w)
+    unfolding make_phrase
+    conditional_so b h = step (condition s.known c) (λ b. cond b (make t s w) (make u s w)) b h
+
+    pub conditional_first : (b : Bool) → condition s.known c ≡ Some b → b ≡ true → make_phrase (conditional c t u) s w ≡ make t s w
+    conditional_first b h e = conditional_so b h ∙ ap (λ b. cond b (make t s w) (make u s w)) e
+
+    pub conditional_second : (b : Bool) → condition s.known c ≡ Some b → b ≡ false → make_phrase (conditional c t u) s w ≡ make u s w
+    conditional_second b h e = conditional_so b h ∙ ap (λ b. cond b (make t s w) (make u s w)) e
+
+  pub guarded_fails : (k : ScriptErrorKind) → Fails k (condition s.known c) → Fails k (make_phrase (guarded c t) s w)
+  unfolding make_phrase
+  guarded_fails k f = fails_at k (condition s.known c) (λ b. cond b (make t s w) (make_stop w)) f
+
+  guarded_so : (b : Bool) → condition s.known c ≡ Some b → make_phrase (guarded c t) s w ≡ cond b (make t s w) (make_stop w)
+  unfolding make_phrase
+  guarded_so b h = step (condition s.known c) (λ b. cond b (make t s w) (make_stop w)) b h
+
+  pub guarded_met : (b : Bool) → condition s.known c ≡ Some b → b ≡ true → make_phrase (guarded c t) s w ≡ make t s w
+  guarded_met b h e = guarded_so b h ∙ ap (λ b. cond b (make t s w) (make_stop w)) e
+
+  pub guarded_not : (b : Bool) → condition s.known c ≡ Some b → b ≡ false → make_phrase (guarded c t) s w ≡ make_phrase stops s w
+  unfolding make_phrase make_stop
+  guarded_not b h e = guarded_so b h ∙ ap (λ b. cond b (make t s w) (make_stop w)) e
+
+-- ---- replicated forms
+
+module _ (s : Scope) (w : Count) (j : Join) (gs : List Syntax) (t : Syntax) where
+  pub replicated_fails : (k : ScriptErrorKind) → Fails k (make_over (syntaxes gs) (make t) s w) → Fails k (make_phrase (replicated j gs t) s w)
+  unfolding make_phrase
+  replicated_fails k f = fails_at k (make_over (syntaxes gs) (make t) s w) (λ x. make_replicated j x) f
+
+  pub replicated_so : (x : AllMade) → make_over (syntaxes gs) (make t) s w ≡ Some x → make_phrase (replicated j gs t) s w ≡ make_replicated j x
+  unfolding make_phrase
+  replicated_so x h = step (make_over (syntaxes gs) (make t) s w) (λ x. make_replicated j x) x h

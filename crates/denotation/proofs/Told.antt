@@ -1,12 +1,11 @@
 -- Numbers that were given to definitions stay; sizes and depths don't depend on them.
-use Rattle.std.proofs.Common.{◌≡◌, ℕ, zero, suc, ◌+◌, ◌-◌, ◌/◌, ◌<◌, ◌≤◌, max, List, [], ◌∷◌, ◌++◌, length, take, drop, map, refl, sym, ap, ap₂, ◌∙◌, arith, append_assoc, append-nil}
+use Rattle.std.proofs.Common.{◌≡◌, ℕ, suc, ◌+◌, max, List, [], ◌∷◌, ◌++◌, map, refl, sym, ap, ap₂, ◌∙◌, append_assoc}
 use Rattle.std.specs.List.{flat_map}
-use Rattle.std.proofs.lemmas.List.{length-take, length-drop, length-map, take-map, drop-map}
 use Rattle.term.specs.Proc as procs
 use Rattle.term.specs.Sizes.{size, depth}
-use Rattle.denotation.specs.Bodies.{Key, Body, stop, skip, prefix, ext, int, seq, par, hide, ren, intr, name, names, numbered, half, choice_in, choice_of}
+use Rattle.denotation.specs.Bodies.{Key, Body, stop, skip, prefix, ext, int, seq, par, hide, ren, intr, name, names, numbered}
 use Rattle.denotation.specs.Denotes.{place, with_key, with_keys, nodes}
-use Rattle.denotation.specs.Making.{size_of, sizes_of, told, all_told, half_of, choice_within, choice_over, choice_nodes}
+use Rattle.denotation.specs.Making.{told, all_told}
 use Rattle.denotation.proofs.Keys.{keys_append, place_stays, has_with}
 
 -- ---- numbers stay
@@ -80,74 +79,3 @@ module _ (f g : Key → ℕ) where
   unfolding nodes
   same_nodes [] = refl
   same_nodes (b ∷ bs) = ap₂ (λ m n. m + n) (same_size b) (same_nodes bs)
-
--- ---- the choice
-
-halves : (f : Key → ℕ) (bs : List Body) → half_of (map (numbered f) bs) ≡ half bs
-halves f bs = ap (λ (i : ℕ). i - i / 2) (length-map bs (numbered f))
-
-numbered_in : (f : Key → ℕ) (n : ℕ) (bs : List Body) → choice_within n (map (numbered f) bs) ≡ numbered f (choice_in n bs)
-unfolding choice_within choice_in numbered
-numbered_in f n [] = refl
-numbered_in f n (b ∷ []) = refl
-numbered_in f zero (b ∷ c ∷ bs) = refl
-numbered_in f (suc n) (b ∷ c ∷ bs) =
-    let all = b ∷ c ∷ bs in
-    let l : half_of (map (numbered f) all) ≡ half all = halves f all in
-    ap₂ procs.ext
-    (ap (λ k. choice_within n (take k (map (numbered f) all))) l ∙ ap (choice_within n) (take-map (numbered f) (half all) all) ∙ numbered_in f n (take (half all) all))
-    (ap (λ k. choice_within n (drop k (map (numbered f) all))) l ∙ ap (choice_within n) (drop-map (numbered f) (half all) all) ∙ numbered_in f n (drop (half all) all))
-
-pub numbered_choice : (f : Key → ℕ) (bs : List Body) → choice_over (map (numbered f) bs) ≡ numbered f (choice_of bs)
-unfolding choice_over choice_of
-numbered_choice f bs = ap (λ k. choice_within k (map (numbered f) bs)) (length-map bs (numbered f)) ∙ numbered_in f (length bs) bs
-
-parts : (k : ℕ) (bs : List Body) → flat_map names (take k bs) ++ flat_map names (drop k bs) ≡ flat_map names bs
-parts zero bs = refl
-parts (suc k) [] = refl
-parts (suc k) (b ∷ bs) = append_assoc (names b) (flat_map names (take k bs)) (flat_map names (drop k bs)) ∙ ap (λ ns. names b ++ ns) (parts k bs)
-
-names_in : (n : ℕ) (bs : List Body) → length bs ≤ suc n → names (choice_in n bs) ≡ flat_map names bs
-unfolding choice_in names
-names_in n [] h = refl
-names_in n (b ∷ []) h = sym (append-nil (names b))
-names_in zero (b ∷ c ∷ bs) h = absurd (omega (arith, h))
-names_in (suc n) (b ∷ c ∷ bs) h =
-    let all = b ∷ c ∷ bs in
-    ap₂ (λ xs ys. xs ++ ys) (names_in n (take (half all) all) (omega (arith, h, length-take (half all) all))) (names_in n (drop (half all) all) (omega (arith, h, length-drop (half all) all)))
-    ∙ parts (half all) all
-
-pub names_choice : (bs : List Body) → names (choice_of bs) ≡ flat_map names bs
-unfolding choice_of
-names_choice bs = names_in (length bs) bs (omega arith)
-
-size_parts : (k : ℕ) (bs : List Body) → sizes_of (take k bs) + sizes_of (drop k bs) ≡ sizes_of bs
-unfolding nodes
-size_parts zero bs = omega arith
-size_parts (suc k) [] = refl
-size_parts (suc k) (b ∷ bs) = omega (arith, size_parts k bs)
-
-some_nodes : (bs : List Body) → 0 < length bs → choice_nodes bs + 1 ≡ length bs
-unfolding choice_nodes
-some_nodes [] h = absurd (omega (arith, h))
-some_nodes (b ∷ bs) h = omega arith
-
-size_in : (n : ℕ) (bs : List Body) → length bs ≤ suc n → size_of (choice_in n bs) ≡ sizes_of bs + choice_nodes bs
-unfolding choice_in numbered nodes choice_nodes
-size_in n [] h = refl
-size_in n (b ∷ []) h = omega arith
-size_in zero (b ∷ c ∷ bs) h = absurd (omega (arith, h))
-size_in (suc n) (b ∷ c ∷ bs) h =
-    let all = b ∷ c ∷ bs in
-    let t = length-take (half all) all in
-    let d = length-drop (half all) all in
-    let a = size_in n (take (half all) all) (omega (arith, h, t)) in
-    let e = size_in n (drop (half all) all) (omega (arith, h, d)) in
-    let i = some_nodes (take (half all) all) (omega (arith, t)) in
-    let j = some_nodes (drop (half all) all) (omega (arith, d)) in
-    let g = size_parts (half all) all in
-    omega (arith, a, e, i, j, g, t, d)
-
-pub size_choice : (bs : List Body) → size_of (choice_of bs) ≡ sizes_of bs + choice_nodes bs
-unfolding choice_of
-size_choice bs = size_in (length bs) bs (omega arith)

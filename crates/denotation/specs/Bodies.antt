@@ -62,13 +62,17 @@ numbered f (name k) = procs.name (f k)
 abbrev pub half : List Body → ℕ
 half ps = length ps - length ps / 2
 
--- the choice over the list, where the number bounds how often it is halved
-unfoldable pub choice_in : ℕ → List Body → Body
-choice_in n [] = stop
-choice_in n (p ∷ []) = p
-choice_in zero (p ∷ q ∷ ps) = stop
-choice_in (suc n) (p ∷ q ∷ ps) = ext (choice_in n (take (half (p ∷ q ∷ ps)) (p ∷ q ∷ ps))) (choice_in n (drop (half (p ∷ q ∷ ps)) (p ∷ q ∷ ps)))
+-- the list joined two and two, where the number bounds how often it is halved
+unfoldable pub halved_in : (Body → Body → Body) → Body → ℕ → List Body → Body
+halved_in join none n [] = none
+halved_in join none n (p ∷ []) = p
+halved_in join none zero (p ∷ q ∷ ps) = none
+halved_in join none (suc n) (p ∷ q ∷ ps) = join (halved_in join none n (take (half (p ∷ q ∷ ps)) (p ∷ q ∷ ps))) (halved_in join none n (drop (half (p ∷ q ∷ ps)) (p ∷ q ∷ ps)))
 
--- STOP for none, the one for one, else between the choice over the first half and the choice over the rest
-unfoldable pub choice_of : List Body → Body
-choice_of ps = choice_in (length ps) ps
+-- this for none, the one for one, else the first half so joined, joined with the rest so joined
+unfoldable pub halved : (Body → Body → Body) → Body → List Body → Body
+halved join none ps = halved_in join none (length ps) ps
+
+-- the choice over the list
+abbrev pub choice_of : List Body → Body
+choice_of ps = halved ext stop ps

@@ -4,14 +4,15 @@ use Rattle.std.specs.List.{All, flat_map}
 use Rattle.term.specs.Proc.{Proc}
 use Rattle.term.specs.Sizes.{size, depth}
 use Rattle.term.specs.Specs.{Specified}
+use Rattle.alphabet.specs.Channels.{FieldValue, Values}
 use Rattle.syntax.specs.Grammar.{Syntax}
-use Rattle.values.specs.Values.{Name}
+use Rattle.values.specs.Values.{◌>>=◌, Name}
 use Rattle.values.specs.Worths.{Known}
-use Rattle.values.specs.Names.{Entry, Meaning, channel, datatype, constant_name, definition, meaning, is_process}
+use Rattle.values.specs.Names.{Entry, Meaning, channel, datatype, constant_name, definition, parametric, meaning, is_process}
 use Rattle.values.specs.Channels.{Declares}
 use Rattle.event_phrases.specs.Events.{KnownEvents, EventsStand}
 use Rattle.denotation.specs.Bodies.{Key, same_key, Body, names, numbered}
-use Rattle.event_phrases.specs.Scopes.{Scope}
+use Rattle.event_phrases.specs.Scopes.{Scope, within}
 use Rattle.denotation.specs.Phrases.{denoted}
 
 -- ---- the body of a definition
@@ -22,11 +23,23 @@ body_by s (Some (channel ts)) = None
 body_by s (Some (datatype ns)) = None
 body_by s (Some constant_name) = None
 body_by s (Some (definition t)) = denoted t s
+body_by s (Some (parametric xs t)) = None
 
--- the body of a definition with these parameters
+-- parameters with their values
+unfoldable pub paired : List Name → Values → Option (List (Name × FieldValue))
+paired [] [] = Some []
+paired (x ∷ xs) (v ∷ vs) = paired xs vs >>= λ is. Some ((x, v) ∷ is)
+paired xs vs = None
+
+-- the body of a definition with parameters, for these values; it sees no other inputs
+unfoldable pub called_by : Scope → Option Meaning → Values → Option Body
+called_by s (Some (parametric xs t)) vs = paired xs vs >>= λ is. denoted t (within s is)
+called_by s m vs = None
+
+-- the body of a definition with these values of its parameters
 unfoldable pub body_of : Scope → Key → Option Body
 body_of s (n, []) = if is_process s.entries n then body_by s (meaning s.entries n) else None
-body_of s (n, v ∷ vs) = None
+body_of s (n, v ∷ vs) = called_by s (meaning s.entries n) (v ∷ vs)
 
 -- ---- numbers of definitions
 

@@ -1,5 +1,6 @@
 -- To believe.
 pub mod Bodies
+pub mod CallLaws
 pub mod Phrases
 pub mod Denotes
 pub mod Making
@@ -8,3 +9,4 @@ pub mod View
 pub mod Forms
 pub mod Shapes
 pub mod Parts
+pub mod BodyParts

@@ -11,16 +11,18 @@ use Rattle.syntax.specs.declared.form.Form.TheVariants as forms
 use Rattle.syntax.specs.declared.operator.Operator.TheVariants as operators
 use Rattle.syntax.specs.Grammar.{Syntax, Called, Numeral, Node, Syntaxes, NoSyntax, MoreSyntax}
 use Rattle.values.specs.Values.{◌>>=◌, Name}
-use Rattle.values.specs.Names.{Meaning, channel, datatype, constant_name, definition, meaning, same_name, is_process}
+use Rattle.values.specs.Worths.{worth, condition, the_set}
+use Rattle.values.specs.Names.{Meaning, channel, datatype, constant_name, definition, parametric, meaning, same_name, is_process}
 use Rattle.event_phrases.specs.Events.{Events, unless_value, channel_fields, set_of, masked, both, pairs_of, in_order}
 use Rattle.denotation.specs.Bodies.{Key, Body, numbered, names}
 use Rattle.event_phrases.specs.Fitting.{fitting, has_all}
-use Rattle.event_phrases.specs.Scopes.{Scope, events_by}
+use Rattle.event_phrases.specs.Scopes.{Scope, with_input, unless_constant, within, events_by}
+use Rattle.denotation.specs.Phrases.{takes, arguments}
 use Rattle.syntax.specs.Parsing.{syntaxes}
 use Rattle.denotation.specs.declared.forms.Join.{Join}
 use Rattle.denotation.specs.declared.forms.Join.TheVariants as joins
-use Rattle.denotation.specs.Forms.{Phrase, stops, skips, called, inside, prefixed, joined, sharing, alphabetised, hiding, renaming}
-use Rattle.denotation.specs.Denotes.{place, with_key, with_keys, nodes, Reached}
+use Rattle.denotation.specs.Forms.{Phrase, stops, skips, called, inside, prefixed, joined, sharing, alphabetised, hiding, renaming, conditional, guarded, calling, replicated}
+use Rattle.denotation.specs.Denotes.{place, with_key, with_keys, nodes, paired, Reached}
 use Rattle.event_phrases.specs.EventForms.{outside}
 
 -- the definitions met so far, and how many nodes may still be made
@@ -64,28 +66,31 @@ unfoldable pub all_made : Count → Option (List Body) → Option AllMade
 all_made w None = None
 all_made w (Some bs) = room_left (sizes_of bs) w.1 >>= λ r. Some (all_told w.0 bs, (with_keys w.0 (flat_map names bs), r))
 
--- ---- the choice
+-- ---- lists joined two and two
 
 abbrev pub half_of : List Proc → ℕ
 half_of ps = length ps - length ps / 2
 
-unfoldable pub choice_within : ℕ → List Proc → Proc
-choice_within n [] = stop
-choice_within n (p ∷ []) = p
-choice_within zero (p ∷ q ∷ ps) = stop
-choice_within (suc n) (p ∷ q ∷ ps) = ext (choice_within n (take (half_of (p ∷ q ∷ ps)) (p ∷ q ∷ ps))) (choice_within n (drop (half_of (p ∷ q ∷ ps)) (p ∷ q ∷ ps)))
+unfoldable pub halved_within : (Proc → Proc → Proc) → Proc → ℕ → List Proc → Proc
+halved_within join none n [] = none
+halved_within join none n (p ∷ []) = p
+halved_within join none zero (p ∷ q ∷ ps) = none
+halved_within join none (suc n) (p ∷ q ∷ ps) = join (halved_within join none n (take (half_of (p ∷ q ∷ ps)) (p ∷ q ∷ ps))) (halved_within join none n (drop (half_of (p ∷ q ∷ ps)) (p ∷ q ∷ ps)))
 
--- the choice over processes, as that over bodies
-unfoldable pub choice_over : List Proc → Proc
-choice_over ps = choice_within (length ps) ps
+-- processes joined two and two, as bodies are
+unfoldable pub halved_over : (Proc → Proc → Proc) → Proc → List Proc → Proc
+halved_over join none ps = halved_within join none (length ps) ps
 
--- how many nodes the choice itself takes
-unfoldable pub choice_nodes : {A : Type 0} → List A → ℕ
-choice_nodes [] = 1
-choice_nodes (p ∷ ps) = length ps
+-- how many nodes this itself takes
+unfoldable pub halved_nodes : {A : Type 0} → List A → ℕ
+halved_nodes [] = 1
+halved_nodes (p ∷ ps) = length ps
 
-unfoldable pub make_choice : AllMade → Option Made
-make_choice x = spend (choice_nodes x.0) x.1 >>= λ u. Some (choice_over x.0, u)
+unfoldable pub make_halved : (Proc → Proc → Proc) → Proc → AllMade → Option Made
+make_halved join none x = spend (halved_nodes x.0) x.1 >>= λ u. Some (halved_over join none x.0, u)
+
+abbrev pub make_choice : AllMade → Option Made
+make_choice x = make_halved ext stop x
 
 -- ---- of a phrase, in the order of the work
 
@@ -146,6 +151,41 @@ abbrev pub make_alphabetised : Scope → Events → Events → Proc → Proc →
 make_alphabetised s A B p q =
     par (set_of s.channels (both A B)) (par (set_of s.channels (outside (event_count s.channels) A)) p skip) (par (set_of s.channels (outside (event_count s.channels) B)) q skip)
 
+-- ---- replicated forms
+
+unfoldable pub make_for_each : (Scope → Count → Option AllMade) → Scope → Name → Values → Count → Option AllMade
+make_for_each next s x [] w = Some ([], w)
+make_for_each next s x (v ∷ vs) w = next (with_input s x v) w >>= λ p. make_for_each next s x vs p.1 >>= λ q. Some (p.0 ++ q.0, q.1)
+
+unfoldable pub make_generated : Syntax → (Scope → Count → Option AllMade) → Scope → Count → Option AllMade
+make_generated (Node forms.Generator (MoreSyntax (Called x) (MoreSyntax t NoSyntax))) next s w = unless_constant s x (worth s.known t >>= λ u. the_set u) >>= λ vs. make_for_each next s x vs w
+make_generated g next s w = None
+
+unfoldable pub make_over : Syntaxes → (Scope → Count → Option Made) → Scope → Count → Option AllMade
+make_over NoSyntax next s w = next s w >>= λ p. Some (p.0 ∷ [], p.1)
+make_over (MoreSyntax g gs) next s w = make_generated g (make_over gs next) s w
+
+unfoldable pub make_internal : List Proc → Count → Option Made
+make_internal [] w = None
+make_internal (p ∷ ps) w = make_halved int stop (p ∷ ps, w)
+
+-- processes joined so, where that is a replicated form
+unfoldable pub make_replicated : Join → AllMade → Option Made
+make_replicated joins.External x = make_halved ext stop x
+make_replicated joins.Internal x = make_internal x.0 x.1
+make_replicated joins.Interleaving x = make_halved (par 0) skip x
+make_replicated joins.Sequence x = None
+make_replicated joins.Interrupt x = None
+
+-- ---- calls
+
+unfoldable pub make_called_with : Name → Syntaxes → Scope → Count → Option Made
+make_called_with f ts s w = unless_value (s.known f) (if takes (meaning s.entries f) ts then (arguments s.known ts >>= λ vs. refer (f, vs) w) else None)
+
+-- STOP for a guard that isn't met
+unfoldable pub make_stop : Count → Option Made
+make_stop w = spend 1 w >>= λ u. Some (stop, u)
+
 unfoldable mutual
   -- the process made of a phrase
   pub make : Syntax → Scope → Count → Option Made
@@ -170,6 +210,12 @@ unfoldable mutual
       make t s w >>= λ p. events_by s a >>= λ A. events_by s b >>= λ B. make u s p.1 >>= make_above 5 (make_alphabetised s A B) p
   make_form (forms.Operation operators.Hiding) (MoreSyntax t (MoreSyntax a NoSyntax)) s w = make t s w >>= λ p. events_by s a >>= λ A. make_one (hide (set_of s.channels A)) p
   make_form (forms.Operation operators.Renaming) (MoreSyntax t ts) s w = make t s w >>= λ p. pairs_of s.channels s.known ts >>= λ R. make_renamed (event_count s.channels) R p
+  make_form (forms.Operation operators.Guard) (MoreSyntax c (MoreSyntax t NoSyntax)) s w = condition s.known c >>= λ b. if b then make t s w else make_stop w
+  make_form forms.If (MoreSyntax c (MoreSyntax t (MoreSyntax u NoSyntax))) s w = condition s.known c >>= λ b. if b then make t s w else make u s w
+  make_form forms.Call (MoreSyntax (Called f) ts) s w = make_called_with f ts s w
+  make_form forms.ReplicatedExternal (MoreSyntax (Node forms.Generators gs) (MoreSyntax t NoSyntax)) s w = make_over gs (make t) s w >>= λ x. make_replicated joins.External x
+  make_form forms.ReplicatedInternal (MoreSyntax (Node forms.Generators gs) (MoreSyntax t NoSyntax)) s w = make_over gs (make t) s w >>= λ x. make_replicated joins.Internal x
+  make_form forms.ReplicatedInterleaving (MoreSyntax (Node forms.Generators gs) (MoreSyntax t NoSyntax)) s w = make_over gs (make t) s w >>= λ x. make_replicated joins.Interleaving x
   make_form f ts s w = None
 
 -- what a join makes of two processes
@@ -193,6 +239,10 @@ make_phrase (alphabetised t a b u) s w =
     make t s w >>= λ p. masked s.channels (events_by s a) >>= λ A. masked s.channels (events_by s b) >>= λ B. make u s p.1 >>= make_above 5 (make_alphabetised s (has A) (has B)) p
 make_phrase (hiding t a) s w = make t s w >>= λ p. masked s.channels (events_by s a) >>= λ A. make_one (hide A) p
 make_phrase (renaming t ts) s w = make t s w >>= λ p. pairs_of s.channels s.known (syntaxes ts) >>= λ R. make_renamed (event_count s.channels) R p
+make_phrase (conditional c t u) s w = condition s.known c >>= λ b. if b then make t s w else make u s w
+make_phrase (guarded c t) s w = condition s.known c >>= λ b. if b then make t s w else make_stop w
+make_phrase (calling f ts) s w = make_called_with f (syntaxes ts) s w
+make_phrase (replicated j gs t) s w = make_over (syntaxes gs) (make t) s w >>= λ x. make_replicated j x
 
 -- a process that isn't too deep
 unfoldable pub shallow : Made → Option Made
@@ -204,11 +254,16 @@ make_by s (Some (channel ts)) w = None
 make_by s (Some (datatype ns)) w = None
 make_by s (Some constant_name) w = None
 make_by s (Some (definition t)) w = make t s w >>= shallow
+make_by s (Some (parametric xs t)) w = None
+
+unfoldable pub make_called : Scope → Option Meaning → Values → Count → Option Made
+make_called s (Some (parametric xs t)) vs w = paired xs vs >>= λ is. make t (within s is) w >>= shallow
+make_called s m vs w = None
 
 -- the process made of a definition's body
 unfoldable pub make_body : Scope → Key → Count → Option Made
 make_body s (n, []) w = if is_process s.entries n then make_by s (meaning s.entries n) w else None
-make_body s (n, v ∷ vs) w = None
+make_body s (n, v ∷ vs) w = make_called s (meaning s.entries n) (v ∷ vs) w
 
 -- These are the bodies of what is reached from a root, by their numbers, and they keep the limits.
 pub record Gathered (s : Scope) (root : Key) (ps : List Proc) : Type 0 where

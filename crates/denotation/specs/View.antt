@@ -1,13 +1,14 @@
 -- What is in memory as plain values.
-use Rattle.std.specs.Prelude.{ℕ, [], map}
-use Rattle.std.specs.declared.vec.Vec.{Vec}
+use Rattle.std.specs.Prelude.{map}
+use Rattle.denotation.specs.declared.call.Call.{Call}
 use Rattle.denotation.specs.declared.work.Work.{Work}
 use Rattle.denotation.specs.Bodies.{Key}
 use Rattle.denotation.specs.Making.{Count}
+use Rattle.event_phrases.specs.View.{listed}
 
--- a definition without parameters, by its name
-abbrev pub key : {A : Type 0} → Vec ℕ A → Key
-key name = (name.items, [])
+-- a definition and the values of its parameters
+abbrev pub key : {A : Type 0} → Call A → Key
+key c = (c.name.items, listed c.arguments.items)
 
 -- the definitions that were met, and how many nodes may still be made
 abbrev pub count : {A : Type 0} → Work A → Count

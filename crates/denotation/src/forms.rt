@@ -3,13 +3,12 @@ ghost use Rattle.std.specs.Prelude.{◌≡◌, ◌<◌, Some, IfSome};
 ghost use Rattle.std.specs.Option.{option_map};
 ghost use Rattle.syntax.specs.View.{shape, shapes};
 ghost use Rattle.event_phrases.specs.Forms.{if_none, tall};
-ghost use Rattle.denotation.specs.Forms.{joined_phrase, operation_phrase, form_phrase, phrase_of, inner_tall};
+ghost use Rattle.denotation.specs.Forms.{generators_of, generator_of, replicated_phrase, joined_phrase, operation_phrase, form_phrase, phrase_of, inner_tall};
 ghost use Rattle.denotation.specs.Shapes.{plain};
 
 use event_phrases::forms::{first, four, name, node, one, three, two};
 use std::alloc::Allocator;
 use syntax::{Form, Operator, Tree};
-use tokens::ScriptErrorKind;
 
 /// An operator between two processes that joins them without a set of events.
 #[derive(Clone, Copy, Debug, PartialEq, Eq)]
@@ -45,6 +44,14 @@ pub(crate) enum Phrase<'a, A: Allocator> {
     Hiding(&'a Tree<A>, &'a Tree<A>),
     /// `P[[a <- b]]`, with its pairs.
     Renaming(&'a Tree<A>, &'a [Tree<A>]),
+    /// `if b then P else Q`
+    Conditional(&'a Tree<A>, &'a Tree<A>, &'a Tree<A>),
+    /// `b & P`
+    Guarded(&'a Tree<A>, &'a Tree<A>),
+    /// `P(x, y)`, with its arguments.
+    Calling(&'a [u8], &'a [Tree<A>]),
+    /// `[] x:A, y:B @ P`, with its generators.
+    Replicated(Join, &'a [Tree<A>], &'a Tree<A>),
 }
 
 /// Two processes that are joined so.
@@ -54,6 +61,42 @@ fn joined<A: Allocator>(join: Join, parts: &[Tree<A>]) -> Option<Phrase<'_, A>>
 {
     let (first, second) = two(parts)?;
     Some(Phrase::Joined(join, first, second))
+}
+
+/// The generators of a list of them.
+#[tactic(auto, unfolding(crate::specs::Forms::generators_of, crate::specs::Forms::generators_form))]
+fn generators<A: Allocator>(tree: &Tree<A>) -> Option<&[Tree<A>]>
+    ensures { option_map (λ gs. shapes gs.now) result ≡ generators_of (shape tree.now) }
+{
+    let (form, parts) = node(tree)?;
+    match form {
+        Form::Generators => Some(parts),
+        _ => None,
+    }
+}
+
+/// The name and the set of a generator.
+#[tactic(auto, unfolding(crate::specs::Forms::generator_of, crate::specs::Forms::generator_form))]
+pub(crate) fn generator<A: Allocator>(tree: &Tree<A>) -> Option<(&[u8], &Tree<A>)>
+    ensures { option_map (λ g. (g.0.now, shape g.1.now)) result ≡ generator_of (shape tree.now) }
+{
+    let (form, parts) = node(tree)?;
+    match form {
+        Form::Generator => {
+            let (input, set) = two(parts)?;
+            Some((name(input)?, set))
+        }
+        _ => None,
+    }
+}
+
+/// A process for all values of generators, joined so.
+#[tactic(auto, unfolding(crate::specs::Forms::replicated_phrase))]
+fn replicated<A: Allocator>(join: Join, parts: &[Tree<A>]) -> Option<Phrase<'_, A>>
+    ensures { option_map plain result ≡ replicated_phrase join (shapes parts.now) }
+{
+    let (list, process) = two(parts)?;
+    Some(Phrase::Replicated(join, generators(list)?, process))
 }
 
 /// The process that this operator with these parts is a phrase for.
@@ -87,6 +130,10 @@ fn operation<A: Allocator>(operator: Operator, parts: &[Tree<A>]) -> Option<Phra
             let (process, pairs) = first(parts)?;
             Some(Phrase::Renaming(process, pairs))
         }
+        Operator::Guard => {
+            let (condition, process) = two(parts)?;
+            Some(Phrase::Guarded(condition, process))
+        }
         _ => None,
     }
 }
@@ -108,6 +155,17 @@ fn process_form<A: Allocator>(form: Form, parts: &[Tree<A>]) -> Option<Phrase<'_
         Form::Event => Some(Phrase::Called(name(one(parts)?)?)),
         Form::Brackets => Some(Phrase::Inside(one(parts)?)),
         Form::Operation(operator) => operation(operator, parts),
+        Form::If => {
+            let (condition, first, second) = three(parts)?;
+            Some(Phrase::Conditional(condition, first, second))
+        }
+        Form::Call => {
+            let (definition, arguments) = first(parts)?;
+            Some(Phrase::Calling(name(definition)?, arguments))
+        }
+        Form::ReplicatedExternal => replicated(Join::External, parts),
+        Form::ReplicatedInternal => replicated(Join::Internal, parts),
+        Form::ReplicatedInterleaving => replicated(Join::Interleaving, parts),
         _ => None,
     }
 }
@@ -120,35 +178,4 @@ pub(crate) fn process_phrase<A: Allocator>(tree: &Tree<A>) -> Option<Phrase<'_, 
 {
     let (form, parts) = node(tree)?;
     process_form(form, parts)
-}
-
-/// What is wrong with a phrase that is of another kind than is wanted: a form of a later stage is `Unsupported`.
-pub(crate) fn misplaced<A: Allocator>(tree: &Tree<A>) -> ScriptErrorKind {
-    match node(tree) {
-        Some(
-            (
-                Form::If
-                | Form::Call
-                | Form::True
-                | Form::False
-                | Form::Not
-                | Form::ReplicatedExternal
-                | Form::ReplicatedInternal
-                | Form::ReplicatedInterleaving
-                | Form::Operation(
-                    Operator::Guard
-                    | Operator::And
-                    | Operator::Or
-                    | Operator::Equal
-                    | Operator::NotEqual
-                    | Operator::Less
-                    | Operator::LessOrEqual
-                    | Operator::Greater
-                    | Operator::GreaterOrEqual,
-                ),
-                _,
-            ),
-        ) => ScriptErrorKind::Unsupported,
-        _ => ScriptErrorKind::Expected,
-    }
 }

@@ -4,6 +4,7 @@ ghost use Rattle.term.specs.Proc.{Proc, proc};
 ghost use Rattle.values.specs.View.{Gives};
 ghost use Rattle.denotation.specs.Making.{Gathered};
 
+use crate::call::Call;
 use crate::maker::body;
 use crate::work::Work;
 use event_phrases::GlobalScope;
@@ -16,7 +17,8 @@ use tokens::ScriptError;
 const NODE_LIMIT: usize = 65_536;
 
 /// The bodies of what is reached from the root, by their numbers: definitions are numbered as they are met, where the
-/// root is read first and then each body in the order of these numbers.
+/// root is read first and then each body in the order of these numbers. A definition with
+/// parameters has a number for each list of their values.
 ///
 /// `NoSuchProcess` where the script has no such process, `TooDeep` where a body is deeper than 200 and `TooLarge` where all
 /// have more than 65,536 nodes, these two with the line of the definition's name, and the fault of the first phrase that
@@ -31,16 +33,20 @@ pub fn gathered<A: Allocator + Copy, G: GlobalScope<A>>(
     // These are given, unless memory runs out, and no others are bodies of what is reached.
     ensures only { (ps : List Proc) → Gathered (G.scope global.now) (root.now, []) ps → Gives (λ v. map proc v.items) result (Some ps) }
 {
+    let first = Call {
+        name: Vec::from_slice(alloc, root)?,
+        arguments: Vec::new(alloc),
+    };
     let mut met = IndexSet::new(alloc);
-    let _first = met.insert(Vec::from_slice(alloc, root)?)?;
+    let _new = met.insert(first)?;
     let mut work = Work {
         met,
         room: NODE_LIMIT,
     };
     let mut terms = Vec::new(alloc);
     while terms.len() < work.met.len() {
-        let name = Vec::from_slice(alloc, &work.met[terms.len()])?;
-        let (term, next) = body(alloc, global, &name, work)?;
+        let call = work.met[terms.len()].try_clone(alloc)?;
+        let (term, next) = body(alloc, global, &call, work)?;
         work = next;
         terms.push(term)?;
     }

@@ -9,11 +9,10 @@ ghost use Rattle.syntax.specs.View.{shapes};
 ghost use Rattle.term.specs.Proc.{hide, par, prefix, proc};
 ghost use Rattle.values.specs.Tables.{input};
 ghost use Rattle.values.specs.View.{Gives};
-ghost use Rattle.event_phrases.specs.EventForms.{within};
 ghost use Rattle.denotation.specs.Parts.{make_renamed_by};
 ghost use Rattle.event_phrases.specs.Events.{pairs_of as pairs_of_all};
 ghost use Rattle.denotation.specs.Making.{join_of, make_above, make_alphabetised, make_one, make_renamed};
-ghost use Rattle.event_phrases.specs.Scopes.{Scope as ScopeOf};
+ghost use Rattle.event_phrases.specs.Scopes.{Scope as ScopeOf, within};
 ghost use Rattle.denotation.specs.View.{count};
 
 use crate::forms::Join;

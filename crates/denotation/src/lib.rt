@@ -2,6 +2,8 @@
 //! terms made of phrases by this definition.
 #![tactic(auto)]
 
+mod call;
+mod calls;
 mod choice;
 mod forms;
 mod gathering;
@@ -9,6 +11,7 @@ mod joining;
 mod law;
 mod maker;
 mod making;
+mod replicated;
 mod simple;
 mod work;
 

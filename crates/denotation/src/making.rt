@@ -6,29 +6,36 @@ ghost use Rattle.syntax.specs.Parsing.{syntaxes};
 ghost use Rattle.syntax.specs.View.{shape, shapes};
 ghost use Rattle.term.specs.Proc.{proc};
 ghost use Rattle.values.specs.Tables.{input};
-ghost use Rattle.values.specs.View.{Gives};
-ghost use Rattle.event_phrases.specs.EventForms.{within};
-ghost use Rattle.denotation.specs.Forms.{joined, sharing, alphabetised, hiding, renaming};
-ghost use Rattle.denotation.specs.Making.{make, make_branch, make_branches, make_phrase, make_prefixed};
+ghost use Rattle.values.specs.View.{Gives, values};
+ghost use Rattle.event_phrases.specs.Scopes.{within};
+ghost use Rattle.denotation.specs.Forms.{joined, sharing, alphabetised, hiding, renaming, conditional, guarded, replicated};
+ghost use Rattle.denotation.specs.Making.{branches_behind, make, make_branch, make_branches, make_for_each, make_over, make_phrase, make_prefixed};
 ghost use Rattle.denotation.specs.Shapes.{plain};
 ghost use Rattle.event_phrases.specs.View.{listed, row};
 ghost use Rattle.denotation.specs.View.{count};
 
+use crate::calls::called_with;
 use crate::choice::chosen;
-use crate::forms::{Join, Phrase, misplaced, process_phrase};
+use crate::forms::{Join, Phrase, generator, process_phrase};
 use crate::joining::{
     alphabetised_within, behind_event, hidden, joined_within, renamed_by, shared,
 };
+use crate::replicated::{all_joined, values_of};
 use crate::simple::{called, skip, stop};
 use crate::work::Work;
-use event_phrases::forms::event_parts;
+use event_phrases::forms::{event_parts, first};
 use event_phrases::{
-    GlobalScope, Prefix, Row, Scope, fault, inputs_behind, two_sets, wanted_events,
+    GlobalScope, Prefix, Row, Scope, behind_input, fault, inputs_behind, two_sets, wanted_events,
+    wanted_truth,
 };
 use std::alloc::Allocator;
 use syntax::Tree;
 use term::Term;
 use tokens::{ScriptError, ScriptErrorKind};
+use values::Values;
+
+/// The most inputs that a phrase in a replicated form stands behind. With more of them there is no memory.
+const MOST_GENERATORS: usize = 1000;
 
 /// What an event adds to the branches of a prefix.
 #[cycle(making)]
@@ -109,7 +116,7 @@ fn prefixed<'a, A: Allocator + Copy, G: GlobalScope<A>>(
                     line: event.line(),
                 };
                 let (terms, work) = branches(alloc, scope, &prefix, work)?;
-                chosen(&alloc, terms, work, scope.line)
+                chosen(alloc, terms, work, scope.line)
             }
         },
     }
@@ -199,6 +206,116 @@ fn renaming_phrase<'a, A: Allocator + Copy, G: GlobalScope<A>>(
     renamed_by(alloc, scope, pairs, term, work)
 }
 
+/// `if b then P else Q`, where the trees are those of P and Q: the one that isn't chosen isn't looked at.
+#[cycle(making)]
+fn conditional_phrase<'a, A: Allocator + Copy, G: GlobalScope<A>>(
+    alloc: A,
+    scope: &Scope<'a, A, G>,
+    condition: &'a Tree<A>,
+    trees: (&'a Tree<A>, &'a Tree<A>),
+    work: Work<A>,
+) -> Result<(Term<A>, Work<A>), ScriptError>
+    ensures { Gives (λ x. (proc x.0, count x.1)) result (make_phrase (conditional (shape condition.now) (shape trees.entry.0.now) (shape trees.entry.1.now)) (within (G.scope scope.now.global.now) (map input scope.now.inputs.items)) (count work)) }
+{
+    let holds = wanted_truth(alloc, scope, condition)?;
+    if holds {
+        process(alloc, scope, trees.0, work)
+    } else {
+        process(alloc, scope, trees.1, work)
+    }
+}
+
+/// `b & P`, which is `STOP` where the condition isn't met: then P isn't looked at.
+#[cycle(making)]
+fn guarded_phrase<'a, A: Allocator + Copy, G: GlobalScope<A>>(
+    alloc: A,
+    scope: &Scope<'a, A, G>,
+    condition: &'a Tree<A>,
+    then: &'a Tree<A>,
+    work: Work<A>,
+) -> Result<(Term<A>, Work<A>), ScriptError>
+    ensures { Gives (λ x. (proc x.0, count x.1)) result (make_phrase (guarded (shape condition.now) (shape then.now)) (within (G.scope scope.now.global.now) (map input scope.now.inputs.items)) (count work)) }
+{
+    let holds = wanted_truth(alloc, scope, condition)?;
+    if holds {
+        process(alloc, scope, then, work)
+    } else {
+        stop(work, scope.line)
+    }
+}
+
+/// The terms for all values of an input with this name, behind those that were made before. The inner ones are those of the
+/// rest of the generators.
+#[cycle(making)]
+fn each<'a, A: Allocator + Copy, G: GlobalScope<A>>(
+    alloc: A,
+    scope: &Scope<'a, A, G>,
+    input_values: (&'a [u8], Values<A>),
+    inner: (&'a [Tree<A>], &'a Tree<A>),
+    made: (Vec<Term<A>, A>, Work<A>),
+) -> Result<(Vec<Term<A>, A>, Work<A>), ScriptError>
+    ensures { Gives (λ x. (map proc x.0.items, count x.1)) result (branches_behind (map proc made.0.items) (make_for_each (make_over (syntaxes (shapes inner.entry.0.now)) (make (shape inner.entry.1.now))) (within (G.scope scope.now.global.now) (map input scope.now.inputs.items)) input_values.entry.0.now (values input_values.entry.1) (count made.1))) }
+{
+    let (name, values) = input_values;
+    let (mut terms, mut work) = made;
+    let mut left = values;
+    while let Some(value) = left.pop_first() {
+        let place = behind_input(alloc, scope, name, &value)?;
+        let (more, next) = over(alloc, &place, inner, (terms, work))?;
+        terms = more;
+        work = next;
+    }
+    Ok((terms, work))
+}
+
+/// The terms for all values of the generators, behind those that were made before. The last generator is the fastest.
+#[cycle(making)]
+fn over<'a, A: Allocator + Copy, G: GlobalScope<A>>(
+    alloc: A,
+    scope: &Scope<'a, A, G>,
+    form: (&'a [Tree<A>], &'a Tree<A>),
+    made: (Vec<Term<A>, A>, Work<A>),
+) -> Result<(Vec<Term<A>, A>, Work<A>), ScriptError>
+    ensures { Gives (λ x. (map proc x.0.items, count x.1)) result (branches_behind (map proc made.0.items) (make_over (syntaxes (shapes form.entry.0.now)) (make (shape form.entry.1.now)) (within (G.scope scope.now.global.now) (map input scope.now.inputs.items)) (count made.1))) }
+{
+    let (generators, then) = form;
+    match first(generators) {
+        None => {
+            let (mut terms, work) = made;
+            let (term, work) = process(alloc, scope, then, work)?;
+            terms.push(term)?;
+            Ok((terms, work))
+        }
+        Some((tree, rest)) => match generator(tree) {
+            None => Err(fault(tree.line(), ScriptErrorKind::Expected)),
+            Some((name, set)) => {
+                let values = values_of(alloc, scope, name, set, tree.line())?;
+                each(alloc, scope, (name, values), (rest, then), made)
+            }
+        },
+    }
+}
+
+/// `[] x:A, y:B @ P` and the like on this line, where the form is its generators and P.
+#[cycle(making)]
+fn replicated_phrase<'a, A: Allocator + Copy, G: GlobalScope<A>>(
+    alloc: A,
+    scope: &Scope<'a, A, G>,
+    join: Join,
+    form: (&'a [Tree<A>], &'a Tree<A>),
+    line: u32,
+    work: Work<A>,
+) -> Result<(Term<A>, Work<A>), ScriptError>
+    ensures { Gives (λ x. (proc x.0, count x.1)) result (make_phrase (replicated join (shapes form.entry.0.now) (shape form.entry.1.now)) (within (G.scope scope.now.global.now) (map input scope.now.inputs.items)) (count work)) }
+{
+    let most = MOST_GENERATORS.saturating_sub(scope.inputs.len());
+    if form.0.len() > most {
+        return Err(fault(line, ScriptErrorKind::Memory));
+    }
+    let (terms, work) = over(alloc, scope, form, (Vec::new(alloc), work))?;
+    all_joined(alloc, join, terms, work, scope.line, line)
+}
+
 /// The term made of a phrase by its form, on this line.
 #[cycle(making)]
 fn made<'a, A: Allocator + Copy, G: GlobalScope<A>>(
@@ -231,6 +348,14 @@ fn made<'a, A: Allocator + Copy, G: GlobalScope<A>>(
         Phrase::Renaming(process_tree, pairs) => {
             renaming_phrase(alloc, scope, process_tree, pairs, work)
         }
+        Phrase::Conditional(condition, first, second) => {
+            conditional_phrase(alloc, scope, condition, (first, second), work)
+        }
+        Phrase::Guarded(condition, then) => guarded_phrase(alloc, scope, condition, then, work),
+        Phrase::Calling(name, arguments) => called_with(alloc, scope, name, arguments, line, work),
+        Phrase::Replicated(join, generators, then) => {
+            replicated_phrase(alloc, scope, join, (generators, then), line, work)
+        }
     }
 }
 
@@ -249,7 +374,7 @@ pub(crate) fn process<'a, A: Allocator + Copy, G: GlobalScope<A>>(
         Some(phrase) => made(alloc, scope, phrase, tree.line(), work),
         None => match event_parts(tree) {
             Some(_) => Err(scope.no_channel(tree)),
-            None => Err(fault(tree.line(), misplaced(tree))),
+            None => Err(fault(tree.line(), ScriptErrorKind::Expected)),
         },
     }
 }

@@ -3,12 +3,12 @@ ghost use Rattle.std.specs.Prelude.{◌≡◌, map};
 ghost use Rattle.term.specs.Proc.{proc};
 ghost use Rattle.values.specs.Tables.{input};
 ghost use Rattle.values.specs.View.{Gives};
-ghost use Rattle.event_phrases.specs.EventForms.{within};
 ghost use Rattle.denotation.specs.Forms.{called as called_by, skips, stops};
 ghost use Rattle.denotation.specs.Making.{make_phrase};
-ghost use Rattle.event_phrases.specs.Scopes.{Scope as ScopeOf};
+ghost use Rattle.event_phrases.specs.Scopes.{Scope as ScopeOf, within};
 ghost use Rattle.denotation.specs.View.{count};
 
+use crate::call::Call;
 use crate::work::{Work, refer, spent};
 use event_phrases::{GlobalScope, Scope, fault};
 use std::alloc::Allocator;
@@ -56,5 +56,9 @@ pub(crate) fn called<A: Allocator + Copy, G: GlobalScope<A>>(
     if !scope.global.is_process(name) {
         return Err(scope.global.fault(name, line));
     }
-    refer(Vec::from_slice(alloc, name)?, work, scope.line)
+    let call = Call {
+        name: Vec::from_slice(alloc, name)?,
+        arguments: Vec::new(alloc),
+    };
+    refer(call, work, scope.line)
 }

@@ -1,5 +1,5 @@
 //! The definitions that are met, by their numbers, and the nodes that may still be made.
-ghost use Rattle.std.specs.Prelude.{◌≡◌, [], IfOk, map};
+ghost use Rattle.std.specs.Prelude.{◌≡◌, IfOk, map};
 ghost use Rattle.term.specs.Proc.{proc};
 ghost use Rattle.tokens.specs.declared.error.ScriptErrorKind.TheVariants.{TooLarge};
 ghost use Rattle.values.specs.View.{Gives};
@@ -7,6 +7,7 @@ ghost use Rattle.denotation.specs.Denotes.{place, with_key};
 ghost use Rattle.denotation.specs.Making.{refer as refer_to, spend};
 ghost use Rattle.denotation.specs.View.{count, key};
 
+use crate::call::Call;
 use indexmap::IndexSet;
 use std::alloc::{AllocError, Allocator};
 use std::hash::{BuildHasherDefault, FoldHasher};
@@ -18,8 +19,8 @@ type Hashing = BuildHasherDefault<FoldHasher>;
 /// The definitions that were met so far, and how many nodes may still be made.
 #[derive(Drop)]
 pub(crate) struct Work<A: Allocator> {
-    /// The names of the definitions, each at its number.
-    pub(crate) met: IndexSet<Vec<u8, A>, Hashing, A>,
+    /// The definitions with the values of their parameters, each at its number.
+    pub(crate) met: IndexSet<Call<A>, Hashing, A>,
     /// How many nodes may still be made.
     pub(crate) room: usize,
 }
@@ -53,34 +54,33 @@ pub(crate) fn spent<A: Allocator>(
     })
 }
 
-/// The number of a definition, which is the next one where it wasn't met before. Costs one look-up by the name's hash.
-#[tactic(auto, using(crate::proofs::FirstPlaces::met_keys, crate::proofs::FirstPlaces::met_place))]
+/// The number of a definition with these values, which is the next one where it wasn't met before. Costs one look-up by its hash.
 fn numbered<A: Allocator>(
-    met: IndexSet<Vec<u8, A>, Hashing, A>,
-    name: Vec<u8, A>,
-) -> Result<(usize, IndexSet<Vec<u8, A>, Hashing, A>), AllocError>
-    ensures keys { IfOk result (λ x. with_key (map key met.keys) (key name) ≡ map key x.1.keys) }
-    ensures number { IfOk result (λ x. place (with_key (map key met.keys) (key name)) (key name) ≡ x.0) }
+    met: IndexSet<Call<A>, Hashing, A>,
+    call: Call<A>,
+) -> Result<(usize, IndexSet<Call<A>, Hashing, A>), AllocError>
+    ensures keys { IfOk result (λ x. with_key (map key met.keys) (key call) ≡ map key x.1.keys) }
+    ensures number { IfOk result (λ x. place (with_key (map key met.keys) (key call)) (key call) ≡ x.0) }
 {
     let mut met = met;
-    let (number, _) = met.insert_full(name)?;
+    let (number, _) = met.insert_full(call)?;
     Ok((number, met))
 }
 
-/// The name of a definition by its number.
+/// The name of a definition with these values, by its number.
 #[tactic(auto, unfolding(crate::specs::Making::refer, crate::specs::Making::spend, crate::specs::Making::room_left))]
 pub(crate) fn refer<A: Allocator>(
-    name: Vec<u8, A>,
+    call: Call<A>,
     work: Work<A>,
     line: u32,
 ) -> Result<(Term<A>, Work<A>), ScriptError>
-    ensures { Gives (λ x. (proc x.0, count x.1)) result (refer_to (name.items, []) (count work)) }
+    ensures { Gives (λ x. (proc x.0, count x.1)) result (refer_to (key call) (count work)) }
 {
     let Work { met, room } = work;
     if room < 1 {
         return Err(too_large(line));
     }
-    let (number, met) = numbered(met, name)?;
+    let (number, met) = numbered(met, call)?;
     let room = room - 1;
     Ok((Term::Name(number), Work { met, room }))
 }

@@ -1,22 +1,22 @@
 -- What events, sets of events, fields and prefixes are, by their forms.
-use Rattle.std.proofs.Common.{◌≡◌, suc, ◌<◌, List, [], ◌∷◌, length, Bool, true, false, cond, ◌&&◌, nat_eq, Option, Some, None, refl, sym, ap, ◌∙◌, arith}
+use Rattle.std.proofs.Common.{◌≡◌, suc, ◌<◌, List, [], ◌∷◌, length, Bool, true, false, cond, ◌&&◌, nat_eq, Option, Some, None, refl, sym, subst, ap, ◌∙◌, arith}
 use Rattle.alphabet.specs.Channels.{FieldValue, Values, Channel}
 use Rattle.syntax.specs.declared.form.Form.{Form}
 use Rattle.syntax.specs.declared.form.Form.TheVariants as forms
 use Rattle.syntax.specs.Grammar.{Syntax, Called, Numeral, Node, Syntaxes, NoSyntax, MoreSyntax}
 use Rattle.syntax.specs.Parsing.{syntaxes}
 use Rattle.values.specs.Values.{◌>>=◌, Name, is_among}
-use Rattle.values.specs.Worths.{Worth, one, many, Known}
+use Rattle.values.specs.Worths.{Worth, one, many, truth, Known, condition}
 use Rattle.values.specs.Tables.{names_value}
-use Rattle.event_phrases.specs.Forms.{FieldPhrase, part_list, node_of, name_of, if_none, first_of, one_of, two_of, combined_phrase, set_form, set_phrase_of, event_form, event_of, bracket_form, in_brackets, pair_form, sides_of, field_form, field_of}
+use Rattle.event_phrases.specs.Forms.{FieldPhrase, part_list, node_of, name_of, if_none, first_of, one_of, two_of, three_of, combined_phrase, set_form, set_phrase_of, event_form, event_of, bracket_form, in_brackets, branch_form, branches_of, pair_form, sides_of, field_form, field_of}
 use Rattle.event_phrases.specs.declared.forms.Extent.TheVariants as extents
 use Rattle.event_phrases.specs.Events.{KnownEvents, Beginning, unless_value, channel_fields, field_value, field_values, are_within, beginning, whole_event, together, event_set, pair_of}
 use Rattle.event_phrases.specs.Fitting.{against, fits_field}
 use Rattle.event_phrases.specs.Scopes.{Scope}
-use Rattle.event_phrases.specs.EventForms.{within_by, begin_by, whole_by, unbracketed, given_value, is_in_both, combine, gives_by, set_by, pairs_by, fits_by}
+use Rattle.event_phrases.specs.EventForms.{within_by, begin_by, whole_by, chosen, given_value, is_in_both, combine, gives_by, set_by, pairs_by, fits_by}
 use Rattle.tokens.specs.declared.error.ScriptErrorKind.{ScriptErrorKind}
 use Rattle.values.specs.View.{Fails}
-use Rattle.event_phrases.proofs.Options.{fails_on}
+use Rattle.event_phrases.proofs.Options.{some_is, some_truth, fails_on, fails_at}
 use Rattle.event_phrases.proofs.Shapes.{list_forth}
 
 abbrev some_values : Values → Option Values
@@ -181,33 +181,85 @@ whole_in cs known p = by (channel_fields cs known p.0)
     by None = refl
     by (Some sets) = at sets (within_by known p.1 sets) refl
 
--- ---- brackets
+-- ---- brackets and conditions
 
-pub unbracket : (t u : Syntax) → in_brackets t ≡ Some u → unbracketed t ≡ unbracketed u
-unfolding in_brackets bracket_form node_of part_list one_of if_none unbracketed
-unbracket (Called n) u h = absurd cc
-unbracket (Numeral n) u h = absurd cc
-unbracket (Node forms.Brackets NoSyntax) u h = absurd cc
-unbracket (Node forms.Brackets (MoreSyntax t NoSyntax)) u h = let e : t ≡ u = cc in ap unbracketed e
-unbracket (Node forms.Brackets (MoreSyntax t (MoreSyntax v ts))) u h = absurd cc
-unbracket (Node f ts) u h = absurd cc
+pub bracket_chosen : (known : Known) (t u : Syntax) → in_brackets t ≡ Some u → chosen known t ≡ chosen known u
+unfolding in_brackets bracket_form node_of part_list one_of if_none chosen
+bracket_chosen known (Called n) u h = absurd cc
+bracket_chosen known (Numeral n) u h = absurd cc
+bracket_chosen known (Node forms.Brackets NoSyntax) u h = absurd cc
+bracket_chosen known (Node forms.Brackets (MoreSyntax t NoSyntax)) u h = let e : t ≡ u = cc in ap (chosen known) e
+bracket_chosen known (Node forms.Brackets (MoreSyntax t (MoreSyntax v ts))) u h = absurd cc
+bracket_chosen known (Node f ts) u h = absurd cc
 
-pub bare : (t : Syntax) → in_brackets t ≡ None → unbracketed t ≡ t
-unfolding in_brackets bracket_form node_of part_list one_of if_none unbracketed
-bare (Called n) h = refl
-bare (Numeral n) h = refl
-bare (Node forms.Brackets NoSyntax) h = refl
-bare (Node forms.Brackets (MoreSyntax t NoSyntax)) h = absurd cc
-bare (Node forms.Brackets (MoreSyntax t (MoreSyntax v ts))) h = refl
-bare (Node f ts) h = refl
+-- what a condition chooses
+abbrev pub by_truth : Known → Option Bool → Syntax → Syntax → Option Syntax
+by_truth known o t u = o >>= λ b. cond b (chosen known t) (chosen known u)
 
-pub whole_is : (cs : List Channel) (known : Known) (t : Syntax) → whole_event cs known t ≡ (event_of (unbracketed t) >>= whole_by cs known)
-unfolding whole_event event_of event_form unbracketed node_of part_list first_of name_of
+abbrev pub three_parts : Syntax → Syntax → Syntax → Option (Syntax × Syntax × Syntax)
+three_parts c t u = Some (c, t, u)
+
+pub branch_chosen : (known : Known) (t c left right : Syntax) → branches_of t ≡ three_parts c left right → chosen known t ≡ by_truth known (condition known c) left right
+unfolding branches_of branch_form node_of part_list three_of two_of one_of if_none chosen
+branch_chosen known (Called n) c left right h = absurd cc
+branch_chosen known (Numeral n) c left right h = absurd cc
+branch_chosen known (Node forms.If NoSyntax) c left right h = absurd cc
+branch_chosen known (Node forms.If (MoreSyntax b NoSyntax)) c left right h = absurd cc
+branch_chosen known (Node forms.If (MoreSyntax b (MoreSyntax t NoSyntax))) c left right h = absurd cc
+branch_chosen known (Node forms.If (MoreSyntax b (MoreSyntax t (MoreSyntax u NoSyntax)))) c left right h =
+    ap (λ (p : Syntax × Syntax × Syntax). by_truth known (condition known p.0) p.1 p.2) (some_is h)
+branch_chosen known (Node forms.If (MoreSyntax b (MoreSyntax t (MoreSyntax u (MoreSyntax v ts))))) c left right h = absurd cc
+branch_chosen known (Node f ts) c left right h = absurd cc
+
+module _ (known : Known) (t c left right : Syntax) (h : branches_of t ≡ three_parts c left right) where
+  pub branch_fails : (k : ScriptErrorKind) → Fails k (condition known c) → Fails k (chosen known t)
+  branch_fails k f = subst (λ o. Fails k o) (sym (branch_chosen known t c left right h)) (fails_at k (condition known c) (λ b. cond b (chosen known left) (chosen known right)) f)
+
+  pub first_branch : (b : Bool) → condition known c ≡ Some b → b ≡ true → chosen known t ≡ chosen known left
+  first_branch b e f = branch_chosen known t c left right h ∙ ap (λ o. by_truth known o left right) (e ∙ ap some_truth f)
+
+  pub second_branch : (b : Bool) → condition known c ≡ Some b → b ≡ false → chosen known t ≡ chosen known right
+  second_branch b e f = branch_chosen known t c left right h ∙ ap (λ o. by_truth known o left right) (e ∙ ap some_truth f)
+
+abbrev some_syntax : Syntax → Option Syntax
+some_syntax t = Some t
+
+pub bare : (known : Known) (t : Syntax) → in_brackets t ≡ None → branches_of t ≡ None → chosen known t ≡ some_syntax t
+unfolding in_brackets bracket_form branches_of branch_form node_of part_list three_of two_of one_of if_none chosen
+bare known (Called n) h k = refl
+bare known (Numeral n) h k = refl
+bare known (Node forms.Brackets NoSyntax) h k = refl
+bare known (Node forms.Brackets (MoreSyntax t NoSyntax)) h k = absurd cc
+bare known (Node forms.Brackets (MoreSyntax t (MoreSyntax v ts))) h k = refl
+bare known (Node forms.If NoSyntax) h k = refl
+bare known (Node forms.If (MoreSyntax b NoSyntax)) h k = refl
+bare known (Node forms.If (MoreSyntax b (MoreSyntax t NoSyntax))) h k = refl
+bare known (Node forms.If (MoreSyntax b (MoreSyntax t (MoreSyntax u NoSyntax)))) h k = absurd cc
+bare known (Node forms.If (MoreSyntax b (MoreSyntax t (MoreSyntax u (MoreSyntax v ts))))) h k = refl
+bare known (Node f ts) h k = refl
+
+-- the event that what is left of a phrase gives
+abbrev pub given_event : List Channel → Known → Syntax → Option Beginning
+given_event cs known t = event_of t >>= whole_by cs known
+
+either_whole : (cs : List Channel) (known : Known) (o : Option Bool) (t u : Syntax) → whole_event cs known t ≡ (chosen known t >>= given_event cs known) → whole_event cs known u ≡ (chosen known u >>= given_event cs known) →
+    (o >>= λ b. cond b (whole_event cs known t) (whole_event cs known u)) ≡ (by_truth known o t u >>= given_event cs known)
+either_whole cs known None t u h k = refl
+either_whole cs known (Some true) t u h k = h
+either_whole cs known (Some false) t u h k = k
+
+pub whole_is : (cs : List Channel) (known : Known) (t : Syntax) → whole_event cs known t ≡ (chosen known t >>= given_event cs known)
+unfolding whole_event event_of event_form chosen node_of part_list first_of name_of
 whole_is cs known (Called n) = refl
 whole_is cs known (Numeral n) = refl
 whole_is cs known (Node forms.Brackets NoSyntax) = refl
 whole_is cs known (Node forms.Brackets (MoreSyntax t NoSyntax)) = whole_is cs known t
 whole_is cs known (Node forms.Brackets (MoreSyntax t (MoreSyntax u ts))) = refl
+whole_is cs known (Node forms.If NoSyntax) = refl
+whole_is cs known (Node forms.If (MoreSyntax b NoSyntax)) = refl
+whole_is cs known (Node forms.If (MoreSyntax b (MoreSyntax t NoSyntax))) = refl
+whole_is cs known (Node forms.If (MoreSyntax b (MoreSyntax t (MoreSyntax u NoSyntax)))) = either_whole cs known (condition known b) t u (whole_is cs known t) (whole_is cs known u)
+whole_is cs known (Node forms.If (MoreSyntax b (MoreSyntax t (MoreSyntax u (MoreSyntax v ts))))) = refl
 whole_is cs known (Node forms.Event NoSyntax) = refl
 whole_is cs known (Node forms.Event (MoreSyntax (Called c) ts)) =
     ap (λ o. o >>= λ b. channel_fields cs known c >>= λ sets. cond (nat_eq (length b.1) (length sets)) (Some b) None) (beginning_is cs known (Node forms.Event (MoreSyntax (Called c) ts))) ∙ whole_in cs known (c, part_list ts)
@@ -218,7 +270,7 @@ whole_is cs known (Node f ts) = refl
 -- ---- sets
 
 combined_is : (cs : List Channel) (known : Known) (sets : KnownEvents) (f : Form) (ts : Syntaxes) → event_set cs known sets (Node f ts) ≡ (set_form f (part_list ts) >>= set_by cs known sets)
-unfolding event_set set_form set_by combine is_in_both combined_phrase gives_by part_list one_of two_of if_none name_of
+unfolding event_set set_form set_by combine is_in_both combined_phrase gives_by part_list one_of two_of three_of if_none name_of
 combined_is cs known sets forms.Brackets NoSyntax = refl
 combined_is cs known sets forms.Brackets (MoreSyntax t NoSyntax) = refl
 combined_is cs known sets forms.Brackets (MoreSyntax t (MoreSyntax u ts)) = refl
@@ -249,6 +301,11 @@ combined_is cs known sets forms.Difference NoSyntax = refl
 combined_is cs known sets forms.Difference (MoreSyntax t NoSyntax) = refl
 combined_is cs known sets forms.Difference (MoreSyntax t (MoreSyntax u NoSyntax)) = refl
 combined_is cs known sets forms.Difference (MoreSyntax t (MoreSyntax u (MoreSyntax v ts))) = refl
+combined_is cs known sets forms.If NoSyntax = refl
+combined_is cs known sets forms.If (MoreSyntax c NoSyntax) = refl
+combined_is cs known sets forms.If (MoreSyntax c (MoreSyntax t NoSyntax)) = refl
+combined_is cs known sets forms.If (MoreSyntax c (MoreSyntax t (MoreSyntax u NoSyntax))) = refl
+combined_is cs known sets forms.If (MoreSyntax c (MoreSyntax t (MoreSyntax u (MoreSyntax v ts)))) = refl
 combined_is cs known sets f ts = refl
 
 pub event_set_is : (cs : List Channel) (known : Known) (sets : KnownEvents) (t : Syntax) → event_set cs known sets t ≡ (set_phrase_of t >>= set_by cs known sets)
@@ -315,6 +372,7 @@ unfolding names_value
 unless_is None x = refl
 unless_is (Some (one v)) x = refl
 unless_is (Some (many vs)) x = refl
+unless_is (Some (truth b)) x = refl
 
 -- ---- beginnings and events, step by step
 
@@ -337,13 +395,20 @@ module _ (cs : List Channel) (known : Known) (t : Syntax) (c : Name) (ts : List 
     pub begin_made : (name : Name) (vs : Values) → within_by known ts sets ≡ Some vs → name ≡ c → beginning cs known t ≡ Some (name, vs)
     begin_made name vs e n = begin_so_far ∙ ap (λ o. o >>= λ vs. begun c vs) e ∙ ap (λ c. begun c vs) (sym n)
 
-module _ (cs : List Channel) (known : Known) (t u : Syntax) (un : u ≡ unbracketed t) where
+-- what is left of a phrase is nothing
+pub whole_unchosen : (cs : List Channel) (known : Known) (t : Syntax) (k : ScriptErrorKind) → Fails k (chosen known t) → Fails k (whole_event cs known t)
+whole_unchosen cs known t k f = subst (λ o. Fails k o) (sym (whole_is cs known t)) (fails_at k (chosen known t) (given_event cs known) f)
+
+module _ (cs : List Channel) (known : Known) (t u : Syntax) (un : chosen known t ≡ some_syntax u) where
+  whole_left : whole_event cs known t ≡ given_event cs known u
+  whole_left = whole_is cs known t ∙ ap (λ o. o >>= given_event cs known) un
+
   pub whole_not : None ≡ event_of u → whole_event cs known t ≡ None
-  whole_not h = whole_is cs known t ∙ ap (λ v. event_of v >>= whole_by cs known) (sym un) ∙ ap (λ o. o >>= whole_by cs known) (sym h)
+  whole_not h = whole_left ∙ ap (λ o. o >>= whole_by cs known) (sym h)
 
   module _ (c : Name) (ts : List Syntax) (h : parts_as c ts ≡ event_of u) where
     whole_with : whole_event cs known t ≡ whole_by cs known (c, ts)
-    whole_with = whole_is cs known t ∙ ap (λ v. event_of v >>= whole_by cs known) (sym un) ∙ ap (λ o. o >>= whole_by cs known) (sym h)
+    whole_with = whole_left ∙ ap (λ o. o >>= whole_by cs known) (sym h)
 
     pub whole_none : None ≡ channel_fields cs known c → whole_event cs known t ≡ None
     unfolding whole_by

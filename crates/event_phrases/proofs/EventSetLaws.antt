@@ -1,5 +1,5 @@
 -- Sets of events in memory are those that phrases stand for.
-use Rattle.std.proofs.Common.{◌≡◌, ℕ, ◌+◌, ◌<◌, ◌≤◌, List, length, map, drop, get_or, Bool, true, false, not, ◌&&◌, ◌||◌, nat_lt, Option, Some, None, refl, subst, sym, ap, ap₂, ◌∙◌}
+use Rattle.std.proofs.Common.{◌≡◌, ℕ, ◌+◌, ◌<◌, ◌≤◌, List, length, map, drop, get_or, Bool, true, false, cond, not, ◌&&◌, ◌||◌, nat_lt, Option, Some, None, refl, subst, sym, ap, ap₂, ◌∙◌}
 use Rattle.std.proofs.lemmas.List.{length-map}
 use Rattle.alphabet.specs.Channels.{Channel, events, event_count, event_text}
 use Rattle.alphabet.specs.declared.events.Event.{Event}
@@ -12,7 +12,7 @@ use Rattle.syntax.specs.Parsing.{syntaxes}
 use Rattle.syntax.specs.View.{shape, shapes}
 use Rattle.tokens.specs.declared.error.ScriptErrorKind.{ScriptErrorKind}
 use Rattle.values.specs.Values.{◌>>=◌, Name}
-use Rattle.values.specs.Worths.{Known}
+use Rattle.values.specs.Worths.{Known, condition}
 use Rattle.values.specs.View.{Fails}
 use Rattle.event_phrases.specs.declared.forms.Extent.{Extent}
 use Rattle.event_phrases.specs.declared.forms.Extent.TheVariants as extents
@@ -22,13 +22,13 @@ use Rattle.event_phrases.specs.declared.row.Row.{Row}
 use Rattle.event_phrases.specs.Events.{Events, KnownEvents, Beginning, no_events, begins_so, at_number, beginning, beginning_so, whole_event, either, both, together, event_set, set_below, set_of, masked}
 use Rattle.values.specs.Tables.{names_value}
 use Rattle.event_phrases.specs.EventForms.{is_in_both, combine, gives_by, set_by, outside}
-use Rattle.event_phrases.specs.Forms.{SetPhrase, set_inside, set_called, nothing, everything, several, combined, tall, sets_tall, set_phrase_of}
+use Rattle.event_phrases.specs.Forms.{SetPhrase, set_inside, set_called, nothing, everything, several, set_chosen, combined, tall, sets_tall, set_phrase_of}
 use Rattle.event_phrases.proofs.EventLaws.{event_set_is}
 use Rattle.event_phrases.proofs.Scopes.{hidden, seen}
 use Rattle.event_phrases.specs.View.{row}
 use Rattle.event_phrases.proofs.EventNumbers.{drop_item, drop_none, none_below}
 use Rattle.event_phrases.proofs.SetsBelow.{below_same, inside_is, is_in, member_is, is_below, has_is}
-use Rattle.event_phrases.proofs.Options.{fails_on}
+use Rattle.event_phrases.proofs.Options.{some_truth, fails_on}
 
 abbrev some_set : Set → Option Set
 some_set S = Some S
@@ -265,6 +265,10 @@ module _ (q : SetPhrase) where
   unfolding sets_tall
   combined_tall c t u h = ap sets_tall h
 
+  pub chosen_tall : (c t u : Syntax) → q ≡ set_chosen c t u → sets_tall q ≡ tall t + tall u
+  unfolding sets_tall
+  chosen_tall c t u h = ap sets_tall h
+
   module _ (cs : List Channel) (known : Known) (sets : KnownEvents) where
     pub inside_set : (t : Syntax) → q ≡ set_inside t → masked cs (set_by cs known sets q) ≡ masked cs (event_set cs known sets t)
     unfolding set_by
@@ -289,6 +293,24 @@ module _ (q : SetPhrase) where
     pub several_set : (e : Extent) (ts : List Syntax) → q ≡ several e ts → masked cs (set_by cs known sets q) ≡ masked cs (together (gives_by cs known e) (syntaxes ts))
     unfolding set_by
     several_set e ts h = ap (λ q. masked cs (set_by cs known sets q)) h
+
+    module _ (c t u : Syntax) (h : q ≡ set_chosen c t u) where
+      abbrev pub chosen_by : Option Bool → Option Events
+      chosen_by o = o >>= λ b. cond b (event_set cs known sets t) (event_set cs known sets u)
+
+      chosen_set : masked cs (set_by cs known sets q) ≡ masked cs (chosen_by (condition known c))
+      unfolding set_by
+      chosen_set = ap (λ q. masked cs (set_by cs known sets q)) h
+
+      pub condition_fails : (k : ScriptErrorKind) → Fails k (condition known c) → Fails k (masked cs (set_by cs known sets q))
+      unfolding masked
+      condition_fails k f = fails_on k (condition known c) (masked cs (set_by cs known sets q)) (λ e. chosen_set ∙ ap (λ o. masked cs (chosen_by o)) e) f
+
+      pub first_chosen : (b : Bool) → condition known c ≡ Some b → b ≡ true → masked cs (set_by cs known sets q) ≡ masked cs (event_set cs known sets t)
+      first_chosen b e f = chosen_set ∙ ap (λ o. masked cs (chosen_by o)) (e ∙ ap some_truth f)
+
+      pub second_chosen : (b : Bool) → condition known c ≡ Some b → b ≡ false → masked cs (set_by cs known sets q) ≡ masked cs (event_set cs known sets u)
+      second_chosen b e f = chosen_set ∙ ap (λ o. masked cs (chosen_by o)) (e ∙ ap some_truth f)
 
     module _ (c : Combination) (t u : Syntax) (h : q ≡ combined c t u) where
       combined_set : masked cs (set_by cs known sets q) ≡ masked cs (event_set cs known sets t >>= λ A. event_set cs known sets u >>= λ B. Some (combine c A B))

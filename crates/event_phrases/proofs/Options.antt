@@ -1,5 +1,5 @@
 -- Options, step by step, and faults of steps.
-use Rattle.std.proofs.Common.{◌≡◌, Option, Some, None, refl, ap}
+use Rattle.std.proofs.Common.{◌≡◌, Bool, Option, Some, None, refl, ap}
 use Rattle.tokens.specs.declared.error.ScriptErrorKind.{ScriptErrorKind}
 use Rattle.tokens.specs.declared.error.ScriptErrorKind.TheVariants as kinds
 use Rattle.values.specs.Values.{◌>>=◌}
@@ -7,6 +7,9 @@ use Rattle.values.specs.View.{Fails}
 
 pub some_is : {A : Type 0} {x y : A} → Some x ≡ Some y → x ≡ y
 some_is h = cc
+
+abbrev pub some_truth : Bool → Option Bool
+some_truth b = Some b
 
 pub bind_some : {X Y : Type 0} (o : Option X) (f : X → Option Y) (y : Y) → (o >>= f) ≡ Some y → (x : X) × (o ≡ Some x) × (f x ≡ Some y)
 bind_some None f y h = absurd cc

@@ -11,10 +11,10 @@ use Rattle.values.specs.Tables.{behind, names_value}
 use Rattle.values.specs.View.{Fails}
 use Rattle.values.proofs.Inputs.{behind-more}
 use Rattle.event_phrases.specs.Events.{unless_value, field_value}
-use Rattle.event_phrases.specs.EventForms.{within, within_by, values_behind, fits_by}
+use Rattle.event_phrases.specs.EventForms.{within_by, values_behind, fits_by}
 use Rattle.event_phrases.specs.Forms.{FieldPhrase, field_of}
 use Rattle.event_phrases.specs.Fitting.{fits_field}
-use Rattle.event_phrases.specs.Scopes.{Scope, with_input}
+use Rattle.event_phrases.specs.Scopes.{Scope, with_input, within}
 use Rattle.event_phrases.proofs.EventLaws.{unless_is, fits_is}
 use Rattle.event_phrases.proofs.Options.{fails_on}
 

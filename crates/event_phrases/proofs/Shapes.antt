@@ -9,7 +9,7 @@ use Rattle.syntax.specs.Parsing.{syntaxes}
 use Rattle.syntax.specs.View.{shape, shapes}
 use Rattle.values.specs.Values.{◌>>=◌}
 use Rattle.values.proofs.Parts.{node_shape}
-use Rattle.event_phrases.specs.Forms.{SetPhrase, part_list, node_of, name_of, if_none, first_of, one_of, two_of, three_of, four_of, combined_phrase, set_form, set_phrase_of, bracket_form, in_brackets, tall, talls, sets_tall}
+use Rattle.event_phrases.specs.Forms.{SetPhrase, part_list, node_of, name_of, if_none, first_of, one_of, two_of, three_of, four_of, combined_phrase, set_form, set_phrase_of, bracket_form, in_brackets, branch_form, branches_of, tall, talls, sets_tall}
 use Rattle.event_phrases.proofs.Options.{some_is, bind_some}
 
 pub list_back : (ts : List Syntax) → part_list (syntaxes ts) ≡ ts
@@ -149,6 +149,7 @@ set_form_less forms.Set ts p h = let e : 0 ≡ sets_tall p = ap sets_tall (some_
 set_form_less forms.Union ts p h = by_two sets_tall ts _ p (λ q. omega arith) h
 set_form_less forms.Intersection ts p h = by_two sets_tall ts _ p (λ q. omega arith) h
 set_form_less forms.Difference ts p h = by_two sets_tall ts _ p (λ q. omega arith) h
+set_form_less forms.If ts p h = by_three sets_tall ts _ p (λ q. omega arith) h
 set_form_less f ts p h = absurd cc
 
 set_less : (t : Syntax) (p : SetPhrase) → set_phrase_of t ≡ Some p → sets_tall p < tall t
@@ -183,3 +184,22 @@ pub bracket_less : {X : Type 0} (view : X → Syntax) (o : Option X) (t : Syntax
 unfolding in_brackets bracket_form
 bracket_less view None t f ts n e h = tt
 bracket_less view (Some x) t f ts n e h = inside_less t (view x) (ap (λ o. o >>= λ n. bracket_form n.0 n.1) (sym n) ∙ ap (λ f. bracket_form f ts) e ∙ sym h)
+
+branch_form_less : (f : Form) (ts : List Syntax) (p : Syntax × Syntax × Syntax) → branch_form f ts ≡ Some p → tall p.1 + tall p.2 ≤ sum_tall ts
+unfolding branch_form
+branch_form_less forms.If ts p h = let k = three_tall ts p h in omega (arith, k)
+branch_form_less f ts p h = absurd cc
+
+both_less : (t : Syntax) (p : Syntax × Syntax × Syntax) → branches_of t ≡ Some p → tall p.1 + tall p.2 < tall t
+unfolding branches_of node_of tall
+both_less (Called n) p h = absurd cc
+both_less (Numeral n) p h = absurd cc
+both_less (Node f ts) p h =
+    let k = branch_form_less f (part_list ts) p h in
+    let e : sum_tall (part_list ts) ≡ talls ts = ap talls (list_forth ts) in
+    omega (arith, k, e)
+
+pub branches_less : {X : Type 0} (view : X → Syntax × Syntax × Syntax) (o : Option X) (t : Syntax) (f : Form) (ts : List Syntax) → node_with f ts ≡ node_of t → f ≡ forms.If → option_map view o ≡ three_of ts → IfSome o (λ x. tall (view x).1 + tall (view x).2 < tall t)
+unfolding branches_of branch_form
+branches_less view None t f ts n e h = tt
+branches_less view (Some x) t f ts n e h = both_less t (view x) (ap (λ o. o >>= λ n. branch_form n.0 n.1) (sym n) ∙ ap (λ f. branch_form f ts) e ∙ sym h)

@@ -7,24 +7,17 @@ use Rattle.syntax.specs.declared.form.Form.TheVariants as forms
 use Rattle.syntax.specs.Grammar.{Syntax, Syntaxes, Node, NoSyntax, MoreSyntax}
 use Rattle.syntax.specs.Parsing.{syntaxes}
 use Rattle.values.specs.Values.{◌>>=◌, Name, is_among, is_same}
-use Rattle.values.specs.Worths.{Known, worth, the_value, the_set}
-use Rattle.values.specs.Tables.{behind}
+use Rattle.values.specs.Worths.{Known, worth, condition, the_value, the_set}
 use Rattle.event_phrases.specs.declared.forms.Extent.{Extent}
 use Rattle.event_phrases.specs.declared.forms.Extent.TheVariants as extents
 use Rattle.event_phrases.specs.declared.forms.Combination.{Combination}
 use Rattle.event_phrases.specs.declared.forms.Combination.TheVariants as combinations
-use Rattle.event_phrases.specs.Forms.{SetPhrase, set_inside, set_called, nothing, everything, several, combined, FieldPhrase, given, input, input_from}
+use Rattle.event_phrases.specs.Forms.{SetPhrase, set_inside, set_called, nothing, everything, several, set_chosen, combined, FieldPhrase, given, input, input_from}
 use Rattle.alphabet.specs.EventSets.{Set}
 use Rattle.event_phrases.specs.Events.{Events, KnownEvents, no_events, masked, unless_value, channel_fields, field_value, Beginning, beginning, beginning_so, whole_event, together, event_set, pairs_from}
 use Rattle.values.specs.Names.{same_name}
 use Rattle.event_phrases.specs.Fitting.{Fitting, fitting, against, against_input, against_part}
 use Rattle.event_phrases.specs.Scopes.{Scope}
-
--- ---- where phrases stand
-
--- behind these inputs
-abbrev pub within : Scope → List (Name × FieldValue) → Scope
-within s is = record s { known = behind s.known is }
 
 -- ---- events
 
@@ -45,10 +38,11 @@ begin_by cs known p = channel_fields cs known p.0 >>= λ sets. within_by known p
 unfoldable pub whole_by : List Channel → Known → Name × List Syntax → Option Beginning
 whole_by cs known p = channel_fields cs known p.0 >>= λ sets. if nat_eq (length p.1) (length sets) then (within_by known p.1 sets >>= λ vs. Some (p.0, vs)) else None
 
--- the phrase without the brackets round it
-unfoldable pub unbracketed : Syntax → Syntax
-unbracketed (Node forms.Brackets (MoreSyntax t NoSyntax)) = unbracketed t
-unbracketed t = t
+-- the phrase that is left where brackets go and each condition chooses its branch
+unfoldable pub chosen : Known → Syntax → Option Syntax
+chosen known (Node forms.Brackets (MoreSyntax t NoSyntax)) = chosen known t
+chosen known (Node forms.If (MoreSyntax c (MoreSyntax t (MoreSyntax u NoSyntax)))) = condition known c >>= λ b. if b then chosen known t else chosen known u
+chosen known t = Some t
 
 -- what a field that gives a value gives
 unfoldable pub given_value : Known → FieldPhrase → Option FieldValue
@@ -86,6 +80,7 @@ set_by cs known sets (set_called n) = unless_value (known n) (sets n)
 set_by cs known sets nothing = Some no_events
 set_by cs known sets everything = Some (λ a. nat_lt a (event_count cs))
 set_by cs known sets (several e ts) = together (gives_by cs known e) (syntaxes ts)
+set_by cs known sets (set_chosen c t u) = condition known c >>= λ b. if b then event_set cs known sets t else event_set cs known sets u
 set_by cs known sets (combined c t u) = event_set cs known sets t >>= λ A. event_set cs known sets u >>= λ B. Some (combine c A B)
 
 -- the masks of two sets

@@ -8,8 +8,8 @@ use Rattle.term.specs.Traces.{Pairs}
 use Rattle.syntax.specs.declared.form.Form.TheVariants as forms
 use Rattle.syntax.specs.Grammar.{Syntax, Called, Node, Syntaxes, NoSyntax, MoreSyntax}
 use Rattle.values.specs.Values.{◌>>=◌, Name, is_among, is_same}
-use Rattle.values.specs.Worths.{Worth, one, many, Known, worth, the_value}
-use Rattle.values.specs.Names.{Entry, Meaning, channel, datatype, constant_name, definition, meaning, same_name}
+use Rattle.values.specs.Worths.{Worth, one, many, truth, Known, worth, condition, the_value}
+use Rattle.values.specs.Names.{Entry, Meaning, channel, datatype, constant_name, definition, parametric, meaning, same_name}
 
 -- a set of events: which numbers are in it
 abbrev pub Events : Type 0
@@ -22,11 +22,12 @@ no_events a = false
 abbrev pub KnownEvents : Type 0
 KnownEvents = Name → Option Events
 
--- a name that stands for a value, as an input's name does, hides its other uses
+-- a name that stands for a value or a truth, as an input's name does, hides its other uses
 abbrev pub unless_value : {X : Type 0} → Option Worth → Option X → Option X
 unless_value None x = x
 unless_value (Some (one v)) x = None
 unless_value (Some (many vs)) x = x
+unless_value (Some (truth b)) x = None
 
 -- the fields of a channel
 unfoldable pub fields_named : List Channel → Name → Option (List Values)
@@ -91,6 +92,7 @@ unfoldable pub whole_event : List Channel → Known → Syntax → Option Beginn
 whole_event cs known (Node forms.Brackets (MoreSyntax t NoSyntax)) = whole_event cs known t
 whole_event cs known (Node forms.Event (MoreSyntax (Called c) ts)) =
     beginning cs known (Node forms.Event (MoreSyntax (Called c) ts)) >>= λ b. channel_fields cs known c >>= λ sets. if nat_eq (length b.1) (length sets) then Some b else None
+whole_event cs known (Node forms.If (MoreSyntax c (MoreSyntax t (MoreSyntax u NoSyntax)))) = condition known c >>= λ b. if b then whole_event cs known t else whole_event cs known u
 whole_event cs known t = None
 
 -- ---- sets of events
@@ -121,6 +123,7 @@ event_set cs known sets (Node forms.Set ts) = together (λ t. whole_event cs kno
 event_set cs known sets (Node forms.Union (MoreSyntax t (MoreSyntax u NoSyntax))) = event_set cs known sets t >>= λ A. event_set cs known sets u >>= λ B. Some (either A B)
 event_set cs known sets (Node forms.Intersection (MoreSyntax t (MoreSyntax u NoSyntax))) = event_set cs known sets t >>= λ A. event_set cs known sets u >>= λ B. Some (both A B)
 event_set cs known sets (Node forms.Difference (MoreSyntax t (MoreSyntax u NoSyntax))) = event_set cs known sets t >>= λ A. event_set cs known sets u >>= λ B. Some (less A B)
+event_set cs known sets (Node forms.If (MoreSyntax c (MoreSyntax t (MoreSyntax u NoSyntax)))) = condition known c >>= λ b. if b then event_set cs known sets t else event_set cs known sets u
 event_set cs known sets t = None
 
 -- what a name with this meaning stands for
@@ -129,6 +132,7 @@ events_of cs known sets (channel ts) = None
 events_of cs known sets (datatype ns) = None
 events_of cs known sets constant_name = None
 events_of cs known sets (definition t) = event_set cs known sets t
+events_of cs known sets (parametric xs t) = None
 
 -- what names stand for after so many steps, in each of which a definition is looked into
 unfoldable pub events_in : List Channel → Known → List Entry → ℕ → KnownEvents

@@ -62,6 +62,7 @@ pub data SetPhrase : Type 0 where
   nothing : SetPhrase
   everything : SetPhrase
   several : Extent → List Syntax → SetPhrase
+  set_chosen : Syntax → Syntax → Syntax → SetPhrase
   combined : Combination → Syntax → Syntax → SetPhrase
 
 unfoldable pub combined_phrase : Combination → List Syntax → Option SetPhrase
@@ -78,6 +79,7 @@ set_form forms.Set ts = Some (several extents.Events ts)
 set_form forms.Union ts = combined_phrase combinations.Union ts
 set_form forms.Intersection ts = combined_phrase combinations.Intersection ts
 set_form forms.Difference ts = combined_phrase combinations.Difference ts
+set_form forms.If ts = three_of ts >>= λ p. Some (set_chosen p.0 p.1 p.2)
 set_form f ts = None
 
 unfoldable pub set_phrase_of : Syntax → Option SetPhrase
@@ -100,6 +102,14 @@ bracket_form f ts = None
 
 unfoldable pub in_brackets : Syntax → Option Syntax
 in_brackets t = node_of t >>= λ n. bracket_form n.0 n.1
+
+-- the condition of an `if`, and the phrases that it chooses from
+unfoldable pub branch_form : Form → List Syntax → Option (Syntax × Syntax × Syntax)
+branch_form forms.If ts = three_of ts
+branch_form f ts = None
+
+unfoldable pub branches_of : Syntax → Option (Syntax × Syntax × Syntax)
+branches_of t = node_of t >>= λ n. branch_form n.0 n.1
 
 -- the two sides of a pair of a renaming
 unfoldable pub pair_form : Form → List Syntax → Option (Syntax × Syntax)
@@ -144,4 +154,5 @@ sets_tall (set_called n) = 0
 sets_tall nothing = 0
 sets_tall everything = 0
 sets_tall (several e ts) = 0
+sets_tall (set_chosen c t u) = tall t + tall u
 sets_tall (combined j t u) = tall t + tall u

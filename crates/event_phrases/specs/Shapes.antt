@@ -4,7 +4,7 @@ use Rattle.event_phrases.specs.declared.forms.SetPhrase.{SetPhrase as HeldSet}
 use Rattle.event_phrases.specs.declared.forms.SetPhrase.TheVariants as set_phrases
 use Rattle.event_phrases.specs.declared.forms.FieldPhrase.{FieldPhrase as HeldField}
 use Rattle.event_phrases.specs.declared.forms.FieldPhrase.TheVariants as field_phrases
-use Rattle.event_phrases.specs.Forms.{SetPhrase, set_inside, set_called, nothing, everything, several, combined, FieldPhrase, given, input, input_from}
+use Rattle.event_phrases.specs.Forms.{SetPhrase, set_inside, set_called, nothing, everything, several, set_chosen, combined, FieldPhrase, given, input, input_from}
 
 abbrev pub plain_set : {A : Type 0} → HeldSet A → SetPhrase
 plain_set (set_phrases.Inside t) = set_inside (shape t.now)
@@ -12,6 +12,7 @@ plain_set (set_phrases.Called n) = set_called n.now
 plain_set set_phrases.Nothing = nothing
 plain_set set_phrases.Everything = everything
 plain_set (set_phrases.Several e ts) = several e (shapes ts.now)
+plain_set (set_phrases.Chosen c t u) = set_chosen (shape c.now) (shape t.now) (shape u.now)
 plain_set (set_phrases.Combined c t u) = combined c (shape t.now) (shape u.now)
 
 abbrev pub plain_field : {A : Type 0} → HeldField A → FieldPhrase

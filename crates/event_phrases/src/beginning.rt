@@ -5,15 +5,16 @@ ghost use Rattle.syntax.specs.View.{shape, shapes};
 ghost use Rattle.values.specs.Tables.{input};
 ghost use Rattle.values.specs.Values.{is_among};
 ghost use Rattle.values.specs.View.{Gives, value as value_of};
-ghost use Rattle.event_phrases.specs.EventForms.{given_value, within, within_by, values_behind, unbracketed as unbracketed_of};
+ghost use Rattle.event_phrases.specs.EventForms.{given_value, within_by, values_behind, chosen as chosen_of};
+ghost use Rattle.event_phrases.specs.Scopes.{within};
 ghost use Rattle.event_phrases.specs.Events.{beginning as beginning_in, field_value, whole_event as whole_event_in};
 ghost use Rattle.event_phrases.specs.Shapes.{plain_field};
 ghost use Rattle.event_phrases.specs.View.{beginning as beginning_of, listed};
 
-use crate::forms::{FieldPhrase, event_parts, field, in_brackets};
+use crate::forms::{FieldPhrase, branches, event_parts, field, in_brackets};
 use crate::global_scope::{GlobalScope, Set, Wanted};
 use crate::row::Row;
-use crate::scope::{Scope, fault, told, worth};
+use crate::scope::{Scope, fault, told, truth, worth};
 use std::alloc::Allocator;
 use syntax::Tree;
 use tokens::{ScriptError, ScriptErrorKind};
@@ -146,13 +147,26 @@ pub(crate) fn wanted_beginning<A: Allocator + Copy, G: GlobalScope<A>>(
     }
 }
 
-/// The phrase without the brackets round it.
-fn unbracketed<A: Allocator>(tree: &Tree<A>) -> &Tree<A>
-    ensures { shape result.now ≡ unbracketed_of (shape tree.now) }
+/// The phrase that is left where brackets go and each condition chooses its branch. Its fault isn't the one that is told.
+fn chosen<'t, A: Allocator + Copy, G: GlobalScope<A>>(
+    alloc: A,
+    scope: &Scope<'_, A, G>,
+    tree: &'t Tree<A>,
+) -> Result<&'t Tree<A>, ScriptError>
+    ensures { Gives (λ t. shape t.now) result (chosen_of (within (G.scope scope.now.global.now) (map input scope.now.inputs.items)).known (shape tree.now)) }
 {
     match in_brackets(tree) {
-        None => tree,
-        Some(inner) => unbracketed(inner),
+        Some(inner) => chosen(alloc, scope, inner),
+        None => match branches(tree) {
+            Some((condition, first, second)) => {
+                if truth(alloc, scope, condition)? {
+                    chosen(alloc, scope, first)
+                } else {
+                    chosen(alloc, scope, second)
+                }
+            }
+            None => Ok(tree),
+        },
     }
 }
 
@@ -164,7 +178,7 @@ pub(crate) fn whole_event<A: Allocator + Copy, G: GlobalScope<A>>(
 ) -> Result<Row<A>, ScriptError>
     ensures { Gives (λ r. beginning_of r) result (whole_event_in (G.scope scope.now.global.now).channels (within (G.scope scope.now.global.now) (map input scope.now.inputs.items)).known (shape tree.now)) }
 {
-    let inner = unbracketed(tree);
+    let inner = chosen(alloc, scope, tree)?;
     match event_parts(inner) {
         None => Err(fault(tree.line(), ScriptErrorKind::Expected)),
         Some((channel, fields)) => match scope.fields(channel) {

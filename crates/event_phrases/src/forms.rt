@@ -1,8 +1,8 @@
 //! Phrases for events, sets of events and fields by their forms.
-ghost use Rattle.std.specs.Prelude.{◌≡◌, ◌<◌, Some, IfSome};
+ghost use Rattle.std.specs.Prelude.{◌≡◌, ◌<◌, ◌+◌, Some, IfSome};
 ghost use Rattle.std.specs.Option.{option_map};
 ghost use Rattle.syntax.specs.View.{shape, shapes};
-ghost use Rattle.event_phrases.specs.Forms.{node_of, name_of, if_none, first_of, one_of, two_of, three_of, four_of, combined_phrase, set_form, set_phrase_of, event_form, event_of as event_parts_of, bracket_form, in_brackets as in_brackets_of, pair_form, sides_of, field_form, field_of as field_phrase_of, tall, sets_tall};
+ghost use Rattle.event_phrases.specs.Forms.{node_of, name_of, if_none, first_of, one_of, two_of, three_of, four_of, combined_phrase, set_form, set_phrase_of, event_form, event_of as event_parts_of, bracket_form, in_brackets as in_brackets_of, branch_form, branches_of, pair_form, sides_of, field_form, field_of as field_phrase_of, tall, sets_tall};
 ghost use Rattle.event_phrases.specs.Shapes.{plain_set, plain_field};
 
 use std::alloc::Allocator;
@@ -40,6 +40,8 @@ pub(crate) enum SetPhrase<'a, A: Allocator> {
     Everything,
     /// `{|c, d.0|}` or `{c, d.0}`
     Several(Extent, &'a [Tree<A>]),
+    /// `if b then A else B`
+    Chosen(&'a Tree<A>, &'a Tree<A>, &'a Tree<A>),
     Combined(Combination, &'a Tree<A>, &'a Tree<A>),
 }
 
@@ -175,6 +177,10 @@ fn event_set_form<A: Allocator>(form: Form, parts: &[Tree<A>]) -> Option<SetPhra
         Form::Union => combined(Combination::Union, parts),
         Form::Intersection => combined(Combination::Intersection, parts),
         Form::Difference => combined(Combination::Difference, parts),
+        Form::If => {
+            let (condition, first, second) = three(parts)?;
+            Some(SetPhrase::Chosen(condition, first, second))
+        }
         _ => None,
     }
 }
@@ -213,6 +219,19 @@ pub(crate) fn in_brackets<A: Allocator>(tree: &Tree<A>) -> Option<&Tree<A>>
     let (form, parts) = node(tree)?;
     match form {
         Form::Brackets => one(parts),
+        _ => None,
+    }
+}
+
+/// The condition of an `if`, and the phrases that it chooses from.
+#[tactic(auto, unfolding(crate::specs::Forms::branches_of, crate::specs::Forms::branch_form))]
+pub(crate) fn branches<A: Allocator>(tree: &Tree<A>) -> Option<(&Tree<A>, &Tree<A>, &Tree<A>)>
+    ensures shape { option_map (λ p. (shape p.0.now, shape p.1.now, shape p.2.now)) result ≡ branches_of (shape tree.now) }
+    ensures smaller { IfSome result (λ p. tall (shape p.1.now) + tall (shape p.2.now) < tall (shape tree.now)) }
+{
+    let (form, parts) = node(tree)?;
+    match form {
+        Form::If => three(parts),
         _ => None,
     }
 }

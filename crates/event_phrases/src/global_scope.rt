@@ -1,5 +1,5 @@
 //! The scope of a whole script.
-ghost use Rattle.std.specs.Prelude.{◌≡◌, ◌≤◌, length, map, Some, MatchOption};
+ghost use Rattle.std.specs.Prelude.{◌≡◌, ◌≤◌, List, length, map, Some, MatchOption};
 ghost use Rattle.std.specs.Option.{option_map};
 ghost use Rattle.alphabet.specs.Channels.{events as events_of, event_count};
 ghost use Rattle.alphabet.specs.Events.{is_numbered_below};
@@ -7,10 +7,11 @@ ghost use Rattle.alphabet.specs.declared.events.Event.{Event};
 ghost use Rattle.alphabet.specs.EventSets.{member};
 ghost use Rattle.syntax.specs.Grammar.{Syntax};
 ghost use Rattle.syntax.specs.View.{shape};
-ghost use Rattle.values.specs.Names.{definition as defined_by, meaning, is_process as is_process_of};
+ghost use Rattle.values.specs.Names.{definition as defined_by, parametric as parametric_by, meaning, is_process as is_process_of, is_constant as is_constant_meaning};
+ghost use Rattle.values.specs.Values.{Name};
 ghost use Rattle.values.specs.Tables.{table};
 ghost use Rattle.event_phrases.specs.Events.{fields_named, masked};
-ghost use Rattle.event_phrases.specs.Scopes.{Scope, is_constant as is_constant_meaning};
+ghost use Rattle.event_phrases.specs.Scopes.{Scope};
 ghost use Rattle.event_phrases.specs.View.{listed, row};
 
 use crate::row::Row;
@@ -32,6 +33,8 @@ pub enum Wanted {
     Values,
     /// A set of events.
     Events,
+    /// A truth.
+    Truth,
     /// A channel and its first values, without inputs.
     Beginning,
     /// A channel, whatever its fields.
@@ -72,15 +75,22 @@ pub trait GlobalScope<A: Allocator>: Drop {
     fn is_constant(&self, name: &[u8]) -> bool
         ensures { result ≡ is_constant_meaning (meaning (scope self.now).entries name.now) };
 
-    /// The body of the definition with this name.
+    /// The body of the definition without parameters that has this name.
     fn definition(&self, name: &[u8]) -> Option<&Tree<A>>
         ensures { MatchOption result ((t : Syntax) → meaning (scope self.now).entries name.now ≡ Some (defined_by t) → ⊥) (λ t. meaning (scope self.now).entries name.now ≡ Some (defined_by (shape t.now))) };
+
+    /// The parameters and the body of the definition with parameters that has this name.
+    fn with_parameters(&self, name: &[u8]) -> Option<(&[Vec<u8, A>], &Tree<A>)>
+        ensures { MatchOption result ((xs : List Name) (t : Syntax) → meaning (scope self.now).entries name.now ≡ Some (parametric_by xs t) → ⊥) (λ p. meaning (scope self.now).entries name.now ≡ Some (parametric_by (map (λ x. x.items) p.0.now) (shape p.1.now))) };
 
     /// The line of the name of a definition.
     fn line(&self, name: &[u8]) -> u32;
 
     /// What is wrong with a name on this line that is no process.
     fn fault(&self, name: &[u8], line: u32) -> ScriptError;
+
+    /// What is wrong with a call on this line of a name that is no definition with so many parameters.
+    fn call_fault(&self, name: &[u8], line: u32) -> ScriptError;
 
     /// What is wrong with a phrase behind these inputs that isn't what is wanted.
     fn phrase_fault(&self, inputs: &[Input<A>], phrase: &Tree<A>, wanted: Wanted) -> ScriptError;

@@ -18,5 +18,5 @@ pub use pairs::ordered;
 pub use prefix::{Prefix, inputs_behind};
 pub use renaming::pairs_of;
 pub use row::Row;
-pub use scope::{Scope, fault};
+pub use scope::{Scope, behind_input, fault, wanted_truth, wanted_value, wanted_values};
 pub use sets::{set_of_events, two_sets, wanted_events};

@@ -1,12 +1,13 @@
 //! Events held against the fields of a prefix.
-ghost use Rattle.std.specs.Prelude.{◌≡◌, ◌++◌, ◌∷◌, [], IfOk, Some, map};
+ghost use Rattle.std.specs.Prelude.{◌≡◌, Some, map};
 ghost use Rattle.std.specs.Option.{option_map};
 ghost use Rattle.syntax.specs.Parsing.{syntaxes};
 ghost use Rattle.syntax.specs.View.{shape, shapes};
 ghost use Rattle.values.specs.Tables.{input};
 ghost use Rattle.values.specs.Values.{is_among};
 ghost use Rattle.values.specs.View.{Gives, value as value_of, values};
-ghost use Rattle.event_phrases.specs.EventForms.{event_fits, fits_by, within};
+ghost use Rattle.event_phrases.specs.EventForms.{event_fits, fits_by};
+ghost use Rattle.event_phrases.specs.Scopes.{within};
 ghost use Rattle.event_phrases.specs.Fitting.{fits_field, fitting as fitting_of};
 ghost use Rattle.event_phrases.specs.Shapes.{plain_field};
 ghost use Rattle.event_phrases.specs.View.{listed, row};
@@ -15,8 +16,8 @@ use crate::beginning::is_one_of;
 use crate::forms::{FieldPhrase, field};
 use crate::global_scope::{GlobalScope, Set, Wanted};
 use crate::row::{Row, is_equal};
-use crate::scope::{Scope, copies, fault, wanted_worth};
-use std::alloc::{AllocError, Allocator};
+use crate::scope::{Scope, copies, fault, wanted_worth, with_input};
+use std::alloc::Allocator;
 use syntax::Tree;
 use tokens::{ScriptError, ScriptErrorKind};
 use values::{Input, Value, Values, the_set, the_value};
@@ -34,23 +35,6 @@ pub struct Prefix<'a, A: Allocator> {
     pub then: &'a Tree<A>,
     /// The line of the event phrase.
     pub line: u32,
-}
-
-/// The inputs, and one more behind them.
-fn with_input<A: Allocator + Copy>(
-    alloc: A,
-    inputs: Vec<Input<A>, A>,
-    name: &[u8],
-    value: &Value<A>,
-) -> Result<Vec<Input<A>, A>, AllocError>
-    ensures { IfOk result (λ v. map input v.items ≡ map input inputs.items ++ (name.now, value_of value.now) ∷ []) }
-{
-    let mut inputs = inputs;
-    inputs.push(Input {
-        name: Vec::from_slice(alloc, name)?,
-        value: value.clone()?,
-    })?;
-    Ok(inputs)
 }
 
 /// Whether the value is one of the set.

@@ -1,12 +1,12 @@
 //! Scopes: where phrases stand.
-ghost use Rattle.std.specs.Prelude.{◌≡◌, IfOk, map};
+ghost use Rattle.std.specs.Prelude.{◌≡◌, ◌++◌, ◌∷◌, [], IfOk, map};
 ghost use Rattle.std.specs.Option.{option_map};
 ghost use Rattle.syntax.specs.View.{shape};
 ghost use Rattle.tokens.specs.declared.error.ScriptErrorKind.TheVariants.{Memory};
 ghost use Rattle.values.specs.Tables.{input, names_value};
-ghost use Rattle.values.specs.View.{Gives, worth as worth_of};
-ghost use Rattle.values.specs.Worths.{worth as worth_in};
-ghost use Rattle.event_phrases.specs.EventForms.{within};
+ghost use Rattle.values.specs.View.{Gives, value as value_of, values, worth as worth_of};
+ghost use Rattle.values.specs.Worths.{condition, worth as worth_in};
+ghost use Rattle.event_phrases.specs.Scopes.{value_by, values_by, with_input as with_input_of, within};
 ghost use Rattle.event_phrases.specs.Events.{channel_fields};
 ghost use Rattle.event_phrases.specs.View.{listed};
 
@@ -14,7 +14,7 @@ use crate::global_scope::{GlobalScope, Set, Wanted};
 use std::alloc::{AllocError, Allocator};
 use syntax::Tree;
 use tokens::{ScriptError, ScriptErrorKind};
-use values::{Input, Worth, is_value, stands_for};
+use values::{Input, Value, Values, Worth, is_value, stands_for, the_set, the_truth, the_value};
 
 /// The scope of a phrase: what is known of the script, and the inputs before the phrase.
 #[derive(Drop)]
@@ -94,6 +94,94 @@ pub(crate) fn wanted_worth<A: Allocator + Copy, G: GlobalScope<A>>(
         Ok(worth) => Ok(worth),
         Err(error) => Err(told(global, inputs, tree, wanted, error)),
     }
+}
+
+/// The truth that a condition stands for. Its fault isn't the one that is told.
+#[tactic(auto, unfolding(values::specs::Worths::condition))]
+pub(crate) fn truth<A: Allocator + Copy, G: GlobalScope<A>>(
+    alloc: A,
+    scope: &Scope<'_, A, G>,
+    tree: &Tree<A>,
+) -> Result<bool, ScriptError>
+    ensures { Gives (λ b. b) result (condition (within (G.scope scope.now.global.now) (map input scope.now.inputs.items)).known (shape tree.now)) }
+{
+    let worth = worth(alloc, scope.global, &scope.inputs, tree)?;
+    the_truth(worth, tree.line())
+}
+
+/// The truth that a condition stands for, and the fault where it stands for none.
+#[tactic(auto, using(crate::proofs::Scopes::fails_too))]
+pub fn wanted_truth<A: Allocator + Copy, G: GlobalScope<A>>(
+    alloc: A,
+    scope: &Scope<'_, A, G>,
+    tree: &Tree<A>,
+) -> Result<bool, ScriptError>
+    ensures { Gives (λ b. b) result (condition (within (G.scope scope.now.global.now) (map input scope.now.inputs.items)).known (shape tree.now)) }
+{
+    match truth(alloc, scope, tree) {
+        Ok(truth) => Ok(truth),
+        Err(error) => Err(told(scope.global, &scope.inputs, tree, Wanted::Truth, error)),
+    }
+}
+
+/// The number or constant that a phrase stands for, and the fault where it stands for none.
+pub fn wanted_value<A: Allocator + Copy, G: GlobalScope<A>>(
+    alloc: A,
+    scope: &Scope<'_, A, G>,
+    tree: &Tree<A>,
+) -> Result<Value<A>, ScriptError>
+    ensures { Gives value_of result (value_by (within (G.scope scope.now.global.now) (map input scope.now.inputs.items)) (shape tree.now)) }
+{
+    let worth = wanted_worth(alloc, scope.global, &scope.inputs, tree, Wanted::Value)?;
+    the_value(worth, tree.line())
+}
+
+/// The set of values that a phrase stands for, and the fault where it stands for none.
+pub fn wanted_values<A: Allocator + Copy, G: GlobalScope<A>>(
+    alloc: A,
+    scope: &Scope<'_, A, G>,
+    tree: &Tree<A>,
+) -> Result<Values<A>, ScriptError>
+    ensures { Gives values result (values_by (within (G.scope scope.now.global.now) (map input scope.now.inputs.items)) (shape tree.now)) }
+{
+    let worth = wanted_worth(alloc, scope.global, &scope.inputs, tree, Wanted::Values)?;
+    the_set(worth, tree.line())
+}
+
+/// The inputs, and one more behind them.
+pub(crate) fn with_input<A: Allocator + Copy>(
+    alloc: A,
+    inputs: Vec<Input<A>, A>,
+    name: &[u8],
+    value: &Value<A>,
+) -> Result<Vec<Input<A>, A>, AllocError>
+    ensures { IfOk result (λ v. map input v.items ≡ map input inputs.items ++ (name.now, value_of value.now) ∷ []) }
+{
+    let mut inputs = inputs;
+    inputs.push(Input {
+        name: Vec::from_slice(alloc, name)?,
+        value: value.clone()?,
+    })?;
+    Ok(inputs)
+}
+
+/// The scope behind an input with this name and this value.
+#[tactic(auto, using(crate::proofs::Scopes::behind_input))]
+pub fn behind_input<'a, A: Allocator + Copy, G: GlobalScope<A>>(
+    alloc: A,
+    scope: &Scope<'a, A, G>,
+    name: &[u8],
+    value: &Value<A>,
+) -> Result<Scope<'a, A, G>, AllocError>
+    ensures { IfOk result (λ inner. within (G.scope inner.global.now) (map input inner.inputs.items) ≡ with_input_of (within (G.scope scope.now.global.now) (map input scope.now.inputs.items)) name.now (value_of value.now)) }
+{
+    let inputs = copies(alloc, &scope.inputs)?;
+    let inputs = with_input(alloc, inputs, name, value)?;
+    Ok(Scope {
+        global: scope.global,
+        inputs,
+        line: scope.line,
+    })
 }
 
 impl<'a, A: Allocator + Copy, G: GlobalScope<A>> Scope<'a, A, G> {

@@ -6,16 +6,16 @@ ghost use Rattle.syntax.specs.Parsing.{syntaxes};
 ghost use Rattle.syntax.specs.View.{shape, shapes};
 ghost use Rattle.values.specs.Tables.{input};
 ghost use Rattle.values.specs.View.{Gives};
-ghost use Rattle.event_phrases.specs.EventForms.{gives_by, is_in_both, set_by, two_masked, within};
+ghost use Rattle.event_phrases.specs.EventForms.{gives_by, is_in_both, set_by, two_masked};
 ghost use Rattle.event_phrases.specs.Events.{event_set as event_set_in, masked, together};
-ghost use Rattle.event_phrases.specs.Scopes.{events_by};
+ghost use Rattle.event_phrases.specs.Scopes.{events_by, within};
 ghost use Rattle.event_phrases.specs.Shapes.{plain_set};
 
 use crate::beginning::{beginning, whole_event};
 use crate::events::beginning_so;
 use crate::forms::{Combination, Extent, SetPhrase, set_phrase};
 use crate::global_scope::{GlobalScope, Wanted};
-use crate::scope::{Scope, fault, told};
+use crate::scope::{Scope, fault, told, truth};
 use alphabet::EventSet;
 use std::alloc::Allocator;
 use syntax::Tree;
@@ -106,6 +106,13 @@ fn set_of_phrase<A: Allocator + Copy, G: GlobalScope<A>>(
         SetPhrase::Nothing => Ok(EventSet::empty()),
         SetPhrase::Everything => Ok(scope.global.sigma()),
         SetPhrase::Several(extent, trees) => several(alloc, scope, extent, trees),
+        SetPhrase::Chosen(condition, first, second) => {
+            if truth(alloc, scope, condition)? {
+                event_set(alloc, scope, first)
+            } else {
+                event_set(alloc, scope, second)
+            }
+        }
         SetPhrase::Combined(combination, first, second) => {
             let first = event_set(alloc, scope, first)?;
             let second = event_set(alloc, scope, second)?;

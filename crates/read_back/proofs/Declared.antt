@@ -2,6 +2,7 @@
 use Rattle.std.proofs.Common.{◌≡◌, ℕ, zero, suc, ◌+◌, ◌<◌, ◌≤◌, List, [], ◌∷◌, ◌++◌, map, length, nat_eq, Bool, true, false, not, ◌&&◌, ◌⊎◌, Some, inl, inr, refl, sym, ap, ap₂, ◌∙◌, subst, arith, append_assoc, append-nil}
 use Rattle.std.proofs.lemmas.Bool.{false≢true, not-true}
 use Rattle.std.proofs.lemmas.List.{map-append}
+use Rattle.std.proofs.lemmas.List.Folds.{list_all-append}
 use Rattle.std.specs.List.{list_all, range_with_len}
 use Rattle.std.specs.Cmp.Lexicographic.{pointwise, bytes_decides}
 use Rattle.alphabet.specs.Channels.{FieldValue, number, constant, Values, Channel, IsAlphabet, is_declared, is_apart_from}
@@ -12,7 +13,7 @@ use Rattle.term.specs.Proc.{Proc, bodies_of}
 use Rattle.term.specs.Specs.{Specified}
 use Rattle.syntax.specs.Grammar.{Syntax}
 use Rattle.values.specs.Values.{◌>>=◌}
-use Rattle.values.specs.Names.{Entry, channel, datatype, constant_name, definition, same_name, names_of, listed_names, field_sets, entries_of, declared_by, declared_by_all, declared, meaning, are_distinct, datatype_entries}
+use Rattle.values.specs.Names.{Entry, channel, datatype, constant_name, definition, same_name, names_of, listed_names, field_sets, entries_of, declared_by, declared_by_all, declared, meaning, are_distinct, have_parameters, datatype_entries}
 use Rattle.declared_names.proofs.Chains.{bind_some}
 use Rattle.declarations.proofs.Meanings as meanings
 use Rattle.printing.specs.Names.{Name, constants, primed, datatype_name, datatype_primes}
@@ -152,6 +153,40 @@ constant_apart cs a x c i j e =
     let it : not (is_declared cs x) ≡ true = all-In (is_apart_from cs) vs values m in
     false≢true (sym (none-In (λ c. pointwise nat_eq x c.name) cs (not-true (is_declared cs x) it) j) ∙ (bytes_decides x c.name).1 e)
 
+-- ---- no parameters
+
+module _ (es : List Entry) where
+  -- the entry has parameters that are in order, if it has any
+  abbrev fits : Entry → Bool
+  fits e = have_parameters es e.1
+
+  constants_fit : (ns : List Name) → list_all fits (map (λ c. (c, constant_name)) ns) ≡ true
+  unfolding have_parameters
+  constants_fit [] = refl
+  constants_fit (n ∷ ns) = constants_fit ns
+
+  typed_fit : (p : ℕ) (ns : List Name) → list_all fits (typed_entries p ns) ≡ true
+  unfolding have_parameters
+  typed_fit p [] = refl
+  typed_fit p (n ∷ ns) = constants_fit (n ∷ ns)
+
+  channels_fit : (cs : List Channel) → list_all fits (map channel_entry cs) ≡ true
+  unfolding have_parameters
+  channels_fit [] = refl
+  channels_fit (c ∷ cs) = channels_fit cs
+
+  bodies_fit : (cs : List Channel) (primes : ℕ) (Ps : List Proc) (ks : List ℕ) → list_all fits (map (body_entry cs primes Ps) ks) ≡ true
+  unfolding have_parameters
+  bodies_fit cs primes Ps [] = refl
+  bodies_fit cs primes Ps (k ∷ ks) = bodies_fit cs primes Ps ks
+
+  all_fit : (cs : List Channel) (primes : ℕ) (Ps : List Proc) → list_all fits ((typed_entries (datatype_primes cs) (constants cs) ++ map channel_entry cs) ++ body_entries cs primes Ps) ≡ true
+  all_fit cs primes Ps =
+      list_all-append fits (typed_entries (datatype_primes cs) (constants cs) ++ map channel_entry cs) (body_entries cs primes Ps)
+      ∙ ap₂ (λ a b. a && b)
+      (list_all-append fits (typed_entries (datatype_primes cs) (constants cs)) (map channel_entry cs) ∙ ap₂ (λ a b. a && b) (typed_fit (datatype_primes cs) (constants cs)) (channels_fit cs))
+      (bodies_fit cs primes Ps (range_with_len 0 (length Ps)))
+
 module _ (spec : Specified) (sound : IsAlphabet spec.alphabet) (few : length spec.bodies ≤ 65536) where
   abbrev cs : List Channel
   cs = spec.alphabet
@@ -187,6 +222,10 @@ module _ (spec : Specified) (sound : IsAlphabet spec.alphabet) (few : length spe
 
   pub once : are_distinct (printed_entries spec) ≡ true
   once = distinct_entries (printed_entries spec) (subst Distinct (sym (map-append named (typed ++ channelled) defined ∙ ap (λ ns. ns ++ map named defined) (map-append named typed channelled))) all_distinct)
+
+  -- none of them has parameters
+  pub no_parameters : list_all (λ e. have_parameters (printed_entries spec) e.1) (printed_entries spec) ≡ true
+  no_parameters = all_fit (printed_entries spec) cs primes spec.bodies
 
   -- ---- what names are declared as
 

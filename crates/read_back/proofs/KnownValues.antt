@@ -1,4 +1,4 @@
--- What phrases stand for: numbers within the limits, constants that names stand for, and sets in order.
+-- What phrases stand for: numbers within the limits, constants that names stand for, sets in order, and truths.
 use Rattle.std.proofs.Common.{◌≡◌, ℕ, zero, suc, ◌<◌, ◌≤◌, List, [], ◌∷◌, filter, Bool, true, false, cond, ◌&&◌, not, Some, None, ℤ, pos, negsuc, ◌+ℤ◌, ◌-ℤ◌, ◌≤ℤ◌, ◌<ℤ◌, refl, sym, subst, ◌∙◌, arith}
 use Rattle.std.proofs.lemmas.Int.{ints, rem_below}
 use Rattle.std.specs.Prelude.{int_lt, int_le, nat_le, length, unsigned_abs, int_rem, ◌*ℤ◌}
@@ -13,10 +13,11 @@ use Rattle.syntax.specs.declared.form.Form.{Form}
 use Rattle.syntax.specs.declared.form.Form.TheVariants as forms
 use Rattle.syntax.specs.declared.operator.Operator.{Operator}
 use Rattle.syntax.specs.declared.operator.Operator.TheVariants as operators
-use Rattle.syntax.specs.Grammar.{Syntax, Called, Numeral, Node, Syntaxes, NoSyntax, MoreSyntax}
+use Rattle.syntax.specs.Grammar.{Syntax}
 use Rattle.values.specs.Values.{◌>>=◌, Name, value_cmp, is_among, limited, remainder, set_of, union, intersection, difference, fitting_set, numbers_from, range}
-use Rattle.values.specs.Worths.{Worth, one, many, Known, the_value, the_number, the_set, the_only, the_two, two_numbers, two_sets, all_values, set_of_all, nothing_of, calculated, computed, negated, set_with, range_with, union_with, intersection_with, difference_with, formed, worth, worths}
+use Rattle.values.specs.Worths.{Worth, one, many, truth, Known, the_value, the_number, the_set, the_truth, the_only, the_two, two_numbers, two_sets, all_values, set_of_all, nothing_of, calculated, computed, compared, is_comparison, comparison, operated, truth_of, negated_truth, negated, set_with, range_with, union_with, intersection_with, difference_with, formed, worth}
 use Rattle.values.specs.Order.{value_total}
+use Rattle.values.proofs.Keeps.{EachWorth, worth_keeps}
 use Rattle.declared_names.proofs.Chains.{bind_some, some_same}
 use Rattle.read_back.proofs.Ordered.{Above, Rises, rises_insert}
 
@@ -118,10 +119,11 @@ module _ (Q : Name → Type 0) where
   AllFine [] = Unit {0}
   AllFine (v ∷ vs) = Fine v × AllFine vs
 
-  -- one value, or a set in order
+  -- one value, a set in order, or a truth
   abbrev pub FineWorth : Worth → Type 0
   FineWorth (one v) = Fine v
   FineWorth (many vs) = AllFine vs × Rises value_cmp value_total vs
+  FineWorth (truth b) = Unit {0}
 
   insert_fine : (vs : Values) (v : FieldValue) → AllFine vs → Fine v → AllFine (insert_key value_cmp vs v)
   insert_fine [] v h k = (k, tt)
@@ -184,8 +186,7 @@ module _ (Q : Name → Type 0) where
   -- ---- what the parts of a form stand for
 
   abbrev ListFine : List Worth → Type 0
-  ListFine [] = Unit {0}
-  ListFine (w ∷ ws) = FineWorth w × ListFine ws
+  ListFine ws = EachWorth FineWorth ws
 
   only_fine : (ws : List Worth) (w : Worth) → the_only ws ≡ Some w → ListFine ws → FineWorth w
   unfolding the_only
@@ -206,12 +207,14 @@ module _ (Q : Name → Type 0) where
   unfolding the_set
   sets_fine (one v) vs h k = absurd cc
   sets_fine (many us) vs h k = subst (λ xs. FineWorth (many xs)) (some_same h) k
+  sets_fine (truth b) vs h k = absurd cc
 
   number_fine : (w : Worth) (z : ℤ) → the_number w ≡ Some z → FineWorth w → InLimits z
   unfolding the_number
   number_fine (one (number y)) z h k = subst InLimits (some_same h) k
   number_fine (one (constant n)) z h k = absurd cc
   number_fine (many vs) z h k = absurd cc
+  number_fine (truth b) z h k = absurd cc
 
   two_sets_fine : (ws : List Worth) (x : Values × Values) → two_sets ws ≡ Some x → ListFine ws → FineWorth (many x.0) × FineWorth (many x.1)
   unfolding two_sets
@@ -237,6 +240,7 @@ module _ (Q : Name → Type 0) where
   unfolding the_value
   one_value (one u) v h k = subst Fine (some_same h) k
   one_value (many us) v h k = absurd cc
+  one_value (truth b) v h k = absurd cc
 
   values_fine : (ws : List Worth) (vs : Values) → all_values ws ≡ Some vs → ListFine ws → AllFine vs
   unfolding all_values
@@ -262,6 +266,33 @@ module _ (Q : Name → Type 0) where
       let (q, a, b) = bind_some (two_numbers ws) (λ q. calculated op q.0 q.1 >>= λ z. Some (one (number z))) w h in
       let (z, c, d) = bind_some (calculated op q.0 q.1) (λ z. Some (one (number z))) w b in
       subst FineWorth (some_same d) (result_fine op q.0 q.1 z (two_numbers_fine ws q a k).1 c)
+
+  compared_fine : (op : Operator) (ws : List Worth) (w : Worth) → comparison op ws ≡ Some w → FineWorth w
+  unfolding comparison
+  compared_fine op ws w h =
+      let (q, a, b) = bind_some (the_two ws) (λ q. compared op q.0 q.1 >>= λ t. Some (truth t)) w h in
+      let (t, c, d) = bind_some (compared op q.0 q.1) (λ t. Some (truth t)) w b in
+      subst FineWorth (some_same d) tt
+
+  operated_fine : (op : Operator) (ws : List Worth) (w : Worth) → operated op ws ≡ Some w → ListFine ws → FineWorth w
+  unfolding operated
+  operated_fine op ws w h k = by (is_comparison op) h
+    where
+      by : (b : Bool) → cond b (comparison op ws) (computed op ws) ≡ Some w → FineWorth w
+      by true h = compared_fine op ws w h
+      by false h = computed_fine op ws w h k
+
+  truth_fine : (b : Bool) (ws : List Worth) (w : Worth) → truth_of b ws ≡ Some w → FineWorth w
+  unfolding truth_of
+  truth_fine b [] w h = subst FineWorth (some_same h) tt
+  truth_fine b (v ∷ ws) w h = absurd cc
+
+  other_truth : (ws : List Worth) (w : Worth) → negated_truth ws ≡ Some w → FineWorth w
+  unfolding negated_truth
+  other_truth ws w h =
+      let (v, a, b) = bind_some (the_only ws) (λ w. the_truth w >>= λ b. Some (truth (not b))) w h in
+      let (t, c, d) = bind_some (the_truth v) (λ b. Some (truth (not b))) w b in
+      subst FineWorth (some_same d) tt
 
   negated_fine : (ws : List Worth) (w : Worth) → negated ws ≡ Some w → FineWorth w
   unfolding negated
@@ -320,7 +351,10 @@ module _ (Q : Name → Type 0) where
   formed_fine forms.Brackets ws w h k = only_fine ws w h k
   formed_fine forms.Negation ws w h k = negated_fine ws w h
   formed_fine forms.NegativeNumber ws w h k = negated_fine ws w h
-  formed_fine (forms.Operation op) ws w h k = computed_fine op ws w h k
+  formed_fine forms.True ws w h k = truth_fine true ws w h
+  formed_fine forms.False ws w h k = truth_fine false ws w h
+  formed_fine forms.Not ws w h k = other_truth ws w h
+  formed_fine (forms.Operation op) ws w h k = operated_fine op ws w h k
   formed_fine forms.EmptySet ws w h k = nothing_fine ws w h
   formed_fine forms.Set ws w h k = listed_fine ws w h k
   formed_fine forms.Range ws w h k = ranged_fine ws w h k
@@ -329,21 +363,5 @@ module _ (Q : Name → Type 0) where
   formed_fine forms.Difference ws w h k = parted_fine ws w h k
   formed_fine f ws w h k = absurd cc
 
-  mutual
-    unfolding worth
-
-    pub worth_fine : (known : Known) → ((n : Name) (w : Worth) → known n ≡ Some w → FineWorth w) → (t : Syntax) (w : Worth) → worth known t ≡ Some w → FineWorth w
-    worth_fine known h (Called n) w e = h n w e
-    worth_fine known h (Numeral n) w e =
-        let (z, a, b) = bind_some (limited (pos n)) (λ z. Some (one (number z))) w e in
-        subst FineWorth (some_same b) (limits (pos n) z a)
-    worth_fine known h (Node f ts) w e =
-        let (ws, a, b) = bind_some (worths known ts) (formed f) w e in
-        formed_fine f ws w b (worths_fine known h ts ws a)
-
-    pub worths_fine : (known : Known) → ((n : Name) (w : Worth) → known n ≡ Some w → FineWorth w) → (ts : Syntaxes) (ws : List Worth) → worths known ts ≡ Some ws → ListFine ws
-    worths_fine known h NoSyntax ws e = subst ListFine (some_same e) tt
-    worths_fine known h (MoreSyntax t ts) ws e =
-        let (w, a, b) = bind_some (worth known t) (λ w. worths known ts >>= λ ws. Some (w ∷ ws)) ws e in
-        let (us, c, d) = bind_some (worths known ts) (λ ws. Some (w ∷ ws)) ws b in
-        subst ListFine (some_same d) (worth_fine known h t w a, worths_fine known h ts us c)
+  pub worth_fine : (known : Known) → ((n : Name) (w : Worth) → known n ≡ Some w → FineWorth w) → (t : Syntax) (w : Worth) → worth known t ≡ Some w → FineWorth w
+  worth_fine known h t w e = worth_keeps FineWorth limits (λ b. tt) formed_fine known h t w e

@@ -3,24 +3,10 @@ use Rattle.std.proofs.Common.{◌≡◌, ℕ, zero, suc, ◌<◌, List, [], ◌�
 use Rattle.std.proofs.lemmas.Bool.{false≢true}
 use Rattle.std.proofs.lemmas.List.{length-append, map-append}
 use Rattle.std.specs.List.{flat_map}
-use Rattle.std.specs.Cmp.Lexicographic.{pointwise, bytes_decides}
-use Rattle.alphabet.proofs.Lists.{and-left, and-right}
-use Rattle.values.specs.Values.{is_same}
-use Rattle.values.specs.Names.{same_name}
 use Rattle.denotation.specs.Bodies.{Key, same_key, Body, names}
 use Rattle.denotation.specs.Denotes.{place, has_key, with_key, with_keys, met}
-use Rattle.denotation.proofs.Keys.{key_same, has_with}
+use Rattle.denotation.proofs.Keys.{key_is, key_same, has_with}
 use Rattle.denotation.proofs.Reached.{get_front, keys_grow}
-use Rattle.read_back.proofs.Given.{all_same}
-
--- ---- keys that are the same
-
-pub key_is : (j k : Key) → same_key j k ≡ true → j ≡ k
-unfolding same_key
-key_is j k h =
-    let a = (bytes_decides j.0 k.0).0 (and-left (same_name j.0 k.0) (pointwise is_same j.1 k.1) h) in
-    let b = all_same j.1 k.1 (and-right (same_name j.0 k.0) (pointwise is_same j.1 k.1) h) in
-    ap₂ (λ n vs. (n, vs)) a b
 
 -- ---- places
 

@@ -14,9 +14,9 @@ use Rattle.alphabet.specs.Elements.{In, here, there}
 use Rattle.alphabet.proofs.Lists.{none-from_In}
 use Rattle.syntax.specs.Grammar.{Syntaxes, NoSyntax, MoreSyntax}
 use Rattle.values.specs.Values.{◌>>=◌, Name, value_cmp}
-use Rattle.values.specs.Worths.{Worth, one, many, Known, worth, the_set}
+use Rattle.values.specs.Worths.{Worth, one, many, truth, Known, worth, the_set}
 use Rattle.values.specs.Order.{value_total}
-use Rattle.values.specs.Names.{Entry, Meaning, channel, datatype, constant_name, definition, same_name, meaning, declared_by_all, are_distinct, worth_of, known_in, Stands}
+use Rattle.values.specs.Names.{Entry, Meaning, channel, datatype, constant_name, definition, parametric, same_name, meaning, declared_by_all, are_distinct, worth_of, known_in, Stands}
 use Rattle.values.specs.Channels.{fields_of, with_channel, channels_of}
 use Rattle.declared_names.proofs.Chains.{bind_some, some_same, left, right, both}
 use Rattle.declarations.proofs.Meanings as meanings
@@ -56,6 +56,7 @@ module _ (ts : Syntaxes) (es : List Entry) (known : Known) (all : declared_by_al
       by (datatype cs) a b rec = subst Good (some_same b) (set_fine IsConstant (map constant cs) (constants_good cs (closed ts es n cs all (meant es n (datatype cs) a))), set_rises (map constant cs))
       by constant_name a b rec = let i = meant es n constant_name a in subst Good (some_same b) (proper_in es (n, constant_name) proper i, a, in_named es (n, constant_name) named i)
       by (definition t) a b rec = worth_fine IsConstant (known_in es j) rec t w b
+      by (parametric xs t) a b rec = absurd cc
 
   known_good : (n : Name) (w : Worth) → known n ≡ Some w → Good w
   known_good n w e = let r = (stands n w).0 e in steps_good r.0 n w r.1
@@ -68,6 +69,7 @@ module _ (ts : Syntaxes) (es : List Entry) (known : Known) (all : declared_by_al
   unfolding the_set
   a_set (one v) vs h k = absurd cc
   a_set (many us) vs h k = subst (λ xs. Good (many xs)) (some_same h) k
+  a_set (truth t) vs h k = absurd cc
 
   fields_good : (sets : Syntaxes) (fields : List Values) → fields_of known sets ≡ Some fields → FieldsGood fields
   unfolding fields_of
@@ -101,6 +103,7 @@ module _ (ts : Syntaxes) (es : List Entry) (known : Known) (all : declared_by_al
   with_one f fs ds cs h (datatype ns) i e = subst (EachOf (f ∷ fs)) (some_same e) (each_later f fs ds h)
   with_one f fs ds cs h constant_name i e = subst (EachOf (f ∷ fs)) (some_same e) (each_later f fs ds h)
   with_one f fs ds cs h (definition t) i e = subst (EachOf (f ∷ fs)) (some_same e) (each_later f fs ds h)
+  with_one f fs ds cs h (parametric xs t) i e = subst (EachOf (f ∷ fs)) (some_same e) (each_later f fs ds h)
 
   channels_good : (fs : List Entry) (cs : List Channel) → channels_of known fs ≡ Some cs → EachOf fs cs
   unfolding channels_of
@@ -203,6 +206,7 @@ module _ (ts : Syntaxes) (es : List Entry) (known : Known) (all : declared_by_al
   distinct_one f fs ds cs h o d (datatype ns) e = ap alphabets.are_distinct (sym (some_same e)) ∙ d
   distinct_one f fs ds cs h o d constant_name e = ap alphabets.are_distinct (sym (some_same e)) ∙ d
   distinct_one f fs ds cs h o d (definition t) e = ap alphabets.are_distinct (sym (some_same e)) ∙ d
+  distinct_one f fs ds cs h o d (parametric xs t) e = ap alphabets.are_distinct (sym (some_same e)) ∙ d
 
   distinct_channels : (fs : List Entry) (cs : List Channel) → are_distinct fs ≡ true → channels_of known fs ≡ Some cs → alphabets.are_distinct cs ≡ true
   unfolding channels_of are_distinct

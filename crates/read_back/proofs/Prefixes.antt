@@ -13,7 +13,7 @@ use Rattle.syntax.specs.Grammar.{Syntaxes}
 use Rattle.values.specs.Values.{◌>>=◌, Name, is_same}
 use Rattle.values.specs.Names.{same_name}
 use Rattle.event_phrases.specs.Events.{fields_named, channel_fields, unless_value}
-use Rattle.denotation.specs.Bodies.{Body, prefix, choice_of, choice_in}
+use Rattle.denotation.specs.Bodies.{Body, prefix, choice_of, halved, halved_in}
 use Rattle.event_phrases.specs.Fitting.{against, fits_field, fitting, has_all, then_fits}
 use Rattle.event_phrases.specs.Scopes.{Scope}
 use Rattle.denotation.specs.Phrases.{branches, prefixed, with_branch}
@@ -225,7 +225,7 @@ module _ (s : Scope) (primes m : ℕ) (h : IsPrintedScope s primes m) (a : ℕ) 
       missed q t other = sym (ap (λ b. b && pointwise is_same parts.values q.values) t) ∙ other
 
   only_choice : (next : Scope → Option Body) → (o : Option Body) → ((o >>= λ q. Some (prefix a q ∷ [])) >>= λ ps. Some (choice_of ps)) ≡ (o >>= λ q. Some (prefix a q))
-  unfolding choice_of choice_in
+  unfolding halved halved_in
   only_choice next None = refl
   only_choice next (Some q) = refl
 

@@ -9,7 +9,7 @@ use Rattle.syntax.specs.Grammar.{Syntax, Called, Numeral, Node, Syntaxes, NoSynt
 use Rattle.syntax.specs.Rules.{rule}
 use Rattle.syntax.specs.Script.{HasTree}
 use Rattle.values.specs.Values.{◌>>=◌, Name}
-use Rattle.values.specs.Names.{Entry, Meaning, channel, datatype, constant_name, names_of, listed_names, field_sets, entries_of, declared_by, declared_by_all, declared}
+use Rattle.values.specs.Names.{Entry, Meaning, channel, datatype, constant_name, parametric, names_of, listed_names, field_sets, entries_of, declared_by, declared_by_all, declared}
 use Rattle.declared_names.proofs.Chains.{bind_some, some_same}
 use Rattle.read_back.proofs.Scanned.{IsProper, AllProper}
 
@@ -125,6 +125,9 @@ form_proper forms.Datatype (MoreSyntax (Called m) (MoreSyntax t NoSyntax)) es h 
     let (ns, a, b) = bind_some (listed_names t) (λ ns. Some ((m, datatype ns) ∷ map (λ c. (c, constant_name)) ns)) es h in
     subst EntriesProper (some_same b) (k.1.0, named_proper constant_name ns (listed_proper t ns a (left_proper (flat t) (spell NoSyntax []) k.1.1.1)))
 form_proper forms.Definition (MoreSyntax (Called m) (MoreSyntax t NoSyntax)) es h k = subst EntriesProper (some_same h) (k.0, tt)
+form_proper forms.DefinitionWithParameters (MoreSyntax (Called m) (MoreSyntax t (MoreSyntax u NoSyntax))) es h k =
+    let (xs, a, b) = bind_some (listed_names t) (λ xs. Some ((m, parametric xs u) ∷ [])) es h in
+    subst EntriesProper (some_same b) (k.0, tt)
 form_proper f ts es h k = absurd cc
 
 by_proper : (t : Syntax) (es : List Entry) → declared_by t ≡ Some es → TokensProper (flat t) → EntriesProper es

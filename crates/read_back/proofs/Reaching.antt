@@ -14,12 +14,12 @@ use Rattle.values.specs.Names.{same_name}
 use Rattle.denotation.specs.Bodies.{Key, same_key, Body, stop, skip, prefix, ext, int, seq, par, hide, ren, intr, name, names, numbered}
 use Rattle.event_phrases.specs.Scopes.{Scope}
 use Rattle.denotation.specs.Denotes.{body_of, place, has_key, with_keys, met, Reached}
-use Rattle.denotation.proofs.Keys.{key_same}
+use Rattle.denotation.proofs.Keys.{key_is, key_same}
 use Rattle.denotation.proofs.Reached.{get_or_view}
 use Rattle.printing.specs.Names.{body_name}
 use Rattle.printing.specs.Printed.{reference}
 use Rattle.read_back.proofs.Readable.{referred}
-use Rattle.read_back.proofs.Numbers.{key_is, at_place, has_own, AllHave, Placed, placed, all_named, root_met, all_taken, all_left, all_right, all_other}
+use Rattle.read_back.proofs.Numbers.{at_place, has_own, AllHave, Placed, placed, all_named, root_met, all_taken, all_left, all_right, all_other}
 
 -- ---- printed names of bodies
 

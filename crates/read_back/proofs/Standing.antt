@@ -1,5 +1,5 @@
 -- What the names of a printed script stand for: its constants for themselves, its bodies for processes.
-use Rattle.std.proofs.Common.{◌≡◌, ℕ, zero, suc, ◌<◌, ◌≤◌, ℤ, List, [], ◌∷◌, map, length, Bool, true, Option, Some, None, refl, sym, ap, ◌∙◌}
+use Rattle.std.proofs.Common.{◌≡◌, ℕ, zero, suc, ◌<◌, ◌≤◌, ℤ, List, [], ◌∷◌, map, length, Bool, true, false, cond, Option, Some, None, refl, sym, ap, ◌∙◌}
 use Rattle.alphabet.specs.Channels.{number, constant, Channel, IsAlphabet, event_count}
 use Rattle.alphabet.specs.Elements.{In}
 use Rattle.alphabet.specs.declared.events.Event.TheVariants.{Of as ev}
@@ -11,8 +11,9 @@ use Rattle.syntax.specs.declared.operator.Operator.TheVariants as operators
 use Rattle.syntax.specs.declared.form.Form.TheVariants as forms
 use Rattle.syntax.specs.Grammar.{Node, Syntaxes, NoSyntax, MoreSyntax}
 use Rattle.values.specs.Values.{◌>>=◌}
-use Rattle.values.specs.Worths.{Worth, one, many, Known, calculated, computed, two_numbers, formed, worth, worths}
-use Rattle.values.specs.Names.{Entry, Meaning, channel, datatype, constant_name, definition, meaning, worth_of, known_in, Stands, is_process_operator, is_process_form, is_process_by, is_process_meaning, is_process_in, is_process}
+use Rattle.values.specs.Worths.{Worth, one, many, truth, Known, calculated, computed, is_comparison, comparison, operated, two_numbers, formed, is_lazy, worth, worths}
+use Rattle.values.specs.Names.{Entry, Meaning, channel, datatype, constant_name, definition, parametric, meaning, worth_of, known_in, Stands, is_process_operator, is_process_form, is_process_by, is_process_meaning, is_process_in, is_process}
+use Rattle.values.proofs.Keeps.{strict_is}
 use Rattle.event_phrases.specs.Events.{KnownEvents, EventsStand, unless_value, event_set, events_of, events_in}
 use Rattle.printing.specs.Names.{Name, constants}
 use Rattle.printing.specs.Printed.{reference}
@@ -30,29 +31,36 @@ no_result : (op : Operator) → ((y z : ℤ) → calculated op y z ≡ None) →
 unfolding computed
 no_result op h ws = none_bound (two_numbers ws) (λ p. calculated op p.0 p.1 >>= λ z. Some (one (number z))) (λ p. ap (λ o. o >>= λ z. Some (one (number z))) (h p.0 p.1))
 
-no_operation : (op : Operator) (known : Known) (ts : Syntaxes) → ((y z : ℤ) → calculated op y z ≡ None) → worth known (Node forms.Brackets (MoreSyntax (Node (forms.Operation op) ts) NoSyntax)) ≡ None
-unfolding worth worths formed
-no_operation op known ts h = ap (λ o. (o >>= λ w. Some (w ∷ [])) >>= formed forms.Brackets) (none_bound (worths known ts) (computed op) (no_result op h))
+-- an operator that looks at all sides, is no comparison and calculates nothing
+no_operated : (op : Operator) → is_comparison op ≡ false → ((y z : ℤ) → calculated op y z ≡ None) → (ws : List Worth) → formed (forms.Operation op) ws ≡ None
+unfolding formed operated
+no_operated op c h ws = ap (λ b. cond b (comparison op ws) (computed op ws)) c ∙ no_result op h ws
+
+no_operation : (op : Operator) (known : Known) (ts : Syntaxes) → is_lazy (forms.Operation op) ≡ false → is_comparison op ≡ false → ((y z : ℤ) → calculated op y z ≡ None) → worth known (Node forms.Brackets (MoreSyntax (Node (forms.Operation op) ts) NoSyntax)) ≡ None
+unfolding worth worths
+no_operation op known ts l c h =
+    ap (λ o. (o >>= λ w. Some (w ∷ [])) >>= λ ws. formed forms.Brackets ws) (strict_is known (forms.Operation op) ts l ∙ none_bound (worths known ts) (λ ws. formed (forms.Operation op) ws) (no_operated op c h))
 
 module _ (cs : List Channel) (primes n m : ℕ) (known : Known) (free : (k : ℕ) → k < m → known (reference primes k) ≡ None) where
   no_worth : (P : Proc) → IsWritten n m P → worth known (process_tree cs primes P) ≡ None
-  unfolding process_tree worth worths formed calculated
+  unfolding process_tree worth worths formed calculated is_lazy is_comparison
   no_worth procs.stop w = refl
   no_worth procs.skip w = refl
-  no_worth (procs.prefix a P) w = no_operation operators.Prefix known (phrases (tree_of_event cs (ev a) ∷ process_tree cs primes P ∷ [])) (λ y z. refl)
-  no_worth (procs.ext P Q) w = no_operation operators.ExternalChoice known (phrases (process_tree cs primes P ∷ process_tree cs primes Q ∷ [])) (λ y z. refl)
-  no_worth (procs.int P Q) w = no_operation operators.InternalChoice known (phrases (process_tree cs primes P ∷ process_tree cs primes Q ∷ [])) (λ y z. refl)
-  no_worth (procs.seq P Q) w = no_operation operators.Sequence known (phrases (process_tree cs primes P ∷ process_tree cs primes Q ∷ [])) (λ y z. refl)
-  no_worth (procs.par A P Q) w = no_operation operators.Sharing known (phrases (process_tree cs primes P ∷ set_tree cs A ∷ process_tree cs primes Q ∷ [])) (λ y z. refl)
-  no_worth (procs.hide A P) w = no_operation operators.Hiding known (phrases (process_tree cs primes P ∷ set_tree cs A ∷ [])) (λ y z. refl)
-  no_worth (procs.ren R P) w = no_operation operators.Renaming known (phrases (process_tree cs primes P ∷ map (pair_tree cs) R)) (λ y z. refl)
-  no_worth (procs.intr P Q) w = no_operation operators.Interrupt known (phrases (process_tree cs primes P ∷ process_tree cs primes Q ∷ [])) (λ y z. refl)
-  no_worth (procs.name k) w = ap (λ o. (o >>= λ v. Some (v ∷ [])) >>= formed forms.Event) (free k w)
+  no_worth (procs.prefix a P) w = no_operation operators.Prefix known (phrases (tree_of_event cs (ev a) ∷ process_tree cs primes P ∷ [])) refl refl (λ y z. refl)
+  no_worth (procs.ext P Q) w = no_operation operators.ExternalChoice known (phrases (process_tree cs primes P ∷ process_tree cs primes Q ∷ [])) refl refl (λ y z. refl)
+  no_worth (procs.int P Q) w = no_operation operators.InternalChoice known (phrases (process_tree cs primes P ∷ process_tree cs primes Q ∷ [])) refl refl (λ y z. refl)
+  no_worth (procs.seq P Q) w = no_operation operators.Sequence known (phrases (process_tree cs primes P ∷ process_tree cs primes Q ∷ [])) refl refl (λ y z. refl)
+  no_worth (procs.par A P Q) w = no_operation operators.Sharing known (phrases (process_tree cs primes P ∷ set_tree cs A ∷ process_tree cs primes Q ∷ [])) refl refl (λ y z. refl)
+  no_worth (procs.hide A P) w = no_operation operators.Hiding known (phrases (process_tree cs primes P ∷ set_tree cs A ∷ [])) refl refl (λ y z. refl)
+  no_worth (procs.ren R P) w = no_operation operators.Renaming known (phrases (process_tree cs primes P ∷ map (pair_tree cs) R)) refl refl (λ y z. refl)
+  no_worth (procs.intr P Q) w = no_operation operators.Interrupt known (phrases (process_tree cs primes P ∷ process_tree cs primes Q ∷ [])) refl refl (λ y z. refl)
+  no_worth (procs.name k) w = ap (λ o. (o >>= λ v. Some (v ∷ [])) >>= λ ws. formed forms.Event ws) (free k w)
 
 no_events : {X : Type 0} (o : Option Worth) → unless_value {X = X} o None ≡ None
 no_events None = refl
 no_events (Some (one v)) = refl
 no_events (Some (many vs)) = refl
+no_events (Some (truth b)) = refl
 
 module _ (cs : List Channel) (primes n m : ℕ) (known : Known) (sets : KnownEvents) (free : (k : ℕ) → k < m → sets (reference primes k) ≡ None) where
   no_set : (P : Proc) → IsWritten n m P → event_set cs known sets (process_tree cs primes P) ≡ None
@@ -127,6 +135,7 @@ module _ (spec : Specified) (sound : IsAlphabet spec.alphabet) (few : length spe
   steps_of j n (Some (channel ts)) e = refl
   steps_of j n (Some (datatype ns)) e = refl
   steps_of j n (Some constant_name) e = refl
+  steps_of j n (Some (parametric xs t)) e = refl
   steps_of j n (Some (definition t)) e =
       let (k, l, a, b) = definition_is spec sound few n t e in
       let no : (i : ℕ) → worth (known_in entries i) t ≡ None = λ i. ap (worth (known_in entries i)) b ∙ no_worth cs primes (event_count cs) count (known_in entries i) (λ x y. body_unknown i x y) (bodies_of spec.bodies k) (written k l) in
@@ -165,6 +174,7 @@ module _ (spec : Specified) (sound : IsAlphabet spec.alphabet) (few : length spe
   none_of j n (Some (channel ts)) e = refl
   none_of j n (Some (datatype ns)) e = refl
   none_of j n (Some constant_name) e = refl
+  none_of j n (Some (parametric xs t)) e = refl
   none_of j n (Some (definition t)) e =
       let (k, l, a, b) = definition_is spec sound few n t e in
       ap (event_set cs printed_known (events_in cs printed_known entries j)) b

@@ -27,7 +27,7 @@ use Rattle.read_back.proofs.Processes.{IsShownAlphabet}
 use Rattle.read_back.proofs.Lines.{whole_read}
 use Rattle.read_back.proofs.FittingLines.{whole_is}
 use Rattle.read_back.proofs.Primes.{is_constant, of_fields}
-use Rattle.read_back.proofs.Declared.{script_declared, once, body_means}
+use Rattle.read_back.proofs.Declared.{script_declared, once, no_parameters, body_means}
 use Rattle.read_back.proofs.Standing.{printed_known, unknown, channel_unknown, constant_known, stands, no_sets, sets_stand, are_processes}
 use Rattle.read_back.proofs.Fields.{AllFieldsGiven, printed_channels, printed_longer}
 use Rattle.read_back.proofs.Reaching.{reached_many, printed_key, printed_keys, printed_bodies, printed_numbers, printed_reached}
@@ -126,6 +126,7 @@ module _ (t : Syntax) (root : Name) (spec : Specified) (d : Denotes t root spec)
   printed_declares = record {
     named = script_declared spec;
     once = once spec p.sound few;
+    parameters = no_parameters spec p.sound few;
     stands = stands spec p.sound few p.written;
     fielded = printed_channels scope spec (λ c i. fields_given c c.fields i (λ vs j. j));
     small = d.declares.small;

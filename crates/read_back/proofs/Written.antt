@@ -16,14 +16,14 @@ use Rattle.syntax.specs.declared.form.Form.TheVariants as forms
 use Rattle.syntax.specs.declared.operator.Operator.TheVariants as operators
 use Rattle.syntax.specs.Grammar.{Syntax, Called, Numeral, Node, Syntaxes, NoSyntax, MoreSyntax}
 use Rattle.values.specs.Values.{◌>>=◌, Name, is_among, is_same}
-use Rattle.values.specs.Worths.{Worth, one, many, Known, worth, the_set}
-use Rattle.values.specs.Names.{Meaning, channel, datatype, constant_name, definition, meaning, same_name, is_process}
+use Rattle.values.specs.Worths.{Worth, one, many, truth, Known, worth, condition, the_set}
+use Rattle.values.specs.Names.{Meaning, channel, datatype, constant_name, definition, parametric, is_constant, meaning, same_name, is_process}
 use Rattle.event_phrases.specs.Events.{Events, Beginning, unless_value, channel_fields, field_value, beginning, begins_so, number_in, pairs_from, pair_of, pairs_of, set_below, set_of, both}
-use Rattle.denotation.specs.Bodies.{Key, Body, stop, skip, prefix, ext, int, seq, par, hide, ren, intr, name, names, numbered, half, choice_in, choice_of}
+use Rattle.denotation.specs.Bodies.{Key, Body, stop, skip, prefix, ext, int, seq, par, hide, ren, intr, name, names, numbered, half, halved_in, halved, choice_of}
 use Rattle.event_phrases.specs.Fitting.{Fitting, against, against_input, against_part, fits_field, then_fits, fitting, has_all}
-use Rattle.event_phrases.specs.Scopes.{Scope, is_constant, with_input, events_by}
-use Rattle.denotation.specs.Phrases.{with_branch, branches, prefixed, renamed, alphabetised, denoted, denoted_form}
-use Rattle.denotation.specs.Denotes.{body_by, body_of, place, Reached}
+use Rattle.event_phrases.specs.Scopes.{Scope, within, with_input, unless_constant, events_by}
+use Rattle.denotation.specs.Phrases.{with_branch, branches, prefixed, takes, arguments, called_with, for_each, generated, over, some_internal, renamed, alphabetised, denoted, denoted_form}
+use Rattle.denotation.specs.Denotes.{body_by, paired, called_by, body_of, place, Reached}
 use Rattle.event_phrases.proofs.SetsBelow.{member_is}
 use Rattle.declared_names.proofs.Chains.{bind_some, some_same}
 use Rattle.read_back.proofs.Readable.{IsRenaming, IsWritten}
@@ -61,7 +61,7 @@ unfolding set_below
 none_sigma n tick h = absurd (false≢true (sym (member_is 0 (λ a. false) tick) ∙ h))
 none_sigma n (ev a) h = let l : a < 0 = ltb-true a 0 (and-left (nat_lt a 0) false (sym (member_is 0 (λ a. false) (ev a)) ∙ h)) in omega (arith, l)
 
--- ---- choices
+-- ---- lists of bodies, joined in halves
 
 take_lies : (n k : ℕ) (ps : List Body) → AllLie n ps → AllLie n (take k ps)
 take_lies n zero ps h = tt
@@ -73,12 +73,27 @@ drop_lies n zero ps h = h
 drop_lies n (suc k) [] h = tt
 drop_lies n (suc k) (p ∷ ps) h = drop_lies n k ps h.1
 
-choice_lies : (n k : ℕ) (ps : List Body) → AllLie n ps → Lies n (choice_in k ps)
-unfolding choice_in
-choice_lies n k [] h = tt
-choice_lies n k (p ∷ []) h = h.0
-choice_lies n zero (p ∷ q ∷ ps) h = tt
-choice_lies n (suc k) (p ∷ q ∷ ps) h = (choice_lies n k (take (half (p ∷ q ∷ ps)) (p ∷ q ∷ ps)) (take_lies n (half (p ∷ q ∷ ps)) (p ∷ q ∷ ps) h), choice_lies n k (drop (half (p ∷ q ∷ ps)) (p ∷ q ∷ ps)) (drop_lies n (half (p ∷ q ∷ ps)) (p ∷ q ∷ ps) h))
+both_lie : (n : ℕ) (ps qs : List Body) → AllLie n ps → AllLie n qs → AllLie n (ps ++ qs)
+both_lie n [] qs h k = k
+both_lie n (p ∷ ps) qs h k = (h.0, both_lie n ps qs h.1 k)
+
+module _ (n : ℕ) (join : Body → Body → Body) (none : Body) (joins : (p q : Body) → Lies n p → Lies n q → Lies n (join p q)) (rests : Lies n none) where
+  halves_lie : (k : ℕ) (ps : List Body) → AllLie n ps → Lies n (halved_in join none k ps)
+  unfolding halved_in
+  halves_lie k [] h = rests
+  halves_lie k (p ∷ []) h = h.0
+  halves_lie zero (p ∷ q ∷ ps) h = rests
+  halves_lie (suc k) (p ∷ q ∷ ps) h =
+      joins (halved_in join none k (take (half (p ∷ q ∷ ps)) (p ∷ q ∷ ps))) (halved_in join none k (drop (half (p ∷ q ∷ ps)) (p ∷ q ∷ ps)))
+      (halves_lie k (take (half (p ∷ q ∷ ps)) (p ∷ q ∷ ps)) (take_lies n (half (p ∷ q ∷ ps)) (p ∷ q ∷ ps) h))
+      (halves_lie k (drop (half (p ∷ q ∷ ps)) (p ∷ q ∷ ps)) (drop_lies n (half (p ∷ q ∷ ps)) (p ∷ q ∷ ps) h))
+
+  halved_lies : (ps : List Body) → AllLie n ps → Lies n (halved join none ps)
+  unfolding halved
+  halved_lies ps h = halves_lie (length ps) ps h
+
+choice_lies : (n : ℕ) (ps : List Body) → AllLie n ps → Lies n (choice_of ps)
+choice_lies n ps h = halved_lies n ext stop (λ p q i j. (i, j)) tt ps h
 
 -- ---- fields
 
@@ -156,7 +171,7 @@ module _ (cs : List Channel) (next : Scope → Option Body) (h : NextLies cs nex
       by false e rec = rec ps e
 
 prefixed_lies : (cs : List Channel) (next : Scope → Option Body) → NextLies cs next → (s : Scope) (t : Syntax) (b : Body) → s.channels ≡ cs → prefixed s t next ≡ Some b → Lies (event_count cs) b
-unfolding prefixed choice_of
+unfolding prefixed
 prefixed_lies cs next h s (Node forms.Event (MoreSyntax (Called c) ts)) b same e =
     let (sets, u, v) = bind_some (channel_fields s.channels s.known c) (λ sets. cond (has_all ts sets) (branches next c ts sets s 0 (events s.channels) >>= λ ps. Some (choice_of ps)) None) b e in
     by sets (has_all ts sets) v
@@ -165,7 +180,7 @@ prefixed_lies cs next h s (Node forms.Event (MoreSyntax (Called c) ts)) b same e
     by sets true v =
         let (ps, x, y) = bind_some (branches next c ts sets s 0 (events s.channels)) (λ ps. Some (choice_of ps)) b v in
         let z : length (events s.channels) ≡ length (events cs) = ap (λ ds. length (events ds)) same in
-        subst (Lies (event_count cs)) (some_same y) (choice_lies (event_count cs) (length ps) ps (branches_lie cs next h c ts sets s same (events s.channels) 0 ps (omega (arith, z, event_count-is cs)) x))
+        subst (Lies (event_count cs)) (some_same y) (choice_lies (event_count cs) ps (branches_lie cs next h c ts sets s same (events s.channels) 0 ps (omega (arith, z, event_count-is cs)) x))
     by sets false v = absurd cc
 prefixed_lies cs next h s t b same e = absurd cc
 
@@ -241,10 +256,69 @@ module _ (cs : List Channel) where
   named_lies None r b h e = h b e
   named_lies (Some (one v)) r b h e = absurd cc
   named_lies (Some (many vs)) r b h e = h b e
+  named_lies (Some (truth t)) r b h e = absurd cc
 
   name_lies : (c : Name) (t : Bool) (p : Body) → cond t (Some (name (c, []))) None ≡ Some p → Lies n p
   name_lies c true p e = subst (Lies n) (some_same e) tt
   name_lies c false p e = absurd cc
+
+  -- a call is a name
+  call_lies : (f : Name) (ts : Syntaxes) (s : Scope) (b : Body) → called_with f ts s ≡ Some b → Lies n b
+  unfolding called_with
+  call_lies f ts s b e = named_lies (s.known f) (cond (takes (meaning s.entries f) ts) (arguments s.known ts >>= λ vs. Some (name (f, vs))) None) b (λ p g. by (takes (meaning s.entries f) ts) p g) e
+    where
+      by : (t : Bool) (p : Body) → cond t (arguments s.known ts >>= λ vs. Some (name (f, vs))) None ≡ Some p → Lies n p
+      by true p g = let (vs, u, v) = bind_some (arguments s.known ts) (λ vs. Some (name (f, vs))) p g in subst (Lies n) (some_same v) tt
+      by false p g = absurd cc
+
+  -- what a condition chooses
+  chosen_lies : (c : Option Bool) (o r : Option Body) (b : Body) → (o ≡ Some b → Lies n b) → (r ≡ Some b → Lies n b) → (c >>= λ t. cond t o r) ≡ Some b → Lies n b
+  chosen_lies c o r b h k e = let (t, u, v) = bind_some c (λ t. cond t o r) b e in by t v
+    where
+      by : (t : Bool) → cond t o r ≡ Some b → Lies n b
+      by true v = h v
+      by false v = k v
+
+  -- ---- replicated forms
+
+  -- each of what is denoted lies in Sigma
+  abbrev EachLies : (Scope → Option (List Body)) → Type 0
+  EachLies next = (s : Scope) (ps : List Body) → s.channels ≡ cs → next s ≡ Some ps → AllLie n ps
+
+  each_lies : (next : Scope → Option (List Body)) → EachLies next → (x : Name) (vs : Values) (s : Scope) (ps : List Body) → s.channels ≡ cs → for_each next s x vs ≡ Some ps → AllLie n ps
+  unfolding for_each
+  each_lies next h x [] s ps same e = subst (AllLie n) (some_same e) tt
+  each_lies next h x (v ∷ vs) s ps same e =
+      let (qs, a, b) = bind_some (next (with_input s x v)) (λ qs. for_each next s x vs >>= λ rs. Some (qs ++ rs)) ps e in
+      let (rs, c, d) = bind_some (for_each next s x vs) (λ rs. Some (qs ++ rs)) ps b in
+      subst (AllLie n) (some_same d) (both_lie n qs rs (h (with_input s x v) qs same a) (each_lies next h x vs s rs same c))
+
+  generated_lies : (g : Syntax) (next : Scope → Option (List Body)) → EachLies next → EachLies (generated g next)
+  unfolding generated
+  generated_lies (Node forms.Generator (MoreSyntax (Called x) (MoreSyntax t NoSyntax))) next h s ps same e =
+      let (vs, a, b) = bind_some (unless_constant s x (worth s.known t >>= λ w. the_set w)) (λ vs. for_each next s x vs) ps e in
+      each_lies next h x vs s ps same b
+  generated_lies g next h s ps same e = absurd cc
+
+  over_lies : (gs : Syntaxes) (next : Scope → Option Body) → NextLies cs next → EachLies (over gs next)
+  unfolding over
+  over_lies NoSyntax next h s ps same e =
+      let (p, a, b) = bind_some (next s) (λ p. Some (p ∷ [])) ps e in
+      subst (AllLie n) (some_same b) (h s p same a, tt)
+  over_lies (MoreSyntax g gs) next h s ps same e = generated_lies g (over gs next) (over_lies gs next h) s ps same e
+
+  internal_lies : (ps : List Body) (b : Body) → AllLie n ps → some_internal ps ≡ Some b → Lies n b
+  unfolding some_internal
+  internal_lies [] b h e = absurd cc
+  internal_lies (p ∷ ps) b h e = subst (Lies n) (some_same e) (halved_lies n int stop (λ p q i j. (i, j)) tt (p ∷ ps) h)
+
+  -- what joins the list of what a replicated form denotes
+  replicated_lies : (join : List Body → Option Body) → ((ps : List Body) (b : Body) → AllLie n ps → join ps ≡ Some b → Lies n b) → (gs : Syntaxes) (next : Scope → Option Body) → NextLies cs next → (s : Scope) (b : Body) → s.channels ≡ cs → (over gs next s >>= λ ps. join ps) ≡ Some b → Lies n b
+  replicated_lies join h gs next k s b same e =
+      let (ps, u, v) = bind_some (over gs next s) (λ ps. join ps) b e in
+      h ps b (over_lies gs next k s ps same u) v
+
+  -- ---- forms
 
   mutual
     unfolding denoted denoted_form
@@ -286,6 +360,15 @@ module _ (cs : List Channel) where
         let (R, x, y) = bind_some (pairs_of s.channels s.known ts) (λ R. Some (renamed (event_count s.channels) R p)) b w in
         let h : AllPairs n R = subst (λ ds. AllPairs (event_count ds) R) same (all_below s.channels s.known ts R x) in
         subst (Lies n) (ap (λ ds. renamed (event_count ds) R p) (sym same) ∙ some_same y) (renamed_lies n R p h (lies t s p same v))
+    form_lies (forms.Operation operators.Guard) (MoreSyntax c (MoreSyntax t NoSyntax)) s b same e =
+        chosen_lies (condition s.known c) (denoted t s) (Some stop) b (λ g. lies t s b same g) (λ g. subst (Lies n) (some_same g) tt) e
+    form_lies forms.If (MoreSyntax c (MoreSyntax t (MoreSyntax u NoSyntax))) s b same e = chosen_lies (condition s.known c) (denoted t s) (denoted u s) b (λ g. lies t s b same g) (λ g. lies u s b same g) e
+    form_lies forms.Call (MoreSyntax (Called f) ts) s b same e = call_lies f ts s b e
+    form_lies forms.ReplicatedExternal (MoreSyntax (Node forms.Generators gs) (MoreSyntax t NoSyntax)) s b same e =
+        replicated_lies (λ ps. Some (halved ext stop ps)) (λ ps c h g. subst (Lies n) (some_same g) (choice_lies n ps h)) gs (denoted t) (λ m p g f. lies t m p g f) s b same e
+    form_lies forms.ReplicatedInternal (MoreSyntax (Node forms.Generators gs) (MoreSyntax t NoSyntax)) s b same e = replicated_lies some_internal internal_lies gs (denoted t) (λ m p g f. lies t m p g f) s b same e
+    form_lies forms.ReplicatedInterleaving (MoreSyntax (Node forms.Generators gs) (MoreSyntax t NoSyntax)) s b same e =
+        replicated_lies (λ ps. Some (halved (par 0) skip ps)) (λ ps c h g. subst (Lies n) (some_same g) (halved_lies n (par 0) skip (λ p q i j. (none_sigma n, i, j)) tt ps h)) gs (denoted t) (λ m p g f. lies t m p g f) s b same e
     form_lies f ts s b same e = absurd cc
 
 -- ---- bodies with numbers
@@ -297,6 +380,14 @@ by_lies cs s (Some (channel ts)) b same e = absurd cc
 by_lies cs s (Some (datatype ns)) b same e = absurd cc
 by_lies cs s (Some constant_name) b same e = absurd cc
 by_lies cs s (Some (definition t)) b same e = lies cs t s b same e
+by_lies cs s (Some (parametric xs t)) b same e = absurd cc
+
+called_lies : (cs : List Channel) (s : Scope) (m : Option Meaning) (vs : Values) (b : Body) → s.channels ≡ cs → called_by s m vs ≡ Some b → Lies (event_count cs) b
+unfolding called_by
+called_lies cs s (Some (parametric xs t)) vs b same e =
+    let (is, u, v) = bind_some (paired xs vs) (λ is. denoted t (within s is)) b e in
+    lies cs t (within s is) b same v
+called_lies cs s m vs b same e = absurd cc
 
 body_lies : (s : Scope) (k : Key) (b : Body) → body_of s k ≡ Some b → Lies (event_count s.channels) b
 unfolding body_of
@@ -305,7 +396,7 @@ body_lies s (c, []) b e = by (is_process s.entries c) e
     by : (t : Bool) → cond t (body_by s (meaning s.entries c)) None ≡ Some b → Lies (event_count s.channels) b
     by true e = by_lies s.channels s (meaning s.entries c) b refl e
     by false e = absurd cc
-body_lies s (c, v ∷ vs) b e = absurd cc
+body_lies s (c, v ∷ vs) b e = called_lies s.channels s (meaning s.entries c) (v ∷ vs) b refl e
 
 bodies_lie : (s : Scope) (ks : List Key) (bs : List Body) → map (body_of s) ks ≡ map Some bs → AllLie (event_count s.channels) bs
 bodies_lie s [] [] e = tt

@@ -16,7 +16,7 @@ use Rattle.values.specs.Names.{same_name}
 use Rattle.event_phrases.specs.Events.{fields_named}
 use Rattle.script.specs.declared.table.Table.{Table}
 use Rattle.script.specs.Tables.{said}
-use Rattle.script.proofs.Inside.{counted}
+use Rattle.alphabet.proofs.ChannelPlaces.{event_count-is}
 
 pub some_same : {X : Type 0} {x y : X} → Some x ≡ Some y → x ≡ y
 some_same h = cc
@@ -103,7 +103,7 @@ first_all (Some q) n vs inv h p is = inv ∙ take_all n q.values (reached q.valu
 module _ {A : Type 0} (cs : List Channel) where
   pub rows_more : (i a : ℕ) (rs new : List (Row A)) (r : Row A) → map row rs ≡ take i (events cs) → i < event_count cs → a ≡ i → ((p : Parts) → slice_get (events cs) a ≡ Some p → row r ≡ p) → new ≡ rs ++ r ∷ [] → map row new ≡ take (i + 1) (events cs)
   rows_more i a rs new r inv h same made put =
-      let there : i < length (events cs) = omega (arith, h, counted cs) in
+      let there : i < length (events cs) = omega (arith, h, event_count-is cs) in
       by (slice_get (events cs) i) refl (some_there (events cs) i there)
     where
       some_there : (ps : List Parts) (i : ℕ) → i < length ps → is_some (slice_get ps i) ≡ true
@@ -117,10 +117,10 @@ module _ {A : Type 0} (cs : List Channel) where
           ap (map row) put ∙ map-append row rs (r ∷ []) ∙ ap₂ (λ qs q. qs ++ q ∷ []) inv (made p (ap (slice_get (events cs)) same ∙ e)) ∙ sym (take_next (events cs) i p e)
 
   pub rows_all : (i : ℕ) (rs : List (Row A)) → map row rs ≡ take i (events cs) → event_count cs ≤ i → map row rs ≡ events cs
-  rows_all i rs inv h = inv ∙ take_all i (events cs) (omega (arith, h, counted cs))
+  rows_all i rs inv h = inv ∙ take_all i (events cs) (omega (arith, h, event_count-is cs))
 
   pub rows_few : (n : ℕ) (rs : List (Row A)) → map row rs ≡ events cs → event_count cs ≤ n → length rs ≤ n
-  rows_few n rs h k = let e : length rs ≡ length (events cs) = sym (length-map rs row) ∙ ap length h in omega (arith, e, counted cs, k)
+  rows_few n rs h k = let e : length rs ≡ length (events cs) = sym (length-map rs row) ∙ ap length h in omega (arith, e, event_count-is cs, k)
 
 -- ---- fields by name
 

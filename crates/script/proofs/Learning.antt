@@ -11,7 +11,7 @@ use Rattle.tokens.specs.declared.error.ScriptErrorKind.TheVariants as kinds
 use Rattle.values.specs.View.{Fails}
 use Rattle.values.specs.Values.{◌>>=◌, Name}
 use Rattle.values.specs.Worths.{Known}
-use Rattle.values.specs.Names.{Entry, Meaning, channel, datatype, constant_name, definition, same_name, meaning}
+use Rattle.values.specs.Names.{Entry, Meaning, channel, datatype, constant_name, definition, parametric, same_name, meaning}
 use Rattle.syntax.specs.Grammar.{Syntax}
 use Rattle.event_phrases.specs.Events.{Events, event_set, events_of, events_in, EventsStand, set_of, masked}
 use Rattle.event_phrases.proofs.EventSetLaws.{masked_none}
@@ -227,4 +227,5 @@ module _ (cs : List Channel) (known : Known) (es : List Entry) where
       by (Some (channel ts)) e = refl
       by (Some (datatype ns)) e = refl
       by (Some constant_name) e = refl
+      by (Some (parametric xs t)) e = refl
       by (Some (definition t)) e = absurd (h t e)

@@ -1,4 +1,3 @@
-pub mod Inside
 pub mod Closed
 pub mod Denoting
 pub mod Tables

@@ -1,18 +1,18 @@
 -- What names of sets of events stand for, after some number of steps and in the end.
-use Rattle.std.proofs.Common.{◌≡◌, ℕ, zero, suc, ◌+◌, ◌≤◌, List, [], ◌∷◌, length, Bool, true, false, not, ◌&&◌, ◌||◌, nat_lt, Option, Some, None, refl, sym, ap, ap₂, subst, ◌∙◌, arith}
+use Rattle.std.proofs.Common.{◌≡◌, ℕ, zero, suc, ◌+◌, ◌≤◌, List, [], ◌∷◌, length, Bool, true, false, not, ◌&&◌, ◌||◌, nat_lt, cond, Option, Some, None, refl, sym, ap, ap₂, subst, ◌∙◌, arith}
 use Rattle.std.specs.Option.{option_map}
 use Rattle.alphabet.specs.Channels.{Channel, Parts, events, event_count}
 use Rattle.alphabet.specs.EventSets.{Set, has}
+use Rattle.alphabet.proofs.ChannelPlaces.{event_count-is}
 use Rattle.syntax.specs.declared.form.Form.TheVariants as forms
 use Rattle.syntax.specs.Grammar.{Syntax, Called, Node, Syntaxes, NoSyntax, MoreSyntax}
 use Rattle.values.specs.Values.{◌>>=◌, Name}
-use Rattle.values.specs.Worths.{Worth, one, many, Known}
-use Rattle.values.specs.Names.{Entry, Meaning, channel, datatype, constant_name, definition, meaning}
+use Rattle.values.specs.Worths.{Worth, one, many, truth, Known, condition}
+use Rattle.values.specs.Names.{Entry, Meaning, channel, datatype, constant_name, definition, parametric, meaning}
 use Rattle.event_phrases.specs.Events.{Events, KnownEvents, Beginning, unless_value, begins_so, at_number, beginning, beginning_so, whole_event, either, both, less, together, event_set, events_of, events_in, EventsStand, set_of}
 use Rattle.event_phrases.proofs.SetsBelow.{below_same, inside_is, has_is, ge_is}
 use Rattle.script.specs.Standing.{KnownSets, events_by, next_events, AreReached, IsSettled}
 use Rattle.script.proofs.Copies.{some_same}
-use Rattle.script.proofs.Inside.{counted}
 
 abbrev some_events : Events → Option Events
 some_events A = Some A
@@ -45,11 +45,25 @@ seen : (o : Option Worth) (p : Option Events) (A : Events) → unless_value o p 
 seen None p A h = h
 seen (Some (one v)) p A h = absurd cc
 seen (Some (many vs)) p A h = h
+seen (Some (truth b)) p A h = absurd cc
 
 still : (o : Option Worth) (p q : Option Events) (A : Events) → unless_value o p ≡ Some A → q ≡ Some A → unless_value o q ≡ Some A
 still None p q A h k = k
 still (Some (one v)) p q A h k = absurd cc
 still (Some (many vs)) p q A h k = k
+still (Some (truth b)) p q A h k = absurd cc
+
+-- of two sets that a condition chooses between
+
+chosen : {P : Type 0} (c : Option Bool) (o p : Option Events) (A : Events) → (o ≡ Some A → P) → (p ≡ Some A → P) → (c >>= λ b. cond b o p) ≡ Some A → P
+chosen None o p A h k e = absurd cc
+chosen (Some true) o p A h k e = h e
+chosen (Some false) o p A h k e = k e
+
+chosen_grows : (c : Option Bool) (o p q r : Option Events) (A : Events) → (o ≡ Some A → q ≡ Some A) → (p ≡ Some A → r ≡ Some A) → (c >>= λ b. cond b o p) ≡ Some A → (c >>= λ b. cond b q r) ≡ Some A
+chosen_grows None o p q r A h k e = absurd cc
+chosen_grows (Some true) o p q r A h k e = h e
+chosen_grows (Some false) o p q r A h k e = k e
 
 module _ (cs : List Channel) (known : Known) where
   -- ---- more sets that are known
@@ -67,6 +81,8 @@ module _ (cs : List Channel) (known : Known) where
   set_grows f g h (Node forms.Difference (MoreSyntax t (MoreSyntax u NoSyntax))) A e =
       let p = two_of (event_set cs known f t) (event_set cs known f u) less A e in
       two_is (event_set cs known g t) (event_set cs known g u) less p.left p.right A (set_grows f g h t p.left p.first) (set_grows f g h u p.right p.second) p.made
+  set_grows f g h (Node forms.If (MoreSyntax c (MoreSyntax t (MoreSyntax u NoSyntax)))) A e =
+      chosen_grows (condition known c) (event_set cs known f t) (event_set cs known f u) (event_set cs known g t) (event_set cs known g u) A (set_grows f g h t A) (set_grows f g h u A) e
   set_grows f g h (Node forms.EmptySet NoSyntax) A e = e
   set_grows f g h (Node forms.Events NoSyntax) A e = e
   set_grows f g h (Node forms.NoProductions NoSyntax) A e = e
@@ -78,6 +94,7 @@ module _ (cs : List Channel) (known : Known) where
   of_grows f g h (datatype ns) A e = absurd cc
   of_grows f g h constant_name A e = absurd cc
   of_grows f g h (definition t) A e = set_grows f g h t A e
+  of_grows f g h (parametric xs t) A e = absurd cc
 
   -- ---- all sets are of events of Sigma
 
@@ -91,7 +108,7 @@ module _ (cs : List Channel) (known : Known) where
   number_past test (p ∷ ps) (suc a) h = number_past test ps a (omega (arith, h))
 
   so_inside : (b : Beginning) → IsInside (beginning_so cs b)
-  so_inside b a h = number_past (begins_so b) (events cs) a (omega (arith, h, counted cs))
+  so_inside b a h = number_past (begins_so b) (events cs) a (omega (arith, h, event_count-is cs))
 
   by_beginning : (o : Option Beginning) (A : Events) → (o >>= λ b. Some (beginning_so cs b)) ≡ Some A → IsInside A
   by_beginning None A h = absurd cc
@@ -125,6 +142,8 @@ module _ (cs : List Channel) (known : Known) where
   set_inside f h (Node forms.Difference (MoreSyntax t (MoreSyntax u NoSyntax))) A e =
       let p = two_of (event_set cs known f t) (event_set cs known f u) less A e in
       subst IsInside p.made (λ a k. and_not (p.left a) (p.right a) (set_inside f h t p.left p.first a k))
+  set_inside f h (Node forms.If (MoreSyntax c (MoreSyntax t (MoreSyntax u NoSyntax)))) A e =
+      chosen (condition known c) (event_set cs known f t) (event_set cs known f u) A (set_inside f h t A) (set_inside f h u A) e
   set_inside f h t A e = absurd cc
 
   of_inside : (f : KnownEvents) → ((n : Name) (A : Events) → f n ≡ Some A → IsInside A) → (m : Meaning) (A : Events) → events_of cs known f m ≡ Some A → IsInside A
@@ -133,6 +152,7 @@ module _ (cs : List Channel) (known : Known) where
   of_inside f h (datatype ns) A e = absurd cc
   of_inside f h constant_name A e = absurd cc
   of_inside f h (definition t) A e = set_inside f h t A e
+  of_inside f h (parametric xs t) A e = absurd cc
 
   -- such a set is given by its number
   at_number_is : (A : Events) → IsInside A → (a : ℕ) → has (set_of cs A) a ≡ A a
@@ -200,6 +220,12 @@ module _ (cs : List Channel) (known : Known) where
         let (k, b) = q in
         (k + j, two_is (event_set cs known (events_in cs known es (k + j)) t) (event_set cs known (events_in cs known es (k + j)) u) c A B R (set_grows (events_in cs known es j) (events_in cs known es (k + j)) (other j k) t A a) (set_grows (events_in cs known es k) (events_in cs known es (k + j)) (this j k) u B b) m)
 
+    chosen_sound : (c : Option Bool) (f : KnownEvents) (t u : Syntax) (A : Events) → (event_set cs known f t ≡ Some A → SetIn t A) → (event_set cs known f u ≡ Some A → SetIn u A) → (c >>= λ b. cond b (event_set cs known f t) (event_set cs known f u)) ≡ Some A
+        → (k : ℕ) × ((c >>= λ b. cond b (event_set cs known (events_in cs known es k) t) (event_set cs known (events_in cs known es k) u)) ≡ Some A)
+    chosen_sound None f t u A h k e = absurd cc
+    chosen_sound (Some true) f t u A h k e = h e
+    chosen_sound (Some false) f t u A h k e = k e
+
     sound_set : (f : KnownEvents) → IsSound f → (t : Syntax) (A : Events) → event_set cs known f t ≡ Some A → SetIn t A
     unfolding event_set
     sound_set f h (Node forms.Brackets (MoreSyntax t NoSyntax)) A e = sound_set f h t A e
@@ -215,6 +241,7 @@ module _ (cs : List Channel) (known : Known) where
     sound_set f h (Node forms.Difference (MoreSyntax t (MoreSyntax u NoSyntax))) A e =
         let p = two_of (event_set cs known f t) (event_set cs known f u) less A e in
         two_sound t u less p.left p.right A (sound_set f h t p.left p.first) (sound_set f h u p.right p.second) p.made
+    sound_set f h (Node forms.If (MoreSyntax c (MoreSyntax t (MoreSyntax u NoSyntax)))) A e = chosen_sound (condition known c) f t u A (sound_set f h t A) (sound_set f h u A) e
     sound_set f h (Node forms.EmptySet NoSyntax) A e = (0, e)
     sound_set f h (Node forms.Events NoSyntax) A e = (0, e)
     sound_set f h (Node forms.NoProductions NoSyntax) A e = (0, e)
@@ -226,6 +253,7 @@ module _ (cs : List Channel) (known : Known) where
     sound_of f h (datatype ns) A e = absurd cc
     sound_of f h constant_name A e = absurd cc
     sound_of f h (definition t) A e = sound_set f h t A e
+    sound_of f h (parametric xs t) A e = absurd cc
 
     -- what definitions say of sound sets is sound
     pub sound_next : (f : KnownEvents) → IsSound f → IsSound (next_events cs known es f)

@@ -9,7 +9,7 @@ use Rattle.syntax.specs.declared.form.Form.TheVariants as forms
 use Rattle.syntax.specs.Grammar.{Syntax, Called, Numeral, Node, Syntaxes, NoSyntax, MoreSyntax}
 use Rattle.syntax.specs.Script.{HasTree}
 use Rattle.values.specs.Values.{◌>>=◌, Name}
-use Rattle.values.specs.Names.{Meaning, channel, constant_name, Entry, same_name, names_of, listed_names, field_sets, channel_entries, datatype_entries, entries_of, declared_by, declared_by_all, declared, meaning, is_process, is_process_in, is_process_meaning}
+use Rattle.values.specs.Names.{Meaning, channel, constant_name, parametric, Entry, same_name, names_of, listed_names, field_sets, channel_entries, datatype_entries, entries_of, declared_by, declared_by_all, declared, meaning, is_process, is_process_in, is_process_meaning}
 use Rattle.declared_names.specs.Naming.{has_names, have_names}
 use Rattle.declared_names.proofs.Chains.{bind_some, some_same, left, right, both}
 use Rattle.denotation.specs.Denotes.{Denotes}
@@ -61,6 +61,9 @@ form_named forms.Datatype (MoreSyntax (Called n) (MoreSyntax t NoSyntax)) es e h
     ap all_entered (sym (some_same b))
     ∙ both (is_name n) (all_entered (map (λ c. (c, constant_name)) ns)) (left (is_name n) (has_names t && true) h) (with_meaning constant_name ns (listed_named t ns a (left (has_names t) true (right (is_name n) (has_names t && true) h))))
 form_named forms.Definition (MoreSyntax (Called n) (MoreSyntax t NoSyntax)) es e h = ap all_entered (sym (some_same e)) ∙ both (is_name n) true (left (is_name n) (has_names t && true) h) refl
+form_named forms.DefinitionWithParameters (MoreSyntax (Called n) (MoreSyntax t (MoreSyntax u NoSyntax))) es e h =
+    let (xs, a, b) = bind_some (listed_names t) (λ xs. Some ((n, parametric xs u) ∷ [])) es e in
+    ap all_entered (sym (some_same b)) ∙ both (is_name n) true (left (is_name n) (has_names t && (has_names u && true)) h) refl
 form_named f ts es e h = absurd cc
 
 declaration_named : (t : Syntax) (es : List Entry) → declared_by t ≡ Some es → has_names t ≡ true → all_entered es ≡ true

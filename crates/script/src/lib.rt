@@ -6,6 +6,7 @@ mod law;
 mod names;
 mod printed;
 mod reading;
+mod root;
 mod rows;
 mod script;
 mod sigma;

@@ -12,6 +12,7 @@ ghost use Rattle.declared_names.specs.View.{entries as entries_of};
 ghost use Rattle.script.specs.Reading.{AreBodies, IsRead};
 
 use crate::names::{Names, names_of};
+use crate::root::{no_process, root_fault};
 use crate::script::Script;
 use crate::sigma::Sigma;
 use crate::standing::named_sets;
@@ -21,7 +22,7 @@ use denotation::gathered;
 use std::alloc::Allocator;
 use syntax::{Tree, parse};
 use term::{Spec, Term};
-use tokens::ScriptError;
+use tokens::{ScriptError, ScriptErrorKind};
 
 /// The bodies of what is reached from the root.
 fn bodies_of<'a, A: Allocator + Copy>(
@@ -33,15 +34,21 @@ fn bodies_of<'a, A: Allocator + Copy>(
     ensures only { (ps : List Proc) → AreBodies names.now.sigma.alphabet (table names.now.known) (entries_of names.now.entries) root.now ps → Gives (λ v. map proc v.items) result (Some ps) }
 {
     if !names.entries.is_process(root) {
-        return Err(names.root_fault(alloc, root));
+        return Err(root_fault(alloc, names, root, no_process()));
     }
     let sets = named_sets(alloc, names)?;
     let script = Script {
-        names,
+        names: &*names,
         sets: &sets,
         alloc,
     };
-    gathered(alloc, &script, root)
+    match gathered(alloc, &script, root) {
+        Ok(bodies) => Ok(bodies),
+        Err(error) => match error.kind {
+            ScriptErrorKind::Memory => Err(error),
+            _ => Err(root_fault(alloc, names, root, error)),
+        },
+    }
 }
 
 /// The specification that the script with this tree denotes for the root.

@@ -7,7 +7,9 @@ ghost use Rattle.script.specs.Tables.{said};
 use crate::names::Names;
 use crate::table::Table;
 use alphabet::EventSet;
-use declarations::{fault_of_beginning, fault_of_channel, fault_of_name, fault_of_phrase};
+use declarations::{
+    fault_of_beginning, fault_of_call, fault_of_channel, fault_of_name, fault_of_phrase,
+};
 use event_phrases::{GlobalScope, Row, Set, Wanted};
 use std::alloc::Allocator;
 use syntax::Tree;
@@ -65,6 +67,13 @@ impl<'a, A: Allocator + Copy> GlobalScope<A> for Script<'a, A> {
         self.names.body(name)
     }
 
+    fn with_parameters(&self, name: &[u8]) -> Option<(&[Vec<u8, A>], &Tree<A>)> {
+        match self.names.with_parameters(name) {
+            Some((names, body)) => Some((names, body)),
+            None => None,
+        }
+    }
+
     fn line(&self, name: &[u8]) -> u32 {
         match self.names.entries.get(name) {
             Some(entry) => entry.line,
@@ -82,6 +91,10 @@ impl<'a, A: Allocator + Copy> GlobalScope<A> for Script<'a, A> {
         )
     }
 
+    fn call_fault(&self, name: &[u8], line: u32) -> ScriptError {
+        fault_of_call(&self.names.entries, name, line)
+    }
+
     fn phrase_fault(&self, inputs: &[Input<A>], phrase: &Tree<A>, wanted: Wanted) -> ScriptError {
         let alloc = self.alloc;
         let Names { entries, known, .. } = self.names;
@@ -89,6 +102,7 @@ impl<'a, A: Allocator + Copy> GlobalScope<A> for Script<'a, A> {
             Wanted::Value => declarations::Wanted::Value,
             Wanted::Values => declarations::Wanted::Values,
             Wanted::Events => declarations::Wanted::Events,
+            Wanted::Truth => declarations::Wanted::Truth,
             Wanted::Beginning => return fault_of_beginning(alloc, entries, known, inputs, phrase),
             Wanted::Channel => return fault_of_channel(entries, known, inputs, phrase),
         };

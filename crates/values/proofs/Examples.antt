@@ -1,5 +1,5 @@
 -- The definitions at small scripts.
-use Rattle.std.proofs.Common.{◌≡◌, ℕ, List, [], ◌∷◌, Some, None, true, false, refl, pos, negsuc}
+use Rattle.std.proofs.Common.{◌≡◌, ℕ, zero, suc, List, [], ◌∷◌, Some, None, true, false, refl, pos, negsuc}
 use Rattle.alphabet.specs.Channels.{number, constant}
 use Rattle.syntax.specs.declared.operator.Operator.{Operator}
 use Rattle.syntax.specs.declared.operator.Operator.TheVariants as operators
@@ -7,7 +7,7 @@ use Rattle.syntax.specs.declared.form.Form.{Form}
 use Rattle.syntax.specs.declared.form.Form.TheVariants as forms
 use Rattle.syntax.specs.Grammar.{Syntax, Called, Numeral, Node, Syntaxes, NoSyntax, MoreSyntax}
 use Rattle.values.specs.Values.{Name, limited, remainder, set_of, union, intersection, difference, fitting_set, range, numbers_from, is_among, is_same}
-use Rattle.values.specs.Worths.{one, many, Known, worth, worths, formed, computed, negated, calculated, set_with, range_with, union_with, intersection_with, difference_with, the_only, the_number, the_value, the_set, the_two, two_numbers, two_sets, set_of_all, all_values, nothing_of}
+use Rattle.values.specs.Worths.{one, many, truth, Known, worth, worths, formed, operated, is_comparison, computed, comparison, compared, are_same, is_less, is_at_most, truth_of, negated_truth, the_truth, truth_only, negated, calculated, set_with, range_with, union_with, intersection_with, difference_with, the_only, the_number, the_value, the_set, the_two, two_numbers, two_sets, set_of_all, all_values, nothing_of}
 use Rattle.values.specs.Names.{Entry, declared, declared_by, declared_by_all, entries_of, listed_names, names_of, field_sets, meaning, are_distinct, known_in, worth_of, is_process_in, is_process_meaning, is_process_by, is_process}
 use Rattle.values.specs.Channels.{channels_of, with_channel, fields_of}
 
@@ -57,17 +57,17 @@ script ts = part_of forms.Script ts
 
 -- 7 % 3 * -2
 product : worth none (between operators.Times (between operators.Remainder (Numeral 7) (Numeral 3)) (minus 2)) ≡ Some (one (number (negsuc 1)))
-unfolding worth worths formed computed the_two two_numbers the_number the_only limited remainder negated calculated set_with range_with union_with intersection_with difference_with
+unfolding worth worths formed operated is_comparison computed the_two two_numbers the_number the_only limited remainder negated calculated set_with range_with union_with intersection_with difference_with
 product = refl
 
 -- -7 % 3
 no_remainder : worth none (between operators.Remainder (minus 7) (Numeral 3)) ≡ None
-unfolding worth worths formed computed the_two two_numbers the_number the_only limited remainder negated calculated set_with range_with union_with intersection_with difference_with
+unfolding worth worths formed operated is_comparison computed the_two two_numbers the_number the_only limited remainder negated calculated set_with range_with union_with intersection_with difference_with
 no_remainder = refl
 
 -- 1000000 + 1
 too_great : worth none (between operators.Plus (Numeral 1000000) (Numeral 1)) ≡ None
-unfolding worth worths formed computed the_two two_numbers the_number the_only limited negated calculated set_with range_with union_with intersection_with difference_with
+unfolding worth worths formed operated is_comparison computed the_two two_numbers the_number the_only limited negated calculated set_with range_with union_with intersection_with difference_with
 too_great = refl
 
 -- ---- sets
@@ -102,6 +102,107 @@ mixed : worth none (part_of forms.Set (part_of forms.EmptySet [] ∷ [])) ≡ No
 unfolding worth worths formed set_of_all all_values the_value nothing_of negated calculated set_with range_with union_with intersection_with difference_with
 mixed = refl
 
+-- ---- truths
+
+abbrev yes : Syntax
+yes = part_of forms.True []
+
+abbrev no : Syntax
+no = part_of forms.False []
+
+abbrev chosen_by : Syntax → Syntax → Syntax → Syntax
+chosen_by b t u = part_of forms.If (b ∷ t ∷ u ∷ [])
+
+-- 1 < 2
+below : worth none (between operators.Less (Numeral 1) (Numeral 2)) ≡ Some (truth true)
+unfolding worth worths formed operated is_comparison comparison compared is_less the_two the_number limited
+below = refl
+
+-- 2 < 2
+not_below : worth none (between operators.Less (Numeral 2) (Numeral 2)) ≡ Some (truth false)
+unfolding worth worths formed operated is_comparison comparison compared is_less the_two the_number limited
+not_below = refl
+
+-- 2 <= 2
+at_most : worth none (between operators.LessOrEqual (Numeral 2) (Numeral 2)) ≡ Some (truth true)
+unfolding worth worths formed operated is_comparison comparison compared is_at_most the_two the_number limited
+at_most = refl
+
+-- 2 > 1
+above : worth none (between operators.Greater (Numeral 2) (Numeral 1)) ≡ Some (truth true)
+unfolding worth worths formed operated is_comparison comparison compared is_less the_two the_number limited
+above = refl
+
+-- 1 >= 2
+not_at_least : worth none (between operators.GreaterOrEqual (Numeral 1) (Numeral 2)) ≡ Some (truth false)
+unfolding worth worths formed operated is_comparison comparison compared is_at_most the_two the_number limited
+not_at_least = refl
+
+-- 2 >= 2
+at_least : worth none (between operators.GreaterOrEqual (Numeral 2) (Numeral 2)) ≡ Some (truth true)
+unfolding worth worths formed operated is_comparison comparison compared is_at_most the_two the_number limited
+at_least = refl
+
+-- 2 == 1 + 1
+same_numbers : worth none (between operators.Equal (Numeral 2) (between operators.Plus (Numeral 1) (Numeral 1))) ≡ Some (truth true)
+unfolding worth worths formed operated is_comparison comparison compared are_same is_same computed calculated two_numbers the_two the_number limited
+same_numbers = refl
+
+-- false != true
+other_truth : worth none (between operators.NotEqual no yes) ≡ Some (truth true)
+unfolding worth worths formed operated is_comparison comparison compared are_same truth_of the_two
+other_truth = refl
+
+-- 1 == true
+two_kinds : worth none (between operators.Equal (Numeral 1) yes) ≡ None
+unfolding worth worths formed operated is_comparison comparison compared are_same truth_of the_two limited
+two_kinds = refl
+
+-- {} == {}
+compared_sets : worth none (between operators.Equal (part_of forms.EmptySet []) (part_of forms.EmptySet [])) ≡ None
+unfolding worth worths formed operated is_comparison comparison compared are_same nothing_of the_two
+compared_sets = refl
+
+-- not false
+denied : worth none (part_of forms.Not (no ∷ [])) ≡ Some (truth true)
+unfolding worth worths formed truth_of negated_truth the_only the_truth
+denied = refl
+
+-- if true then 1 else x, where nothing is known of x
+first_branch : worth none (chosen_by yes (Numeral 1) (named x)) ≡ Some (one (number (pos 1)))
+unfolding worth worths formed truth_of the_truth limited
+first_branch = refl
+
+-- if 2 < 1 then x else {}
+second_branch : worth none (chosen_by (between operators.Less (Numeral 2) (Numeral 1)) (named x) (part_of forms.EmptySet [])) ≡ Some (many [])
+unfolding worth worths formed operated is_comparison comparison compared is_less the_two the_number the_truth limited nothing_of
+second_branch = refl
+
+-- if 1 then 1 else 1
+no_condition : worth none (chosen_by (Numeral 1) (Numeral 1) (Numeral 1)) ≡ None
+unfolding worth the_truth limited
+no_condition = refl
+
+-- false and x
+left_false : worth none (between operators.And no (named x)) ≡ Some (truth false)
+unfolding worth worths formed truth_of the_truth
+left_false = refl
+
+-- true or x
+left_true : worth none (between operators.Or yes (named x)) ≡ Some (truth true)
+unfolding worth worths formed truth_of the_truth
+left_true = refl
+
+-- true and 1
+no_truth : worth none (between operators.And yes (Numeral 1)) ≡ None
+unfolding worth worths formed truth_of truth_only the_truth limited
+no_truth = refl
+
+-- false or true
+right_true : worth none (between operators.Or no yes) ≡ Some (truth true)
+unfolding worth worths formed truth_of truth_only the_truth
+right_true = refl
+
 -- ---- names
 
 -- datatype d = y | x and channel c : {0..1}.d
@@ -124,8 +225,26 @@ abbrev chain : Syntax
 chain = script (defined c (between operators.Plus (named d) (Numeral 0)) ∷ defined d (Numeral 5) ∷ [])
 
 chain_known : known_in (entries_in chain) 2 c ≡ Some (one (number (pos 5)))
-unfolding known_in worth_of meaning declared declared_by declared_by_all entries_of worth worths formed computed the_two two_numbers the_number the_only limited negated calculated set_with range_with union_with intersection_with difference_with
+unfolding known_in worth_of meaning declared declared_by declared_by_all entries_of worth worths formed operated is_comparison computed the_two two_numbers the_number the_only limited negated calculated set_with range_with union_with intersection_with difference_with
 chain_known = refl
+
+-- c = if true then 5 else c
+abbrev unneeded : Syntax
+unneeded = script (defined c (chosen_by yes (Numeral 5) (named c)) ∷ [])
+
+unneeded_known : known_in (entries_in unneeded) 1 c ≡ Some (one (number (pos 5)))
+unfolding known_in worth_of meaning declared declared_by declared_by_all entries_of worth worths formed truth_of the_truth the_only limited
+unneeded_known = refl
+
+-- c = if c == 1 then 1 else 2
+abbrev itself : Syntax
+itself = script (defined c (chosen_by (between operators.Equal (named c) (Numeral 1)) (Numeral 1) (Numeral 2)) ∷ [])
+
+-- a name that needs itself stands for nothing, after however many steps
+itself_unknown : (k : ℕ) → known_in (entries_in itself) k c ≡ None
+unfolding known_in worth_of meaning declared declared_by declared_by_all entries_of worth worths formed the_only
+itself_unknown zero = refl
+itself_unknown (suc k) = rw (itself_unknown k) refl
 
 -- c = d, d = c
 abbrev circle : Syntax

@@ -1,11 +1,11 @@
 -- What names stand for behind inputs.
-use Rattle.std.proofs.Common.{◌≡◌, List, [], ◌∷◌, ◌++◌, Bool, true, false, cond, Option, Some, None, refl, sym, ap, ◌∙◌}
+use Rattle.std.proofs.Common.{◌≡◌, List, [], ◌∷◌, ◌++◌, Bool, true, false, cond, Option, Some, None, refl, ap, ◌∙◌}
 use Rattle.std.specs.Option.{option_map}
 use Rattle.alphabet.specs.Channels.{FieldValue}
 use Rattle.values.specs.Values.{Name}
 use Rattle.values.specs.Names.{same_name}
 use Rattle.values.specs.Worths.{Worth, one, Known}
-use Rattle.values.specs.Tables.{with_input, behind, or_else, last_of, names_value}
+use Rattle.values.specs.Tables.{with_input, behind, or_else, last_of}
 
 abbrev one_of : Option FieldValue → Option Worth
 one_of = option_map one

@@ -1,6 +1,8 @@
 pub mod Examples
 pub mod Numbers
 pub mod ValueSets
+pub mod Keeps
+pub mod Branches
 pub mod Parts
 pub mod Lists
 pub mod Named

@@ -16,7 +16,7 @@ use Rattle.tokens.specs.declared.error.ScriptErrorKind.TheVariants as kinds
 use Rattle.alphabet.specs.Channels.{FieldValue, constant, Values}
 use Rattle.values.specs.Values.{◌>>=◌, Name, value_cmp, set_of}
 use Rattle.values.specs.Names.{same_name}
-use Rattle.values.specs.Worths.{Worth as Plain, the_only, the_two, the_value, all_values, set_of_all, nothing_of, one, many}
+use Rattle.values.specs.Worths.{Worth as Plain, the_only, the_two, the_value, all_values, set_of_all, nothing_of, truth_of, one, many, truth}
 use Rattle.values.specs.Tables.{known_by, entries}
 use Rattle.values.proofs.ValueSets.{insert_view}
 use Rattle.values.specs.View.{value, worth, Fails}
@@ -53,6 +53,16 @@ pub some_parts : {A : Type 0} (ws : List (Worth A)) → (length ws ≢ 0) → no
 unfolding nothing_of
 some_parts [] n = absurd (n refl)
 some_parts (w ∷ ws) n = refl
+
+pub truth_alone : {A : Type 0} (b : Bool) (ws : List (Worth A)) → length ws ≡ 0 → truth_of b (map worth ws) ≡ Some (truth b)
+unfolding truth_of
+truth_alone b [] h = refl
+truth_alone b (w ∷ ws) h = absurd (omega (arith, h))
+
+pub truth_with : {A : Type 0} (b : Bool) (ws : List (Worth A)) → (length ws ≢ 0) → truth_of b (map worth ws) ≡ None
+unfolding truth_of
+truth_with b [] n = absurd (n refl)
+truth_with b (w ∷ ws) n = refl
 
 -- ---- faults
 

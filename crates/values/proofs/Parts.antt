@@ -1,5 +1,5 @@
 -- What the parts of a form stand for.
-use Rattle.std.proofs.Common.{◌≡◌, ℕ, zero, suc, ◌+◌, ◌<◌, ◌≤◌, List, [], ◌∷◌, ◌++◌, map, length, drop, get_or, Option, Some, None, Vec, refl, sym, ap, ◌∙◌, arith, append_assoc, append-nil, drop-cons}
+use Rattle.std.proofs.Common.{◌≡◌, ℕ, zero, suc, ◌+◌, ◌<◌, ◌≤◌, List, [], ◌∷◌, ◌++◌, false, map, length, drop, get_or, Option, Some, None, Vec, refl, sym, ap, ◌∙◌, arith, append_assoc, append-nil, drop-cons}
 use Rattle.std.proofs.lemmas.List.{map-append}
 use mathlib.Core.Former.{Count}
 use Rattle.syntax.specs.declared.tree.Tree.{Tree, Node as TreeNode, Row_of-Tree, end_of-Tree, more_of-Tree, items-the_row-Tree, items_hidden-the_row-Tree-0}
@@ -10,10 +10,11 @@ use Rattle.syntax.specs.Parsing.{syntaxes}
 use Rattle.syntax.specs.View.{shape, shapes, row_shapes}
 use Rattle.values.specs.declared.worth.Worth.{Worth}
 use Rattle.values.specs.Values.{◌>>=◌}
-use Rattle.values.specs.Worths.{Worth as Plain, Known, formed}
+use Rattle.values.specs.Worths.{Worth as Plain, Known, formed, is_lazy}
 use Rattle.values.specs.Worths.{worth as worth_in, worths as worths_in}
 use Rattle.tokens.specs.declared.error.ScriptErrorKind.{ScriptErrorKind}
 use Rattle.values.specs.View.{worth, Fails}
+use Rattle.values.proofs.Keeps.{strict_is}
 use Rattle.values.proofs.Lists.{fails_on}
 
 shapes_row : {A : Type 0} (n : _) (row : Row_of-Tree A n) → row_shapes row ≡ syntaxes (shapes (items-the_row-Tree A n row))
@@ -30,17 +31,22 @@ node_shape {A = A} line form v =
     let row = row_of (TreeNode line form v) in
     ap (Node form) (shapes_row row.0 row.1 ∙ ap (λ (ts : List (Tree A)). syntaxes (shapes ts)) (items_hidden-the_row-Tree-0 A v))
 
-pub node_is : {A : Type 0} (known : Known) (tree : Tree A) (line : ℕ) (form : Form) (v : Vec (Tree A) A) (ts : List (Tree A)) → tree ≡ TreeNode line form v → ts ≡ v.items → worth_in known (shape tree) ≡ (worths_in known (syntaxes (shapes ts)) >>= formed form)
-unfolding worth_in
-node_is known tree line form v ts h is =
-    ap (λ t. worth_in known (shape t)) h ∙ ap (worth_in known) (node_shape line form v) ∙ ap (λ xs. worths_in known (syntaxes (shapes xs)) >>= formed form) (sym is)
+-- a node has the form and the parts that it holds
+pub node_is : {A : Type 0} (tree : Tree A) (line : ℕ) (form : Form) (v : Vec (Tree A) A) (ts : List (Tree A)) → tree ≡ TreeNode line form v → ts ≡ v.items → shape tree ≡ Node form (syntaxes (shapes ts))
+node_is tree line form v ts h is = ap shape h ∙ node_shape line form v ∙ ap (λ xs. Node form (syntaxes (shapes xs))) (sym is)
 
-pub node_made : {A : Type 0} (known : Known) (tree : Tree A) (line : ℕ) (form : Form) (v : Vec (Tree A) A) (ts : List (Tree A)) (ws : List Plain) → tree ≡ TreeNode line form v → ts ≡ v.items → worths_in known (syntaxes (shapes ts)) ≡ Some ws → worth_in known (shape tree) ≡ formed form ws
-node_made known tree line form v ts ws h is got = node_is known tree line form v ts h is ∙ ap (λ o. o >>= formed form) got
+pub node_made : {A : Type 0} (known : Known) (tree : Tree A) (line : ℕ) (form : Form) (v : Vec (Tree A) A) (ts : List (Tree A)) (ws : List Plain) → tree ≡ TreeNode line form v → ts ≡ v.items → is_lazy form ≡ false → worths_in known (syntaxes (shapes ts)) ≡ Some ws → worth_in known (shape tree) ≡ formed form ws
+node_made known tree line form v ts ws h is strict got =
+    ap (worth_in known) (node_is tree line form v ts h is) ∙ strict_is known form (syntaxes (shapes ts)) strict ∙ ap (λ o. o >>= λ ws. formed form ws) got
 
-pub node_fails : {A : Type 0} (k : ScriptErrorKind) (known : Known) (tree : Tree A) (line : ℕ) (form : Form) (v : Vec (Tree A) A) (ts : List (Tree A)) → tree ≡ TreeNode line form v → ts ≡ v.items → Fails k (worths_in known (syntaxes (shapes ts))) → Fails k (worth_in known (shape tree))
-node_fails k known tree line form v ts h is f =
-    fails_on k (worths_in known (syntaxes (shapes ts))) (worth_in known (shape tree)) (λ e. node_is known tree line form v ts h is ∙ ap (λ o. o >>= formed form) e) f
+pub node_fails : {A : Type 0} (k : ScriptErrorKind) (known : Known) (tree : Tree A) (line : ℕ) (form : Form) (v : Vec (Tree A) A) (ts : List (Tree A)) → tree ≡ TreeNode line form v → ts ≡ v.items → is_lazy form ≡ false → Fails k (worths_in known (syntaxes (shapes ts))) → Fails k (worth_in known (shape tree))
+node_fails k known tree line form v ts h is strict f =
+    fails_on k (worths_in known (syntaxes (shapes ts))) (worth_in known (shape tree)) (λ e. ap (worth_in known) (node_is tree line form v ts h is) ∙ strict_is known form (syntaxes (shapes ts)) strict ∙ ap (λ o. o >>= λ ws. formed form ws) e) f
+
+-- the same of a form of which not all parts are looked at
+pub lazy_is : {A : Type 0} (known : Known) (tree : Tree A) (line : ℕ) (form other : Form) (v : Vec (Tree A) A) (ts : List (Tree A)) → tree ≡ TreeNode line form v → ts ≡ v.items → form ≡ other → worth_in known (shape tree) ≡ worth_in known (Node other (syntaxes (shapes ts)))
+lazy_is known tree line form other v ts h is same =
+    ap (worth_in known) (node_is tree line form v ts h is ∙ ap (λ f. Node f (syntaxes (shapes ts))) same)
 
 -- ---- lists of parts, from left to right
 

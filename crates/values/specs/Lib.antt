@@ -7,3 +7,4 @@ pub mod View
 pub mod Tables
 -- Steps of the program.
 pub mod Order
+pub mod Lazy

@@ -20,6 +20,8 @@ pub data Meaning : Type 0 where
   constant_name : Meaning
   -- a definition without parameters, with its body
   definition : Syntax → Meaning
+  -- a definition with parameters, with its body
+  parametric : List Name → Syntax → Meaning
 
 -- a declared name
 abbrev pub Entry : Type 0
@@ -58,9 +60,9 @@ entries_of forms.Channels (MoreSyntax t NoSyntax) = listed_names t >>= λ ns. So
 entries_of forms.ChannelsWithFields (MoreSyntax t (MoreSyntax u NoSyntax)) = listed_names t >>= λ ns. field_sets u >>= λ sets. Some (channel_entries sets ns)
 entries_of forms.Datatype (MoreSyntax (Called n) (MoreSyntax t NoSyntax)) = listed_names t >>= λ ns. Some (datatype_entries n ns)
 entries_of forms.Definition (MoreSyntax (Called n) (MoreSyntax t NoSyntax)) = Some ((n, definition t) ∷ [])
+entries_of forms.DefinitionWithParameters (MoreSyntax (Called n) (MoreSyntax t (MoreSyntax u NoSyntax))) = listed_names t >>= λ xs. Some ((n, parametric xs u) ∷ [])
 entries_of f ts = None
 
--- a definition with parameters is no declaration that has a meaning here
 unfoldable pub declared_by : Syntax → Option (List Entry)
 declared_by (Node f ts) = entries_of f ts
 declared_by (Called n) = None
@@ -85,6 +87,28 @@ unfoldable pub are_distinct : List Entry → Bool
 are_distinct [] = true
 are_distinct (e ∷ es) = not (list_any (λ f. same_name e.0 f.0) es) && are_distinct es
 
+-- a name that is a constant's
+unfoldable pub is_constant : Option Meaning → Bool
+is_constant None = false
+is_constant (Some (channel sets)) = false
+is_constant (Some (datatype constants)) = false
+is_constant (Some constant_name) = true
+is_constant (Some (definition t)) = false
+is_constant (Some (parametric xs t)) = false
+
+-- parameters: none twice, and none with a constant's name
+unfoldable pub are_parameters : List Entry → List Name → Bool
+are_parameters es [] = true
+are_parameters es (x ∷ xs) = not (list_any (same_name x) xs) && not (is_constant (meaning es x)) && are_parameters es xs
+
+-- what a name is declared as has parameters that are in order, if it has any
+unfoldable pub have_parameters : List Entry → Meaning → Bool
+have_parameters es (channel sets) = true
+have_parameters es (datatype constants) = true
+have_parameters es constant_name = true
+have_parameters es (definition t) = true
+have_parameters es (parametric xs t) = are_parameters es xs
+
 -- ---- what names stand for
 
 -- what a name with this meaning stands for, where these names are known
@@ -93,6 +117,7 @@ worth_of known n (channel sets) = None
 worth_of known n (datatype constants) = Some (many (set_of (map constant constants)))
 worth_of known n constant_name = Some (one (constant n))
 worth_of known n (definition t) = worth known t
+worth_of known n (parametric xs t) = None
 
 -- what names stand for after so many steps, in each of which a definition is looked into
 unfoldable pub known_in : List Entry → ℕ → Known
@@ -130,16 +155,22 @@ is_process_operator operators.Alphabetised = true
 is_process_operator operators.Interleaving = true
 is_process_operator operators.Hiding = true
 is_process_operator operators.Renaming = true
+is_process_operator operators.Guard = true
 is_process_operator op = false
 
--- the forms of processes
+-- the forms of phrases that may be processes; a condition may choose a value too
 unfoldable pub is_process_form : Form → Bool
 is_process_form forms.Stop = true
 is_process_form forms.Skip = true
+is_process_form forms.Call = true
+is_process_form forms.If = true
+is_process_form forms.ReplicatedExternal = true
+is_process_form forms.ReplicatedInternal = true
+is_process_form forms.ReplicatedInterleaving = true
 is_process_form (forms.Operation op) = is_process_operator op
 is_process_form f = false
 
--- whether a phrase is a process, where this says so of a bare name
+-- whether a phrase may be a process, where this says so of a bare name
 unfoldable pub is_process_by : (Name → Bool) → Syntax → Bool
 is_process_by name (Called n) = false
 is_process_by name (Numeral n) = false
@@ -147,15 +178,16 @@ is_process_by name (Node forms.Brackets (MoreSyntax t NoSyntax)) = is_process_by
 is_process_by name (Node forms.Event (MoreSyntax (Called n) NoSyntax)) = name n
 is_process_by name (Node f ts) = is_process_form f
 
--- whether what a name is declared as is a process, where this says so of a bare name
+-- whether what a name is declared as may be a process, where this says so of a bare name
 unfoldable pub is_process_meaning : (Name → Bool) → Option Meaning → Bool
 is_process_meaning name None = false
 is_process_meaning name (Some (channel sets)) = false
 is_process_meaning name (Some (datatype constants)) = false
 is_process_meaning name (Some constant_name) = false
 is_process_meaning name (Some (definition t)) = is_process_by name t
+is_process_meaning name (Some (parametric xs t)) = false
 
--- whether a name is one of a process, where so many bare names are followed; more of them than there are names go in a circle, and that is a process
+-- whether a name may be one of a process, where so many bare names are followed; more of them than there are names go in a circle, and that is a process
 unfoldable pub is_process_in : List Entry → ℕ → Name → Bool
 is_process_in es zero n = true
 is_process_in es (suc k) n = is_process_meaning (is_process_in es k) (meaning es n)

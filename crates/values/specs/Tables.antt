@@ -4,7 +4,7 @@ use Rattle.alphabet.specs.Channels.{FieldValue}
 use Rattle.std.specs.declared.vec.Vec.{Vec}
 use Rattle.values.specs.declared.worth.Worth.{Worth}
 use Rattle.values.specs.Values.{Name}
-use Rattle.values.specs.Worths.{Worth as Plain, one, many, Known}
+use Rattle.values.specs.Worths.{Worth as Plain, one, many, truth, Known}
 use Rattle.values.specs.Names.{same_name}
 use Rattle.values.specs.declared.known.Known.{Known as Table}
 use Rattle.values.specs.declared.input.Input.{Input}
@@ -48,8 +48,9 @@ unfoldable pub last_of : List (Name × FieldValue) → Name → Option FieldValu
 last_of [] n = None
 last_of (i ∷ is) n = or_else (last_of is n) (if same_name n i.0 then Some i.1 else None)
 
--- what a name stands for is one value
+-- what a name stands for is one value or a truth
 unfoldable pub names_value : Option Plain → Bool
 names_value None = false
 names_value (Some (one v)) = true
 names_value (Some (many vs)) = false
+names_value (Some (truth b)) = true

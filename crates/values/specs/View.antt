@@ -8,7 +8,7 @@ use Rattle.std.specs.Prelude.{◌≡◌}
 use Rattle.alphabet.specs.Channels.{FieldValue, number, constant, Values}
 use Rattle.values.specs.declared.value.Value.{Value}
 use Rattle.values.specs.declared.value.Value.TheVariants as stored
-use Rattle.values.specs.Worths.{Worth as Plain, one, many}
+use Rattle.values.specs.Worths.{Worth as Plain, one, many, truth}
 use Rattle.values.specs.declared.worth.Worth.{Worth}
 use Rattle.values.specs.declared.worth.Worth.TheVariants as worths
 
@@ -25,6 +25,7 @@ values s = map value s.keys
 abbrev pub worth : {A : Type 0} → Worth A → Plain
 worth (worths.One v) = one (value v)
 worth (worths.Many s) = many (values s)
+worth (worths.Truth b) = truth b
 
 -- a fault of this kind is answered only where nothing is wanted, save for want of memory
 abbrev pub Fails : {Y : Type 0} → ScriptErrorKind → Option Y → Type 0

@@ -1,17 +1,18 @@
--- What phrases for values and for sets of values stand for.
-use Rattle.std.specs.Prelude.{List, [], ◌∷◌, Option, Some, None, ℤ, pos, ◌+ℤ◌, ◌-ℤ◌, ◌*ℤ◌}
+-- What phrases for values, for sets of values and for truths stand for.
+use Rattle.std.specs.Prelude.{List, [], ◌∷◌, Bool, true, false, not, Option, Some, None, if◌then◌else◌, ℤ, pos, ◌+ℤ◌, ◌-ℤ◌, ◌*ℤ◌, int_lt, int_le}
 use Rattle.alphabet.specs.Channels.{FieldValue, number, constant, Values}
 use Rattle.syntax.specs.declared.operator.Operator.{Operator}
 use Rattle.syntax.specs.declared.operator.Operator.TheVariants as operators
 use Rattle.syntax.specs.declared.form.Form.{Form}
 use Rattle.syntax.specs.declared.form.Form.TheVariants as forms
 use Rattle.syntax.specs.Grammar.{Syntax, Called, Numeral, Node, Syntaxes, NoSyntax, MoreSyntax}
-use Rattle.values.specs.Values.{◌>>=◌, Name, limited, remainder, set_of, union, intersection, difference, fitting_set, range}
+use Rattle.values.specs.Values.{◌>>=◌, Name, is_same, limited, remainder, set_of, union, intersection, difference, fitting_set, range}
 
--- what a phrase stands for: one value, or a set of values in order
+-- what a phrase stands for: one value, a set of values in order, or a truth
 pub data Worth : Type 0 where
   one : FieldValue → Worth
   many : Values → Worth
+  truth : Bool → Worth
 
 -- what names stand for
 abbrev pub Known : Type 0
@@ -20,15 +21,23 @@ Known = Name → Option Worth
 unfoldable pub the_value : Worth → Option FieldValue
 the_value (one v) = Some v
 the_value (many vs) = None
+the_value (truth b) = None
 
 unfoldable pub the_number : Worth → Option ℤ
 the_number (one (number z)) = Some z
 the_number (one (constant n)) = None
 the_number (many vs) = None
+the_number (truth b) = None
 
 unfoldable pub the_set : Worth → Option Values
 the_set (one v) = None
 the_set (many vs) = Some vs
+the_set (truth b) = None
+
+unfoldable pub the_truth : Worth → Option Bool
+the_truth (one v) = None
+the_truth (many vs) = None
+the_truth (truth b) = Some b
 
 unfoldable pub the_only : List Worth → Option Worth
 the_only (w ∷ []) = Some w
@@ -68,6 +77,58 @@ calculated op y z = None
 unfoldable pub computed : Operator → List Worth → Option Worth
 computed op ws = two_numbers ws >>= λ p. calculated op p.0 p.1 >>= λ z. Some (one (number z))
 
+-- two numbers, two constants or two truths are the same
+unfoldable pub are_same : Worth → Worth → Option Bool
+are_same (one (number y)) (one (number z)) = Some (is_same (number y) (number z))
+are_same (one (constant m)) (one (constant n)) = Some (is_same (constant m) (constant n))
+are_same (truth a) (truth b) = Some (if a then b else not b)
+are_same v w = None
+
+-- two numbers, the first of which is below the second
+unfoldable pub is_less : Worth → Worth → Option Bool
+is_less v w = the_number v >>= λ y. the_number w >>= λ z. Some (int_lt y z)
+
+-- two numbers, the first of which is at most the second
+unfoldable pub is_at_most : Worth → Worth → Option Bool
+is_at_most v w = the_number v >>= λ y. the_number w >>= λ z. Some (int_le y z)
+
+-- what a comparison makes of its sides
+unfoldable pub compared : Operator → Worth → Worth → Option Bool
+compared operators.Equal v w = are_same v w
+compared operators.NotEqual v w = are_same v w >>= λ b. Some (not b)
+compared operators.Less v w = is_less v w
+compared operators.LessOrEqual v w = is_at_most v w
+compared operators.Greater v w = is_less w v
+compared operators.GreaterOrEqual v w = is_at_most w v
+compared op v w = None
+
+-- the operators of comparisons
+unfoldable pub is_comparison : Operator → Bool
+is_comparison operators.Equal = true
+is_comparison operators.NotEqual = true
+is_comparison operators.Less = true
+is_comparison operators.LessOrEqual = true
+is_comparison operators.Greater = true
+is_comparison operators.GreaterOrEqual = true
+is_comparison op = false
+
+-- the truth that a comparison makes of what its sides stand for
+unfoldable pub comparison : Operator → List Worth → Option Worth
+comparison op ws = the_two ws >>= λ p. compared op p.0 p.1 >>= λ b. Some (truth b)
+
+-- what an operator makes of what its sides stand for
+unfoldable pub operated : Operator → List Worth → Option Worth
+operated op ws = if is_comparison op then comparison op ws else computed op ws
+
+-- a truth, of no parts
+unfoldable pub truth_of : Bool → List Worth → Option Worth
+truth_of b [] = Some (truth b)
+truth_of b (w ∷ ws) = None
+
+-- the other truth
+unfoldable pub negated_truth : List Worth → Option Worth
+negated_truth ws = the_only ws >>= λ w. the_truth w >>= λ b. Some (truth (not b))
+
 -- the number with its sign turned
 unfoldable pub negated : List Worth → Option Worth
 negated ws = the_only ws >>= λ w. the_number w >>= λ y. limited (pos 0 -ℤ y) >>= λ z. Some (one (number z))
@@ -93,7 +154,10 @@ formed forms.Event ws = the_only ws
 formed forms.Brackets ws = the_only ws
 formed forms.Negation ws = negated ws
 formed forms.NegativeNumber ws = negated ws
-formed (forms.Operation op) ws = computed op ws
+formed forms.True ws = truth_of true ws
+formed forms.False ws = truth_of false ws
+formed forms.Not ws = negated_truth ws
+formed (forms.Operation op) ws = operated op ws
 formed forms.EmptySet ws = nothing_of ws
 formed forms.Set ws = set_with ws
 formed forms.Range ws = range_with ws
@@ -102,14 +166,32 @@ formed forms.Intersection ws = intersection_with ws
 formed forms.Difference ws = difference_with ws
 formed f ws = None
 
+-- a truth, and nothing where it is of another kind
+unfoldable pub truth_only : Option Worth → Option Worth
+truth_only o = o >>= λ w. the_truth w >>= λ b. Some (truth b)
+
 unfoldable mutual
-  -- what a phrase stands for
+  -- what a phrase stands for; what is left of a condition isn't looked at where it doesn't decide
   pub worth : Known → Syntax → Option Worth
   worth known (Called n) = known n
   worth known (Numeral n) = limited (pos n) >>= λ z. Some (one (number z))
+  worth known (Node forms.If (MoreSyntax c (MoreSyntax t (MoreSyntax u NoSyntax)))) = worth known c >>= λ w. the_truth w >>= λ b. if b then worth known t else worth known u
+  worth known (Node (forms.Operation operators.And) (MoreSyntax t (MoreSyntax u NoSyntax))) = worth known t >>= λ w. the_truth w >>= λ b. if b then truth_only (worth known u) else Some (truth false)
+  worth known (Node (forms.Operation operators.Or) (MoreSyntax t (MoreSyntax u NoSyntax))) = worth known t >>= λ w. the_truth w >>= λ b. if b then Some (truth true) else truth_only (worth known u)
   worth known (Node f ts) = worths known ts >>= λ ws. formed f ws
 
   -- what each of them stands for
   pub worths : Known → Syntaxes → Option (List Worth)
   worths known NoSyntax = Some []
   worths known (MoreSyntax t ts) = worth known t >>= λ w. worths known ts >>= λ ws. Some (w ∷ ws)
+
+-- the truth that a phrase stands for
+unfoldable pub condition : Known → Syntax → Option Bool
+condition known t = worth known t >>= λ w. the_truth w
+
+-- the forms of which not all parts are looked at
+unfoldable pub is_lazy : Form → Bool
+is_lazy forms.If = true
+is_lazy (forms.Operation operators.And) = true
+is_lazy (forms.Operation operators.Or) = true
+is_lazy f = false

@@ -53,7 +53,7 @@ pub(crate) fn worth_behind<A: Allocator + Clone>(
     }
 }
 
-/// Whether the name stands for one value behind the inputs. Such a name hides a channel, a process or a set of events
+/// Whether the name stands for one value or a truth behind the inputs. Such a name hides a channel, a process or a set of events
 /// of its name. Costs a turn for each input and a look-up.
 #[tactic(auto, using(crate::proofs::Inputs::by_input, crate::proofs::Inputs::by_table))]
 pub fn is_value<A: Allocator>(known: &Known<A>, inputs: &[Input<A>], name: &[u8]) -> bool

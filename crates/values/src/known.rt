@@ -50,13 +50,13 @@ impl<A: Allocator> Known<A> {
         }
     }
 
-    /// Whether the name stands for one value.
+    /// Whether the name stands for one value or a truth.
     #[tactic(auto, unfolding(crate::specs::Tables::names_value))]
     pub(crate) fn is_one(&self, name: &[u8]) -> bool
         ensures { result ≡ names_value (table self.now name.now) }
     {
         match self.get(name) {
-            Some(Worth::One(_)) => true,
+            Some(Worth::One(_) | Worth::Truth(_)) => true,
             Some(Worth::Many(_)) => false,
             None => false,
         }

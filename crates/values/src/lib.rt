@@ -1,4 +1,4 @@
-//! What numbers, sets and names of a script stand for.
+//! What numbers, sets, truths and names of a script stand for.
 #![tactic(auto)]
 
 mod input;
@@ -7,6 +7,7 @@ mod law;
 mod number;
 mod phrase;
 mod sets;
+mod truths;
 mod value;
 mod worth;
 
@@ -16,4 +17,4 @@ pub use law::steps_reach_all;
 pub use phrase::stands_for;
 pub use sets::{SET_LIMIT, Values};
 pub use value::Value;
-pub use worth::{Worth, constant_set, the_set, the_value};
+pub use worth::{Worth, constant_set, the_set, the_truth, the_value};

@@ -1,8 +1,10 @@
-//! What phrases for values and sets of values stand for.
+//! What phrases for values, sets of values and truths stand for.
 ghost use Rattle.std.specs.Prelude.{◌≡◌, Some, map};
 ghost use Rattle.syntax.specs.View.{shape, shapes};
+ghost use Rattle.syntax.specs.Grammar.{Node};
 ghost use Rattle.syntax.specs.Parsing.{syntaxes};
-ghost use Rattle.values.specs.Worths.{calculated as calculated_of, computed as computed_of, negated as negated_of, nothing_of, set_with as set_with_of, range_with as range_with_of, union_with as union_with_of, intersection_with as intersection_with_of, difference_with as difference_with_of, formed as formed_of, worth as worth_in, worths as worths_in};
+ghost use Rattle.values.specs.Worths.{calculated as calculated_of, computed as computed_of, operated as operated_of, negated as negated_of, nothing_of, set_with as set_with_of, range_with as range_with_of, union_with as union_with_of, intersection_with as intersection_with_of, difference_with as difference_with_of, formed as formed_of, condition as condition_of, worth as worth_in, worths as worths_in};
+ghost use Rattle.values.specs.Lazy.{connective};
 ghost use Rattle.values.specs.View.{Gives, worth as worth_of};
 ghost use Rattle.values.specs.Tables.{table, input, behind};
 
@@ -10,8 +12,9 @@ use crate::input::{Input, worth_behind};
 use crate::known::Known;
 use crate::number::{difference as number_difference, fault, limited, product, remainder, sum};
 use crate::sets::{difference, fitting, intersection, range, union};
+use crate::truths::{Lazy, comparison, is_comparison, lazy_form, negated_truth, truth_of};
 use crate::value::Value;
-use crate::worth::{Worth, listed, the_number, the_only, two_numbers, two_sets};
+use crate::worth::{Worth, listed, the_number, the_only, the_truth, two_numbers, two_sets};
 use std::alloc::Allocator;
 use std::collections::BTreeSet;
 use syntax::{Form, Operator, Tree};
@@ -44,6 +47,22 @@ fn computed<A: Allocator>(
     let numbers = two_numbers(worths, line)?;
     let number = calculated(operator, numbers, line)?;
     Ok(Worth::One(Value::Number(number)))
+}
+
+/// What an operator makes of what its sides stand for.
+#[tactic(auto, unfolding(crate::specs::Worths::operated))]
+fn operated<A: Allocator>(
+    operator: Operator,
+    worths: Vec<Worth<A>, A>,
+    line: u32,
+) -> Result<Worth<A>, ScriptError>
+    ensures { Gives worth_of result (operated_of operator (map worth_of worths.items)) }
+{
+    if is_comparison(operator) {
+        comparison(operator, worths, line)
+    } else {
+        computed(operator, worths, line)
+    }
 }
 
 /// The number with its sign turned.
@@ -149,7 +168,10 @@ fn formed<A: Allocator + Clone>(
     match form {
         Form::Event | Form::Brackets => the_only(worths, line),
         Form::Negation | Form::NegativeNumber => negated(worths, line),
-        Form::Operation(operator) => computed(operator, worths, line),
+        Form::True => truth_of(true, worths, line),
+        Form::False => truth_of(false, worths, line),
+        Form::Not => negated_truth(worths, line),
+        Form::Operation(operator) => operated(operator, worths, line),
         Form::EmptySet => nothing(alloc, worths, line),
         Form::Set => set_with(alloc, worths, line),
         Form::Range => range_with(alloc, worths, line),
@@ -161,7 +183,8 @@ fn formed<A: Allocator + Clone>(
 }
 
 /// What a phrase stands for behind these inputs, where other names stand for what the table says. The last input of a
-/// name is the one that counts.
+/// name is the one that counts. The branch that a condition doesn't choose isn't looked at, and neither is the second
+/// side of `and` and `or` where the first decides.
 ///
 /// The fault has the line of the phrase that is at fault: `Expected` for a phrase of another kind, `UnknownName` for a
 /// name that neither the inputs nor the table have, `OutOfRange` for a number past its limits, `TooLarge` for a set of more than 65,536
@@ -182,11 +205,83 @@ pub fn stands_for<A: Allocator + Clone>(
             let number = limited(i64::from(*value), *line)?;
             Ok(Worth::One(Value::Number(number)))
         }
-        Tree::Node { line, form, parts } => {
-            let worths = each_stands_for(alloc, known, inputs, parts)?;
-            formed(alloc, *form, worths, *line)
-        }
+        Tree::Node { line, form, parts } => match lazy_form(*form) {
+            Some(Lazy::Condition) => conditional(alloc, known, inputs, parts, *line),
+            Some(Lazy::Connective(decisive)) => {
+                connected(alloc, known, inputs, decisive, parts, *line)
+            }
+            None => {
+                let worths = each_stands_for(alloc, known, inputs, parts)?;
+                formed(alloc, *form, worths, *line)
+            }
+        },
     }
+}
+
+/// What the branch stands for that the condition chooses. The other one isn't looked at.
+#[cycle(phrase)]
+#[tactic(auto, using(crate::proofs::Branches::not_three))]
+fn conditional<A: Allocator + Clone>(
+    alloc: &A,
+    known: &Known<A>,
+    inputs: &[Input<A>],
+    parts: &[Tree<A>],
+    line: u32,
+) -> Result<Worth<A>, ScriptError>
+    ensures { Gives worth_of result (worth_in (behind (table known.now) (map input inputs.now)) (Node Form.If (syntaxes (shapes parts.now)))) }
+{
+    match parts {
+        [condition, first, second] => {
+            let truth = truth_of_phrase(alloc, known, inputs, condition)?;
+            if truth {
+                stands_for(alloc, known, inputs, first)
+            } else {
+                stands_for(alloc, known, inputs, second)
+            }
+        }
+        _ => Err(fault(line, ScriptErrorKind::Expected)),
+    }
+}
+
+/// What `and` or `or` makes of its sides. The second isn't looked at where the first is the truth that decides.
+#[cycle(phrase)]
+#[tactic(auto, using(crate::proofs::Branches::not_two))]
+fn connected<A: Allocator + Clone>(
+    alloc: &A,
+    known: &Known<A>,
+    inputs: &[Input<A>],
+    decisive: bool,
+    sides: &[Tree<A>],
+    line: u32,
+) -> Result<Worth<A>, ScriptError>
+    ensures { Gives worth_of result (worth_in (behind (table known.now) (map input inputs.now)) (Node (Form.Operation (connective decisive)) (syntaxes (shapes sides.now)))) }
+{
+    match sides {
+        [first, second] => {
+            let truth = truth_of_phrase(alloc, known, inputs, first)?;
+            if truth == decisive {
+                return Ok(Worth::Truth(truth));
+            }
+            let other = truth_of_phrase(alloc, known, inputs, second)?;
+            Ok(Worth::Truth(other))
+        }
+        _ => Err(fault(line, ScriptErrorKind::Expected)),
+    }
+}
+
+/// The truth that a phrase stands for.
+#[cycle(phrase)]
+#[tactic(auto, unfolding(crate::specs::Worths::condition))]
+fn truth_of_phrase<A: Allocator + Clone>(
+    alloc: &A,
+    known: &Known<A>,
+    inputs: &[Input<A>],
+    tree: &Tree<A>,
+) -> Result<bool, ScriptError>
+    ensures { Gives (λ b. b) result (condition_of (behind (table known.now) (map input inputs.now)) (shape tree.now)) }
+{
+    let worth = stands_for(alloc, known, inputs, tree)?;
+    the_truth(worth, tree.line())
 }
 
 /// What each of the phrases stands for.

@@ -1,8 +1,8 @@
-//! What phrases stand for: values, and sets of values.
+//! What phrases stand for: values, sets of values, and truths.
 ghost use Rattle.std.specs.Prelude.{◌≡◌, Some, IfOk, map};
 ghost use Rattle.alphabet.specs.Channels.{constant};
 ghost use Rattle.values.specs.Values.{set_of};
-ghost use Rattle.values.specs.Worths.{the_value as the_value_of, the_number as the_number_of, the_set as the_set_of, the_only as the_only_of, the_two as the_two_of, two_numbers as two_numbers_of, two_sets as two_sets_of, set_of_all};
+ghost use Rattle.values.specs.Worths.{the_value as the_value_of, the_number as the_number_of, the_set as the_set_of, the_truth as the_truth_of, the_only as the_only_of, the_two as the_two_of, two_numbers as two_numbers_of, two_sets as two_sets_of, set_of_all};
 ghost use Rattle.values.specs.View.{Gives, value, values, worth as worth_of};
 
 use crate::number::fault;
@@ -19,6 +19,7 @@ pub enum Worth<A: Allocator> {
     One(Value<A>),
     /// A set of them.
     Many(Values<A>),
+    Truth(bool),
 }
 
 impl<A: Allocator + Clone> Worth<A> {
@@ -29,6 +30,7 @@ impl<A: Allocator + Clone> Worth<A> {
         match self {
             Worth::One(value) => Ok(Worth::One(value.clone()?)),
             Worth::Many(set) => Ok(Worth::Many(set.clone()?)),
+            Worth::Truth(truth) => Ok(Worth::Truth(*truth)),
         }
     }
 }
@@ -40,7 +42,7 @@ pub fn the_value<A: Allocator>(worth: Worth<A>, line: u32) -> Result<Value<A>, S
 {
     match worth {
         Worth::One(value) => Ok(value),
-        Worth::Many(_) => Err(fault(line, ScriptErrorKind::Expected)),
+        Worth::Many(_) | Worth::Truth(_) => Err(fault(line, ScriptErrorKind::Expected)),
     }
 }
 
@@ -52,7 +54,7 @@ pub(crate) fn the_number<A: Allocator>(worth: Worth<A>, line: u32) -> Result<i64
     match worth {
         Worth::One(Value::Number(number)) => Ok(number),
         Worth::One(Value::Constant(_)) => Err(fault(line, ScriptErrorKind::Expected)),
-        Worth::Many(_) => Err(fault(line, ScriptErrorKind::Expected)),
+        Worth::Many(_) | Worth::Truth(_) => Err(fault(line, ScriptErrorKind::Expected)),
     }
 }
 
@@ -62,8 +64,19 @@ pub fn the_set<A: Allocator>(worth: Worth<A>, line: u32) -> Result<Values<A>, Sc
     ensures { Gives values result (the_set_of (worth_of worth)) }
 {
     match worth {
-        Worth::One(_) => Err(fault(line, ScriptErrorKind::Expected)),
+        Worth::One(_) | Worth::Truth(_) => Err(fault(line, ScriptErrorKind::Expected)),
         Worth::Many(set) => Ok(set),
+    }
+}
+
+/// The truth, where it is one; else `Expected`.
+#[tactic(auto, unfolding(crate::specs::Worths::the_truth))]
+pub fn the_truth<A: Allocator>(worth: Worth<A>, line: u32) -> Result<bool, ScriptError>
+    ensures { Gives (λ b. b) result (the_truth_of (worth_of worth)) }
+{
+    match worth {
+        Worth::One(_) | Worth::Many(_) => Err(fault(line, ScriptErrorKind::Expected)),
+        Worth::Truth(truth) => Ok(truth),
     }
 }
 
@@ -87,7 +100,7 @@ pub(crate) fn the_only<A: Allocator>(
 
 /// The two of the list.
 #[tactic(auto, using(crate::proofs::Lists::only_two, crate::proofs::Lists::not_two))]
-fn the_two<A: Allocator>(
+pub(crate) fn the_two<A: Allocator>(
     worths: Vec<Worth<A>, A>,
     line: u32,
 ) -> Result<(Worth<A>, Worth<A>), ScriptError>
@@ -97,9 +110,12 @@ fn the_two<A: Allocator>(
     if worths.len() != 2 {
         return Err(fault(line, ScriptErrorKind::Expected));
     }
-    match (worths.pop(), worths.pop()) {
-        (Some(second), Some(first)) => Ok((first, second)),
-        _ => Err(fault(line, ScriptErrorKind::Expected)),
+    let Some(second) = worths.pop() else {
+        return Err(fault(line, ScriptErrorKind::Expected));
+    };
+    match worths.pop() {
+        Some(first) => Ok((first, second)),
+        None => Err(fault(line, ScriptErrorKind::Expected)),
     }
 }
 

@@ -1,18 +1,13 @@
 use Rattle.std.proofs.lemmas.Result.{err_from_is_err_and}
 use Rattle.syntax.specs.Parsing.{syntaxes}
 use Rattle.syntax.specs.View.{shape, shapes}
-use Rattle.declared_names.proofs.Scripts.{put_parts, parts_none, none_declared}
+use Rattle.declared_names.proofs.Scripts.{put_parts, parts_none}
 use Rattle.declared_names.proofs.naming.distinct_entries.Goals as goal
 
 pub returns-in_err-declarations : goal.returns-in_err-declarations
 returns-in_err-declarations g c =
     let p = err_from_is_err_and c.from_residual.result c.from_residual.ensures.1 in
     rw (p.1, p.2) (parts_none c.in_err-declarations.field-0.0.kind (shape c.args.tree.now) c.in_err-declarations.ensures)
-
-pub returns-in_err-without_parameters : goal.returns-in_err-without_parameters
-returns-in_err-without_parameters g c =
-    let p = err_from_is_err_and c.from_residual-in_err-without_parameters.result c.from_residual-in_err-without_parameters.ensures.1 in
-    rw (p.1, p.2) (none_declared c.in_err-without_parameters.field-0.0.kind (shape c.args.tree.now) (syntaxes (shapes c.in_ok-declarations.declarations.now)) c.in_ok-declarations.ensures c.in_err-without_parameters.ensures)
 
 pub returns-in_err-entries : goal.returns-in_err-entries
 returns-in_err-entries g c =

@@ -1,20 +1,28 @@
-use Rattle.std.proofs.Common.{rules, arith, Some, ◌≡◌, ◌<◌, map, length, [], ◌∷◌, ◌++◌, ap, ◌∙◌}
+use Rattle.std.proofs.Common.{rules, arith, Some, ◌≡◌, ◌<◌, List, ℕ, map, length, [], ◌∷◌, ◌++◌, ap, ap₂, ◌∙◌}
 use Rattle.std.proofs.lemmas.List.{length-map, map-append}
 use Rattle.std.proofs.lemmas.Result.{err_from_is_err_and}
+use Rattle.alphabet.specs.Channels.{Values}
 use Rattle.term.specs.Proc.{proc}
+use Rattle.event_phrases.specs.View.{listed}
+use Rattle.event_phrases.proofs.Options.{fails_on}
 use Rattle.denotation.specs.Making.{make_body}
 use Rattle.denotation.specs.View.{key, count}
 use Rattle.denotation.proofs.Progress.{start, one_more, finish, unique, stuck, body_less}
 use Rattle.denotation.proofs.FirstPlaces.{same}
-use Rattle.event_phrases.proofs.Options.{fails_on}
 use Rattle.denotation.proofs.Seen.{seen_root, seen_body}
 use Rattle.denotation.proofs.gathering.gathered.Goals as goal
 
 pub loop-alloc-init : goal.loop-alloc-init
 loop-alloc-init g c =
-    let h : map key c.insert.new.self.keys ≡ (c.args.root.now, []) ∷ [] = seen_root same c.insert.new.self.keys c.new-met.result.keys c.in_ok-from_slice.field-0 c.args.root.now c.in_ok-_first.ensures.keys c.new-met.ensures.empty c.in_ok-from_slice.ensures.items in
+    let root = ap₂ (λ (n : List ℕ) (vs : Values). (n, vs)) c.in_ok-from_slice.ensures.items (ap listed c.new.ensures.items) in
+    let h : map key c.insert.new.self.keys ≡ (c.args.root.now, []) ∷ [] = seen_root same c.insert.new.self.keys c.new-met.result.keys _ (c.args.root.now, []) c.in_ok-_new.ensures.keys c.new-met.ensures.empty root in
     let k : map proc c.new-terms.result.items ≡ [] = ap (map proc) c.new-terms.ensures.items in
     rw h (rw k (start (g.G.GlobalScope.scope c.args.global.now) (c.args.root.now, [])))
+
+pub returns-in_err-call-clause-only : goal.returns-in_err-call-clause-only
+returns-in_err-call-clause-only g c = λ ps d.
+    let p = err_from_is_err_and c.from_residual-in_err-call.result c.from_residual-in_err-call.ensures.1 in
+    rw (p.1, p.2) tt
 
 pub returns-in_err-term-clause-only : goal.returns-in_err-term-clause-only
 returns-in_err-term-clause-only g c = λ ps d.
@@ -23,9 +31,9 @@ returns-in_err-term-clause-only g c = λ ps d.
     let keys = map key c.loop-alloc.work.met.keys in
     let n : c.len-in-loop-alloc-2.result ≡ length made = search (rules, length-map) in
     let lt : length made < length c.loop-alloc.work.met.keys = omega (arith, n) in
-    let at = seen_body S c.loop-alloc.work.met.keys c.len-in-loop-alloc-2.result (length made) c.index.result.now c.deref-in-loop-alloc.result.now (c.args.root.now, []) (count c.loop-alloc.work) n c.index.ensures (c.deref-in-loop-alloc.ensures.value ∙ c.in_ok-name.ensures.items ∙ c.deref.ensures.value) in
+    let at = seen_body S c.loop-alloc.work.met.keys c.len-in-loop-alloc-2.result (length made) c.index.result.now (key c.in_ok-call.call) (c.args.root.now, []) (count c.loop-alloc.work) n c.index.ensures c.in_ok-call.ensures in
     let p = err_from_is_err_and c.from_residual-in_err-term.result c.from_residual-in_err-term.ensures.1 in
-    rw (p.1, p.2) (fails_on c.in_err-term.field-0.0.kind (make_body S (c.deref-in-loop-alloc.result.now, []) (count c.loop-alloc.work)) (Some ps)
+    rw (p.1, p.2) (fails_on c.in_err-term.field-0.0.kind (make_body S (key c.in_ok-call.call) (count c.loop-alloc.work)) (Some ps)
     (λ e. absurd (stuck S (c.args.root.now, []) made keys c.loop-alloc.work.room c.loop-alloc.invariant (omega (arith, lt, length-map c.loop-alloc.work.met.keys key)) ps d (at ∙ e))) c.in_err-term.ensures)
 
 pub returns-in_err-push-clause-only : goal.returns-in_err-push-clause-only
@@ -34,7 +42,7 @@ returns-in_err-push-clause-only g c = λ ps d.
     rw (p.1, p.2) tt
 
 pub loop-alloc-smaller : goal.loop-alloc-smaller
-loop-alloc-smaller g c = body_less (g.G.GlobalScope.scope c.args.global.now) (c.deref-in-loop-alloc.result.now, []) (count c.loop-alloc.work) (proc c.in_ok-term.term, count c.in_ok-term.next) c.in_ok-term.ensures
+loop-alloc-smaller g c = body_less (g.G.GlobalScope.scope c.args.global.now) (key c.in_ok-call.call) (count c.loop-alloc.work) (proc c.in_ok-term.term, count c.in_ok-term.next) c.in_ok-term.ensures
 
 pub loop-alloc-preserved : goal.loop-alloc-preserved
 loop-alloc-preserved g c =
@@ -43,7 +51,7 @@ loop-alloc-preserved g c =
     let keys = map key c.loop-alloc.work.met.keys in
     let n : c.len-in-loop-alloc-2.result ≡ length made = search (rules, length-map) in
     let lt : length made < length c.loop-alloc.work.met.keys = omega (arith, n) in
-    let at = seen_body S c.loop-alloc.work.met.keys c.len-in-loop-alloc-2.result (length made) c.index.result.now c.deref-in-loop-alloc.result.now (c.args.root.now, []) (count c.loop-alloc.work) n c.index.ensures (c.deref-in-loop-alloc.ensures.value ∙ c.in_ok-name.ensures.items ∙ c.deref.ensures.value) in
+    let at = seen_body S c.loop-alloc.work.met.keys c.len-in-loop-alloc-2.result (length made) c.index.result.now (key c.in_ok-call.call) (c.args.root.now, []) (count c.loop-alloc.work) n c.index.ensures c.in_ok-call.ensures in
     let new : map proc c.push.new.self.items ≡ made ++ proc c.in_ok-term.term ∷ [] = ap (map proc) c.in_ok-push.ensures.items ∙ map-append proc c.loop-alloc.terms.items (c.in_ok-term.term ∷ []) in
     rw new (one_more S (c.args.root.now, []) made keys c.loop-alloc.work.room c.loop-alloc.invariant (proc c.in_ok-term.term, count c.in_ok-term.next) (omega (arith, lt, length-map c.loop-alloc.work.met.keys key)) (at ∙ c.in_ok-term.ensures))
 

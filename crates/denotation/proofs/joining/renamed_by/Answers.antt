@@ -4,7 +4,7 @@ use Rattle.syntax.specs.View.{shapes}
 use Rattle.term.specs.Proc.{proc}
 use Rattle.values.specs.Tables.{input}
 use Rattle.values.specs.View.{Gives}
-use Rattle.event_phrases.specs.EventForms.{within}
+use Rattle.event_phrases.specs.Scopes.{within}
 use Rattle.event_phrases.specs.Events.{pairs_of}
 use Rattle.denotation.specs.View.{count}
 use Rattle.event_phrases.proofs.EventSetLaws.{count_is}

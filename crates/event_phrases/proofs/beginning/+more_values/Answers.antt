@@ -5,7 +5,8 @@ use Rattle.syntax.specs.View.{shape, shapes}
 use Rattle.values.specs.Tables.{input}
 use Rattle.values.specs.Values.{is_among}
 use Rattle.values.specs.View.{Gives, Fails, value}
-use Rattle.event_phrases.specs.EventForms.{within, within_by, values_behind}
+use Rattle.event_phrases.specs.EventForms.{within_by, values_behind}
+use Rattle.event_phrases.specs.Scopes.{within}
 use Rattle.event_phrases.specs.View.{listed}
 use Rattle.event_phrases.proofs.Scopes.{no_fields, no_sets, one_value, value_fails, fails_none, no_items, first_item, rest_is}
 use Rattle.event_phrases.proofs.beginning.+more_values.Goals as goal

@@ -3,7 +3,7 @@ use Rattle.std.proofs.lemmas.Result.{err_from_is_err_and}
 use Rattle.syntax.specs.View.{shape, shapes}
 use Rattle.values.specs.Tables.{input}
 use Rattle.event_phrases.specs.Events.{beginning}
-use Rattle.event_phrases.specs.EventForms.{within}
+use Rattle.event_phrases.specs.Scopes.{within}
 use Rattle.event_phrases.specs.View.{listed}
 use Rattle.event_phrases.proofs.EventLaws.{begins_not, begin_none, begin_fails, begin_made}
 use Rattle.event_phrases.proofs.Scopes.{fails_none}

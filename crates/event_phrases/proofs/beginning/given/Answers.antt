@@ -2,7 +2,7 @@ use Rattle.std.proofs.Common.{map, subst, sym}
 use Rattle.syntax.specs.View.{shape}
 use Rattle.values.specs.Tables.{input}
 use Rattle.values.specs.View.{Gives, value}
-use Rattle.event_phrases.specs.EventForms.{within}
+use Rattle.event_phrases.specs.Scopes.{within}
 use Rattle.event_phrases.specs.Shapes.{plain_field}
 use Rattle.event_phrases.proofs.EventLaws.{value_so}
 use Rattle.event_phrases.proofs.beginning.given.Goals as goal

@@ -2,7 +2,8 @@ use Rattle.std.proofs.Common.{map, arith}
 use Rattle.std.proofs.lemmas.List.{length-map}
 use Rattle.syntax.specs.View.{shape, shapes}
 use Rattle.values.specs.Tables.{input}
-use Rattle.event_phrases.specs.EventForms.{within, within_by}
+use Rattle.event_phrases.specs.EventForms.{within_by}
+use Rattle.event_phrases.specs.Scopes.{within}
 use Rattle.event_phrases.specs.View.{listed}
 use Rattle.event_phrases.proofs.EventLaws.{too_many}
 use Rattle.event_phrases.proofs.Scopes.{fails_none}

@@ -3,7 +3,7 @@ use Rattle.std.specs.Option.{option_map}
 use Rattle.syntax.specs.View.{shape}
 use Rattle.values.specs.Tables.{input}
 use Rattle.values.specs.View.{Gives, value}
-use Rattle.event_phrases.specs.EventForms.{within}
+use Rattle.event_phrases.specs.Scopes.{within}
 use Rattle.event_phrases.specs.Shapes.{plain_field}
 use Rattle.event_phrases.specs.View.{listed}
 use Rattle.event_phrases.proofs.Scopes.{field_fits}

@@ -4,7 +4,7 @@ use Rattle.syntax.specs.Parsing.{syntaxes}
 use Rattle.syntax.specs.View.{shapes}
 use Rattle.values.specs.Tables.{input}
 use Rattle.event_phrases.specs.Events.{pairs_of}
-use Rattle.event_phrases.specs.EventForms.{within}
+use Rattle.event_phrases.specs.Scopes.{within}
 use Rattle.event_phrases.proofs.Renamings.{others_start, others_more, others_fail, others_end}
 use Rattle.event_phrases.proofs.renaming.pairs_of.Goals as goal
 

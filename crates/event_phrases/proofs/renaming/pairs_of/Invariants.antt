@@ -2,7 +2,8 @@ use Rattle.std.proofs.Common.{◌≡◌, map}
 use Rattle.syntax.specs.Parsing.{syntaxes}
 use Rattle.syntax.specs.View.{shapes}
 use Rattle.values.specs.Tables.{input}
-use Rattle.event_phrases.specs.EventForms.{within, behind_pairs}
+use Rattle.event_phrases.specs.EventForms.{behind_pairs}
+use Rattle.event_phrases.specs.Scopes.{within}
 use Rattle.event_phrases.specs.Events.{pairs_of}
 use Rattle.event_phrases.proofs.Renamings.{others}
 use Rattle.event_phrases.proofs.renaming.pairs_of.Given as goal

@@ -4,7 +4,8 @@ use Rattle.syntax.specs.View.{shape}
 use Rattle.values.specs.Tables.{input}
 use Rattle.values.specs.View.{Gives}
 use Rattle.event_phrases.specs.Events.{pair_of}
-use Rattle.event_phrases.specs.EventForms.{behind_pairs, within}
+use Rattle.event_phrases.specs.EventForms.{behind_pairs}
+use Rattle.event_phrases.specs.Scopes.{within}
 use Rattle.event_phrases.specs.View.{beginning}
 use Rattle.event_phrases.proofs.Scopes.{fails_none}
 use Rattle.event_phrases.proofs.Renamings.{no_pair, left_fails, right_fails, pair_made}

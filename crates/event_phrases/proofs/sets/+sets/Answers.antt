@@ -5,11 +5,12 @@ use Rattle.values.specs.Tables.{input}
 use Rattle.values.specs.Values.{◌>>=◌}
 use Rattle.values.specs.View.{Gives}
 use Rattle.event_phrases.specs.Events.{event_set, masked}
-use Rattle.event_phrases.specs.EventForms.{within, set_by}
+use Rattle.event_phrases.specs.EventForms.{set_by}
+use Rattle.event_phrases.specs.Scopes.{within}
 use Rattle.event_phrases.specs.Forms.{tall, sets_tall}
 use Rattle.event_phrases.specs.Shapes.{plain_set}
 use Rattle.event_phrases.proofs.EventLaws.{event_set_is}
-use Rattle.event_phrases.proofs.EventSetLaws.{no_set, inside_tall, combined_tall, inside_set, hidden_set, seen_set, nothing_set, everything_set, several_set, first_set_fails, second_set_fails, both_sets}
+use Rattle.event_phrases.proofs.EventSetLaws.{no_set, inside_tall, chosen_tall, combined_tall, inside_set, hidden_set, seen_set, nothing_set, everything_set, several_set, condition_fails, first_chosen, second_chosen, first_set_fails, second_set_fails, both_sets}
 use Rattle.event_phrases.proofs.Scopes.{fails_none}
 use Rattle.event_phrases.proofs.sets.+sets.Goals as goal
 
@@ -85,11 +86,45 @@ set_of_phrase-returns-in-Several g t c =
     let known = (within s (map input c.args.scope.now.inputs.items)).known in
     subst (λ o. Gives (λ s. s) c.several.result o) (sym (several_set (plain_set c.args.phrase) s.channels known s.sets c.in-Several.extent (shapes c.in-Several.trees.now) (ap plain_set c.in-Several.is))) c.several.ensures
 
+pub set_of_phrase-event_set-requires-then-branch : goal.set_of_phrase-event_set-requires-then-branch
+set_of_phrase-event_set-requires-then-branch g t c κs within =
+    let b = c.in-Chosen in
+    let m : 2 * tall (shape b.first.now) < 2 * sets_tall (plain_set c.args.phrase) + 1 = omega (arith, chosen_tall (plain_set c.args.phrase) (shape b.condition.now) (shape b.first.now) (shape b.second.now) (ap plain_set b.is)) in
+    search (rules, m)
+
+pub set_of_phrase-event_set-requires-else-branch : goal.set_of_phrase-event_set-requires-else-branch
+set_of_phrase-event_set-requires-else-branch g t c κs within =
+    let b = c.in-Chosen in
+    let m : 2 * tall (shape b.second.now) < 2 * sets_tall (plain_set c.args.phrase) + 1 = omega (arith, chosen_tall (plain_set c.args.phrase) (shape b.condition.now) (shape b.first.now) (shape b.second.now) (ap plain_set b.is)) in
+    search (rules, m)
+
+pub set_of_phrase-returns-in_err-truth-in-Chosen : goal.set_of_phrase-returns-in_err-truth-in-Chosen
+set_of_phrase-returns-in_err-truth-in-Chosen g t c =
+    let s = g.G.GlobalScope.scope c.args.scope.now.global.now in
+    let known = (within s (map input c.args.scope.now.inputs.items)).known in
+    let b = c.in-Chosen in
+    let p = err_from_is_err_and c.from_residual.result c.from_residual.ensures.1 in
+    rw (p.1, p.2) (condition_fails (plain_set c.args.phrase) s.channels known s.sets (shape b.condition.now) (shape b.first.now) (shape b.second.now) (ap plain_set b.is) c.in_err-truth-in-Chosen.field-0.0.kind c.in_err-truth-in-Chosen.ensures)
+
+pub set_of_phrase-returns-then-branch : goal.set_of_phrase-returns-then-branch
+set_of_phrase-returns-then-branch g t c =
+    let s = g.G.GlobalScope.scope c.args.scope.now.global.now in
+    let known = (within s (map input c.args.scope.now.inputs.items)).known in
+    let b = c.in-Chosen in
+    subst (λ o. Gives (λ s. s) c.event_set-then-branch.result o) (sym (first_chosen (plain_set c.args.phrase) s.channels known s.sets (shape b.condition.now) (shape b.first.now) (shape b.second.now) (ap plain_set b.is) c.in_ok-truth-in-Chosen.field-0 c.in_ok-truth-in-Chosen.ensures c.if-branch.true)) c.event_set-then-branch.ensures
+
+pub set_of_phrase-returns-else-branch : goal.set_of_phrase-returns-else-branch
+set_of_phrase-returns-else-branch g t c =
+    let s = g.G.GlobalScope.scope c.args.scope.now.global.now in
+    let known = (within s (map input c.args.scope.now.inputs.items)).known in
+    let b = c.in-Chosen in
+    subst (λ o. Gives (λ s. s) c.event_set-else-branch.result o) (sym (second_chosen (plain_set c.args.phrase) s.channels known s.sets (shape b.condition.now) (shape b.first.now) (shape b.second.now) (ap plain_set b.is) c.in_ok-truth-in-Chosen.field-0 c.in_ok-truth-in-Chosen.ensures c.if-branch.false)) c.event_set-else-branch.ensures
+
 pub set_of_phrase-returns-in_err-first-in-Combined : goal.set_of_phrase-returns-in_err-first-in-Combined
 set_of_phrase-returns-in_err-first-in-Combined g t c =
     let s = g.G.GlobalScope.scope c.args.scope.now.global.now in
     let known = (within s (map input c.args.scope.now.inputs.items)).known in
-    let p = err_from_is_err_and c.from_residual.result c.from_residual.ensures.1 in
+    let p = err_from_is_err_and c.from_residual-in_err-first-in-Combined.result c.from_residual-in_err-first-in-Combined.ensures.1 in
     rw (p.1, p.2) (first_set_fails (plain_set c.args.phrase) s.channels known s.sets c.in-Combined.combination (shape c.in-Combined.first.now) (shape c.in-Combined.second.now) (ap plain_set c.in-Combined.is) c.in_err-first-in-Combined.field-0.0.kind c.in_err-first-in-Combined.ensures)
 
 pub set_of_phrase-returns-in_err-second-in-Combined : goal.set_of_phrase-returns-in_err-second-in-Combined

@@ -2,7 +2,7 @@ use Rattle.std.proofs.Common.{map}
 use Rattle.std.proofs.lemmas.Result.{err_from_is_err_and}
 use Rattle.syntax.specs.View.{shape}
 use Rattle.values.specs.Tables.{input}
-use Rattle.event_phrases.specs.EventForms.{within}
+use Rattle.event_phrases.specs.Scopes.{within}
 use Rattle.event_phrases.proofs.EventSetLaws.{begun_fails, member_fails}
 use Rattle.event_phrases.proofs.sets.events_of.Goals as goal
 

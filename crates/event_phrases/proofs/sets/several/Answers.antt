@@ -4,7 +4,8 @@ use Rattle.syntax.specs.Parsing.{syntaxes}
 use Rattle.syntax.specs.View.{shapes}
 use Rattle.values.specs.Tables.{input}
 use Rattle.event_phrases.specs.Events.{masked, together}
-use Rattle.event_phrases.specs.EventForms.{within, gives_by}
+use Rattle.event_phrases.specs.EventForms.{gives_by}
+use Rattle.event_phrases.specs.Scopes.{within}
 use Rattle.event_phrases.proofs.EventSetLaws.{several_start, several_more, several_fails, several_end}
 use Rattle.event_phrases.proofs.sets.several.Goals as goal
 

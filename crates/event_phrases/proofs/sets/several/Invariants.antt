@@ -3,7 +3,8 @@ use Rattle.syntax.specs.Parsing.{syntaxes}
 use Rattle.syntax.specs.View.{shapes}
 use Rattle.values.specs.Tables.{input}
 use Rattle.event_phrases.specs.Events.{masked, together}
-use Rattle.event_phrases.specs.EventForms.{within, gives_by}
+use Rattle.event_phrases.specs.EventForms.{gives_by}
+use Rattle.event_phrases.specs.Scopes.{within}
 use Rattle.event_phrases.proofs.EventSetLaws.{with_set, others, Lies}
 use Rattle.event_phrases.proofs.sets.several.Given as goal
 

@@ -2,8 +2,7 @@ use Rattle.std.proofs.Common.{map}
 use Rattle.std.proofs.lemmas.Result.{err_from_is_err_and}
 use Rattle.syntax.specs.View.{shape}
 use Rattle.values.specs.Tables.{input}
-use Rattle.event_phrases.specs.EventForms.{within}
-use Rattle.event_phrases.specs.Scopes.{events_by}
+use Rattle.event_phrases.specs.Scopes.{events_by, within}
 use Rattle.event_phrases.proofs.TwoSets.{first_of_two, second_of_two, both_of_two}
 use Rattle.event_phrases.proofs.sets.two_sets.Goals as goal
 

@@ -3,7 +3,7 @@ use Rattle.values.specs.Tables.{table}
 use Rattle.declared_names.specs.View.{entries}
 use Rattle.script.specs.Standing.{events_by}
 use Rattle.script.specs.Tables.{said}
-use Rattle.script.proofs.Denoting.{no_root, bodies_with}
+use Rattle.script.proofs.Denoting.{no_root, bodies_with, only_memory}
 use Rattle.script.proofs.NamedSets.{sets_lie}
 use Rattle.script.proofs.reading.bodies_of.Goals as goal
 
@@ -17,7 +17,17 @@ invariant_of-script g c =
     let n = c.args.names.now in
     record { lie = sets_lie n.sigma.alphabet (table n.known) (entries n.entries) (said c.in_ok-sets.sets) c.in_ok-sets.ensures.reached }
 
+pub returns-in-Ok-clause-only : goal.returns-in-Ok-clause-only
+returns-in-Ok-clause-only g c = λ ps a.
+    let n = c.args.names.now in
+    c.in-Ok.ensures.only ps (bodies_with n.sigma.alphabet (table n.known) (entries n.entries) c.args.root.now (events_by (said c.in_ok-sets.sets)) ps c.in_ok-sets.ensures.stand a)
+
+pub returns-in-Memory-clause-only : goal.returns-in-Memory-clause-only
+returns-in-Memory-clause-only g c = λ ps a.
+    let n = c.args.names.now in
+    c.in-Err.ensures.only ps (bodies_with n.sigma.alphabet (table n.known) (entries n.entries) c.args.root.now (events_by (said c.in_ok-sets.sets)) ps c.in_ok-sets.ensures.stand a)
+
 pub returns-clause-only : goal.returns-clause-only
 returns-clause-only g c = λ ps a.
     let n = c.args.names.now in
-    c.gathered.ensures.only ps (bodies_with n.sigma.alphabet (table n.known) (entries n.entries) c.args.root.now (events_by (said c.in_ok-sets.sets)) ps c.in_ok-sets.ensures.stand a)
+    absurd (c.in_default.not-Memory (only_memory c.in-Err.error.kind ps (c.in-Err.ensures.only ps (bodies_with n.sigma.alphabet (table n.known) (entries n.entries) c.args.root.now (events_by (said c.in_ok-sets.sets)) ps c.in_ok-sets.ensures.stand a))))

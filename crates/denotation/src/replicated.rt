@@ -1,0 +1,62 @@
+//! The parts of replicated forms that make no process.
+ghost use Rattle.std.specs.Prelude.{◌≡◌, map};
+ghost use Rattle.syntax.specs.View.{shape};
+ghost use Rattle.term.specs.Proc.{proc};
+ghost use Rattle.values.specs.Tables.{input};
+ghost use Rattle.values.specs.View.{Gives, values};
+ghost use Rattle.event_phrases.specs.Scopes.{within};
+ghost use Rattle.denotation.specs.Making.{make_replicated};
+ghost use Rattle.denotation.specs.Parts.{generator_values};
+ghost use Rattle.denotation.specs.View.{count};
+
+use crate::choice::halved_within;
+use crate::forms::Join;
+use crate::work::Work;
+use event_phrases::{GlobalScope, Scope, fault, wanted_values};
+use std::alloc::Allocator;
+use syntax::Tree;
+use term::Term;
+use tokens::{ScriptError, ScriptErrorKind};
+use values::Values;
+
+/// The values of a generator with this name and this set, on this line.
+#[tactic(auto)]
+pub(crate) fn values_of<A: Allocator + Copy, G: GlobalScope<A>>(
+    alloc: A,
+    scope: &Scope<'_, A, G>,
+    name: &[u8],
+    set: &Tree<A>,
+    line: u32,
+) -> Result<Values<A>, ScriptError>
+    ensures { Gives values result (generator_values (within (G.scope scope.now.global.now) (map input scope.now.inputs.items)) name.now (shape set.now)) }
+{
+    if scope.global.is_constant(name) {
+        return Err(fault(line, ScriptErrorKind::Unsupported));
+    }
+    wanted_values(alloc, scope, set)
+}
+
+/// The terms of a replicated form on this line, joined so.
+#[tactic(auto, unfolding(crate::specs::Making::make_replicated))]
+pub(crate) fn all_joined<A: Allocator + Copy>(
+    alloc: A,
+    join: Join,
+    terms: Vec<Term<A>, A>,
+    work: Work<A>,
+    body: u32,
+    line: u32,
+) -> Result<(Term<A>, Work<A>), ScriptError>
+    ensures { Gives (λ x. (proc x.0, count x.1)) result (make_replicated join (map proc terms.items, count work)) }
+{
+    match join {
+        Join::Sequence | Join::Interrupt => Err(fault(line, ScriptErrorKind::Expected)),
+        Join::Internal => {
+            let length = terms.len();
+            if length < 1 {
+                return Err(fault(line, ScriptErrorKind::OutOfRange));
+            }
+            halved_within(alloc, join, terms, work, body)
+        }
+        Join::External | Join::Interleaving => halved_within(alloc, join, terms, work, body),
+    }
+}
