@@ -4,7 +4,8 @@
     compare_scripts.py REFERENCE [SEED] [COUNT] [--program FILE] [--keep FOLDER]
 
 REFERENCE is a folder with the package `cspref`, a reader in Python that was written apart from this one. The scripts are
-made from the seed: they declare channels, datatypes, numbers, sets and processes, and most are at fault somewhere or other.
+made from the seed: they declare channels, datatypes, numbers, truths, sets and processes with and without parameters, have conditions,
+guards and replicated forms, and most are at fault somewhere or other.
 Each is printed by the program (crates/cspwatch/out/cspwatch, or FILE) and by the reference; their texts, or the line, the
 number and the word of the fault, have to be the same. Differences that docs/DECISIONS.md explains are counted; each other one
 is printed, and the exit status is 1 where there is one. The scripts of all are kept in FOLDER.
@@ -14,6 +15,7 @@ import collections
 import concurrent.futures
 import os
 import random
+import re
 import subprocess
 import sys
 import tempfile
@@ -31,7 +33,9 @@ class Scripts:
         self.rng = rng
         # how often a part is chosen without regard to its kind or its declaration
         self.wild = rng.choice([0, 0, 0.004, 0.02, 0.06])
-        self.numbers, self.value_sets, self.event_sets, self.processes = [], [], [], []
+        self.numbers, self.truths, self.value_sets, self.event_sets, self.processes = [], [], [], [], []
+        # the names of definitions with parameters, and how many each has
+        self.calls = {}
         self.constants, self.datatypes, self.channels = [], [], {}
         self.lines = []
 
@@ -41,17 +45,20 @@ class Scripts:
     # ---- values and sets of values
 
     def stray(self):
-        every = (self.numbers + self.value_sets + self.event_sets + self.processes + self.constants + self.datatypes
-                 + list(self.channels) + ["X", "CHAOS", "Int", "STOP", "{}", "{0..1}", "1", "Events"])
+        every = (self.numbers + self.truths + self.value_sets + self.event_sets + self.processes + self.constants + self.datatypes
+                 + list(self.channels) + list(self.calls)
+                 + ["X", "CHAOS", "Int", "STOP", "{}", "{0..1}", "1", "Events", "true", "(1 < 2)", "(if true then 1 else 0)", "Q1(1)"])
         return self.rng.choice(every)
 
     def number(self, inputs, depth=2):
         rng = self.rng
         if self.chance(self.wild):
             return self.stray()
-        kind = rng.randrange(8)
+        kind = rng.randrange(9)
         if depth <= 0 or kind < 3:
             return str(rng.choice([0, 1, 1, 2, 3, 7]))
+        if kind == 8:
+            return "(%s)" % self.chosen(inputs, lambda: self.number(inputs, depth - 1))
         if kind == 3 and self.numbers:
             return rng.choice(self.numbers)
         if kind == 4 and inputs:
@@ -62,6 +69,31 @@ class Scripts:
             return "- %s" % rng.choice(["1", "2", "(1 + 1)"])
         sign = rng.choice(["+", "+", "-", "*", "%"])
         return "%s %s %s" % (self.number(inputs, depth - 1), sign, self.number(inputs, depth - 1))
+
+    def chosen(self, inputs, part):
+        """A condition between two parts, of which one may be of any kind."""
+        first, second = (part() if self.chance(0.85) else self.stray() for _ in range(2))
+        return "if %s then %s else %s" % (self.truth(inputs, 1), first, second)
+
+    def truth(self, inputs, depth=2):
+        rng = self.rng
+        if self.chance(self.wild):
+            return self.stray()
+        kind = rng.randrange(12)
+        if depth <= 0 or kind < 3:
+            return rng.choice(["true", "false", "1 < 2", "2 <= 1"] + self.truths * 2)
+        if kind < 6:
+            return "%s %s %s" % (self.number(inputs, 1), rng.choice(["==", "!=", "<", "<=", ">", ">="]), self.number(inputs, 1))
+        if kind == 6:
+            return "%s %s %s" % (self.value(inputs), rng.choice(["==", "!="]), self.value(inputs))
+        if kind == 7:
+            return "not (%s)" % self.truth(inputs, depth - 1)
+        if kind == 8:
+            return "not %s" % rng.choice(["true", "false", "1 == 2"])
+        if kind == 9:
+            return "(%s)" % self.truth(inputs, depth - 1)
+        side = lambda: self.truth(inputs, depth - 1) if self.chance(0.9) else self.stray()
+        return "%s %s %s" % (side(), rng.choice(["and", "or"]), side())
 
     def value(self, inputs):
         if self.constants and self.chance(0.3):
@@ -86,6 +118,10 @@ class Scripts:
             return "%s(%s, %s)" % (rng.choice(["union", "inter", "diff"]), self.values(inputs, depth - 1), self.values(inputs, depth - 1))
         if kind == 7:
             return "(%s)" % self.values(inputs, depth - 1)
+        if depth > 1 and self.chance(0.3):
+            return "(%s)" % self.chosen(inputs, lambda: self.values(inputs, depth - 1))
+        if inputs and self.chance(0.4):
+            return "{0..%s}" % rng.choice(inputs)
         return rng.choice(["{0, 1}", "{1..2}", "{}"] if depth > 1 else ["{0, 1}", "{1..2}"])
 
     # ---- events
@@ -146,7 +182,11 @@ class Scripts:
             return rng.choice(self.event_sets)
         if kind == 6:
             return "%s(%s, %s)" % (rng.choice(["union", "inter", "diff"]), self.events(inputs, depth - 1), self.events(inputs, depth - 1))
-        return "Events" if kind == 7 else "(%s)" % self.events(inputs, depth - 1)
+        if kind == 7:
+            return "Events"
+        if self.chance(0.4):
+            return "(%s)" % self.chosen(inputs, lambda: self.events(inputs, depth - 1))
+        return "(%s)" % self.events(inputs, depth - 1)
 
     # ---- processes
 
@@ -157,7 +197,15 @@ class Scripts:
         if depth <= 0 or rng.random() < 0.1:
             return rng.choice(["STOP", "SKIP"] + self.processes * 3)
         part = lambda: self.process(inputs, depth - 1)
-        kind = rng.randrange(14)
+        kind = rng.randrange(20)
+        if kind == 14:
+            return self.chosen(inputs, lambda: self.wrapped(part()))
+        if kind == 15:
+            return "%s & %s" % (self.truth(inputs), self.wrapped(part()))
+        if kind < 18 and kind > 15:
+            return self.replicated(inputs, depth)
+        if kind > 17:
+            return self.call(inputs)
         if kind < 5:
             event, inner = self.guard(inputs)
             return "%s -> %s" % (event, self.wrapped(self.process(inner, depth - 1)))
@@ -173,6 +221,23 @@ class Scripts:
         pairs = ", ".join("%s <- %s" % self.pair(inputs) for _ in range(rng.randint(1, 3)))
         return "(%s)[[%s]]" % (part(), pairs)
 
+    def replicated(self, inputs, depth):
+        rng = self.rng
+        inner, generators = list(inputs), []
+        for _ in range(rng.choice([1, 1, 2, 3])):
+            name = rng.choice(["x", "i", "j", "i", "P", "a"] + (self.constants[:1] if self.chance(self.wild * 4) else []))
+            generators.append("%s:%s" % (name, self.values(inner, 2)))
+            inner.append(name)
+        return "%s %s @ %s" % (rng.choice(["[]", "[]", "|~|", "|||"]), ", ".join(generators), self.wrapped(self.process(inner, depth - 1)))
+
+    def call(self, inputs):
+        rng = self.rng
+        if not self.calls:
+            return "Q1(1)" if self.chance(self.wild) else "STOP"
+        name = rng.choice(list(self.calls))
+        count = self.calls[name] if not self.chance(self.wild) else rng.randint(1, 3)
+        return "%s(%s)" % (name, ", ".join(self.value(inputs) for _ in range(count)))
+
     def pair(self, inputs):
         left = self.event(inputs, whole=False)
         if self.chance(0.6):
@@ -184,6 +249,13 @@ class Scripts:
 
     def wrapped(self, text):
         return "(%s)" % text if self.chance(0.85) else text
+
+    def ended(self, parameters):
+        """A body that mostly stops calling others once its first parameter has grown."""
+        body = self.process(list(parameters), self.rng.randint(0, 3))
+        if self.chance(0.7):
+            return "%s < %d & %s" % (parameters[0], self.rng.randint(0, 3), self.wrapped(body))
+        return body
 
     # ---- declarations
 
@@ -202,6 +274,10 @@ class Scripts:
             if self.chance(0.4):
                 self.add("%s = %s" % (name, self.number([])))
                 self.numbers.append(name)
+        for name in ("B1", "B2"):
+            if self.chance(0.3):
+                self.add("%s = %s" % (name, self.truth([])))
+                self.truths.append(name)
         for name in ("S", "S2"):
             if self.chance(0.4):
                 self.add("%s = %s" % (name, self.values([])))
@@ -218,18 +294,25 @@ class Scripts:
             if self.chance(0.4):
                 self.add("%s = %s" % (name, self.events([])))
                 self.event_sets.append(name)
+        for name in rng.sample(["Q1", "Q2", "Q3"], rng.choice([0, 0, 1, 2, 3])):
+            self.calls[name] = rng.randint(1, 3)
         self.processes = ["P"] + rng.sample(["Q", "R", "Q'", "W"], rng.randint(0, 4))
         for name in self.processes:
             self.add("%s = %s" % (name, self.process([], rng.randint(0, 4))))
+        for name, count in self.calls.items():
+            parameters = rng.sample(["x", "i", "n", "m", "P", "N"], count)
+            if self.chance(self.wild * 4):
+                parameters[-1] = rng.choice(["x", "n"] + self.constants[:1])
+            self.add("%s(%s) = %s" % (name, ", ".join(parameters), self.ended(parameters)))
         if self.chance(self.wild):
-            self.add(rng.choice(["P = STOP", "channel a", "datatype P = q", "K(n) = STOP", "N = 1", "L = Q", "P2 = (P)"]))
+            self.add(rng.choice(["P = STOP", "channel a", "datatype P = q", "K(n) = STOP", "N = 1", "L = Q", "P2 = (P)", "K(n, n) = STOP", "L = if 1 < 2 then 1 else STOP"]))
 
     def text(self):
         self.declare()
         rng = self.rng
         if self.chance(0.5):
             rng.shuffle(self.lines)
-        root = "P" if self.chance(0.95) else rng.choice(["Q", "N", "S", "a", "X", "x", "D", "A"])
+        root = "P" if self.chance(0.95) else rng.choice(["Q", "N", "S", "a", "X", "x", "D", "A", "B1", "Q1"])
         return ("\n".join(self.lines) + "\n").encode("ascii"), root
 
 
@@ -257,11 +340,17 @@ def own_answer(program, case):
         return done.stdout + done.stderr
 
 
-def reason(program, case):
+def decided_elsewhere(text, own, wanted):
+    """Whether both report a fault, of a script in which a condition or a call is the body of a name without parameters."""
+    faults = all(re.fullmatch(rb"p\.csp:\d+: \d+ [a-z]+\n", answer) for answer in (own, wanted))
+    return faults and re.search(rb"(?m)^[A-Za-z][A-Za-z0-9_]*'* = \(*(if\b|[A-Za-z][A-Za-z0-9_]*'*\()", text) is not None
+
+
+def reason(program, case, own, wanted):
     """Why the two answers may differ, as docs/DECISIONS.md says; None where they may not."""
     text, root = case
-    if b"K(n)" in text:
-        return "a definition with parameters, which the program refuses"
+    if decided_elsewhere(text, own, wanted):
+        return "a condition or a call as the body of a name, which the program looks into when it makes that body, and the reference at a use of the name"
     channels = own_answer(program, (text + b"ZZ = STOP\n", "ZZ"))
     if b"{}" in channels:
         return "a channel without events, before which the program looks at no field"
@@ -286,7 +375,7 @@ def main():
             outcomes[wanted.split(b": ")[-1].decode().strip() if wanted.startswith(b"p.csp:") else "printed"] += 1
             if own == wanted:
                 continue
-            why = reason(given.program, case)
+            why = reason(given.program, case, own, wanted)
             reasons[why] += 1
             if given.keep:
                 with open(os.path.join(given.keep, "%d.csp" % place), "wb") as file:
