@@ -341,7 +341,8 @@ def own_answer(program, case):
 
 
 def decided_elsewhere(text, own, wanted):
-    """Whether both report a fault, of a script in which a condition or a call is the body of a name without parameters."""
+    """Whether both report a fault, of a script in which a condition or a call is the body of a name without parameters. This is wide: any
+    other difference between two faults of such a script is counted here too."""
     faults = all(re.fullmatch(rb"p\.csp:\d+: \d+ [a-z]+\n", answer) for answer in (own, wanted))
     return faults and re.search(rb"(?m)^[A-Za-z][A-Za-z0-9_]*'* = \(*(if\b|[A-Za-z][A-Za-z0-9_]*'*\()", text) is not None
 
