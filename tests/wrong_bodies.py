@@ -1,10 +1,11 @@
 #!/usr/bin/env python3
 """Tries the wrong bodies of crates/*/wrong: the prover has to refuse each at the function that its edit names.
 
-    tests/wrong_bodies.py [--must-fail] [--jobs N] [NAME ..]
+    tests/wrong_bodies.py [--rules] [--must-fail] [--jobs N] [NAME ..]
 
-A NAME is a crate, or one edit as `tokens/lines_from_zero`; without one, all are tried. With --must-fail, so are the edits
-of must-fail/ that name a function. The libraries below have to be built, which `rt ci`, `rt check` and `rt lib` do.
+A NAME is a crate, or one edit as `tokens/lines_from_zero`; without one, all are tried. With --rules, only those are that break
+a rule of the project, which they name: the gate tries these. With --must-fail, so are the edits of must-fail/ that name a
+function. The libraries below have to be built, which `rt ci`, `rt check` and `rt lib` do.
 tests/README.md has the form of an edit. The last line is `N passed, M failed`; the status is 0 where none failed.
 """
 import argparse
@@ -61,18 +62,20 @@ def check(crate, crates, function, folder):
 
 
 def read(edit):
-    """The function that has to refuse the edit, and its changes: a file, what stands there, and what comes in its place."""
-    function = path = old = None
+    """The rule that the edit breaks, if it names one, the function that has to refuse it, and its changes: a file, what
+    stands there, and what comes in its place."""
+    rule = function = path = old = None
     changes = []
     with open(edit, encoding="utf-8") as file:
         for line in file.read().split("\n"):
             word, _, rest = line.partition(":")
+            rule = rest.strip() if word == "rule" else rule
             function = rest.strip() if word == "function" else function
             path = rest.strip() if word == "file" else path
             old = rest[1:] if word == "old" else old
             if word == "new":
                 changes.append((path, old, rest[1:]))
-    return function, changes
+    return rule, function, changes
 
 
 def change(path, old, new):
@@ -105,18 +108,20 @@ def attempt(crate, crates, edit):
         for part in PARTS:
             if os.path.isdir("%s/crates/%s/%s" % (ROOT, crate, part)):
                 shutil.copytree("%s/crates/%s/%s" % (ROOT, crate, part), "%s/%s" % (folder, part))
-        function, changes = read(edit)
+        rule, function, changes = read(edit)
         if not function or not changes:
             why = "does not read: it names no function, or changes nothing"
         elif not all(change("%s/%s" % (folder, path), old, new) for path, old, new in changes):
             why = "does not read: an 'old:' text does not stand once in its file"
         else:
             why = fault(crate, function, check(crate, crates, function, folder))
-    return not why, "%s: %s, %.0f s" % (os.path.relpath(edit, ROOT), why or "refused", time.monotonic() - began)
+    broken = " (%s)" % rule if rule else ""
+    return not why, "%s%s: %s, %.0f s" % (os.path.relpath(edit, ROOT), broken, why or "refused", time.monotonic() - began)
 
 
 def main():
     parser = argparse.ArgumentParser(description=__doc__.split("\n")[0])
+    parser.add_argument("--rules", action="store_true", help="only those that break a rule of the project")
     parser.add_argument("--must-fail", action="store_true", help="also the edits of must-fail/ that name a function")
     parser.add_argument("--jobs", type=int, default=2, help="how many are tried side by side")
     parser.add_argument("names", nargs="*", help="crates, or edits as CRATE/EDIT")
@@ -124,7 +129,9 @@ def main():
     crates = libraries()
     edits = [(it.split("/")[-3], it) for it in sorted(glob.glob(ROOT + "/crates/*/wrong/*.edit"))]
     if options.must_fail:
-        edits += [(it.split("/")[-3], it) for it in sorted(glob.glob(ROOT + "/crates/*/must-fail/*.edit")) if read(it)[0]]
+        edits += [(it.split("/")[-3], it) for it in sorted(glob.glob(ROOT + "/crates/*/must-fail/*.edit")) if read(it)[1]]
+    if options.rules:
+        edits = [it for it in edits if read(it[1])[0]]
     edits = [it for it in edits if not options.names or {it[0], it[0] + "/" + os.path.basename(it[1])[:-5]} & {*options.names}]
     needed = sorted({it for crate, _ in edits for it in below(crate, crates)})
     missing = [it for it in needed if not os.path.isdir(rlib(it))]
