@@ -28,9 +28,8 @@
 //! | `has SET, EVENT EVENT ..` | which of the events are members |
 //! | `looks in SCRIPT` | whether the root's body can terminate, whether it is stable, and what it offers |
 //! | `steps LABEL in SCRIPT` | whether the body with number 1 has steps with this label, and whether each leads to the body with number 2 |
-//! | `targets MOST LABEL in SCRIPT` | how many targets the steps of the root's body have, as far as this bound, and whether one is too deep |
 //! | `numbered TIMES LABEL in SCRIPT` | how many targets the steps of the root's body have by number, in so many hidings of no event, as far as one more than a set of states may have: found, and remembered; and whether a hidden step leads to a process that is too deep |
-//! | `hidden TIMES in SCRIPT` | of the root's body in so many hidings of no event how deep and how large it is, the same as `targets` of its hidden steps, and a fault or the depths of the list that they are appended to, which has `SKIP` before |
+//! | `hidden TIMES in SCRIPT` | of the root's body in so many hidings of no event how deep and how large it is, and a fault of its hidden steps or the depths of the list that their targets are appended to, which has `SKIP` before |
 //! | `same TIMES in SCRIPT` | whether the first two bodies are the same in so many hidings of no event |
 //! | `bodies in SCRIPT` | how deep and how large each body is, and how many it equals; `?` where a copy differs |
 //! | `remembered NAME NAME .. in SCRIPT` | how many answers a space remembers after these events from the root on, each from the set before it, and after the same events once more |

@@ -37,7 +37,6 @@ fn put_of_spec(
     match kind {
         "looks" => steps::put_looks(into, spec),
         "steps" => steps::put_steps(into, alloc, spec, words),
-        "targets" => steps::put_targets(into, alloc, spec, words),
         "numbered" => steps::put_by_number(into, alloc, spec, words),
         "hidden" => steps::put_hidden(into, alloc, spec, words),
         "same" => steps::put_same(into, alloc, spec, words),

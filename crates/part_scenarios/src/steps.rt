@@ -11,7 +11,6 @@ use alphabet::{Alphabet, EventSet};
 use std::alloc::{AllocError, Global};
 use std::hash::{DefaultHasher, Hash, Hasher};
 use step::{Label, can_tick, is_stable, offers, steps};
-use targets::{distinct_targets, has_deep_target};
 use term::{Spec, Term};
 
 /// The body of the root.
@@ -77,36 +76,6 @@ pub(crate) fn put_steps(
     match label(spec.alphabet(), word) {
         Some(label) if spec.bodies() > 2 => put_led_to(into, alloc, spec, label),
         _ => into.push_str(" no such event or process"),
-    }
-}
-
-/// Appends how many targets the process's steps with this label have, as far as a bound, and whether one is too deep.
-fn put_count(
-    into: &mut String,
-    alloc: Global,
-    spec: &Spec<Global>,
-    term: &Term<Global>,
-    label: Label,
-    most: usize,
-) -> Result<(), AllocError>
-    requires { IsProcessOf spec.now (proc term.now) }
-{
-    let found = distinct_targets(spec, term, label, most, &alloc)?;
-    put_word(into, &found.len())?;
-    put_answer(into, has_deep_target(spec, term, label))
-}
-
-/// Appends how many targets the steps of the root's body with a label have.
-pub(crate) fn put_targets(
-    into: &mut String,
-    alloc: Global,
-    spec: &Spec<Global>,
-    words: &str,
-) -> Result<(), AllocError> {
-    let (most, word) = first_word(words);
-    match label(spec.alphabet(), word) {
-        Some(label) => put_count(into, alloc, spec, root(spec), label, number(most)),
-        None => into.push_str(" no such event"),
     }
 }
 
@@ -180,8 +149,7 @@ fn put_hidden_targets(
     put_depths(into, &found)
 }
 
-/// Appends how deep and how large the process is, how many targets its hidden steps have, whether one is too deep, and what
-/// `put_hidden_targets` tells.
+/// Appends how deep and how large the process is, and what `put_hidden_targets` tells.
 fn put_deep(
     into: &mut String,
     alloc: Global,
@@ -191,7 +159,6 @@ fn put_deep(
     requires { IsProcessOf spec.now (proc term.now) }
 {
     put_form(into, alloc, term)?;
-    put_count(into, alloc, spec, term, Label::Tau, 4096)?;
     put_hidden_targets(into, alloc, spec, term)
 }
 

@@ -1,42 +1,18 @@
 -- The targets of each form, told by the targets of its parts.
-use Rattle.std.proofs.Common.{◌≡◌, ◌↔◌, IsTrue, ℕ, ◌⊎◌, inl, inr, Bool, true, false, not, ◌&&◌, List, refl, sym, ap, ◌∙◌, subst}
-use Rattle.alphabet.specs.EventSets.{Set, has, member}
-use Rattle.term.specs.Traces.{Pairs, In, images, some_in}
-use Rattle.term.specs.Proc.{Proc, skip, prefix, ext, int, seq, par, hide, ren, intr, name}
-use Rattle.term.specs.SameLaws.{and-cases, and-both}
-use Rattle.term.specs.Steps.{is_skip, Ticks, Act, a-prefix, a-ext-l, a-ext-r, a-seq, a-par-l, a-par-r, a-par-b, a-hide, a-ren, a-intr-l, a-intr-r, Hid, h-int-l, h-int-r, h-ext-l, h-ext-r, h-seq, h-seq-t, h-par-l, h-par-r, h-par-tl, h-par-tr, h-hide, h-hide-a, h-ren, h-intr-l, h-intr-r, h-name}
-use Rattle.term.proofs.Decide.{some_in-In, In-some_in}
-use Rattle.step.specs.Offers.{Offers}
-use Rattle.targets.specs.Among.{ActsIn, Joint, JointOf}
+use Rattle.std.proofs.Common.{◌≡◌, ◌↔◌, ℕ, ◌⊎◌, inl, inr, Bool, true, false, not, ◌&&◌, refl, sym, ap, ◌∙◌, subst}
+use Rattle.alphabet.specs.EventSets.{Set, has}
+use Rattle.term.specs.Traces.{Pairs}
+use Rattle.term.specs.Proc.{Proc, skip, ext, int, seq, par, hide, ren, intr, name}
+use Rattle.term.specs.Steps.{is_skip, Ticks, Act, a-par-l, a-par-r, a-par-b, Hid, h-int-l, h-int-r, h-ext-l, h-ext-r, h-seq, h-seq-t, h-par-l, h-par-r, h-par-tl, h-par-tr, h-hide, h-hide-a, h-ren, h-intr-l, h-intr-r, h-name}
+use Rattle.targets.specs.Among.{ActsIn, Joint}
 use Rattle.targets.proofs.Cutting.{Image}
 
--- ---- one step backwards
-ext-act : {P Q R : Proc} {a : ℕ} → Act (ext P Q) a R → Act P a R ⊎ Act Q a R
-ext-act (a-ext-l d) = inl d
-ext-act (a-ext-r d) = inr d
-
-seq-act : {P Q R : Proc} {a : ℕ} → Act (seq P Q) a R → Image (λ p. seq p Q) (Act P a) R
-seq-act (a-seq {P' = P'} d) = (P', d, refl)
-
+-- ---- a step with an event, backwards
 pub par-act : {A : Set} {P Q R : Proc} {a : ℕ} → Act (par A P Q) a R → ((has A a ≡ false) × (Image (λ p. par A p Q) (Act P a) R ⊎ Image (λ q. par A P q) (Act Q a) R)) ⊎ ((has A a ≡ true) × Joint A P Q a R)
 par-act (a-par-l {P' = P'} n d) = inl (n, inl (P', d, refl))
 par-act (a-par-r {Q' = Q'} n d) = inl (n, inr (Q', d, refl))
 par-act (a-par-b {P' = P'} {Q' = Q'} y d e) = inr (y, (P', Q', d, e, refl))
 
-hide-act : {A : Set} {P R : Proc} {a : ℕ} → Act (hide A P) a R → (has A a ≡ false) × Image (hide A) (Act P a) R
-hide-act (a-hide {P' = P'} n d) = (n, (P', d, refl))
-
-ren-act : {N : Pairs} {P R : Proc} {b : ℕ} → Act (ren N P) b R → (a : ℕ) × In b (images N a) × Image (ren N) (Act P a) R
-ren-act (a-ren {a = a} {P' = P'} i d) = (a, i, (P', d, refl))
-
-intr-act : {P Q R : Proc} {a : ℕ} → Act (intr P Q) a R → Image (λ p. intr p Q) (Act P a) R ⊎ Act Q a R
-intr-act (a-intr-l {P' = P'} d) = inl (P', d, refl)
-intr-act (a-intr-r d) = inr d
-
-prefix-act : {P R : Proc} {a b : ℕ} → Act (prefix b P) a R → (a ≡ b) × (R ≡ P)
-prefix-act a-prefix = (refl, refl)
-
--- ---- of two sets the one without the other, and both
 pub minus-parts : (v b c : Bool) → v ≡ (b && not c) → v ≡ true → (b ≡ true) × (c ≡ false)
 minus-parts v true true e h = absurd (cc)
 minus-parts v true false e h = (refl, refl)
@@ -46,100 +22,6 @@ pub minus-whole : (v b c : Bool) → v ≡ (b && not c) → b ≡ true → c ≡
 minus-whole v true true e h k = absurd (cc)
 minus-whole v true false e h k = e
 minus-whole v false c e h k = absurd (cc)
-
-module _ (S : Set) where
-  pub prefix-acts : (b : ℕ) (P R : Proc) → has S b ≡ true → (R ≡ P) ↔ ActsIn S (prefix b P) R
-  prefix-acts b P R h =
-      ((λ e. (b, h, subst (λ r. Act (prefix b P) b r) (sym e) a-prefix)), (λ (a, k, d). (prefix-act d).1))
-
-  pub prefix-none : (b : ℕ) (P R : Proc) → has S b ≡ false → ActsIn S (prefix b P) R → ⊥
-  prefix-none b P R h (a, k, d) = let e : has S a ≡ has S b = ap (has S) (prefix-act d).0 in cc
-
-  pub ext-acts : (P Q R : Proc) → (ActsIn S P R ⊎ ActsIn S Q R) ↔ ActsIn S (ext P Q) R
-  ext-acts P Q R = (
-    (λ s. elim s [ inl (a, h, d) ↦ (a, h, a-ext-l d) | inr (a, h, d) ↦ (a, h, a-ext-r d) ]),
-    (λ (a, h, d). elim (ext-act d) [ inl k ↦ inl (a, h, k) | inr k ↦ inr (a, h, k) ]),
-  )
-
-  pub seq-acts : (P Q R : Proc) → Image (λ p. seq p Q) (ActsIn S P) R ↔ ActsIn S (seq P Q) R
-  seq-acts P Q R = (
-    (λ (P', (a, h, d), e). (a, h, subst (λ r. Act (seq P Q) a r) (sym e) (a-seq d))),
-    (λ (a, h, d). let (P', k, e) = seq-act d in (P', (a, h, k), e)),
-  )
-
-  pub intr-acts : (P Q R : Proc) → (Image (λ p. intr p Q) (ActsIn S P) R ⊎ ActsIn S Q R) ↔ ActsIn S (intr P Q) R
-  intr-acts P Q R = (
-    (λ s. elim s [
-      | inl (P', (a, h, d), e) ↦ (a, h, subst (λ r. Act (intr P Q) a r) (sym e) (a-intr-l d))
-      | inr (a, h, d) ↦ (a, h, a-intr-r d)
-    ]),
-    (λ (a, h, d). elim (intr-act d) [ inl (P', k, e) ↦ inl (P', (a, h, k), e) | inr k ↦ inr (a, h, k) ]),
-  )
-
-  module _ (A alone : Set) (alone-is : (a : ℕ) → has alone a ≡ (has S a && not (has A a))) where
-    pub hide-acts : (P R : Proc) → Image (hide A) (ActsIn alone P) R ↔ ActsIn S (hide A P) R
-    hide-acts P R = (
-      (λ (P', (a, h, d), e). let (s, n) = minus-parts (has alone a) (has S a) (has A a) (alone-is a) h in (a, s, subst (λ r. Act (hide A P) a r) (sym e) (a-hide n d))),
-      (λ (a, h, d). let (n, (P', k, e)) = hide-act d in (P', (a, minus-whole (has alone a) (has S a) (has A a) (alone-is a) h n, k), e)),
-    )
-
-  pub ren-acts : (N : Pairs) (s : Set) (P R : Proc) → ((a : ℕ) → has s a ≡ some_in (images N a) (member S)) → Image (ren N) (ActsIn s P) R ↔ ActsIn S (ren N P) R
-  ren-acts N s P R is = (
-    (λ (P', (a, h, d), e).
-        let (b, i, k) = some_in-In (images N a) (member S) (sym (is a) ∙ h) in
-        (b, k, subst (λ r. Act (ren N P) b r) (sym e) (a-ren i d))),
-    (λ (b, h, d).
-        let (a, i, (P', k, e)) = ren-act d in
-        (P', (a, is a ∙ In-some_in i (member S) h, k), e)),
-  )
-
-  -- events that are not offered don't count
-  pub offered-acts : (o s : Set) (P R : Proc) → ((a : ℕ) → IsTrue (has o a) ↔ Offers P a) → ((a : ℕ) → has s a ≡ (has o a && has S a)) → ActsIn s P R ↔ ActsIn S P R
-  offered-acts o s P R says is = (
-    (λ (a, h, d). (a, (and-cases (has o a) (has S a) (sym (is a) ∙ h)).1, d)),
-    (λ (a, h, d). (a, is a ∙ and-both (has o a) (has S a) ((says a).1 (R, d)) h, d)),
-  )
-
-  -- a renaming's part asked for no event that it doesn't offer
-  pub ren-offered : (N : Pairs) (o s : Set) (P R : Proc) → ((a : ℕ) → IsTrue (has o a) ↔ Offers P a) → ((a : ℕ) → has s a ≡ (has o a && some_in (images N a) (member S))) → Image (ren N) (ActsIn s P) R ↔ ActsIn S (ren N P) R
-  ren-offered N o s P R says is = (
-    (λ (P', (a, h, d), e).
-        let (x, y) = and-cases (has o a) (some_in (images N a) (member S)) (sym (is a) ∙ h) in
-        let (b, i, k) = some_in-In (images N a) (member S) y in
-        (b, k, subst (λ r. Act (ren N P) b r) (sym e) (a-ren i d))),
-    (λ (b, h, d).
-        let (a, i, (P', k, e)) = ren-act d in
-        (P', (a, is a ∙ and-both (has o a) (some_in (images N a) (member S)) ((says a).1 (P', k)) (In-some_in i (member S) h), k), e)),
-  )
-
--- The targets of the steps from P with an event of S that is not in A.
-abbrev pub Alone : Set → Set → Proc → Proc → Type 0
-Alone S A P R = (a : ℕ) × (has S a ≡ true) × (has A a ≡ false) × Act P a R
-
-pub alone-acts : (S A T : Set) → ((a : ℕ) → has T a ≡ (has S a && not (has A a))) → (P R : Proc) → ActsIn T P R ↔ Alone S A P R
-alone-acts S A T is P R = (
-  (λ (a, h, d). let (s, n) = minus-parts (has T a) (has S a) (has A a) (is a) h in (a, s, n, d)),
-  (λ (a, s, n, d). (a, minus-whole (has T a) (has S a) (has A a) (is a) s n, d)),
-)
-
--- a parallel's steps, where the events of S that its sides take together are among the joint ones
-pub par-asked : (S A : Set) (joint : List ℕ) (P Q : Proc) → ((a : ℕ) → In a joint → has A a ≡ true) → ((a : ℕ) (P' : Proc) → has S a ≡ true → has A a ≡ true → Act P a P' → In a joint) → (R : Proc) → ((Image (λ p. par A p Q) (Alone S A P) R ⊎ Image (λ q. par A P q) (Alone S A Q) R) ⊎ JointOf joint A S P Q R) ↔ ActsIn S (par A P Q) R
-par-asked S A joint P Q only all R = (
-  (λ s. elim s [
-    | inl t ↦ elim t [
-      | inl (P', (a, h, o, d), e) ↦ (a, h, subst (λ r. Act (par A P Q) a r) (sym e) (a-par-l o d))
-      | inr (Q', (a, h, o, d), e) ↦ (a, h, subst (λ r. Act (par A P Q) a r) (sym e) (a-par-r o d))
-    ]
-    | inr (a, i, h, (P', Q', d, d', e)) ↦ (a, h, subst (λ r. Act (par A P Q) a r) (sym e) (a-par-b (only a i) d d'))
-  ]),
-  (λ (a, h, d). elim (par-act d) [
-    | inl (o, t) ↦ elim t [
-      | inl (P', d', e) ↦ inl (inl (P', (a, h, o, d'), e))
-      | inr (Q', d', e) ↦ inl (inr (Q', (a, h, o, d'), e))
-    ]
-    | inr (y, (P', Q', d', d'', e)) ↦ inr (a, all a P' h y d', h, (P', Q', d', d'', e))
-  ]),
-)
 
 -- ---- hidden steps
 -- Q or a part of it that becomes SKIP

@@ -1,12 +1,4 @@
 pub mod Cutting
 pub mod Lists
 pub mod Inverting
-pub mod Sources
-pub mod Saying
-pub mod Depths
-pub mod Forms
-pub mod DeepForms
-pub mod Doing
-pub mod Single
-pub mod Zips
-pub mod Asked
+pub mod EventLists

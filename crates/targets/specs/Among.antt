@@ -15,10 +15,6 @@ ActsIn S P Q = (a : ℕ) × (has S a ≡ true) × Act P a Q
 abbrev pub Joint : Set → Proc → Proc → ℕ → Terms
 Joint A P Q a R = (P' Q' : Proc) × Act P a P' × Act Q a Q' × (R ≡ par A P' Q')
 
--- The same for the events of S that are among these.
-abbrev pub JointOf : List ℕ → Set → Set → Proc → Proc → Terms
-JointOf joint A S P Q R = (a : ℕ) × In a joint × (has S a ≡ true) × Joint A P Q a R
-
 -- What stands in one of the lists.
 abbrev pub InEither : List Proc → List Proc → Terms
 InEither ps qs Q = In Q ps ⊎ In Q qs

@@ -1,14 +1,5 @@
-//! The targets of a term's steps as far as a bound: each once, and no more of them than are asked for.
+//! What the targets of a process's steps are as lists: each once, as far as a bound.
+//!
+//! The definitions and the laws by which such lists are found from those of a process's parts. The lists themselves are made by
+//! `nodes` and `transitions`.
 #![tactic(auto)]
-
-mod asking;
-mod cut_lists;
-mod cuts;
-mod deep;
-mod distinct;
-mod event_cuts;
-mod event_sets;
-mod hidden_cuts;
-
-pub use deep::has_deep_target;
-pub use distinct::distinct_targets;

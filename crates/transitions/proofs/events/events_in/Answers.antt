@@ -1,7 +1,7 @@
 use Rattle.std.proofs.Common.{◌≡◌, ◌<◌, ◌+◌, ℕ, true, sym, ap, ◌∙◌}
 use Rattle.alphabet.specs.EventSets.{has}
 use Rattle.term.specs.Traces.{In}
-use Rattle.targets.proofs.Zips.{events-yes, events-no}
+use Rattle.targets.proofs.EventLists.{events-yes, events-no}
 use Rattle.transitions.proofs.events.events_in.Goals as goal
 use Rattle.transitions.proofs.events.events_in.Goals.{then-contains+in_ok-push, else-contains}
 
