@@ -19,7 +19,7 @@ pub use faults::fault_of_names;
 pub use law::trees_have_names;
 pub use named::has_names;
 pub use naming::{declarations_of, distinct_entries, name_list, set_list};
-pub use order::{order_behind, order_to, places_by_use};
+pub use order::places_by_use;
 pub use parameters::parameters_fit;
 pub use part::{Part, fault, no_parts, only_part, part_of, two_parts, worth_alone};
 pub use processes::{Answer, answer_of, is_process_form};

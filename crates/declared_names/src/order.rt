@@ -4,7 +4,6 @@
 use crate::entries::{Entries, Meaning};
 use std::alloc::{AllocError, Allocator};
 use syntax::Tree;
-use values::Input;
 
 /// What is still to be done, by the places of names.
 #[derive(Clone, Copy)]
@@ -99,50 +98,5 @@ pub fn places_by_use<'a, A: Allocator + Copy>(
     entries: &Entries<'a, A>,
 ) -> Result<Vec<usize, A>, AllocError> {
     let stack = all_places(alloc, entries.len())?;
-    ordered(alloc, entries, stack)
-}
-
-/// Whether an input has the name at the place.
-fn is_hidden<'a, A: Allocator>(
-    entries: &Entries<'a, A>,
-    inputs: &[Input<A>],
-    place: usize,
-) -> bool {
-    match entries.name_at(place) {
-        Some(name) => inputs.iter().any(|input| input.name.as_slice() == name),
-        None => false,
-    }
-}
-
-/// The places of the names that the phrase uses behind these inputs, and of those that these need, in the order of
-/// `places_by_use`; no contract says so either. Costs a turn for each of them and for each use of one.
-pub fn order_behind<'a, A: Allocator + Copy>(
-    alloc: A,
-    entries: &Entries<'a, A>,
-    inputs: &[Input<A>],
-    phrase: &Tree<A>,
-) -> Result<Vec<usize, A>, AllocError> {
-    let mut stack = Vec::new(alloc);
-    for turn in &with_uses(entries, phrase, Vec::new(alloc))? {
-        if let Turn::Meet(place) = turn {
-            if !is_hidden(entries, inputs, *place) {
-                stack.push(*turn)?;
-            }
-        }
-    }
-    ordered(alloc, entries, stack)
-}
-
-/// The place of the name, behind those of the names that it needs, in the order of `places_by_use`; no contract says so
-/// either. None where the name isn't declared. Costs a turn for each of them and for each use of one.
-pub fn order_to<'a, A: Allocator + Copy>(
-    alloc: A,
-    entries: &Entries<'a, A>,
-    name: &[u8],
-) -> Result<Vec<usize, A>, AllocError> {
-    let mut stack = Vec::new(alloc);
-    if let Some(place) = entries.place(name) {
-        stack.push(Turn::Meet(place))?;
-    }
     ordered(alloc, entries, stack)
 }
