@@ -1,4 +1,4 @@
-"""What the cases' programs share: the bytes of a content, and a bound on files."""
+"""What the cases' programs share: the bytes of a content, and bounds on files and on the stack."""
 import sys
 
 # Runs a program whose files can't grow past a size: a write beyond it fails, and no signal comes.
@@ -13,6 +13,19 @@ os.execv(sys.argv[2], sys.argv[2:])
 def bounded(size, command):
     """The command, with this bound on its files."""
     return [sys.executable, "-c", BOUNDED, str(size)] + command
+
+
+# Runs a program whose stack can't grow past a size.
+SHALLOW = """
+import os, resource, sys
+resource.setrlimit(resource.RLIMIT_STACK, (int(sys.argv[1]), resource.getrlimit(resource.RLIMIT_STACK)[1]))
+os.execv(sys.argv[2], sys.argv[2:])
+"""
+
+
+def shallow(size, command):
+    """The command, with so many bytes of stack."""
+    return [sys.executable, "-c", SHALLOW, str(size)] + command
 
 
 def numbered(text, first, last):

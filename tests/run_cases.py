@@ -19,7 +19,7 @@ import tempfile
 sys.dont_write_bytecode = True
 
 import serve_cases  # noqa: E402
-from contents import bounded, lines, octets, shown  # noqa: E402
+from contents import bounded, lines, octets, shallow, shown  # noqa: E402
 
 HERE = os.path.dirname(os.path.abspath(__file__))
 PROGRAM = os.path.join(os.path.dirname(HERE), "crates", "cspwatch", "out", "cspwatch")
@@ -97,6 +97,8 @@ def run(case, program, folder):
     command = [program] + words(case)
     if "output_bytes" in case:
         command = bounded(case["output_bytes"], command)
+    if "stack_bytes" in case:
+        command = shallow(case["stack_bytes"], command)
     ends = {**input_of(case), **output_of(case)}
     try:
         done = subprocess.run(command, cwd=folder, timeout=case.get("seconds", SECONDS), stderr=subprocess.PIPE, **ends)
