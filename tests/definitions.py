@@ -81,14 +81,21 @@ def sums_of(row):
 
 def counted(row):
     """The row with its lines counted again; a file that isn't there has none."""
-    again = lambda files: [file._replace(lines=line_count(row.crate, file.name) or 0) for file in files]
+
+    def again(files):
+        return [file._replace(lines=line_count(row.crate, file.name) or 0) for file in files]
+
     row = row._replace(believed=again(row.believed), steps=again(row.steps))
     return row._replace(sums=sums_of(row))
 
 
+def cell(files):
+    """The cell of the table that names these files."""
+    return ", ".join("%s %d" % ("**%s**" % file.name if file.bold else file.name, file.lines) for file in files) or "-"
+
+
 def written(row):
     """The line of a row."""
-    cell = lambda files: ", ".join("%s %d" % ("**%s**" % file.name if file.bold else file.name, file.lines) for file in files) or "-"
     believed, five, steps = row.sums
     return "| `%s` | %s | %d | %d | %s | %d |" % (row.crate, cell(row.believed), believed, five, cell(row.steps), steps)
 
@@ -131,22 +138,27 @@ def problems_of(row):
         yield "%s: the sums are %d, %d and %d, and not %d, %d and %d" % ((row.crate,) + sums_of(row) + row.sums)
 
 
-def main():
-    parser = argparse.ArgumentParser(description=__doc__.split("\n")[0])
-    parser.add_argument("--write", action="store_true", help="count the lines again, and make the sums again")
-    options = parser.parse_args()
-    with open(PAGE, encoding="utf-8") as file:
-        head, title, table = file.read().partition(TITLE)
-    if options.write:
-        lines = table.split("\n")
-        rows = [counted(row) for row in map(row_of, lines) if row]
-        again = iter(rows)
-        lines = [written(next(again)) if row_of(line) else total(rows) if line.startswith("| all ") else line for line in lines]
-        table = re.sub(r"have [\d,]+ more\.", "have %d more." % library_lines(), "\n".join(lines))
-        with open(PAGE, "w", encoding="utf-8") as file:
-            file.write(head + title + table)
-    rows = [row for row in map(row_of, table.split("\n")) if row]
-    passed, problems = 0, []
+def rows_of(table):
+    return [row for row in map(row_of, table.split("\n")) if row]
+
+
+def counted_again(table):
+    """The table with all lines counted again, and all sums made again."""
+    rows, lines = [], []
+    for line in table.split("\n"):
+        row = row_of(line)
+        if row:
+            rows.append(counted(row))
+            line = written(rows[-1])
+        elif line.startswith("| all "):
+            line = total(rows)
+        lines.append(line)
+    return re.sub(r"have \d+ more\.", "have %d more." % library_lines(), "\n".join(lines))
+
+
+def compare(table):
+    """How many comparisons pass, and what is wrong with the others."""
+    rows, passed, problems = rows_of(table), 0, []
     for row in rows:
         found = list(problems_of(row))
         problems += found
@@ -154,8 +166,24 @@ def main():
     named = [row.crate for row in rows]
     problems += ["%s has %d rows" % (crate, named.count(crate)) for crate in crates() if named.count(crate) != 1]
     for wanted in total(rows), "have %d more." % library_lines():
-        passed += wanted in table
-        problems += [] if wanted in table else ["the page hasn't: %s" % wanted]
+        if wanted in table:
+            passed += 1
+        else:
+            problems.append("the page hasn't: %s" % wanted)
+    return passed, problems
+
+
+def main():
+    parser = argparse.ArgumentParser(description=__doc__.split("\n")[0])
+    parser.add_argument("--write", action="store_true", help="count the lines again, and make the sums again")
+    options = parser.parse_args()
+    with open(PAGE, encoding="utf-8") as file:
+        head, title, table = file.read().partition(TITLE)
+    if options.write:
+        table = counted_again(table)
+        with open(PAGE, "w", encoding="utf-8") as file:
+            file.write(head + title + table)
+    passed, problems = compare(table)
     for problem in problems:
         print(problem)
     print("%d passed, %d failed" % (passed, len(problems)))
