@@ -31,7 +31,7 @@ enum cspwatch_result {
     /* The server has answered. */
     CSPWATCH_ANSWERED = 0,
     /* The server answered `ERR code word` (cspwatch_last_fault has them): what was asked was not answered, and a report
-     * was not judged. The connection goes on, save after CSPWATCH_FAULT_LINE, CSPWATCH_FAULT_SEATS and
+     * was not judged. The connection goes on, except after CSPWATCH_FAULT_LINE, CSPWATCH_FAULT_SEATS and
      * CSPWATCH_FAULT_READER, and where a new connection is refused. */
     CSPWATCH_FAULT,
     /* No whole reply came: the connection ended or failed, or the time was over. Whether the report was judged is not
@@ -114,7 +114,7 @@ enum cspwatch_result cspwatch_next(cspwatch_client *client, const char *const **
 /* The fault of the last call that ended by CSPWATCH_FAULT. */
 struct cspwatch_fault cspwatch_last_fault(const cspwatch_client *client);
 
-/* Takes leave of the server (`Q`), closes the connection and frees the client. The client may be NULL. */
+/* Sends `Q`, closes the connection and frees the client. The client may be NULL. */
 void cspwatch_close(cspwatch_client *client);
 
 #ifdef __cplusplus
