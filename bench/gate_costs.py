@@ -15,6 +15,8 @@ import subprocess
 import sys
 import time
 
+# What the folders are called in which wrong bodies are checked, by `rt ci` and by tests/wrong_bodies.py.
+WRONG = ("rt-edit-", "wrong-")
 TICKS = os.sysconf("SC_CLK_TCK")
 PAGE = os.sysconf("SC_PAGE_SIZE")
 
@@ -37,7 +39,8 @@ def check_of(number):
     if "--crate-name" not in words[:-1] or os.path.basename(words[0]) != "rattle":
         return None
     crate = words[words.index("--crate-name") + 1]
-    return crate, "rt-edit-" in os.readlink("/proc/%s/cwd" % number)
+    folder = os.path.basename(os.readlink("/proc/%s/cwd" % number))
+    return crate, folder.startswith(WRONG)
 
 
 def look(root, seconds, memory):
