@@ -128,13 +128,8 @@ fn format_option<'a>(alloc: Global) -> Arg<'a> {
         .help("How to print: text (as it is without this), or json, one object a line")
 }
 
+// Each argument is made where it is added: one that was made before would have to be dropped at each early end.
 fn show_command<'a>(alloc: Global) -> Result<Command<'a>, AllocError> {
-    let rejected = flag(alloc, "rejected", "Print the rejected reports alone");
-    let coverage = flag(
-        alloc,
-        "coverage",
-        "Print after the reports how often each event came, and could have come",
-    );
     Command::new(alloc, "show")
         .about("Prints the reports of a journal, judged anew, and why they were rejected")
         .after_help(SHOW_EXAMPLE)
@@ -143,21 +138,33 @@ fn show_command<'a>(alloc: Global) -> Result<Command<'a>, AllocError> {
             "JOURNAL",
             "The file of the journal, opened as by replay",
         ))?
-        .arg(rejected)?
-        .arg(coverage)?
+        .arg(flag(alloc, "rejected", "Print the rejected reports alone"))?
+        .arg(flag(
+            alloc,
+            "coverage",
+            "Print after the reports how often each event came, and could have come",
+        ))?
         .arg(format_option(alloc))
 }
 
-fn serve_command<'a>(alloc: Global) -> Result<Command<'a>, AllocError> {
-    let listen = word(
+// The option for the address.
+fn listen_option<'a>(alloc: Global) -> Arg<'a> {
+    word(
         alloc,
         "ADDR",
         "Where to listen, as 127.0.0.1:7000; port 0 for any",
     )
-    .long("listen");
-    let connections = word(alloc, "N", "How many connections are served, 1 to 64")
+    .long("listen")
+}
+
+// The option for the number of connections.
+fn connections_option<'a>(alloc: Global) -> Arg<'a> {
+    word(alloc, "N", "How many connections are served, 1 to 64")
         .long("connections")
-        .value_parser(clap::value_parser!(u8).range(1..=64));
+        .value_parser(clap::value_parser!(u8).range(1..=64))
+}
+
+fn serve_command<'a>(alloc: Global) -> Result<Command<'a>, AllocError> {
     on_process(
         alloc,
         "serve",
@@ -166,28 +173,22 @@ fn serve_command<'a>(alloc: Global) -> Result<Command<'a>, AllocError> {
         SERVE_EXAMPLE,
     )?
     .arg(word(alloc, "JOURNAL", "The file of the journal"))?
-    .arg(listen)?
-    .arg(connections)
+    .arg(listen_option(alloc))?
+    .arg(connections_option(alloc))
 }
 
-fn with_check<'a>(alloc: Global, command: Command<'a>) -> Result<Command<'a>, AllocError> {
-    command.subcommand(check_command(alloc)?)
-}
-
-fn with_print<'a>(alloc: Global, command: Command<'a>) -> Result<Command<'a>, AllocError> {
-    command.subcommand(print_command(alloc)?)
-}
-
-fn with_replay<'a>(alloc: Global, command: Command<'a>) -> Result<Command<'a>, AllocError> {
-    command.subcommand(replay_command(alloc)?)
-}
-
-fn with_show<'a>(alloc: Global, command: Command<'a>) -> Result<Command<'a>, AllocError> {
-    command.subcommand(show_command(alloc)?)
-}
-
-fn with_serve<'a>(alloc: Global, command: Command<'a>) -> Result<Command<'a>, AllocError> {
-    command.subcommand(serve_command(alloc)?)
+// The command with one more below it, where there was memory for that one.
+fn with<'a>(
+    command: Command<'a>,
+    inner: Result<Command<'a>, AllocError>,
+) -> Result<Command<'a>, AllocError> {
+    match inner {
+        Ok(inner) => command.subcommand(inner),
+        Err(error) => {
+            drop(command);
+            Err(error)
+        }
+    }
 }
 
 fn command<'a>(alloc: Global) -> Result<Command<'a>, AllocError> {
@@ -196,8 +197,11 @@ fn command<'a>(alloc: Global) -> Result<Command<'a>, AllocError> {
         .about("Judges reports of running components against a CSP specification")
         .after_help(STATUSES)
         .subcommand_required(true);
-    let command = with_serve(alloc, with_check(alloc, command)?)?;
-    with_show(alloc, with_replay(alloc, with_print(alloc, command)?)?)
+    let command = with(command, check_command(alloc))?;
+    let command = with(command, serve_command(alloc))?;
+    let command = with(command, print_command(alloc))?;
+    let command = with(command, replay_command(alloc))?;
+    with(command, show_command(alloc))
 }
 
 // The wish to serve at this address.
