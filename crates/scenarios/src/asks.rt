@@ -16,16 +16,17 @@ ghost use Rattle.session.specs.Told.{IsReadyFor};
 
 use alphabet::{Alphabet, EventSet, Report};
 use disk::Disk;
+use refusing::Refusing;
 use session::{Entry, Fault, Ready, SeatNumber, Session};
-use std::alloc::{AllocError, Allocator};
+use std::alloc::{AllocError, Allocator, Global};
 
 /// A report as a row asks for it.
 #[derive(Clone, Copy, Drop)]
-struct Wanted {
-    seat: SeatNumber,
-    number: u32,
-    floor: usize,
-    report: Report,
+pub(crate) struct Wanted {
+    pub(crate) seat: SeatNumber,
+    pub(crate) number: u32,
+    pub(crate) floor: usize,
+    pub(crate) report: Report,
 }
 
 /// The set of the events with these names, where each is one's.
@@ -62,7 +63,7 @@ fn seat_of(word: &str) -> Option<SeatNumber> {
 }
 
 /// What the words `SEAT NUMBER FLOOR REPORT` ask for.
-fn wanted_by<A: Allocator>(alphabet: &Alphabet<A>, words: &str) -> Option<Wanted>
+pub(crate) fn wanted_by<A: Allocator>(alphabet: &Alphabet<A>, words: &str) -> Option<Wanted>
     ensures { IfSome result (λ wanted. IsReport alphabet.now wanted.report) }
 {
     let (seat, words) = words.split_once(' ').unwrap_or((words, ""));
@@ -108,7 +109,7 @@ fn report<D: Disk, A: Allocator + Copy>(
 }
 
 /// Writes what is ready: its verdict, how long the history is before, and the answer.
-fn write_ready<D: Disk, A: Allocator + Copy>(
+pub(crate) fn write_ready<D: Disk, A: Allocator + Copy>(
     session: &mut Session<D, A>,
     ready: Ready<A>,
     out: &mut String,
@@ -268,7 +269,7 @@ fn number<D: Disk, A: Allocator>(
 }
 
 /// The answer to one thing that changes nothing.
-fn look<D: Disk, A: Allocator>(
+pub(crate) fn look<D: Disk, A: Allocator>(
     session: &Session<D, A>,
     kind: &str,
     words: &str,
@@ -284,7 +285,7 @@ fn look<D: Disk, A: Allocator>(
 }
 
 /// The answer to one thing.
-fn answer<D: Disk, A: Allocator + Copy + Drop>(
+pub(crate) fn answer<D: Disk, A: Allocator + Copy + Drop>(
     session: &mut Session<D, A>,
     ask: &str,
     out: &mut String,
@@ -309,30 +310,41 @@ fn answer_again<D: Disk, A: Allocator + Copy + Drop>(
     answer(session, ask, out)
 }
 
+/// No request is refused from now on, if these are told.
+pub(crate) fn release(refused: Option<&Refusing<Global>>) {
+    if let Some(refusing) = refused {
+        refusing.release();
+    }
+}
+
 /// The answer to the thing at this place, and to the same again where that was `ERR 40 memory`.
 fn answer_at<D: Disk, A: Allocator + Copy + Drop>(
     session: &mut Session<D, A>,
     place: usize,
     ask: &str,
+    refused: Option<&Refusing<Global>>,
     out: &mut String,
 ) -> Result<(), AllocError> {
     out.push_str(if place > 0 { "; " } else { "" })?;
     answer(session, ask, out)?;
     if out.ends_with("ERR 40 memory") {
+        release(refused);
         answer_again(session, ask, out)
     } else {
         Ok(())
     }
 }
 
-/// The answers to all, parted by `; `. What is answered by `ERR 40 memory` is asked once more.
+/// The answers to all, parted by `; `. What is answered by `ERR 40 memory` is asked once more, after the release of the requests
+/// that were refused, if they are told.
 pub(crate) fn ask_all<D: Disk, A: Allocator + Copy + Drop>(
     session: &mut Session<D, A>,
     asks: &str,
+    refused: Option<&Refusing<Global>>,
     out: &mut String,
 ) -> Result<(), AllocError> {
     for (place, ask) in asks.split("; ").enumerate() {
-        answer_at(session, place, ask, out)?;
+        answer_at(session, place, ask, refused, out)?;
     }
     Ok(())
 }

@@ -1,6 +1,7 @@
 //! What `check`, `replay` and `print` come to in memory of an allocator that refuses requests.
 
 use crate::asks::put_bytes;
+use crate::clients::Client;
 use memory_disks::MemoryDisk;
 use program::{Exit, PrintError, check, print, replay};
 use refusing::Refusing;
@@ -50,7 +51,14 @@ impl<'a> Talk<'a> {
     ) -> Result<String, AllocError> {
         let mut out = String::new(alloc);
         let refusing = Refusing::new(alloc, 0);
-        put_checked(rt, alloc, &refusing, &self.with_lines(lines), &mut out)?;
+        put_checked(
+            rt,
+            alloc,
+            &refusing,
+            None,
+            &self.with_lines(lines),
+            &mut out,
+        )?;
         Ok(out)
     }
 }
@@ -75,16 +83,17 @@ fn put_failed(
     }
 }
 
-/// Answers the lines by a new session on a disk in memory of this allocator. Such a disk fails only for want of memory.
+/// Answers the lines by a new session on a disk in memory of this allocator. Such a disk fails only out of memory.
 fn checked<T: Wait>(
     rt: &T,
     refusing: &Refusing<Global>,
+    refused: Option<&Refusing<Global>>,
     talk: &Talk,
     writer: &mut Plain<Vec<u8>>,
 ) -> Result<Exit, SessionError> {
     let (root, script) = (talk.root.as_bytes(), talk.script.as_bytes());
     let disk = MemoryDisk::new(Vec::new(refusing));
-    let mut reader = Plain::new(talk.lines.as_bytes());
+    let mut reader = Client::new(talk.lines.as_bytes(), refused);
     match check(rt, refusing, disk, script, root, &mut reader, writer) {
         Ok(checked) => match checked.end {
             Err(WireError::Memory) => Err(SessionError::Memory),
@@ -100,11 +109,12 @@ fn put_checked<T: Wait>(
     rt: &T,
     alloc: Global,
     refusing: &Refusing<Global>,
+    refused: Option<&Refusing<Global>>,
     talk: &Talk,
     out: &mut String,
 ) -> Result<(), AllocError> {
     let mut writer = Plain::new(Vec::new(alloc));
-    let came = checked(rt, refusing, talk, &mut writer);
+    let came = checked(rt, refusing, refused, talk, &mut writer);
     let written = writer.into_inner();
     match came {
         Ok(exit) => put_run(&written, exit, out),
@@ -142,16 +152,18 @@ fn put_printed(
     }
 }
 
-/// What comes of a row of these kinds in memory of this allocator. Whether it is one is answered.
+/// What comes of a row of these kinds in memory of this allocator. What it refuses is released once an answer says so, if it is told
+/// again. Whether it is such a row is answered.
 pub(crate) fn put<T: Wait>(
     rt: &T,
     alloc: Global,
     refusing: &Refusing<Global>,
+    refused: Option<&Refusing<Global>>,
     row: (&str, &str),
     out: &mut String,
 ) -> Result<bool, AllocError> {
     let done = match row {
-        ("check", text) => put_checked(rt, alloc, refusing, &Talk::read(text), out),
+        ("check", text) => put_checked(rt, alloc, refusing, refused, &Talk::read(text), out),
         ("replay", file) => put_replayed(alloc, refusing, file, out),
         ("print", text) => put_printed(refusing, text, out),
         _ => return Ok(false),

@@ -2,6 +2,7 @@
 
 use crate::scenes::{Scene, after_failing, at_fault, in_memory, played, put_left};
 use crate::stops::stops;
+use crate::tried::Tried;
 use memory_disks::{Afterwards, CrashDisk, Part};
 use std::alloc::{AllocError, Global};
 
@@ -64,6 +65,7 @@ fn crashes(
     alloc: Global,
     disk: &CrashDisk<Global>,
     part: Part,
+    tried: &Tried,
     out: &mut String,
 ) -> Result<(), AllocError> {
     let mut last = String::new(alloc);
@@ -76,6 +78,7 @@ fn crashes(
             &mut last,
             out,
         )?;
+        tried.add(1);
     }
     Ok(())
 }
@@ -90,11 +93,17 @@ fn at_length(alloc: Global, scene: &Scene) -> Result<String, AllocError> {
 }
 
 /// What sessions of the file, cut to each length, answer.
-fn lengths(alloc: Global, scene: &Scene, out: &mut String) -> Result<(), AllocError> {
+fn lengths(
+    alloc: Global,
+    scene: &Scene,
+    tried: &Tried,
+    out: &mut String,
+) -> Result<(), AllocError> {
     let mut last = String::new(alloc);
     for length in 0..=scene.file.len() {
         let came = at_length(alloc, &scene.cut_to(length))?;
         put_outcome(length, came, &mut last, out)?;
+        tried.add(1);
     }
     Ok(())
 }
@@ -129,12 +138,14 @@ fn failures(
     alloc: Global,
     afterwards: Afterwards,
     scene: &Scene,
+    tried: &Tried,
     out: &mut String,
 ) -> Result<(), AllocError> {
     let full = failure(alloc, 0, afterwards, scene)?;
     let mut last = String::new(alloc);
     for call in 1..MOST_CALLS {
         let came = failure(alloc, call, afterwards, scene)?;
+        tried.add(1);
         if put_failure(call, came, &full, &mut last, out)? {
             return Ok(());
         }
@@ -143,32 +154,42 @@ fn failures(
 }
 
 /// Plays `once ROW` or `always ROW`.
-fn play_failures(alloc: Global, text: &str, out: &mut String) -> Result<(), AllocError> {
+fn play_failures(
+    alloc: Global,
+    text: &str,
+    tried: &Tried,
+    out: &mut String,
+) -> Result<(), AllocError> {
     let (afterwards, row) = after_failing(text);
     match Scene::read(row) {
-        Some(scene) => failures(alloc, afterwards, &scene, out),
+        Some(scene) => failures(alloc, afterwards, &scene, tried, out),
         None => out.push_str("no such row"),
     }
 }
 
 /// Plays the row with a stop after each call.
-fn play_stops(alloc: Global, row: &str, out: &mut String) -> Result<(), AllocError> {
+fn play_stops(alloc: Global, row: &str, tried: &Tried, out: &mut String) -> Result<(), AllocError> {
     match Scene::read(row) {
         Some(scene) => {
             let disk = kept(alloc, &scene)?;
-            stops(alloc, &disk, out)
+            stops(alloc, &disk, tried, out)
         }
         None => out.push_str("no such row"),
     }
 }
 
 /// Plays `PART ROW`.
-fn play_crashes(alloc: Global, text: &str, out: &mut String) -> Result<(), AllocError> {
+fn play_crashes(
+    alloc: Global,
+    text: &str,
+    tried: &Tried,
+    out: &mut String,
+) -> Result<(), AllocError> {
     let (part, row) = text.split_once(' ').unwrap_or((text, ""));
     match Scene::read(row) {
         Some(scene) => {
             let disk = kept(alloc, &scene)?;
-            crashes(alloc, &disk, part_of(part), out)
+            crashes(alloc, &disk, part_of(part), tried, out)
         }
         None => out.push_str("no such row"),
     }
@@ -179,13 +200,14 @@ pub(crate) fn play(
     alloc: Global,
     kind: &str,
     text: &str,
+    tried: &Tried,
     out: &mut String,
 ) -> Result<bool, AllocError> {
     let done = match kind {
-        "crashes" => play_crashes(alloc, text, out),
-        "failures" => play_failures(alloc, text, out),
-        "stops" => play_stops(alloc, text, out),
-        "lengths" => lengths(alloc, &Scene::of_file(text), out),
+        "crashes" => play_crashes(alloc, text, tried, out),
+        "failures" => play_failures(alloc, text, tried, out),
+        "stops" => play_stops(alloc, text, tried, out),
+        "lengths" => lengths(alloc, &Scene::of_file(text), tried, out),
         _ => return Ok(false),
     };
     done?;

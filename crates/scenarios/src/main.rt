@@ -1,6 +1,7 @@
 //! Plays rows of text over the libraries: each line of standard input is a row, and for each a line is written that says what
 //! came of it. In both `$` is a line feed. A line that begins with `#` names the rows that follow; it is written as it is, and so is an
-//! empty one.
+//! empty one. After each group of rows that try points one after the other (a request that is refused, a call that fails, a place at which
+//! the disk stops, a length), standard error has how many there were.
 //!
 //! | Row | What is played |
 //! |---|---|
@@ -19,10 +20,12 @@
 //! | `seat NUMBER` | the seat with this number, and the one after it |
 //! | `fault_text session NAME`, `fault_text journal NAME` | a fault's number and word, and its text |
 //! | `file TEXT # CALLS` | a disk on a real file of this text, and one in memory: what each call answers, where the two differ in an answer or in their bytes, and the bytes at the end |
-//! | `memory ROW` | a `session`, a `journal`, `read ROOT SCRIPT`, `check ROOT SCRIPT # LINES`, `replay FILE` or `print ROOT SCRIPT` with each request for memory refused in turn, once, and with all after it: the full answers, and what came in their place that may not |
+//! | `memory ROW` | a `session`, a `journal`, `read ROOT SCRIPT`, `check ROOT SCRIPT # LINES`, `replay FILE` or `print ROOT SCRIPT` with each request for memory refused in turn: once; with all after it until an answer says so; and with all after it. The full answers, and what came in their place that may not |
+//! | `no_request ROOT SCRIPT # ASKS` | a session on a disk in memory, after these asks: whether each call that takes no memory asks for none where every request would be refused, and answers what it answers with memory |
 #![tactic(auto)]
 
 mod asks;
+mod clients;
 mod commands;
 mod crashes;
 mod faults;
@@ -30,21 +33,31 @@ mod files;
 mod journals;
 mod outcomes;
 mod playing;
+mod quiet;
 mod scenes;
 mod sessions;
 mod shortage;
 mod stops;
+mod tried;
 
 use playing::told;
 use std::io;
+use tried::Tried;
 
 fn main(rt: HostRuntime) -> io::Result<()> {
     let alloc = rt.alloc();
+    let tried = Tried::new();
     for line in rt.lines(alloc) {
         let line = line?;
-        match told(&rt, alloc, line.as_str()) {
+        match told(&rt, alloc, line.as_str(), &tried) {
             Ok(text) => println!(rt; "{text}")?,
             Err(_) => println!(rt; "no memory for the row")?,
+        }
+        if line.is_empty() {
+            let points = tried.take();
+            if points > 0 {
+                eprintln!(rt; "{points} points")?;
+            }
         }
     }
     Ok(())

@@ -9,8 +9,21 @@ use std::sync::Wait;
 pub(crate) enum Refused {
     /// One.
     One,
+    /// One, and all after it until an answer says so.
+    UntilAnswered,
     /// One, and all after it.
     AllFrom,
+}
+
+impl Refused {
+    /// What a row says of it.
+    pub(crate) fn word(self) -> &'static str {
+        match self {
+            Refused::One => "once",
+            Refused::UntilAnswered => "until it is answered",
+            Refused::AllFrom => "always",
+        }
+    }
 }
 
 /// The replies, and the exit status.
@@ -142,7 +155,7 @@ fn is_checked<T: Wait>(
 ) -> Result<bool, AllocError> {
     let (replies, _) = parts_of_run(came);
     let count = refusals(replies);
-    if count == 0 || (refused == Refused::One && count > 1) || !closes_once(replies) {
+    if count == 0 || (refused != Refused::AllFrom && count > 1) || !closes_once(replies) {
         return Ok(false);
     }
     is_as_without(rt, alloc, &Talk::read(text), came)

@@ -1,6 +1,7 @@
 //! What comes of a row.
 
-use crate::{faults, files, sessions};
+use crate::tried::Tried;
+use crate::{faults, files, quiet, sessions};
 use std::alloc::{AllocError, Global};
 use std::os::unix::fs::FileExt;
 use std::rt::Files;
@@ -12,14 +13,16 @@ fn played<T: Wait + Files + AllocGlobal>(
     alloc: Global,
     kind: &str,
     rest: &str,
+    tried: &Tried,
     out: &mut String,
 ) -> Result<bool, AllocError>
 where
     T::File: FileExt,
 {
     Ok(
-        sessions::play(rt, alloc, kind, rest, out)?
+        sessions::play(rt, alloc, kind, rest, tried, out)?
             || faults::play(kind, rest, out)?
+            || quiet::play(alloc, kind, rest, out)?
             || files::play(rt, alloc, kind, rest, out)?,
     )
 }
@@ -29,6 +32,7 @@ pub(crate) fn told<T: Wait + Files + AllocGlobal>(
     rt: &T,
     alloc: Global,
     row: &str,
+    tried: &Tried,
 ) -> Result<String, AllocError>
 where
     T::File: FileExt,
@@ -37,7 +41,7 @@ where
     let (kind, rest) = row.split_once(' ').unwrap_or((row, ""));
     if row.is_empty() || row.starts_with('#') {
         out.push_str(row)?;
-    } else if !played(rt, alloc, kind, rest, &mut out)? {
+    } else if !played(rt, alloc, kind, rest, tried, &mut out)? {
         out.push_str("no such kind of row")?;
     }
     Ok(out)

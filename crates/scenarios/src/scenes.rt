@@ -1,8 +1,10 @@
 //! Sessions on disks in memory, of which some fail.
 
 use crate::asks::{ask_all, number_of, put_file};
+use crate::tried::Tried;
 use disk::Disk;
 use memory_disks::{Afterwards, FaultDisk, MemoryDisk};
+use refusing::Refusing;
 use session::{Session, SessionError};
 use std::alloc::{AllocError, Allocator, Global};
 
@@ -92,6 +94,23 @@ fn begun<D: Disk + Drop, A: Allocator + Copy + Drop>(
     }
 }
 
+/// Writes the answers, and gives back the disk. The requests that were refused are released once an answer says so, if they are told.
+pub(crate) fn played_until<D: Disk + Drop, A: Allocator + Copy + Drop>(
+    alloc: A,
+    disk: D,
+    scene: &Scene,
+    refused: Option<&Refusing<Global>>,
+    out: &mut String,
+) -> (Result<(), AllocError>, D) {
+    match begun(alloc, disk, scene) {
+        Ok(mut session) => {
+            let done = ask_all(&mut session, scene.asks, refused, out);
+            (done, session.into_disk())
+        }
+        Err((error, disk)) => (write!(out, "{error}"), disk),
+    }
+}
+
 /// Writes the answers, and gives back the disk.
 pub(crate) fn played<D: Disk + Drop, A: Allocator + Copy + Drop>(
     alloc: A,
@@ -99,13 +118,7 @@ pub(crate) fn played<D: Disk + Drop, A: Allocator + Copy + Drop>(
     scene: &Scene,
     out: &mut String,
 ) -> (Result<(), AllocError>, D) {
-    match begun(alloc, disk, scene) {
-        Ok(mut session) => {
-            let done = ask_all(&mut session, scene.asks, out);
-            (done, session.into_disk())
-        }
-        Err((error, disk)) => (write!(out, "{error}"), disk),
-    }
+    played_until(alloc, disk, scene, None, out)
 }
 
 /// Writes the answers of a session in memory, and gives back the disk.
@@ -208,8 +221,9 @@ pub(crate) fn at_fault(
 }
 
 /// Plays `K once ROW` or `K always ROW`.
-fn fault(alloc: Global, text: &str, out: &mut String) -> Result<(), AllocError> {
+fn fault(alloc: Global, text: &str, tried: &Tried, out: &mut String) -> Result<(), AllocError> {
     let (call, afterwards, row) = failing(text);
+    tried.add(1);
     match Scene::read(row) {
         Some(scene) => at_fault(alloc, call, afterwards, &scene, out),
         None => out.push_str("no such row"),
@@ -221,6 +235,7 @@ pub(crate) fn play(
     alloc: Global,
     kind: &str,
     text: &str,
+    tried: &Tried,
     out: &mut String,
 ) -> Result<bool, AllocError> {
     let done = match kind {
@@ -229,7 +244,7 @@ pub(crate) fn play(
         "over" => with_file(alloc, &Scene::over(text), out),
         "journal" => with_file(alloc, &Scene::of_file(text), out),
         "records" => records(alloc, text, out),
-        "fault" => fault(alloc, text, out),
+        "fault" => fault(alloc, text, tried, out),
         _ => return Ok(false),
     };
     done?;

@@ -1,5 +1,6 @@
 //! Sessions and journals, on disks in memory of which some fail or crash, and with requests for memory refused.
 
+use crate::tried::Tried;
 use crate::{crashes, journals, scenes, shortage};
 use std::alloc::{AllocError, Global};
 use std::sync::Wait;
@@ -10,13 +11,14 @@ fn played<T: Wait>(
     alloc: Global,
     kind: &str,
     text: &str,
+    tried: &Tried,
     out: &mut String,
 ) -> Result<bool, AllocError> {
     Ok(
-        scenes::play(alloc, kind, text, out)?
-            || crashes::play(alloc, kind, text, out)?
+        scenes::play(alloc, kind, text, tried, out)?
+            || crashes::play(alloc, kind, text, tried, out)?
             || journals::play(alloc, kind, text, out)?
-            || shortage::play(rt, alloc, kind, text, out)?,
+            || shortage::play(rt, alloc, kind, text, tried, out)?,
     )
 }
 
@@ -26,8 +28,9 @@ pub(crate) fn play<T: Wait>(
     alloc: Global,
     kind: &str,
     rest: &str,
+    tried: &Tried,
     out: &mut String,
 ) -> Result<bool, AllocError> {
     let text = rest.replace(alloc, '$', "\n")?;
-    played(rt, alloc, kind, &text, out)
+    played(rt, alloc, kind, &text, tried, out)
 }

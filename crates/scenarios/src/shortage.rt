@@ -1,9 +1,11 @@
-//! What is played while requests for memory are refused: each in turn, by itself and with all after it.
+//! What is played while requests for memory are refused: each in turn, by itself, with all after it until an answer says so, and with all
+//! after it.
 
 use crate::asks::put_bytes;
 use crate::commands;
 use crate::outcomes::{Refused, is_allowed};
-use crate::scenes::{Scene, played};
+use crate::scenes::{Scene, played_until};
+use crate::tried::Tried;
 use memory_disks::MemoryDisk;
 use refusing::Refusing;
 use script::{print, read};
@@ -15,10 +17,16 @@ use term::Spec;
 const MOST: u64 = 1_000_000;
 
 /// The answers of a session in memory of this allocator.
-fn session(refusing: &Refusing<Global>, scene: &Scene, out: &mut String) -> Result<(), AllocError> {
+fn session(
+    refusing: &Refusing<Global>,
+    refused: Option<&Refusing<Global>>,
+    scene: &Scene,
+    out: &mut String,
+) -> Result<(), AllocError> {
     match Vec::from_slice(refusing, scene.file) {
         Ok(file) => {
-            let (done, _disk) = played(refusing, MemoryDisk::new(file), scene, out);
+            let disk = MemoryDisk::new(file);
+            let (done, _disk) = played_until(refusing, disk, scene, refused, out);
             done
         }
         Err(_) => out.push_str("40 memory"),
@@ -47,21 +55,22 @@ fn reading(refusing: &Refusing<Global>, text: &str, out: &mut String) -> Result<
     }
 }
 
-/// What comes of the row in memory of this allocator.
+/// What comes of the row in memory of this allocator. What it refuses is released once an answer says so, if it is told again.
 fn put_row<T: Wait>(
     rt: &T,
     alloc: Global,
     refusing: &Refusing<Global>,
+    refused: Option<&Refusing<Global>>,
     row: &str,
     out: &mut String,
 ) -> Result<(), AllocError> {
     let row = row.split_once(' ').unwrap_or((row, ""));
-    if commands::put(rt, alloc, refusing, row, out)? {
+    if commands::put(rt, alloc, refusing, refused, row, out)? {
         return Ok(());
     }
     match row {
-        ("session", text) => session(refusing, &Scene::new(text), out),
-        ("journal", text) => session(refusing, &Scene::of_file(text), out),
+        ("session", text) => session(refusing, refused, &Scene::new(text), out),
+        ("journal", text) => session(refusing, refused, &Scene::of_file(text), out),
         ("read", text) => reading(refusing, text, out),
         _ => out.push_str("no such row"),
     }
@@ -72,41 +81,57 @@ fn came<T: Wait>(
     rt: &T,
     alloc: Global,
     refusing: &Refusing<Global>,
+    refused: Option<&Refusing<Global>>,
     row: &str,
 ) -> Result<String, AllocError> {
     let mut out = String::new(alloc);
-    put_row(rt, alloc, refusing, row, &mut out)?;
+    put_row(rt, alloc, refusing, refused, row, &mut out)?;
     Ok(out)
 }
 
-/// What comes of the row where these requests are refused. Whether one was is answered, and appends what came where that may not come.
+/// What comes of the row where these requests are refused, and whether one was.
+fn came_without<T: Wait>(
+    rt: &T,
+    alloc: Global,
+    request: u64,
+    refused: Refused,
+    row: &str,
+) -> Result<(String, bool), AllocError> {
+    let refusing = match refused {
+        Refused::One => Refusing::new(alloc, request),
+        Refused::UntilAnswered | Refused::AllFrom => Refusing::all_from(alloc, request),
+    };
+    let released = match refused {
+        Refused::UntilAnswered => Some(&refusing),
+        Refused::One | Refused::AllFrom => None,
+    };
+    let came = came(rt, alloc, &refusing, released, row)?;
+    Ok((came, refusing.has_refused()))
+}
+
+/// Refuses the request with this number. Whether it came is answered, and what came of the row is appended where that may not come.
 fn refuse<T: Wait>(
     rt: &T,
     alloc: Global,
-    which: (u64, Refused),
+    request: u64,
+    refused: Refused,
     row: &str,
     full: &str,
     out: &mut String,
 ) -> Result<bool, AllocError> {
-    let (request, refused) = which;
-    let refusing = match refused {
-        Refused::One => Refusing::new(alloc, request),
-        Refused::AllFrom => Refusing::all_from(alloc, request),
-    };
-    let came = came(rt, alloc, &refusing, row)?;
+    let (came, was_refused) = came_without(rt, alloc, request, refused, row)?;
     if !is_allowed(rt, alloc, refused, row, full, &came)? {
-        let word = if refused == Refused::One {
-            "once"
-        } else {
-            "always"
-        };
-        write!(out, ", request {request} refused {word}: {came}")?;
+        write!(
+            out,
+            ", request {request} refused {}: {came}",
+            refused.word()
+        )?;
     }
-    Ok(refusing.has_refused())
+    Ok(was_refused)
 }
 
-/// Refuses the request with this number, and then it and all after it. Whether it came is answered.
-fn refuse_both<T: Wait>(
+/// Refuses the request with this number in each way. Whether it came is answered.
+fn refuse_each<T: Wait>(
     rt: &T,
     alloc: Global,
     request: u64,
@@ -114,22 +139,32 @@ fn refuse_both<T: Wait>(
     full: &str,
     out: &mut String,
 ) -> Result<bool, AllocError> {
-    let refused = refuse(rt, alloc, (request, Refused::One), row, full, out)?;
-    Ok(refuse(rt, alloc, (request, Refused::AllFrom), row, full, out)? || refused)
+    let mut came = false;
+    for refused in [Refused::One, Refused::UntilAnswered, Refused::AllFrom] {
+        came = refuse(rt, alloc, request, refused, row, full, out)? || came;
+    }
+    Ok(came)
 }
 
-/// The full answers, and what came in their place that may not come where each request was refused, once and with all after it.
-fn sweep<T: Wait>(rt: &T, alloc: Global, row: &str, out: &mut String) -> Result<(), AllocError> {
-    let full = came(rt, alloc, &Refusing::new(alloc, 0), row)?;
+/// The full answers, and what came in their place that may not come where each request was refused in each way.
+fn sweep<T: Wait>(
+    rt: &T,
+    alloc: Global,
+    row: &str,
+    tried: &Tried,
+    out: &mut String,
+) -> Result<(), AllocError> {
+    let full = came(rt, alloc, &Refusing::new(alloc, 0), None, row)?;
     out.push_str(&full)?;
     for request in 1..MOST {
-        if !refuse_both(rt, alloc, request, row, &full, out)? {
+        if !refuse_each(rt, alloc, request, row, &full, out)? {
             return out.push_str(if request > 1 {
                 ", each refused"
             } else {
                 ", no request"
             });
         }
+        tried.add(3);
     }
     out.push_str(", too many requests")
 }
@@ -140,10 +175,11 @@ pub(crate) fn play<T: Wait>(
     alloc: Global,
     kind: &str,
     text: &str,
+    tried: &Tried,
     out: &mut String,
 ) -> Result<bool, AllocError> {
     if kind == "memory" {
-        sweep(rt, alloc, text, out)?;
+        sweep(rt, alloc, text, tried, out)?;
     }
     Ok(kind == "memory")
 }

@@ -2,6 +2,7 @@
 
 use crate::crashes::put_outcome;
 use crate::scenes::{Scene, in_memory};
+use crate::tried::Tried;
 use memory_disks::{CrashDisk, Part};
 use std::alloc::{AllocError, Global};
 
@@ -64,11 +65,13 @@ fn put_place(
     old: &[u8],
     written: &[u8],
     place: usize,
+    tried: &Tried,
     answers: &mut String,
 ) -> Result<(), AllocError> {
     for done in [Done::Before, Done::Plus, Done::From] {
         let file = left(alloc, old, written, place, done)?;
         put_opening(alloc, &file, answers)?;
+        tried.add(1);
     }
     Ok(())
 }
@@ -86,33 +89,39 @@ fn common(old: &[u8], written: &[u8]) -> usize {
 }
 
 /// What sessions of all files that may be left answer, each answer once.
-fn answers(alloc: Global, old: &[u8], written: &[u8]) -> Result<String, AllocError> {
+fn answers(alloc: Global, old: &[u8], written: &[u8], tried: &Tried) -> Result<String, AllocError> {
     let mut answers = String::new(alloc);
     for place in common(old, written)..=old.len().max(written.len()) {
-        put_place(alloc, old, written, place, &mut answers)?;
+        put_place(alloc, old, written, place, tried, &mut answers)?;
     }
     Ok(answers)
 }
 
 /// What sessions answer of all files that may be left after so many calls.
-fn after(alloc: Global, disk: &CrashDisk<Global>, count: usize) -> Result<String, AllocError> {
+fn after(
+    alloc: Global,
+    disk: &CrashDisk<Global>,
+    count: usize,
+    tried: &Tried,
+) -> Result<String, AllocError> {
     if count > disk.calls() {
         return Ok(String::new(alloc));
     }
     let old = disk.left_after(count, Part::Nothing)?;
     let written = disk.left_after(count, Part::Everything)?;
-    answers(alloc, &old, &written)
+    answers(alloc, &old, &written, tried)
 }
 
 /// What sessions answer of all files that may be left after each number of calls, each with the first number that has it.
 pub(crate) fn stops(
     alloc: Global,
     disk: &CrashDisk<Global>,
+    tried: &Tried,
     out: &mut String,
 ) -> Result<(), AllocError> {
     let mut last = String::new(alloc);
     for count in 0..=disk.calls() {
-        put_outcome(count, after(alloc, disk, count)?, &mut last, out)?;
+        put_outcome(count, after(alloc, disk, count, tried)?, &mut last, out)?;
     }
     Ok(())
 }
