@@ -5,7 +5,7 @@ ghost use Rattle.alphabet.specs.Channels.{IsEvent};
 use crate::rows::{first_word, number, put_answer, put_bytes, put_word};
 use crate::sets;
 use alphabet::{Alphabet, Event, EventSet, Value, is_name};
-use std::alloc::{AllocError, Global};
+use std::alloc::{AllocError, Allocator, Global};
 
 /// More places than an alphabet has.
 const PLACES: usize = 300;
@@ -135,9 +135,9 @@ fn put_fields(into: &mut String, name: &[u8], fields: usize) -> Result<(), Alloc
 }
 
 /// Appends the channels with how many fields each has, and how many events there are.
-pub(crate) fn put_channels(
+pub(crate) fn put_channels<A: Allocator>(
     into: &mut String,
-    alphabet: &Alphabet<Global>,
+    alphabet: &Alphabet<A>,
 ) -> Result<(), AllocError> {
     for index in 0..PLACES {
         if let Some((name, fields)) = alphabet.channel(index) {

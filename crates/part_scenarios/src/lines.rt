@@ -4,6 +4,7 @@ ghost use Rattle.std.specs.Prelude.{◌≡◌};
 ghost use Rattle.alphabet.specs.Channels.{event_count};
 
 use crate::devices::{Gathering, Narrow, Pieces, Telling, Waiting};
+use crate::ends::put_each_end;
 use crate::rows::{bytes_of, first_word, number, put_answer, put_bytes, put_word};
 use crate::turns::{Outcome, talk};
 use alphabet::Alphabet;
@@ -28,7 +29,7 @@ fn end_word(end: Result<End, WireError>) -> &'static str {
 }
 
 /// Appends how a connection ended, how many entries the judge has, and what was written.
-fn put(into: &mut String, came: Outcome, written: &[u8]) -> Result<(), AllocError> {
+pub(crate) fn put(into: &mut String, came: Outcome, written: &[u8]) -> Result<(), AllocError> {
     into.push_str(end_word(came.end))?;
     put_word(into, &came.judged)?;
     into.push_str(" [")?;
@@ -58,6 +59,7 @@ fn heard<T: Wait>(
     let mut writer = Narrow {
         taken: Vec::new(alloc),
         room,
+        most: usize::MAX,
         failures: Count::new(),
     };
     let came = talk(rt, alloc, reader, &mut writer, alphabet);
@@ -251,6 +253,7 @@ fn play_text<T: Wait>(
         "waiting" => waiting(rt, alphabet, alloc, &lines, out),
         "gathering" => gathering(rt, alphabet, alloc, &lines, out),
         "tally" => tallied(rt, alphabet, alloc, &lines, out),
+        "each_end" => put_each_end(rt, alphabet, alloc, &lines, out),
         _ => plain(rt, alphabet, alloc, &lines, out),
     }
 }
@@ -315,7 +318,7 @@ pub(crate) fn play<T: Wait>(
 ) -> Result<bool, AllocError> {
     if !matches!(
         kind,
-        "pieces" | "waiting" | "gathering" | "plain" | "tally" | "refusing"
+        "pieces" | "waiting" | "gathering" | "plain" | "tally" | "refusing" | "each_end"
     ) {
         return Ok(false);
     }

@@ -1,5 +1,6 @@
 //! Rows over a script's text, which is read for the root `P`.
 
+use crate::quiet::put_quiet;
 use crate::remembering::put_remembered;
 use crate::rows::{bytes_of, put_word};
 use crate::{alphabets, steps};
@@ -54,6 +55,9 @@ fn put(
     words: &str,
     text: &[u8],
 ) -> Result<(), AllocError> {
+    if kind == "no_request" {
+        return put_quiet(into, alloc, words, text);
+    }
     match read(alloc, text, b"P") {
         Ok(spec) if kind == "remembered" => put_remembered(into, alloc, spec, words),
         Ok(spec) => put_of_spec(into, alloc, kind, words, &spec),

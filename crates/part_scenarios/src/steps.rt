@@ -8,14 +8,14 @@ use crate::numbers::put_numbered;
 use crate::rows::{first_word, number, put_answer, put_word};
 use crate::sets::put_set;
 use alphabet::{Alphabet, EventSet};
-use std::alloc::{AllocError, Global};
+use std::alloc::{AllocError, Allocator, Global};
 use std::hash::{DefaultHasher, Hash, Hasher};
 use step::{Label, can_tick, is_stable, offers, steps};
 use targets::{distinct_targets, has_deep_target};
 use term::{Spec, Term};
 
 /// The body of the root.
-fn root(spec: &Spec<Global>) -> &Term<Global>
+pub(crate) fn root<A: Allocator>(spec: &Spec<A>) -> &Term<A>
     ensures { IsProcessOf spec.now (proc result.now) }
 {
     let _bodies = spec.bodies();
@@ -31,7 +31,7 @@ fn label(alphabet: &Alphabet<Global>, word: &str) -> Option<Label> {
 }
 
 /// Appends whether the root's body can terminate and whether it is stable, and what it offers.
-pub(crate) fn put_looks(into: &mut String, spec: &Spec<Global>) -> Result<(), AllocError> {
+pub(crate) fn put_looks<A: Allocator>(into: &mut String, spec: &Spec<A>) -> Result<(), AllocError> {
     let body = root(spec);
     put_answer(into, can_tick(body))?;
     put_answer(into, is_stable(body))?;

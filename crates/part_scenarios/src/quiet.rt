@@ -1,0 +1,208 @@
+//! The calls of an alphabet, a specification, a set of states and a monitor that take no memory, where every request is refused.
+
+ghost use Rattle.spaces.specs.Spaces.{IsSetOf};
+
+use crate::alphabets::put_channels;
+use crate::rows::{first_word, put_answer, put_word};
+use crate::sets::put_set;
+use crate::steps::{put_looks, root};
+use alphabet::{Alphabet, Event, EventSet, Report};
+use monitor::{Judged, Monitor};
+use refusing::Refusing;
+use script::read;
+use spaces::{Space, StateSet};
+use std::alloc::{AllocError, Allocator, Global};
+use term::Spec;
+
+/// Appends the place of the event with this name, and whether it leads back to the event.
+fn put_place<A: Allocator>(
+    into: &mut String,
+    alphabet: &Alphabet<A>,
+    name: &str,
+) -> Result<(), AllocError> {
+    let Some(event) = alphabet.event(name.as_bytes()) else {
+        return into.push_str(" no event");
+    };
+    let place = alphabet.place(event);
+    put_word(into, &place)?;
+    put_answer(into, alphabet.at(place) == Some(event))
+}
+
+/// Appends what the alphabet tells.
+fn put_alphabet<A: Allocator>(
+    into: &mut String,
+    alphabet: &Alphabet<A>,
+    names: &str,
+) -> Result<(), AllocError> {
+    for name in names.split(' ') {
+        put_place(into, alphabet, name)?;
+    }
+    put_channels(into, alphabet)
+}
+
+/// Appends what the bodies tell.
+fn put_bodies<A: Allocator>(into: &mut String, spec: &Spec<A>) -> Result<(), AllocError> {
+    let body = root(spec);
+    put_word(into, &spec.bodies())?;
+    put_word(into, &body.depth())?;
+    put_word(into, &body.size())?;
+    put_answer(into, body.equal(body))?;
+    put_looks(into, spec)
+}
+
+/// Appends what the specification tells, and whether there was a request.
+fn put_spec(
+    into: &mut String,
+    refusing: &Refusing<Global>,
+    spec: &Spec<&Refusing<Global>>,
+    names: &str,
+) -> Result<bool, AllocError> {
+    refusing.refuse();
+    put_alphabet(into, spec.alphabet(), names)?;
+    into.push(';')?;
+    put_bodies(into, spec)?;
+    into.push(';')?;
+    Ok(refusing.has_refused())
+}
+
+/// Appends whether the set refuses the event with this name.
+fn put_refused<A: Allocator>(
+    into: &mut String,
+    space: &Space<A>,
+    set: StateSet,
+    name: &str,
+) -> Result<(), AllocError>
+    requires { IsSetOf space.now set }
+{
+    match space.spec().alphabet().event(name.as_bytes()) {
+        Some(event) => put_answer(into, set.refuses(space, &EventSet::empty().with(event))),
+        None => into.push_str(" no event"),
+    }
+}
+
+/// Appends what the set of states tells.
+fn put_set_of<A: Allocator>(
+    into: &mut String,
+    space: &Space<A>,
+    set: StateSet,
+    names: &str,
+) -> Result<(), AllocError>
+    requires { IsSetOf space.now set }
+{
+    put_set(into, &set.next(space))?;
+    for name in names.split(' ') {
+        put_refused(into, space, set, name)?;
+    }
+    put_word(into, &space.remembered())?;
+    into.push(';')
+}
+
+/// Appends what the set of states of the opening tells, and whether there was a request.
+fn put_space(
+    into: &mut String,
+    refusing: &Refusing<Global>,
+    space: &mut Space<&Refusing<Global>>,
+    names: &str,
+) -> Result<bool, AllocError> {
+    match StateSet::start(space) {
+        Ok(set) => {
+            refusing.refuse();
+            put_set_of(into, space, set, names)?;
+        }
+        Err(fault) => put_word(into, &fault)?,
+    }
+    Ok(refusing.has_refused())
+}
+
+/// Takes the report over, and appends what the monitor tells.
+fn put_committed<'a>(
+    into: &mut String,
+    refusing: &'a Refusing<Global>,
+    monitor: &mut Monitor<&'a Refusing<Global>>,
+    judged: Judged,
+) -> Result<(), AllocError>
+    requires { Rattle.monitor.specs.Monitors.IsOf monitor.old judged }
+{
+    refusing.refuse();
+    put_answer(into, judged.verdict())?;
+    monitor.commit(judged);
+    put_word(into, &monitor.trace_len())?;
+    put_word(into, &monitor.spec().bodies())?;
+    put_set(into, &monitor.next())
+}
+
+/// Appends what the monitor tells of the event, and then; and whether there was a request.
+fn put_watched<'a>(
+    into: &mut String,
+    refusing: &'a Refusing<Global>,
+    monitor: &mut Monitor<&'a Refusing<Global>>,
+    event: Event,
+) -> Result<bool, AllocError> {
+    match monitor.judge(&Report::Event(event)) {
+        Ok(judged) => put_committed(into, refusing, monitor, judged)?,
+        Err(fault) => put_word(into, &fault)?,
+    }
+    Ok(refusing.has_refused())
+}
+
+/// Appends what a monitor of the specification tells, and whether there was a request.
+fn put_monitor<'a>(
+    into: &mut String,
+    refusing: &'a Refusing<Global>,
+    spec: Spec<&'a Refusing<Global>>,
+    name: &str,
+) -> Result<bool, AllocError> {
+    let event = spec
+        .alphabet()
+        .event(name.as_bytes())
+        .unwrap_or(Event::TICK);
+    match Monitor::new(refusing, spec) {
+        Ok(mut monitor) => put_watched(into, refusing, &mut monitor, event),
+        Err(fault) => {
+            put_word(into, &fault)?;
+            Ok(false)
+        }
+    }
+}
+
+/// Appends what the space of the specification tells, and whether there was a request.
+fn put_spaced<'a>(
+    into: &mut String,
+    refusing: &'a Refusing<Global>,
+    spec: Spec<&'a Refusing<Global>>,
+    names: &str,
+) -> Result<bool, AllocError> {
+    let mut space = Space::new(refusing, spec)?;
+    put_space(into, refusing, &mut space, names)
+}
+
+/// Appends what the script's specification, its space and a monitor of it tell, each where every request is refused, and whether there was
+/// one.
+pub(crate) fn put_quiet(
+    into: &mut String,
+    alloc: Global,
+    names: &str,
+    text: &[u8],
+) -> Result<(), AllocError> {
+    let (first, second, third) = (
+        Refusing::new(alloc, 0),
+        Refusing::new(alloc, 0),
+        Refusing::new(alloc, 0),
+    );
+    let (Ok(spec), Ok(spaced), Ok(watched)) = (
+        read(&first, text, b"P"),
+        read(&second, text, b"P"),
+        read(&third, text, b"P"),
+    ) else {
+        return into.push_str(" no specification");
+    };
+    let (name, _) = first_word(names);
+    let by_spec = put_spec(into, &first, &spec, names)?;
+    let by_space = put_spaced(into, &second, spaced, names)?;
+    let by_monitor = put_monitor(into, &third, watched, name)?;
+    into.push_str(if by_spec || by_space || by_monitor {
+        ", a request"
+    } else {
+        ", no request"
+    })
+}
