@@ -113,21 +113,32 @@ class Maker:
     def pairs(self):
         return ", ".join(self.rng.choice(["a <- b", "b <- a", "c <- c", "c.0 <- c.1", "a <- c.2", "d.0 <- d.1", "e.u <- a"]) for _ in range(self.rng.randint(1, 3)))
 
+    def condition(self, bound):
+        numbers = ["0", "1", "2", "N"] + list(bound)
+        pair = "%s %s %s" % (self.rng.choice(numbers), self.rng.choice(["==", "!=", "<", "<=", ">", ">="]), self.rng.choice(numbers))
+        return self.rng.choice(["%s", "not (%s)", "(%s and 1 < 2)", "(0 == 1 or %s)"]) % pair
+
+    def replicated(self):
+        return self.rng.choice([("[]", "{0..2}"), ("|~|", "{0..1}"), ("|||", "{0..1}"), ("[]", "{}"), ("|||", "{u}"), ("|~|", "{v, u}")])
+
     def phrase(self, depth, bound=()):
         rng = self.rng
         if depth == 0 or rng.random() < 0.1:
-            return rng.choice(["STOP", "SKIP", "P", "Q", "R"])
+            return rng.choice(["STOP", "SKIP", "P", "Q", "R", "W(%d)" % rng.randint(0, 4)])
         if rng.random() < 0.45:
             event = self.event(bound)
             inner = bound + tuple(name for name in "xyz" if "?" + name in event and event[0] != "e")
             return "(%s -> %s)" % (event, self.phrase(depth - 1, inner))
+        if rng.random() < 0.2:
+            return rng.choice(["(%s & %%s)" % self.condition(bound), "(%s v:%s @ %%s)" % self.replicated()]) % self.phrase(depth - 1, bound)
         left, right = self.phrase(depth - 1, bound), self.phrase(depth - 1, bound)
-        return rng.choice([
+        return rng.choice(["(if %s then %%s else %%s)" % self.condition(bound).replace("%", "%%"),
             "(%s [] %s)", "(%s |~| %s)", "(%s ; %s)", "(%s ||| %s)", "(%s /\\ %s)", "(%s [| " + self.events() + " |] %s)",
             "(%s [ " + self.events() + " || " + self.events() + " ] %s)", "(%s [] %s) \\ " + self.events(), "(%s |~| %s)[[" + self.pairs() + "]]"]) % (left, right)
 
     def text(self):
         lines = ["datatype D = u | v", "channel a, b", "channel c : {0..2}", "channel d : {0..1}.{0..1}", "channel e : D"]
+        lines += ["N = 1", "W(n) = n < 3 & (c.(n % 3) -> W(n+1)) [] n > 0 & (b -> W(n-1))"]
         lines += ["%s = %s" % (name, self.phrase(self.rng.randint(1, 4))) for name in "PQR"]
         return ("\n".join(lines) + "\n").encode()
 
@@ -494,6 +505,17 @@ def script_limits():
         ("a tree of height 251", "channel a\nN = 0" + " + 1" * 250 + "\nP = STOP\n", fault("2: 9 depth")),
         ("250 brackets", "channel a\nP = " + "(" * 250 + "STOP" + ")" * 250 + "\n", READS),
         ("251 brackets", "channel a\nP = " + "(" * 251 + "STOP" + ")" * 251 + "\n", fault("2: 9 depth")),
+        ("65,536 nodes by a parameter", "channel a\nQ(n) = if n < 32767 then a -> Q(n+1) else STOP\nP = Q(0)\n", READS),
+        ("65,538 nodes by a parameter", "channel a\nQ(n) = if n < 32768 then a -> Q(n+1) else STOP\nP = Q(0)\n", fault("2: 10 large")),
+        ("a parameter without an end", "channel a\nQ(n) = a -> Q(n+1)\nP = Q(0)\n", fault("2: 10 large")),
+        ("65,535 nodes by a replicated choice", "channel a\nP = [] x:{0..32767} @ STOP\n", READS),
+        ("65,537 nodes by a replicated choice", "channel a\nP = [] x:{0..32768} @ STOP\n", fault("2: 10 large")),
+        ("a condition in a tree of height 250", "channel a\nP = if " + " and ".join(["0 == 0"] * 248) + " then STOP else STOP\n", READS),
+        ("a condition in a tree of height 251", "channel a\nP = if " + " and ".join(["0 == 0"] * 249) + " then STOP else STOP\n", fault("2: 9 depth")),
+        ("248 conditions", "channel a\nP = " + "if 0 == 0 then " * 248 + "STOP" + " else STOP" * 248 + "\n", READS),
+        ("249 conditions", "channel a\nP = " + "if 0 == 0 then " * 249 + "STOP" + " else STOP" * 249 + "\n", fault("2: 9 depth")),
+        ("248 guards", "channel a\nP = " + "0 == 0 & " * 248 + "STOP\n", READS),
+        ("249 guards", "channel a\nP = " + "0 == 0 & " * 249 + "STOP\n", fault("2: 9 depth")),
         ("1,000,000", "channel c : {1000000..1000000}\nP = c.1000000 -> P\n", READS),
         ("1,000,001", "channel c : {1000001..1000001}\nP = STOP\n", fault("1: 7 range")),
         ("-1,000,000", "channel c : { -1000000..-1000000}\nP = c.-1000000 -> P\n", READS),
