@@ -65,22 +65,26 @@ fn is_told_by_read<T: Wait>(
         Ok(End::Input) => Err(WireError::Read),
         end => end,
     };
-    failed.end == end && failed.judged == whole.judged && written == replies
+    failed.end == end && failed.judged == whole.judged && written.as_slice() == replies.as_slice()
+}
+
+/// Whether the reply from this place on is a verdict.
+fn is_verdict(replies: &[u8], place: usize) -> bool {
+    match replies.get(place..) {
+        Some(reply) => reply.starts_with(b"OK ") || reply.starts_with(b"NO "),
+        None => false,
+    }
 }
 
 /// How many reports are judged by the time at which so many bytes of the replies are written and the next is to be.
 fn judged_by(replies: &[u8], count: usize) -> u64 {
     let mut judged: u64 = 0;
-    let mut rest = replies;
-    let mut at: usize = 0;
-    while let Some(end) = rest.iter().position(|byte| *byte == b'\n')
-        && at <= count
-    {
-        if rest.starts_with(b"OK ") || rest.starts_with(b"NO ") {
+    let mut begins = true;
+    for (place, byte) in replies.iter().enumerate() {
+        if begins && place <= count && is_verdict(replies, place) {
             judged = judged.saturating_add(1);
         }
-        rest = &rest[end + 1..];
-        at = at.saturating_add(end).saturating_add(1);
+        begins = *byte == b'\n';
     }
     judged
 }
@@ -114,7 +118,8 @@ fn put_reads<T: Wait>(
     requires { event_count alphabet.now ≡ 2 }
 {
     for count in 0..=bytes.len() {
-        if !is_told_by_read(rt, alphabet, alloc, &bytes[..count]) {
+        let before = bytes.get(..count).unwrap_or(bytes);
+        if !is_told_by_read(rt, alphabet, alloc, before) {
             write!(out, ", not the read after {count}")?;
         }
     }

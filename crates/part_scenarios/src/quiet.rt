@@ -1,5 +1,6 @@
 //! The calls of an alphabet, a specification, a set of states and a monitor that take no memory, where every request is refused.
 
+ghost use Rattle.monitor.specs.Monitors.{IsOf};
 ghost use Rattle.spaces.specs.Spaces.{IsSetOf};
 
 use crate::alphabets::put_channels;
@@ -121,7 +122,7 @@ fn put_committed<'a>(
     monitor: &mut Monitor<&'a Refusing<Global>>,
     judged: Judged,
 ) -> Result<(), AllocError>
-    requires { Rattle.monitor.specs.Monitors.IsOf monitor.old judged }
+    requires { IsOf monitor.old judged }
 {
     refusing.refuse();
     put_answer(into, judged.verdict())?;
@@ -145,13 +146,14 @@ fn put_watched<'a>(
     Ok(refusing.has_refused())
 }
 
-/// Appends what a monitor of the specification tells, and whether there was a request.
+/// Appends what a monitor of the specification tells.
 fn put_monitor<'a>(
     into: &mut String,
     refusing: &'a Refusing<Global>,
     spec: Spec<&'a Refusing<Global>>,
-    name: &str,
+    names: &str,
 ) -> Result<bool, AllocError> {
+    let (name, _) = first_word(names);
     let event = spec
         .alphabet()
         .event(name.as_bytes())
@@ -176,6 +178,36 @@ fn put_spaced<'a>(
     put_space(into, refusing, &mut space, names)
 }
 
+/// Whose calls are made.
+#[derive(Clone, Copy)]
+enum Part {
+    Spec,
+    Space,
+    Monitor,
+}
+
+/// Appends what this part tells of the script, where every request is refused, and whether there was one.
+fn put_part(
+    into: &mut String,
+    alloc: Global,
+    part: Part,
+    names: &str,
+    text: &[u8],
+) -> Result<bool, AllocError> {
+    let refusing = Refusing::new(alloc, 0);
+    match read(&refusing, text, b"P") {
+        Ok(spec) => match part {
+            Part::Spec => put_spec(into, &refusing, &spec, names),
+            Part::Space => put_spaced(into, &refusing, spec, names),
+            Part::Monitor => put_monitor(into, &refusing, spec, names),
+        },
+        Err(error) => {
+            put_word(into, &error)?;
+            Ok(false)
+        }
+    }
+}
+
 /// Appends what the script's specification, its space and a monitor of it tell, each where every request is refused, and whether there was
 /// one.
 pub(crate) fn put_quiet(
@@ -184,22 +216,9 @@ pub(crate) fn put_quiet(
     names: &str,
     text: &[u8],
 ) -> Result<(), AllocError> {
-    let (first, second, third) = (
-        Refusing::new(alloc, 0),
-        Refusing::new(alloc, 0),
-        Refusing::new(alloc, 0),
-    );
-    let (Ok(spec), Ok(spaced), Ok(watched)) = (
-        read(&first, text, b"P"),
-        read(&second, text, b"P"),
-        read(&third, text, b"P"),
-    ) else {
-        return into.push_str(" no specification");
-    };
-    let (name, _) = first_word(names);
-    let by_spec = put_spec(into, &first, &spec, names)?;
-    let by_space = put_spaced(into, &second, spaced, names)?;
-    let by_monitor = put_monitor(into, &third, watched, name)?;
+    let by_spec = put_part(into, alloc, Part::Spec, names, text)?;
+    let by_space = put_part(into, alloc, Part::Space, names, text)?;
+    let by_monitor = put_part(into, alloc, Part::Monitor, names, text)?;
     into.push_str(if by_spec || by_space || by_monitor {
         ", a request"
     } else {

@@ -47,16 +47,19 @@ use tried::Tried;
 fn main(rt: HostRuntime) -> io::Result<()> {
     let alloc = rt.alloc();
     let tried = Tried::new();
+    let mut group = String::new(alloc);
     for line in rt.lines(alloc) {
         let line = line?;
         match told(&rt, alloc, line.as_str(), &tried) {
             Ok(text) => println!(rt; "{text}")?,
             Err(_) => println!(rt; "no memory for the row")?,
         }
-        if line.is_empty() {
+        if line.starts_with('#') {
+            group = line;
+        } else if line.is_empty() {
             let points = tried.take();
             if points > 0 {
-                eprintln!(rt; "{points} points")?;
+                eprintln!(rt; "{group}: {points} points")?;
             }
         }
     }

@@ -9,9 +9,6 @@ use refusing::Refusing;
 use session::{Ready, Session, SessionError};
 use std::alloc::{AllocError, Global};
 
-/// A session in memory that may be refused.
-type Starved<'a, D> = Session<D, &'a Refusing<Global>>;
-
 /// Whether there was a request since all are refused. From now on none is.
 fn was_asked(refusing: &Refusing<Global>) -> bool {
     let asked = refusing.has_refused();
@@ -22,7 +19,7 @@ fn was_asked(refusing: &Refusing<Global>) -> bool {
 /// Writes what is ready. Whether there was a request is answered.
 fn write_quietly<'a, D: Disk>(
     refusing: &'a Refusing<Global>,
-    session: &mut Starved<'a, D>,
+    session: &mut Session<D, &'a Refusing<Global>>,
     ready: Ready<&'a Refusing<Global>>,
     out: &mut String,
 ) -> Result<bool, AllocError>
@@ -38,7 +35,7 @@ fn write_quietly<'a, D: Disk>(
 /// Makes ready what the words ask for, and then writes it. Whether there was a request when it was written is answered.
 fn ready_quietly<'a, D: Disk>(
     refusing: &'a Refusing<Global>,
-    session: &mut Starved<'a, D>,
+    session: &mut Session<D, &'a Refusing<Global>>,
     words: &str,
     out: &mut String,
 ) -> Result<bool, AllocError> {
@@ -58,7 +55,7 @@ fn ready_quietly<'a, D: Disk>(
 /// The answer to one thing that changes nothing. Whether there was a request is answered.
 fn look_quietly<'a, D: Disk>(
     refusing: &'a Refusing<Global>,
-    session: &Starved<'a, D>,
+    session: &Session<D, &'a Refusing<Global>>,
     kind: &str,
     words: &str,
     out: &mut String,
@@ -73,7 +70,7 @@ fn look_quietly<'a, D: Disk>(
 /// The answer to one thing. Whether there was a request in a call that takes no memory is answered.
 fn answer_quietly<'a, D: Disk>(
     refusing: &'a Refusing<Global>,
-    session: &mut Starved<'a, D>,
+    session: &mut Session<D, &'a Refusing<Global>>,
     ask: &str,
     out: &mut String,
 ) -> Result<bool, AllocError> {
@@ -91,7 +88,7 @@ fn answer_quietly<'a, D: Disk>(
 /// The answers to all. Whether there was a request in a call that takes no memory is answered.
 fn answers_quietly<'a, D: Disk>(
     refusing: &'a Refusing<Global>,
-    session: &mut Starved<'a, D>,
+    session: &mut Session<D, &'a Refusing<Global>>,
     asks: &str,
     out: &mut String,
 ) -> Result<bool, AllocError> {
@@ -106,7 +103,7 @@ fn answers_quietly<'a, D: Disk>(
 /// Appends the answers, and gives back the disk.
 fn played_quietly<'a, D: Disk>(
     refusing: &'a Refusing<Global>,
-    session: Starved<'a, D>,
+    session: Session<D, &'a Refusing<Global>>,
     asks: &str,
     out: &mut String,
 ) -> (Result<bool, AllocError>, D) {

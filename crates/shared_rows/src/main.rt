@@ -31,7 +31,7 @@ fn main(rt: HostRuntime) -> io::Result<()> {
             Ok((text, runs)) => {
                 println!(rt; "{text}")?;
                 if runs > 0 {
-                    eprintln!(rt; "{runs} runs")?;
+                    eprintln!(rt; "{runs} runs: {line}")?;
                 }
             }
             Err(_) => println!(rt; "no memory for the row")?,
