@@ -20,7 +20,7 @@
 //! | `seat NUMBER` | the seat with this number, and the one after it |
 //! | `fault_text session NAME`, `fault_text journal NAME` | a fault's number and word, and its text |
 //! | `file TEXT # CALLS` | a disk on a real file of this text, and one in memory: what each call answers, where the two differ in an answer or in their bytes, and the bytes at the end |
-//! | `memory ROW` | a `session`, a `journal`, `read ROOT SCRIPT`, `check ROOT SCRIPT # LINES`, `replay FILE` or `print ROOT SCRIPT` with each request for memory refused in turn: once; with all after it until an answer says so; and with all after it. The full answers, and what came in their place that may not |
+//! | `memory ROW` | a `session`, a `journal`, `read ROOT SCRIPT`, `check ROOT SCRIPT # LINES`, `replay FILE` or `print ROOT SCRIPT` with each request for memory refused in turn: once; with all after it until an answer says so; and with all after it. The full answers, of sessions with what a session of the file answers to `S` in the end, and what came in their place that may not |
 //! | `no_request ROOT SCRIPT # ASKS` | a session on a disk in memory, after these asks: whether each call that takes no memory asks for none where every request would be refused, and answers what it answers with memory |
 #![tactic(auto)]
 

@@ -1,6 +1,8 @@
 //! What may come in place of the full answers where requests for memory were refused.
 
+use crate::asks::number_of;
 use crate::commands::Talk;
+use crate::scenes::{Scene, in_memory};
 use std::alloc::{AllocError, Global};
 use std::sync::Wait;
 
@@ -189,16 +191,63 @@ fn is_begun(full: &str, came: &str) -> bool {
     true
 }
 
-/// Whether this may come of what a session is asked, where what is refused is asked again: nothing but the refusal; the full answers,
-/// with the refusal reported once; or the full answers up to where no more was granted, or where the disk couldn't grow.
-fn is_asked(alloc: Global, refused: Refused, full: &str, came: &str) -> Result<bool, AllocError> {
-    if matches!(came, "40 memory" | "script 1: 40 memory" | "30 journal") {
+/// How many reports were judged, by these answers.
+fn judged_in(answers: &str) -> u64 {
+    let mut count: u64 = 0;
+    for answer in answers.split("; ") {
+        if is_verdict(answer) || answer.starts_with("true ") || answer.starts_with("false ") {
+            count = count.saturating_add(1);
+        }
+    }
+    count
+}
+
+/// How many entries there are, by what a session answers to `S`.
+fn entries_in(status: &str) -> u64 {
+    let (_, counts) = status.split_once(' ').unwrap_or((status, ""));
+    let (judged, _) = counts.split_once(' ').unwrap_or((counts, ""));
+    number_of(judged)
+}
+
+/// Whether a file has just the reports that were judged, beside those that it had before; or one more, where the disk couldn't grow.
+fn is_kept(opened: &str, answers: &str, kept: &str) -> bool {
+    let wanted = entries_in(opened).saturating_add(judged_in(answers));
+    let entries = entries_in(kept);
+    let may_be_more = answers.split("; ").any(|answer| answer == "ERR 30 journal");
+    kept.starts_with("S ")
+        && (entries == wanted || (may_be_more && entries == wanted.saturating_add(1)))
+}
+
+/// What a session of the scene's file answers to `S`.
+fn opened(alloc: Global, scene: &Scene) -> Result<String, AllocError> {
+    let mut out = String::new(alloc);
+    let _disk = in_memory(alloc, &Scene::opening(scene.file), &mut out)?;
+    Ok(out)
+}
+
+/// Whether these may be the answers where what is refused is asked again: the full answers, with the refusal reported once; or the full
+/// answers up to where no more was granted, or where the disk couldn't grow. In the end the file is what it is in full, or has what was
+/// judged.
+fn is_asked(
+    alloc: Global,
+    refused: Refused,
+    scene: &Scene,
+    full: &str,
+    came: &str,
+) -> Result<bool, AllocError> {
+    let (full, kept_in_full) = full.split_once(" | ").unwrap_or((full, ""));
+    let (answers, kept) = came.split_once(" | ").unwrap_or((came, ""));
+    let opened = opened(alloc, scene)?;
+    if matches!(answers, "40 memory" | "script 1: 40 memory") {
+        return Ok(kept == opened.as_str());
+    }
+    if answers == "30 journal" {
         return Ok(true);
     }
-    if refused == Refused::AllFrom || came.split("; ").any(|answer| answer == "ERR 30 journal") {
-        return Ok(is_begun(full, came));
+    if refused == Refused::AllFrom || answers.split("; ").any(|answer| answer == "ERR 30 journal") {
+        return Ok(is_begun(full, answers) && is_kept(&opened, answers, kept));
     }
-    is_reported_once(alloc, full, came)
+    Ok(is_reported_once(alloc, full, answers)? && kept == kept_in_full)
 }
 
 /// Whether this may come of the row in place of the full answers.
@@ -216,6 +265,10 @@ pub(crate) fn is_allowed<T: Wait>(
     match row.split_once(' ').unwrap_or((row, "")) {
         ("check", text) => { Ok(is_memory(came) || is_checked(rt, alloc, refused, text, came)?) }
         ("replay" | "print", _) => Ok(is_memory(came)),
-        _ => is_asked(alloc, refused, full, came),
+        ("read", _) => Ok(came == "40 memory"),
+        _ => match Scene::read(row) {
+            Some(scene) => is_asked(alloc, refused, &scene, full, came),
+            None => Ok(false),
+        },
     }
 }

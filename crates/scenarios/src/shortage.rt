@@ -4,7 +4,7 @@
 use crate::asks::put_bytes;
 use crate::commands;
 use crate::outcomes::{Refused, is_allowed};
-use crate::scenes::{Scene, played_until};
+use crate::scenes::{Scene, in_memory, played_until};
 use crate::tried::Tried;
 use memory_disks::MemoryDisk;
 use refusing::Refusing;
@@ -16,7 +16,14 @@ use term::Spec;
 /// How many requests are refused at most.
 const MOST: u64 = 1_000_000;
 
-/// The answers of a session in memory of this allocator.
+/// What a session of this file answers to `S`.
+fn put_kept(file: &[u8], out: &mut String) -> Result<(), AllocError> {
+    out.push_str(" | ")?;
+    let _disk = in_memory(*out.allocator(), &Scene::opening(file), out)?;
+    Ok(())
+}
+
+/// The answers of a session in memory of this allocator, and what a session of its file then answers to `S`.
 fn session(
     refusing: &Refusing<Global>,
     refused: Option<&Refusing<Global>>,
@@ -26,10 +33,15 @@ fn session(
     match Vec::from_slice(refusing, scene.file) {
         Ok(file) => {
             let disk = MemoryDisk::new(file);
-            let (done, _disk) = played_until(refusing, disk, scene, refused, out);
-            done
+            match played_until(refusing, disk, scene, refused, out) {
+                (Ok(()), disk) => put_kept(disk.bytes(), out),
+                (Err(error), _) => Err(error),
+            }
         }
-        Err(_) => out.push_str("40 memory"),
+        Err(_) => {
+            out.push_str("40 memory")?;
+            put_kept(scene.file, out)
+        }
     }
 }
 
