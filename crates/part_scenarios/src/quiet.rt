@@ -51,6 +51,11 @@ fn put_bodies<A: Allocator>(into: &mut String, spec: &Spec<A>) -> Result<(), All
     put_looks(into, spec)
 }
 
+/// How many events an alphabet has before a channel is declared.
+fn empty_len(refusing: &Refusing<Global>) -> usize {
+    Alphabet::new(refusing).len()
+}
+
 /// Appends what the specification tells, and whether there was a request.
 fn put_spec(
     into: &mut String,
@@ -59,6 +64,7 @@ fn put_spec(
     names: &str,
 ) -> Result<bool, AllocError> {
     refusing.refuse();
+    put_word(into, &empty_len(refusing))?;
     put_alphabet(into, spec.alphabet(), names)?;
     into.push(';')?;
     put_bodies(into, spec)?;
