@@ -1,13 +1,13 @@
 #!/usr/bin/env python3
 """Compares what `cspwatch show` prints of journals made from a seed with what a second judge's states say.
 
-    compare_showing.py REFERENCE [SEED] [COUNT] [--program FILE] [--jobs N] [--keep FOLDER]
+    compare_showing.py REFERENCE [SEED] [COUNT] [--program FILE] [--jobs N] [--seconds S] [--keep FOLDER]
 
 REFERENCE is a folder with the package `cspref`, a program in Python that was written apart from this one. Each case is a script as in
 compare_judging.py, with a journal of up to sixty reports by three seats, some of them rejected. From the reference's states come the events
 that could have come at each place and the least sets of events with which the process may come to rest there; the text and the JSON of `show`,
 alone, with `--rejected` and with `--coverage`, have to be the same bytes. A case whose opening meets a limit is passed over, and counted. Cases
-that differ are kept in FOLDER. The last line is `N passed, M failed`.
+that differ, or take longer than S seconds (10), are kept in FOLDER. The last line is `N passed, M failed`.
 """
 import argparse
 import collections
@@ -23,7 +23,6 @@ from compare_judging import PROGRAM, Case
 
 SEATS = 3
 WAYS = [[], ["--rejected"], ["--coverage"], ["--rejected", "--coverage"]]
-SECONDS = 10
 
 # An entry: its report, whether it was accepted, the events that could have come before it, and the least sets at rest there.
 Entry = collections.namedtuple("Entry", "seat number kind events verdict possible acceptances")
@@ -132,7 +131,16 @@ def wanted(session, entries, names, words, as_json):
     return "".join(lines).encode(), int(counts[4] != "0")
 
 
-def tried(seed, program, keep):
+def ran(program, words, path, seconds):
+    """What `show` wrote, its status and what it wrote on standard error; None where it was ended after so many seconds."""
+    try:
+        done = subprocess.run([program, "show", *words, path], capture_output=True, timeout=seconds, check=False)
+    except subprocess.TimeoutExpired:
+        return None
+    return done.stdout, done.returncode, done.stderr
+
+
+def tried(seed, program, keep, seconds):
     """What came of a case: a word, and a text where it failed."""
     from cspref.faults import Fault, ScriptFault
 
@@ -148,14 +156,16 @@ def tried(seed, program, keep):
         for words in WAYS:
             for as_json in (False, True):
                 more = words + (["--format", "json"] if as_json else [])
-                done = subprocess.run([program, "show", *more, path], capture_output=True, timeout=SECONDS, check=False)
+                done = ran(program, more, path, seconds)
                 out, status = wanted(session, entries, names, words, as_json)
-                if (done.stdout, done.returncode, done.stderr) != (out, status, b""):
-                    if keep:
-                        with open(path, "rb") as file, open(os.path.join(keep, seed), "wb") as kept:
-                            kept.write(file.read())
-                    return "different", "%s: show %s\nprogram: %d %r %r\nreference: %d %r" % (
-                        seed, " ".join(more), done.returncode, done.stdout, done.stderr, status, out)
+                if done == (out, status, b""):
+                    continue
+                if keep:
+                    with open(path, "rb") as file, open(os.path.join(keep, seed), "wb") as kept:
+                        kept.write(file.read())
+                if done is None:
+                    return "too slow", "%s: show %s took more than %d seconds" % (seed, " ".join(more), seconds)
+                return "different", "%s: show %s\nprogram: %r\nreference: %r" % (seed, " ".join(more), done, (out, status))
     return "the same, with a report rejected" if status else "the same", ""
 
 
@@ -166,6 +176,7 @@ def main():
     parser.add_argument("count", nargs="?", type=int, default=1000)
     parser.add_argument("--program", default=PROGRAM)
     parser.add_argument("--jobs", type=int, default=os.cpu_count())
+    parser.add_argument("--seconds", type=int, default=10)
     parser.add_argument("--keep")
     options = parser.parse_args()
     sys.path.insert(0, os.path.abspath(options.reference))
@@ -174,7 +185,7 @@ def main():
         os.makedirs(options.keep, exist_ok=True)
     found, failed = collections.Counter(), 0
     with concurrent.futures.ProcessPoolExecutor(options.jobs) as pool:
-        runs = [pool.submit(tried, "%s-%d" % (options.seed, number), os.path.abspath(options.program), options.keep) for number in range(options.count)]
+        runs = [pool.submit(tried, "%s-%d" % (options.seed, number), os.path.abspath(options.program), options.keep, options.seconds) for number in range(options.count)]
         for run in concurrent.futures.as_completed(runs):
             word, text = run.result()
             found[word] += 1
