@@ -11,8 +11,9 @@ that differ, or take longer than S seconds (10), are kept in FOLDER. The last li
 """
 import argparse
 import collections
-import concurrent.futures
+import functools
 import json
+import multiprocessing
 import os
 import random
 import subprocess
@@ -184,14 +185,15 @@ def main():
     if options.keep:
         os.makedirs(options.keep, exist_ok=True)
     found, failed = collections.Counter(), 0
-    with concurrent.futures.ProcessPoolExecutor(options.jobs) as pool:
-        runs = [pool.submit(tried, "%s-%d" % (options.seed, number), os.path.abspath(options.program), options.keep, options.seconds) for number in range(options.count)]
-        for run in concurrent.futures.as_completed(runs):
-            word, text = run.result()
+    seeds = ["%s-%d" % (options.seed, number) for number in range(options.count)]
+    one = functools.partial(tried, program=os.path.abspath(options.program), keep=options.keep, seconds=options.seconds)
+    # The reference keeps what it has judged: so a process ends after some cases, with its memory.
+    with multiprocessing.Pool(options.jobs, maxtasksperchild=20) as pool:
+        for word, text in pool.imap_unordered(one, seeds):
             found[word] += 1
             if text:
                 failed += 1
-                print(text)
+                print(text, flush=True)
     print(", ".join("%d %s" % (count, word) for word, count in sorted(found.items())))
     print("%d passed, %d failed" % (options.count - failed, failed))
     return 1 if failed else 0
