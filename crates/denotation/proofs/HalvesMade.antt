@@ -9,7 +9,7 @@ use Rattle.event_phrases.proofs.Options.{bind_assoc}
 use Rattle.denotation.specs.Bodies.{Key, Body, stop, skip, ext, int, par, names, numbered, half, halved_in, halved}
 use Rattle.denotation.specs.Phrases.{some_internal}
 use Rattle.denotation.specs.Denotes.{place, with_keys, nodes}
-use Rattle.denotation.specs.Making.{Count, Made, AllMade, room_left, size_of, sizes_of, told, all_told, made, all_made, half_of, halved_within, halved_over, halved_nodes, make_halved, make_internal}
+use Rattle.denotation.specs.Making.{Count, room_left, size_of, sizes_of, told, all_told, made, all_made, half_of, halved_within, halved_over, halved_nodes, make_halved, make_internal}
 use Rattle.denotation.proofs.Rooms.{some_made, some_all, rooms, none_is, spend_then}
 
 -- ---- the parts of a list

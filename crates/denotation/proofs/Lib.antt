@@ -10,6 +10,8 @@ pub mod Made
 pub mod Progress
 pub mod Choices
 pub mod Replications
+pub mod Walks
+pub mod Places
 pub mod FirstPlaces
 pub mod Steps
 pub mod Prefixes

@@ -1,5 +1,5 @@
 -- What is made of a phrase is made of the body that it denotes.
-use Rattle.std.proofs.Common.{◌≡◌, ℕ, zero, suc, ◌+◌, List, [], ◌∷◌, ◌++◌, map, Bool, true, false, cond, Option, Some, None, refl, sym, ap, ap₂, ◌∙◌, arith, append-nil}
+use Rattle.std.proofs.Common.{◌≡◌, ℕ, suc, ◌+◌, List, [], ◌∷◌, ◌++◌, map, Bool, true, false, cond, Option, Some, None, refl, sym, ap, ap₂, ◌∙◌, arith, append-nil}
 use Rattle.std.specs.List.{flat_map}
 use Rattle.alphabet.specs.Channels.{FieldValue, Values, Parts, events, event_count}
 use Rattle.term.specs.Traces.{Pairs}
@@ -13,7 +13,7 @@ use Rattle.values.specs.Values.{◌>>=◌, Name}
 use Rattle.values.specs.Worths.{Worth, condition}
 use Rattle.values.specs.Names.{Meaning, channel, datatype, constant_name, definition, parametric, meaning, same_name, is_process}
 use Rattle.event_phrases.specs.Events.{Events, unless_value, channel_fields, set_of, pairs_of, in_order}
-use Rattle.denotation.specs.Bodies.{Key, Body, stop, skip, prefix, ext, int, seq, par, hide, ren, intr, name, names, numbered, choice_of}
+use Rattle.denotation.specs.Bodies.{Key, Body, stop, prefix, ext, int, seq, par, hide, ren, intr, name, names, numbered, choice_of}
 use Rattle.event_phrases.specs.Fitting.{fitting, has_all}
 use Rattle.event_phrases.specs.Scopes.{Scope, within, events_by}
 use Rattle.denotation.specs.Phrases.{with_branch, branches, prefixed, renamed, alphabetised, takes, arguments, called_with, over, denoted, denoted_form}

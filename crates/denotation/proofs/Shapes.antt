@@ -1,44 +1,20 @@
 -- Phrases for processes by their forms: the processes in them are smaller.
-use Rattle.std.proofs.Common.{◌≡◌, ◌+◌, ◌<◌, ◌≤◌, List, length, Option, Some, None, refl, sym, ap, ◌∙◌, arith}
+use Rattle.std.proofs.Common.{◌≡◌, ◌+◌, ◌<◌, ◌≤◌, List, Option, Some, None, refl, sym, ap, ◌∙◌, arith}
 use Rattle.std.specs.Option.{option_map, IfSome}
 use Rattle.syntax.specs.declared.form.Form.{Form}
 use Rattle.syntax.specs.declared.form.Form.TheVariants as forms
 use Rattle.syntax.specs.declared.operator.Operator.{Operator}
 use Rattle.syntax.specs.declared.operator.Operator.TheVariants as operators
-use Rattle.syntax.specs.Grammar.{Syntax, Called, Numeral, Node, Syntaxes, NoSyntax, MoreSyntax}
+use Rattle.syntax.specs.Grammar.{Syntax, Called, Numeral, Node}
 use Rattle.values.specs.Values.{◌>>=◌}
 use Rattle.event_phrases.specs.Forms.{part_list, node_of, name_of, first_of, two_of, tall, talls}
 use Rattle.denotation.specs.declared.forms.Join.{Join}
 use Rattle.denotation.specs.declared.forms.Join.TheVariants as joins
-use Rattle.denotation.specs.Forms.{Phrase, calling, replicated, generators_form, generators_of, replicated_phrase, joined_phrase, operation_phrase, form_phrase, phrase_of, inner_tall}
+use Rattle.denotation.specs.Forms.{Phrase, calling, replicated, generators_of, replicated_phrase, joined_phrase, operation_phrase, form_phrase, phrase_of, inner_tall}
 use Rattle.event_phrases.proofs.Options.{some_is, bind_some}
 use Rattle.event_phrases.proofs.Shapes.{list_forth, node_with, sum_tall, by_one, by_two, by_three, by_four, by_first, by_none, by_name}
 
 -- ---- generators
-
-some_tall : (t : Syntax) → 1 ≤ tall t
-unfolding tall
-some_tall (Called n) = omega arith
-some_tall (Numeral n) = omega arith
-some_tall (Node f ts) = omega arith
-
-parts_tall : (ts : Syntaxes) → length (part_list ts) ≤ talls ts
-unfolding part_list talls
-parts_tall NoSyntax = omega arith
-parts_tall (MoreSyntax t ts) =
-    let k = some_tall t in
-    let l = parts_tall ts in
-    omega (arith, k, l)
-
-generators_tall : (t : Syntax) (gs : List Syntax) → generators_of t ≡ Some gs → length gs ≤ tall t
-unfolding generators_of generators_form node_of tall
-generators_tall (Called n) gs h = absurd cc
-generators_tall (Numeral n) gs h = absurd cc
-generators_tall (Node forms.Generators ts) gs h =
-    let e : length (part_list ts) ≡ length gs = ap length (some_is h) in
-    let k = parts_tall ts in
-    omega (arith, e, k)
-generators_tall (Node f ts) gs h = absurd cc
 
 pair_tall : (ts : List Syntax) (q : Syntax × Syntax) → two_of ts ≡ Some q → tall q.0 + tall q.1 ≤ sum_tall ts
 pair_tall ts q h = by_two (λ (q : Syntax × Syntax). tall q.0 + tall q.1) ts (λ (q : Syntax × Syntax). q) q (λ q. omega arith) (ap (λ (o : Option (Syntax × Syntax)). o >>= λ q. Some q) h)
@@ -49,9 +25,8 @@ replicated_less j ts p h =
     let (q, a, b) = bind_some (two_of ts) (λ q. generators_of q.0 >>= λ gs. Some (replicated j gs q.1)) p h in
     let (gs, d, e) = bind_some (generators_of q.0) (λ gs. Some (replicated j gs q.1)) p b in
     let z : inner_tall (replicated j gs q.1) ≡ inner_tall p = ap inner_tall (some_is e) in
-    let k = generators_tall q.0 gs d in
     let l = pair_tall ts q a in
-    omega (arith, z, k, l)
+    omega (arith, z, l)
 
 call_less : (ts : List Syntax) (p : Phrase) → (first_of ts >>= λ q. name_of q.0 >>= λ n. Some (calling n q.1)) ≡ Some p → inner_tall p ≤ sum_tall ts
 unfolding inner_tall

@@ -1,5 +1,5 @@
 -- Phrases for processes by their forms, with their parts in lists.
-use Rattle.std.specs.Prelude.{ℕ, ◌+◌, List, length, Option, Some, None}
+use Rattle.std.specs.Prelude.{ℕ, ◌+◌, List, Option, Some, None}
 use Rattle.syntax.specs.declared.form.Form.{Form}
 use Rattle.syntax.specs.declared.form.Form.TheVariants as forms
 use Rattle.syntax.specs.declared.operator.Operator.{Operator}
@@ -94,4 +94,4 @@ inner_tall (renaming t ts) = tall t
 inner_tall (conditional c t u) = tall t + tall u
 inner_tall (guarded c t) = tall t
 inner_tall (calling n ts) = 0
-inner_tall (replicated j gs t) = tall t + length gs
+inner_tall (replicated j gs t) = tall t

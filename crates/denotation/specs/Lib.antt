@@ -9,4 +9,6 @@ pub mod View
 pub mod Forms
 pub mod Shapes
 pub mod Parts
+pub mod Walks
+pub mod Places
 pub mod BodyParts

@@ -13,6 +13,7 @@ mod maker;
 mod making;
 mod replicated;
 mod simple;
+mod walk;
 mod work;
 
 pub use gathering::gathered;

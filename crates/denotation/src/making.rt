@@ -6,36 +6,34 @@ ghost use Rattle.syntax.specs.Parsing.{syntaxes};
 ghost use Rattle.syntax.specs.View.{shape, shapes};
 ghost use Rattle.term.specs.Proc.{proc};
 ghost use Rattle.values.specs.Tables.{input};
-ghost use Rattle.values.specs.View.{Gives, values};
+ghost use Rattle.values.specs.View.{Gives};
 ghost use Rattle.event_phrases.specs.Scopes.{within};
 ghost use Rattle.denotation.specs.Forms.{joined, sharing, alphabetised, hiding, renaming, conditional, guarded, replicated};
-ghost use Rattle.denotation.specs.Making.{branches_behind, make, make_branch, make_branches, make_for_each, make_over, make_phrase, make_prefixed};
+ghost use Rattle.denotation.specs.Making.{branches_behind, make, make_branch, make_branches, make_phrase, make_prefixed};
+ghost use Rattle.denotation.specs.Places.{from_scope};
 ghost use Rattle.denotation.specs.Shapes.{plain};
+ghost use Rattle.denotation.specs.Walks.{make_visits, with_made};
 ghost use Rattle.event_phrases.specs.View.{listed, row};
 ghost use Rattle.denotation.specs.View.{count};
 
 use crate::calls::called_with;
 use crate::choice::chosen;
-use crate::forms::{Join, Phrase, generator, process_phrase};
+use crate::forms::{Join, Phrase, process_phrase};
 use crate::joining::{
     alphabetised_within, behind_event, hidden, joined_within, renamed_by, shared,
 };
-use crate::replicated::{all_joined, values_of};
+use crate::replicated::all_joined;
 use crate::simple::{called, skip, stop};
+use crate::walk::{Place, first_place, next_place};
 use crate::work::Work;
-use event_phrases::forms::{event_parts, first};
+use event_phrases::forms::event_parts;
 use event_phrases::{
-    GlobalScope, Prefix, Row, Scope, behind_input, fault, inputs_behind, two_sets, wanted_events,
-    wanted_truth,
+    GlobalScope, Prefix, Row, Scope, fault, inputs_behind, two_sets, wanted_events, wanted_truth,
 };
 use std::alloc::Allocator;
 use syntax::Tree;
 use term::Term;
 use tokens::{ScriptError, ScriptErrorKind};
-use values::Values;
-
-/// The most inputs that a phrase in a replicated form stands behind. With more of them there is no memory.
-const MOST_GENERATORS: usize = 1000;
 
 /// What an event adds to the branches of a prefix.
 #[cycle(making)]
@@ -244,56 +242,50 @@ fn guarded_phrase<'a, A: Allocator + Copy, G: GlobalScope<A>>(
     }
 }
 
-/// The terms for all values of an input with this name, behind those that were made before. The inner ones are those of the
-/// rest of the generators.
+/// One more term, which is made of this phrase.
 #[cycle(making)]
-fn each<'a, A: Allocator + Copy, G: GlobalScope<A>>(
+fn with_process<'a, A: Allocator + Copy, G: GlobalScope<A>>(
     alloc: A,
     scope: &Scope<'a, A, G>,
-    input_values: (&'a [u8], Values<A>),
-    inner: (&'a [Tree<A>], &'a Tree<A>),
+    tree: &'a Tree<A>,
     made: (Vec<Term<A>, A>, Work<A>),
 ) -> Result<(Vec<Term<A>, A>, Work<A>), ScriptError>
-    ensures { Gives (λ x. (map proc x.0.items, count x.1)) result (branches_behind (map proc made.0.items) (make_for_each (make_over (syntaxes (shapes inner.entry.0.now)) (make (shape inner.entry.1.now))) (within (G.scope scope.now.global.now) (map input scope.now.inputs.items)) input_values.entry.0.now (values input_values.entry.1) (count made.1))) }
+    ensures { Gives (λ x. (map proc x.0.items, count x.1)) result (with_made (map proc made.0.items) (make (shape tree.now) (within (G.scope scope.now.global.now) (map input scope.now.inputs.items)) (count made.1))) }
 {
-    let (name, values) = input_values;
-    let (mut terms, mut work) = made;
-    let mut left = values;
-    while let Some(value) = left.pop_first() {
-        let place = behind_input(alloc, scope, name, &value)?;
-        let (more, next) = over(alloc, &place, inner, (terms, work))?;
-        terms = more;
-        work = next;
-    }
+    let (mut terms, work) = made;
+    let (term, work) = process(alloc, scope, tree, work)?;
+    terms.push(term)?;
     Ok((terms, work))
 }
 
-/// The terms for all values of the generators, behind those that were made before. The last generator is the fastest.
+/// The terms made of this phrase in the first place and in those after it.
 #[cycle(making)]
 fn over<'a, A: Allocator + Copy, G: GlobalScope<A>>(
     alloc: A,
     scope: &Scope<'a, A, G>,
-    form: (&'a [Tree<A>], &'a Tree<A>),
-    made: (Vec<Term<A>, A>, Work<A>),
+    first: Option<Place<'a, A>>,
+    then: &'a Tree<A>,
+    work: Work<A>,
 ) -> Result<(Vec<Term<A>, A>, Work<A>), ScriptError>
-    ensures { Gives (λ x. (map proc x.0.items, count x.1)) result (branches_behind (map proc made.0.items) (make_over (syntaxes (shapes form.entry.0.now)) (make (shape form.entry.1.now)) (within (G.scope scope.now.global.now) (map input scope.now.inputs.items)) (count made.1))) }
+    ensures { Gives (λ x. (map proc x.0.items, count x.1)) result (make_visits (make (shape then.now)) (from_scope (G.scope scope.now.global.now) first.entry) (count work)) }
 {
-    let (generators, then) = form;
-    match first(generators) {
-        None => {
-            let (mut terms, work) = made;
-            let (term, work) = process(alloc, scope, then, work)?;
-            terms.push(term)?;
-            Ok((terms, work))
-        }
-        Some((tree, rest)) => match generator(tree) {
-            None => Err(fault(tree.line(), ScriptErrorKind::Expected)),
-            Some((name, set)) => {
-                let values = values_of(alloc, scope, name, set, tree.line())?;
-                each(alloc, scope, (name, values), (rest, then), made)
-            }
-        },
+    let mut at = first;
+    let mut terms = Vec::new(alloc);
+    let mut work = work;
+    while let Some(Place { inputs, outer, .. }) = at {
+        let inner = Scope {
+            global: scope.global,
+            inputs,
+            line: scope.line,
+        };
+        let (more, left) = with_process(alloc, &inner, then, (terms, work))?;
+        terms = more;
+        work = left;
+        let Scope { inputs, .. } = inner;
+        let next = next_place(alloc, scope, inputs, outer)?;
+        at = next;
     }
+    Ok((terms, work))
 }
 
 /// `[] x:A, y:B @ P` and the like on this line, where the form is its generators and P.
@@ -308,11 +300,8 @@ fn replicated_phrase<'a, A: Allocator + Copy, G: GlobalScope<A>>(
 ) -> Result<(Term<A>, Work<A>), ScriptError>
     ensures { Gives (λ x. (proc x.0, count x.1)) result (make_phrase (replicated join (shapes form.entry.0.now) (shape form.entry.1.now)) (within (G.scope scope.now.global.now) (map input scope.now.inputs.items)) (count work)) }
 {
-    let most = MOST_GENERATORS.saturating_sub(scope.inputs.len());
-    if form.0.len() > most {
-        return Err(fault(line, ScriptErrorKind::Memory));
-    }
-    let (terms, work) = over(alloc, scope, form, (Vec::new(alloc), work))?;
+    let first = first_place(alloc, scope, form.0)?;
+    let (terms, work) = over(alloc, scope, first, form.1, work)?;
     all_joined(alloc, join, terms, work, scope.line, line)
 }
 

@@ -1,4 +1,4 @@
-use Rattle.std.proofs.Common.{rules, arith, ◌≡◌, ◌+◌, ◌*◌, ◌<◌, length, map, sym, ap, subst, ◌∙◌}
+use Rattle.std.proofs.Common.{rules, arith, ◌≡◌, suc, ◌+◌, ◌*◌, ◌<◌, length, map, sym, ap, subst, ◌∙◌}
 use Rattle.std.specs.Option.{option_map}
 use Rattle.std.proofs.lemmas.List.{length-map}
 use Rattle.std.proofs.lemmas.Result.{err_from_is_err_and}
@@ -7,20 +7,22 @@ use Rattle.syntax.specs.Parsing.{syntaxes}
 use Rattle.syntax.specs.View.{shape, shapes}
 use Rattle.term.specs.Proc.{proc}
 use Rattle.values.specs.Tables.{input}
-use Rattle.values.specs.View.{Gives, Fails, value, values}
-use Rattle.values.proofs.Lists.{none_left}
+use Rattle.values.specs.View.{Gives, Fails}
 use Rattle.event_phrases.specs.Scopes.{within}
 use Rattle.event_phrases.specs.Forms.{tall}
 use Rattle.denotation.specs.Forms.{inner_tall}
-use Rattle.denotation.specs.Making.{branches_behind, make, make_for_each, make_over, make_phrase, make_prefixed}
+use Rattle.denotation.specs.Making.{make, make_phrase, make_prefixed}
 use Rattle.denotation.specs.Shapes.{plain}
+use Rattle.denotation.specs.Places.{from_scope, innermost_first}
+use Rattle.denotation.specs.Walks.{make_visits, visits_after}
 use Rattle.event_phrases.specs.View.{listed, row}
 use Rattle.denotation.specs.View.{count}
 use Rattle.denotation.proofs.FormLaws.{made_so, not_made}
 use Rattle.event_phrases.proofs.Scopes.{fails_none}
 use Rattle.denotation.proofs.Prefixes.{same_length, none_if, no_event, no_channel, other_count, branches_fail, branches_made, some_fit, fitting_fails, no_fit, behind_fails, event_fails, event_made}
 use Rattle.denotation.proofs.Steps.{joined_first, joined_second, joined_so, sharing_first, sharing_set, sharing_second, sharing_so, alphabetised_first, alphabetised_sets, alphabetised_second, alphabetised_so, hiding_first, hiding_set, hiding_so, renaming_first, renaming_on, conditional_fails, conditional_first, conditional_second, guarded_fails, guarded_met, guarded_not, replicated_fails, replicated_so}
-use Rattle.denotation.proofs.Replications.{behind_none, each_end, each_more, each_fails, fewer, over_fails, over_one, no_generator, no_values, over_each, put_behind}
+use Rattle.denotation.proofs.Replications.{put_behind}
+use Rattle.denotation.proofs.Walks.{no_first, from_first, none_before, walk_end, stands_fails, no_next, next_found, no_process, one_process, not_more}
 use Rattle.denotation.proofs.Turns.{all_from, first_turn, next_turn, last_turn, turn_fails, pushed, kept}
 use Rattle.denotation.proofs.making.+making.Goals as goal
 use Rattle.denotation.proofs.making.+making.Goals.{branches-in-Some+in_ok-push, branches-in_default}
@@ -440,87 +442,90 @@ guarded_phrase-returns-else-holds g t c =
     let s = within (g.G.GlobalScope.scope c.args.scope.now.global.now) (map input c.args.scope.now.inputs.items) in
     subst (λ o. Gives (λ x. (proc x.0, count x.1)) c.stop.result o) (sym (guarded_not s (count c.args.work) (shape c.args.condition.now) (shape c.args.then.now) c.in_ok-holds.holds c.in_ok-holds.ensures c.if-holds.false)) (c.stop.ensures s)
 
-pub each-over-requires : goal.each-over-requires
-each-over-requires g t c κs within =
-    let m : 6 * tall (shape c.args.inner.1.now) + 2 * length c.args.inner.0.now + 1 < 6 * tall (shape c.args.inner.1.now) + 2 * length c.args.inner.0.now + 2 = omega arith in
+pub with_process-process-requires : goal.with_process-process-requires
+with_process-process-requires g t c κs within =
+    let m : 6 * tall (shape c.args.tree.now) < 6 * tall (shape c.args.tree.now) + 1 = omega arith in
     search (rules, m)
 
-pub each-returns-in_err-more : goal.each-returns-in_err-more
-each-returns-in_err-more g t c =
-    let s = within (g.G.GlobalScope.scope c.args.scope.now.global.now) (map input c.args.scope.now.inputs.items) in
-    let p = err_from_is_err_and c.from_residual-in_err-more.result c.from_residual-in_err-more.ensures.1 in
-    rw (p.1, p.2) (each_fails (make_over (syntaxes (shapes c.args.inner.0.now)) (make (shape c.args.inner.1.now))) s c.args.input_values.0.now (map proc c.loop-value.terms.items) (map value c.loop-value.left.keys) (map value c.pop_first.new.self.keys) (value c.in-Some.value) (count c.loop-value.work) (branches_behind (map proc c.args.made.0.items) (make_for_each (make_over (syntaxes (shapes c.args.inner.0.now)) (make (shape c.args.inner.1.now))) s c.args.input_values.0.now (values c.args.input_values.1) (count c.args.made.1))) c.loop-value.invariant (ap (map value) c.in-Some.ensures.removal) (within (g.G.GlobalScope.scope c.in_ok-place.place.global.now) (map input c.in_ok-place.place.inputs.items)) c.in_ok-place.ensures c.in_err-more.field-0.0.kind c.in_err-more.ensures)
-
-pub each-loop-value-preserved : goal.each-loop-value-preserved
-each-loop-value-preserved g t c =
-    let s = within (g.G.GlobalScope.scope c.args.scope.now.global.now) (map input c.args.scope.now.inputs.items) in
-    each_more (make_over (syntaxes (shapes c.args.inner.0.now)) (make (shape c.args.inner.1.now))) s c.args.input_values.0.now (map proc c.loop-value.terms.items) (map value c.loop-value.left.keys) (map value c.pop_first.new.self.keys) (value c.in-Some.value) (count c.loop-value.work) (branches_behind (map proc c.args.made.0.items) (make_for_each (make_over (syntaxes (shapes c.args.inner.0.now)) (make (shape c.args.inner.1.now))) s c.args.input_values.0.now (values c.args.input_values.1) (count c.args.made.1))) c.loop-value.invariant (ap (map value) c.in-Some.ensures.removal) (within (g.G.GlobalScope.scope c.in_ok-place.place.global.now) (map input c.in_ok-place.place.inputs.items)) c.in_ok-place.ensures (map proc c.in_ok-more.more.items) (count c.in_ok-more.next) c.in_ok-more.ensures
-
-pub each-loop-value-preserved-in_ok-more : goal.each-loop-value-preserved-in_ok-more
-each-loop-value-preserved-in_ok-more g t c =
-    let s = within (g.G.GlobalScope.scope c.args.scope.now.global.now) (map input c.args.scope.now.inputs.items) in
-    each_more (make_over (syntaxes (shapes c.args.inner.0.now)) (make (shape c.args.inner.1.now))) s c.args.input_values.0.now (map proc c.loop-value.terms.items) (map value c.loop-value.left.keys) (map value c.pop_first.new.self.keys) (value c.in-Some.value) (count c.loop-value.work) (branches_behind (map proc c.args.made.0.items) (make_for_each (make_over (syntaxes (shapes c.args.inner.0.now)) (make (shape c.args.inner.1.now))) s c.args.input_values.0.now (values c.args.input_values.1) (count c.args.made.1))) c.loop-value.invariant (ap (map value) c.in-Some.ensures.removal) (within (g.G.GlobalScope.scope c.in_ok-place.place.global.now) (map input c.in_ok-place.place.inputs.items)) c.in_ok-place.ensures (map proc c.in_ok-more.more.items) (count c.in_ok-more.next) c.in_ok-more.ensures
-
-pub each-returns : goal.each-returns
-each-returns g t c =
-    let s = within (g.G.GlobalScope.scope c.args.scope.now.global.now) (map input c.args.scope.now.inputs.items) in
-    each_end (make_over (syntaxes (shapes c.args.inner.0.now)) (make (shape c.args.inner.1.now))) s c.args.input_values.0.now (map proc c.loop-value.terms.items) (map value c.loop-value.left.keys) (count c.loop-value.work) (branches_behind (map proc c.args.made.0.items) (make_for_each (make_over (syntaxes (shapes c.args.inner.0.now)) (make (shape c.args.inner.1.now))) s c.args.input_values.0.now (values c.args.input_values.1) (count c.args.made.1))) c.loop-value.invariant (length-map c.loop-value.left.keys value ∙ none_left c.pop_first.result _ c.in_default.is c.pop_first.ensures.variant)
-
-pub over-process-requires : goal.over-process-requires
-over-process-requires g t c κs within =
-    let m : 6 * tall (shape c.args.form.1.now) < 6 * tall (shape c.args.form.1.now) + 2 * length c.args.form.0.now + 1 = omega arith in
-    search (rules, m)
-
-pub over-returns-in_err-term-in-None : goal.over-returns-in_err-term-in-None
-over-returns-in_err-term-in-None g t c =
+pub with_process-returns-in_err-term : goal.with_process-returns-in_err-term
+with_process-returns-in_err-term g t c =
     let s = within (g.G.GlobalScope.scope c.args.scope.now.global.now) (map input c.args.scope.now.inputs.items) in
     let p = err_from_is_err_and c.from_residual.result c.from_residual.ensures.1 in
-    rw (p.1, p.2) (over_fails (map proc c.args.made.0.items) (make (shape c.args.form.1.now)) s (count c.args.made.1) (shapes c.args.form.0.now) c.in-None.ensures c.in_err-term-in-None.field-0.0.kind c.in_err-term-in-None.ensures)
+    rw (p.1, p.2) (no_process c.in_err-term.field-0.0.kind (map proc c.args.made.0.items) (make (shape c.args.tree.now) s (count c.args.made.1)) c.in_err-term.ensures)
 
-pub over-returns-in_ok-push-in-None : goal.over-returns-in_ok-push-in-None
-over-returns-in_ok-push-in-None g t c =
+pub with_process-returns : goal.with_process-returns
+with_process-returns g t c =
     let s = within (g.G.GlobalScope.scope c.args.scope.now.global.now) (map input c.args.scope.now.inputs.items) in
-    over_one (map proc c.args.made.0.items) (make (shape c.args.form.1.now)) s (count c.args.made.1) (shapes c.args.form.0.now) c.in-None.ensures (proc c.in_ok-term-in-None.term, count c.in_ok-term-in-None.work) (map proc c.push.new.self.items) c.in_ok-term-in-None.ensures (put_behind proc c.args.made.0.items c.push.new.self.items c.in_ok-term-in-None.term c.in_ok-push-in-None.ensures.items)
+    one_process (map proc c.args.made.0.items) (map proc c.push.new.self.items) (make (shape c.args.tree.now) s (count c.args.made.1)) (proc c.in_ok-term.term, count c.in_ok-term.work) c.in_ok-term.ensures (put_behind proc c.args.made.0.items c.push.new.self.items c.in_ok-term.term c.in_ok-push.ensures.items)
 
-pub over-returns-in-None-generator : goal.over-returns-in-None-generator
-over-returns-in-None-generator g t c =
-    let s = within (g.G.GlobalScope.scope c.args.scope.now.global.now) (map input c.args.scope.now.inputs.items) in
-    fails_none c.fault.result.kind (branches_behind (map proc c.args.made.0.items) (make_over (syntaxes (shapes c.args.form.0.now)) (make (shape c.args.form.1.now)) s (count c.args.made.1))) (no_generator (map proc c.args.made.0.items) (make (shape c.args.form.1.now)) s (count c.args.made.1) (shapes c.args.form.0.now) (shape c.in-Some.tree.now) (shapes c.in-Some.rest.now) c.in-Some.ensures c.in-None-generator.ensures)
+pub over-loop-at-init : goal.over-loop-at-init
+over-loop-at-init g t c =
+    let s = g.G.GlobalScope.scope c.args.scope.now.global.now in
+    none_before (make (shape c.args.then.now)) (map proc c.new-terms.result.items) (make_visits (make (shape c.args.then.now)) (from_scope s c.args.first) (count c.args.work)) (ap (map proc) c.new-terms.ensures.items)
 
-pub over-returns-in_err-values-in-Some-generator : goal.over-returns-in_err-values-in-Some-generator
-over-returns-in_err-values-in-Some-generator g t c =
-    let s = within (g.G.GlobalScope.scope c.args.scope.now.global.now) (map input c.args.scope.now.inputs.items) in
-    let p = err_from_is_err_and c.from_residual-in_err-values-in-Some-generator.result c.from_residual-in_err-values-in-Some-generator.ensures.1 in
-    rw (p.1, p.2) (no_values (map proc c.args.made.0.items) (make (shape c.args.form.1.now)) s (count c.args.made.1) (shapes c.args.form.0.now) (shape c.in-Some.tree.now) (shapes c.in-Some.rest.now) c.in-Some.ensures c.in-Some-generator.name.now (shape c.in-Some-generator.set.now) c.in-Some-generator.ensures c.in_err-values-in-Some-generator.field-0.0.kind c.in_err-values-in-Some-generator.ensures)
-
-pub over-each-requires : goal.over-each-requires
-over-each-requires g t c κs within =
-    let a : length (shapes c.args.form.0.now) ≡ length c.args.form.0.now = length-map c.args.form.0.now shape in
-    let b : length (shapes c.in-Some.rest.now) ≡ length c.in-Some.rest.now = length-map c.in-Some.rest.now shape in
-    let n = fewer (shapes c.args.form.0.now) (shape c.in-Some.tree.now) (shapes c.in-Some.rest.now) c.in-Some.ensures in
-    let m : 6 * tall (shape c.args.form.1.now) + 2 * length c.in-Some.rest.now + 2 < 6 * tall (shape c.args.form.1.now) + 2 * length c.args.form.0.now + 1 = omega (arith, a, b, n) in
+pub over-with_process-requires : goal.over-with_process-requires
+over-with_process-requires g t c κs within =
+    let m : 6 * tall (shape c.args.then.now) + 1 < 6 * tall (shape c.args.then.now) + 2 = omega arith in
     search (rules, m)
 
-pub over-returns-in_ok-values-in-Some-generator : goal.over-returns-in_ok-values-in-Some-generator
-over-returns-in_ok-values-in-Some-generator g t c =
+pub over-returns-in_err-more : goal.over-returns-in_err-more
+over-returns-in_err-more g t c =
+    let s = g.G.GlobalScope.scope c.args.scope.now.global.now in
+    let is = map input c.in-Some.field-0.inputs.items in
+    let p = err_from_is_err_and c.from_residual.result c.from_residual.ensures.1 in
+    rw (p.1, p.2) (stands_fails (make (shape c.args.then.now)) (map proc c.loop-at.terms.items) (from_scope s c.loop-at.at) (visits_after s is (innermost_first c.in-Some.field-0.outer.items)) (within s is) (count c.loop-at.work) (make_visits (make (shape c.args.then.now)) (from_scope s c.args.first) (count c.args.work)) c.loop-at.invariant (ap (from_scope s) c.in-Some.is) c.in_err-more.field-0.0.kind c.in_err-more.ensures)
+
+pub over-returns-in_err-next : goal.over-returns-in_err-next
+over-returns-in_err-next g t c =
+    let s = g.G.GlobalScope.scope c.args.scope.now.global.now in
+    let is = map input c.in-Some.field-0.inputs.items in
+    let p = err_from_is_err_and c.from_residual-in_err-next.result c.from_residual-in_err-next.ensures.1 in
+    rw (p.1, p.2) (no_next (make (shape c.args.then.now)) (map proc c.loop-at.terms.items) (from_scope s c.loop-at.at) (visits_after s is (innermost_first c.in-Some.field-0.outer.items)) (within s is) (count c.loop-at.work) (make_visits (make (shape c.args.then.now)) (from_scope s c.args.first) (count c.args.work)) c.loop-at.invariant (ap (from_scope s) c.in-Some.is) (map proc c.in_ok-more.more.items, count c.in_ok-more.left) c.in_ok-more.ensures c.in_err-next.field-0.0.kind c.in_err-next.ensures)
+
+pub over-loop-at-smaller : goal.over-loop-at-smaller
+over-loop-at-smaller g t c =
+    let s = g.G.GlobalScope.scope c.args.scope.now.global.now in
+    let vs = visits_after s (map input c.in-Some.field-0.inputs.items) (innermost_first c.in-Some.field-0.outer.items) in
+    let less = not_more vs (from_scope s c.in_ok-next.next) c.in_ok-next.ensures in
+    let here : length (from_scope s c.loop-at.at) ≡ suc (length vs) = ap (λ o. length (from_scope s o)) c.in-Some.is in
+    omega (arith, less, here)
+
+pub over-loop-at-preserved : goal.over-loop-at-preserved
+over-loop-at-preserved g t c =
+    let s = g.G.GlobalScope.scope c.args.scope.now.global.now in
+    let is = map input c.in-Some.field-0.inputs.items in
+    next_found (make (shape c.args.then.now)) (map proc c.loop-at.terms.items) (from_scope s c.loop-at.at) (visits_after s is (innermost_first c.in-Some.field-0.outer.items)) (within s is) (count c.loop-at.work) (make_visits (make (shape c.args.then.now)) (from_scope s c.args.first) (count c.args.work)) c.loop-at.invariant (ap (from_scope s) c.in-Some.is) (map proc c.in_ok-more.more.items, count c.in_ok-more.left) c.in_ok-more.ensures (from_scope s c.in_ok-next.next) c.in_ok-next.ensures
+
+pub over-returns : goal.over-returns
+over-returns g t c =
+    let s = g.G.GlobalScope.scope c.args.scope.now.global.now in
+    walk_end (make (shape c.args.then.now)) (map proc c.loop-at.terms.items) (from_scope s c.loop-at.at) (count c.loop-at.work) (make_visits (make (shape c.args.then.now)) (from_scope s c.args.first) (count c.args.work)) c.loop-at.invariant (ap (from_scope s) (none_if c.loop-at.at c.in_default.not-Some))
+
+pub replicated_phrase-returns-in_err-first : goal.replicated_phrase-returns-in_err-first
+replicated_phrase-returns-in_err-first g t c =
     let s = within (g.G.GlobalScope.scope c.args.scope.now.global.now) (map input c.args.scope.now.inputs.items) in
-    subst (λ o. Gives (λ x. (map proc x.0.items, count x.1)) c.each.result o) (sym (over_each (map proc c.args.made.0.items) (make (shape c.args.form.1.now)) s (count c.args.made.1) (shapes c.args.form.0.now) (shape c.in-Some.tree.now) (shapes c.in-Some.rest.now) c.in-Some.ensures c.in-Some-generator.name.now (shape c.in-Some-generator.set.now) c.in-Some-generator.ensures (values c.in_ok-values-in-Some-generator.values) c.in_ok-values-in-Some-generator.ensures)) c.each.ensures
+    let k = c.in_err-first.field-0.0.kind in
+    let p = err_from_is_err_and c.from_residual.result c.from_residual.ensures.1 in
+    rw (p.1, p.2) (replicated_fails s (count c.args.work) c.args.join (shapes c.args.form.0.now) (shape c.args.form.1.now) k (no_first (make (shape c.args.form.1.now)) (shapes c.args.form.0.now) s (count c.args.work) k c.in_err-first.ensures))
 
 pub replicated_phrase-over-requires : goal.replicated_phrase-over-requires
 replicated_phrase-over-requires g t c κs within =
-    let m : 6 * tall (shape c.args.form.1.now) + 2 * length c.args.form.0.now + 1 < 6 * tall (shape c.args.form.1.now) + 2 * length c.args.form.0.now + 2 = omega arith in
+    let m : 6 * tall (shape c.args.form.1.now) + 2 < 6 * tall (shape c.args.form.1.now) + 3 = omega arith in
     search (rules, m)
 
 pub replicated_phrase-returns-in_err-terms : goal.replicated_phrase-returns-in_err-terms
 replicated_phrase-returns-in_err-terms g t c =
     let s = within (g.G.GlobalScope.scope c.args.scope.now.global.now) (map input c.args.scope.now.inputs.items) in
-    let p = err_from_is_err_and c.from_residual.result c.from_residual.ensures.1 in
-    rw (p.1, p.2) (replicated_fails s (count c.args.work) c.args.join (shapes c.args.form.0.now) (shape c.args.form.1.now) c.in_err-terms.field-0.0.kind (subst (λ o. Fails c.in_err-terms.field-0.0.kind o) (behind_none (map proc c.new.result.items) (make_over (syntaxes (shapes c.args.form.0.now)) (make (shape c.args.form.1.now)) s (count c.args.work)) (ap (map proc) c.new.ensures.items)) c.in_err-terms.ensures))
+    let k = c.in_err-terms.field-0.0.kind in
+    let e = from_first (make (shape c.args.form.1.now)) (shapes c.args.form.0.now) s (count c.args.work) (from_scope (g.G.GlobalScope.scope c.args.scope.now.global.now) c.in_ok-first.first) c.in_ok-first.ensures in
+    let p = err_from_is_err_and c.from_residual-in_err-terms.result c.from_residual-in_err-terms.ensures.1 in
+    rw (p.1, p.2) (replicated_fails s (count c.args.work) c.args.join (shapes c.args.form.0.now) (shape c.args.form.1.now) k (subst (λ o. Fails k o) (sym e) c.in_err-terms.ensures))
 
 pub replicated_phrase-returns : goal.replicated_phrase-returns
 replicated_phrase-returns g t c =
     let s = within (g.G.GlobalScope.scope c.args.scope.now.global.now) (map input c.args.scope.now.inputs.items) in
-    subst (λ o. Gives (λ x. (proc x.0, count x.1)) c.all_joined.result o) (sym (replicated_so s (count c.args.work) c.args.join (shapes c.args.form.0.now) (shape c.args.form.1.now) (map proc c.in_ok-terms.terms.items, count c.in_ok-terms.work) (sym (behind_none (map proc c.new.result.items) (make_over (syntaxes (shapes c.args.form.0.now)) (make (shape c.args.form.1.now)) s (count c.args.work)) (ap (map proc) c.new.ensures.items)) ∙ c.in_ok-terms.ensures))) c.all_joined.ensures
+    let e = from_first (make (shape c.args.form.1.now)) (shapes c.args.form.0.now) s (count c.args.work) (from_scope (g.G.GlobalScope.scope c.args.scope.now.global.now) c.in_ok-first.first) c.in_ok-first.ensures in
+    subst (λ o. Gives (λ x. (proc x.0, count x.1)) c.all_joined.result o) (sym (replicated_so s (count c.args.work) c.args.join (shapes c.args.form.0.now) (shape c.args.form.1.now) (map proc c.in_ok-terms.terms.items, count c.in_ok-terms.work) (e ∙ c.in_ok-terms.ensures))) c.all_joined.ensures
 
 pub made-conditional_phrase-requires : goal.made-conditional_phrase-requires
 unfolding inner_tall
@@ -539,9 +544,8 @@ made-guarded_phrase-requires g t c κs within =
 pub made-replicated_phrase-requires : goal.made-replicated_phrase-requires
 unfolding inner_tall
 made-replicated_phrase-requires g t c κs within =
-    let e : inner_tall (plain c.args.phrase) ≡ tall (shape c.in-Replicated.then.now) + length (shapes c.in-Replicated.generators.now) = ap inner_tall (ap plain c.in-Replicated.is) in
-    let n : length (shapes c.in-Replicated.generators.now) ≡ length c.in-Replicated.generators.now = length-map c.in-Replicated.generators.now shape in
-    let m : 6 * tall (shape c.in-Replicated.then.now) + 2 * length c.in-Replicated.generators.now + 2 < 6 * inner_tall (plain c.args.phrase) + 5 = omega (arith, e, n) in
+    let e : inner_tall (plain c.args.phrase) ≡ tall (shape c.in-Replicated.then.now) = ap inner_tall (ap plain c.in-Replicated.is) in
+    let m : 6 * tall (shape c.in-Replicated.then.now) + 3 < 6 * inner_tall (plain c.args.phrase) + 5 = omega (arith, e) in
     search (rules, m)
 
 pub made-returns-in-Conditional : goal.made-returns-in-Conditional

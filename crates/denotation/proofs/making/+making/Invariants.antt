@@ -3,15 +3,16 @@ use Rattle.alphabet.specs.Channels.{events}
 use Rattle.syntax.specs.Parsing.{syntaxes}
 use Rattle.syntax.specs.View.{shape, shapes}
 use Rattle.term.specs.Proc.{proc}
-use Rattle.values.specs.View.{value, values}
 use Rattle.values.specs.Tables.{input}
 use Rattle.event_phrases.specs.Scopes.{within}
 use Rattle.event_phrases.specs.Forms.{tall}
 use Rattle.denotation.specs.Forms.{inner_tall}
-use Rattle.denotation.specs.Making.{make, make_over, make_for_each, branches_behind}
+use Rattle.denotation.specs.Making.{make, branches_behind}
 use Rattle.denotation.specs.Shapes.{plain}
 use Rattle.event_phrases.specs.View.{listed, row}
 use Rattle.denotation.specs.View.{count}
+use Rattle.denotation.specs.Places.{from_scope}
+use Rattle.denotation.specs.Walks.{make_visits}
 use Rattle.denotation.proofs.Turns.{all_from}
 use Rattle.denotation.proofs.making.+making.Given as goal
 
@@ -51,24 +52,23 @@ decreases-conditional_phrase g l = 6 * (tall (shape l.trees.0.now) + tall (shape
 abbrev pub decreases-guarded_phrase : goal.decreases-guarded_phrase
 decreases-guarded_phrase g l = 6 * tall (shape l.then.now) + 4
 
-abbrev pub decreases-each : goal.decreases-each
-decreases-each g l = 6 * tall (shape l.inner.1.now) + 2 * length l.inner.0.now + 2
+abbrev pub decreases-with_process : goal.decreases-with_process
+decreases-with_process g l = 6 * tall (shape l.tree.now) + 1
 
 abbrev pub decreases-over : goal.decreases-over
-decreases-over g l = 6 * tall (shape l.form.1.now) + 2 * length l.form.0.now + 1
+decreases-over g l = 6 * tall (shape l.then.now) + 2
 
 abbrev pub decreases-replicated_phrase : goal.decreases-replicated_phrase
-decreases-replicated_phrase g l = 6 * tall (shape l.form.1.now) + 2 * length l.form.0.now + 2
+decreases-replicated_phrase g l = 6 * tall (shape l.form.1.now) + 3
 
-abbrev pub decreases-each-loop-value : goal.decreases-each-loop-value
-decreases-each-loop-value g l = length l.left.keys
+abbrev pub decreases-over-loop-at : goal.decreases-over-loop-at
+decreases-over-loop-at g l = length (from_scope (g.G.GlobalScope.scope l.scope.global.now) l.at)
 
-abbrev pub invariant-each-loop-value : goal.invariant-each-loop-value
-invariant-each-loop-value g l =
-    let s = within (g.G.GlobalScope.scope l.scope.global.now) (map input l.scope.inputs.items) in
-    let next = make_over (syntaxes (shapes l.inner.0.now)) (make (shape l.inner.1.now)) in
-    branches_behind (map proc l.terms.items) (make_for_each next s l.name (map value l.left.keys) (count l.work))
-    ≡ branches_behind (map proc l.fn.made.0.items) (make_for_each next s l.name (values l.fn.input_values.1) (count l.fn.made.1))
+abbrev pub invariant-over-loop-at : goal.invariant-over-loop-at
+invariant-over-loop-at g l =
+    let s = g.G.GlobalScope.scope l.scope.global.now in
+    let next = make (shape l.then) in
+    branches_behind (map proc l.terms.items) (make_visits next (from_scope s l.at) (count l.work)) ≡ make_visits next (from_scope s l.fn.first) (count l.fn.work)
 
 abbrev pub invariant-branches-loop-number : goal.invariant-branches-loop-number
 invariant-branches-loop-number g l =
