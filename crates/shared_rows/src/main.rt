@@ -1,6 +1,6 @@
 //! Plays rows of text over shared sessions: each line of standard input is a row, and for each a line is written that says what came
 //! of it. In both `$` is a line feed. A line that begins with `#` names the rows that follow; it is written as it is, and so is an
-//! empty one. After each row that refuses requests for memory, standard error has how many runs there were.
+//! empty one.
 //!
 //! | Row | What is played |
 //! |---|---|
@@ -8,15 +8,12 @@
 //! | `talk_fault K once PLACES ROOT SCRIPT # SEAT INPUT ..` | the same on a disk whose K-th call fails (`always`: all from that on) |
 //! | `threads SHARES TASK TASK ..` | a session of `P = SKIP` with a seat for each task, on a thread of its own, which reports tick so many times: how many reports were answered with a receipt, where so many of the shares are handed in; how many were judged and rejected; whether the history has each seat's answers, in their order |
 //! | `held SHARES TASK TASK ..` | the same, where the first sync after the opening is held until a seat whose task is `look` has looked at its status; and how many reports that had |
-//! | `memory PLACES ROOT SCRIPT # SEAT INPUT ..` | a `talk` with each request for memory of the session, its seats and conversations refused in turn: once; with all after it until the conversation is over; and with all after it. What comes in full, and what came in its place that may not |
-//! | `no_request PLACES ROOT SCRIPT # SEAT INPUT ..` | a `talk` after which every request is refused: what the status and the next events of each seat are then, the same end as that of `talk`, and whether there was a request |
 #![tactic(auto)]
 
 mod callers;
 mod held;
 mod playing;
 mod rows;
-mod shortage;
 mod talks;
 mod threads;
 
@@ -28,12 +25,7 @@ fn main(rt: HostRuntime) -> io::Result<()> {
     for line in rt.lines(alloc) {
         let line = line?;
         match told(&rt, alloc, line.as_str()) {
-            Ok((text, runs)) => {
-                println!(rt; "{text}")?;
-                if runs > 0 {
-                    eprintln!(rt; "{runs} runs: {line}")?;
-                }
-            }
+            Ok(text) => println!(rt; "{text}")?,
             Err(_) => println!(rt; "no memory for the row")?,
         }
     }

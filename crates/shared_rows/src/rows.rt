@@ -3,7 +3,7 @@
 use disk::Disk;
 use memory_disks::Afterwards;
 use shared::Session;
-use std::alloc::{AllocError, Allocator};
+use std::alloc::{AllocError, Global};
 
 /// The first word, and what is written after it.
 pub(crate) fn first_word(text: &str) -> (&str, &str) {
@@ -49,8 +49,8 @@ pub(crate) fn put_receipts(count: Option<u64>, out: &mut String) -> Result<(), A
 }
 
 /// Appends the length of the history, the counts of its entries, and whether the session is open.
-pub(crate) fn put_session<D: Disk, A: Allocator>(
-    session: &Session<D, A>,
+pub(crate) fn put_session<D: Disk>(
+    session: &Session<D, Global>,
     out: &mut String,
 ) -> Result<(), AllocError> {
     let summary = session.summary();
