@@ -1,12 +1,14 @@
 #!/usr/bin/env python3
 """Lines a second through `cspwatch serve`, against a plain Rust server of the same protocol, and on a disk against the bare loop.
 
-    serve_speed.py [--program FILE] [--turns 15] [--disk DIR] [--records 100]
+    serve_speed.py [--program FILE] [--turns 15] [--disk DIR] [--records 100] [--sync NANOSECONDS]
 
 The journal is a file in memory (/dev/shm). Each line is the report of an event that is accepted; the process has two states. Program and
 peer run in turn, and which one goes first changes with each turn. A ratio is the peer's time over the program's, of the medians and as the
-median of the pairs; above 1 the program is faster. In the last two measurements the journal is in DIR (the project's folder, if not said),
-with so many records; the peer is the plain server again, and then a loop that writes a record, syncs, writes its gate, and syncs.
+median of the pairs; above 1 the program is faster. In the last three measurements the journal is in DIR (the project's folder, if not said),
+with so many records; the peer is the plain server again, then a loop that writes a record, syncs, writes its gate, and syncs, and then the same
+loop with a reply after each record. With --sync the journal is in memory there too, and a sync takes so many nanoseconds (slow_sync.c); nothing
+else is measured then.
 """
 import argparse
 import os
@@ -31,9 +33,9 @@ def built(folder):
     return made
 
 
-def served(words, load, folder, connections, lines, how):
-    """The seconds by the clock that all replies took, and the processor seconds of the server's whole run."""
-    server = subprocess.Popen(words, cwd=folder, stdout=subprocess.PIPE)
+def served(words, load, folder, connections, lines, how, around=None):
+    """The seconds by the clock that all replies took, and the processor seconds of the server's whole run, in these surroundings."""
+    server = subprocess.Popen(words, cwd=folder, stdout=subprocess.PIPE, env=around)
     address = server.stdout.readline().split()[1].decode()
     done = subprocess.run([load, address, str(connections), str(lines), how], check=True, capture_output=True)
     last = server.stdout.read().decode()
@@ -45,9 +47,16 @@ def served(words, load, folder, connections, lines, how):
     return int(done.stdout) / 1e9, used.ru_utime + used.ru_stime
 
 
-def looped(loop, folder, records):
-    done = subprocess.run([loop, os.path.join(folder, "loop"), str(records)], check=True, capture_output=True)
+def looped(loop, folder, records, around, *more):
+    done = subprocess.run([loop, os.path.join(folder, "loop"), str(records), *more], check=True, capture_output=True, env=around)
     return int(done.stdout) / 1e9, 0.0
+
+
+def slow_syncs(folder, nanoseconds):
+    """Surroundings in which a sync takes so long."""
+    library = os.path.join(folder, "slow_sync.so")
+    subprocess.run(["cc", "-O2", "-shared", "-fPIC", "-o", library, os.path.join(HERE, "slow_sync.c")], check=True)
+    return dict(os.environ, LD_PRELOAD=library, SYNC_NANOSECONDS=str(nanoseconds))
 
 
 def in_turn(turns, ours, theirs):
@@ -76,29 +85,33 @@ def main():
     parser.add_argument("--turns", type=int, default=15)
     parser.add_argument("--disk", default=os.path.dirname(HERE))
     parser.add_argument("--records", type=int, default=100)
+    parser.add_argument("--sync", type=int)
     options = parser.parse_args()
     program = os.path.abspath(options.program)
 
-    def ours(folder, *load):
+    def ours(folder, *load, around=None):
         if os.path.exists(os.path.join(folder, "j")):
             os.remove(os.path.join(folder, "j"))
         words = [program, "serve", "p.csp", "P", "j", "--listen", "127.0.0.1:0", "--connections", str(load[0])]
-        return served(words, made["serve_load"], folder, *load)
+        return served(words, made["serve_load"], folder, *load, around)
 
-    def theirs(folder, *load):
-        return served([made["serve_peer"], "j", str(load[0])], made["serve_load"], folder, *load)
+    def theirs(folder, *load, around=None):
+        return served([made["serve_peer"], "j", str(load[0])], made["serve_load"], folder, *load, around)
 
-    with tempfile.TemporaryDirectory(dir="/dev/shm") as folder, tempfile.TemporaryDirectory(dir=options.disk) as disk:
+    slow = options.sync is not None
+    with tempfile.TemporaryDirectory(dir="/dev/shm") as folder, tempfile.TemporaryDirectory(dir="/dev/shm" if slow else options.disk) as disk:
         made = built(folder)
         for place in (folder, disk):
             with open(os.path.join(place, "p.csp"), "w", encoding="utf-8") as file:
                 file.write(SCRIPT)
-        for load in MEASURED:
+        for load in [] if slow else MEASURED:
             times = in_turn(options.turns, lambda: ours(folder, *load), lambda: theirs(folder, *load))
             row("%d connections, %d lines each, %s:" % load, load[0] * load[1], times, "plain Rust")
-        load = (1, options.records, "ahead")
-        for peer, run in (("plain Rust", lambda: theirs(disk, *load)), ("the bare loop", lambda: looped(made["disk_loop"], disk, options.records))):
-            times = in_turn(4 * options.turns, lambda: ours(disk, *load), run)
+        load, around = (1, options.records, "ahead"), slow_syncs(folder, options.sync) if slow else None
+        bare = lambda *more: looped(made["disk_loop"], disk, options.records, around, *more)
+        peers = [("plain Rust", lambda: theirs(disk, *load, around=around)), ("the bare loop", bare), ("the loop with replies", lambda: bare("answered"))]
+        for peer, run in peers:
+            times = in_turn(4 * options.turns, lambda: ours(disk, *load, around=around), run)
             row("on a disk, 1 connection, %d lines:" % options.records, options.records, times, peer)
 
 
