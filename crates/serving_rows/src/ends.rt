@@ -1,9 +1,10 @@
 //! Connections in memory.
 
-ghost use Rattle.std.specs.Prelude.{◌≡◌, ◌+◌};
+ghost use Rattle.std.specs.Prelude.{◌≡◌, ◌+◌, ◌∷◌, [], Some};
 
 use connections::{Accept, AcceptFault, Close};
 use count::Count;
+use std::alloc::Global;
 use wire::{Plain, Sink, SinkFault, Source, SourceFault};
 
 /// One connection.
@@ -26,10 +27,10 @@ pub(crate) struct Input {
 }
 
 impl Source for Input {
-    ghost use Rattle.std.specs.Prelude.{◌+◌, None};
-    ghost use Rattle.wire.specs.Ends.{failures_of};
+    ghost use Rattle.std.specs.Prelude.{◌+◌, Some};
+    ghost use Rattle.wire.specs.Ends.{failures_of, inner_of};
 
-    ghost left = { λ _. None };
+    ghost left = { λ i. Some (inner_of i.inner).now };
 
     ghost failures = { λ i. failures_of i.inner + i.failures.n };
 
@@ -51,19 +52,20 @@ impl Close for Input {
 /// What takes the replies of a connection.
 #[derive(Drop)]
 pub(crate) struct Output {
+    taken: Vec<u8, Global>,
     is_deaf: bool,
     failures: Count,
 }
 
 impl Sink for Output {
-    ghost use Rattle.std.specs.Prelude.{None};
+    ghost use Rattle.std.specs.Prelude.{Some};
 
-    ghost contents = { λ _. None };
+    ghost contents = { λ o. Some o.taken.items };
 
     ghost failures = { λ o. o.failures.n };
 
     fn write(&mut self, bytes: &[u8]) -> Result<usize, SinkFault> {
-        if self.is_deaf {
+        if self.is_deaf || self.taken.extend_from_slice(bytes).is_err() {
             self.failures = Count::after(&self.failures);
             return Err(SinkFault);
         }
@@ -78,12 +80,13 @@ impl Sink for Output {
 /// Takes the connections of a list, and fails after the last.
 #[derive(Drop)]
 pub(crate) struct Listed {
+    alloc: Global,
     rest: &'static [Sent],
 }
 
 impl Listed {
-    pub(crate) fn new(rest: &'static [Sent]) -> Listed {
-        Listed { rest }
+    pub(crate) fn new(alloc: Global, rest: &'static [Sent]) -> Listed {
+        Listed { alloc, rest }
     }
 }
 
@@ -92,9 +95,16 @@ impl Accept for Listed {
 
     type Writer = Output;
 
-    ghost takes = { λ _ _ _ _. Unit {0} };
+    ghost use Rattle.std.specs.Prelude.{◌≡◌, ◌∷◌, []};
+    ghost use Rattle.wire.specs.Ends.{inner_of};
+    ghost use Rattle.serving_rows.specs.declared.ends.Sent.{Sent};
 
-    ghost fails = { λ _ _. Unit {0} };
+    // The connection is the list's next one, and its bytes are those that the client sends. Nothing is written to it yet.
+    ghost takes = { λ old reader writer new. (first : Sent) × (old.rest.now ≡ first ∷ new.rest.now)
+        × ((inner_of reader.inner).now ≡ first.lines.now) × (writer.taken.items ≡ []) };
+
+    // The list is at its end.
+    ghost fails = { λ old _. old.rest.now ≡ [] };
 
     fn accept(&mut self) -> Result<(Input, Output), AcceptFault> {
         let [first, rest @ ..] = self.rest else {
@@ -108,6 +118,7 @@ impl Accept for Listed {
             failures: Count::new(),
         };
         let output = Output {
+            taken: Vec::new(self.alloc),
             is_deaf: sent.is_deaf,
             failures: Count::new(),
         };

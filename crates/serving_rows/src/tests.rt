@@ -69,7 +69,7 @@ fn ended<T: Threads + Wait + Sync, G: Gate + Sync>(
     ) else {
         return Err(Fail::new("there is room"));
     };
-    match serve_all(rt, alloc, Listed::new(&CLIENTS), gate, count) {
+    match serve_all(rt, alloc, Listed::new(alloc, &CLIENTS), gate, count) {
         Ok(
             Served {
                 outcomes,
