@@ -24,6 +24,7 @@ use std::alloc::Allocator;
 use std::hint::spin_loop;
 use std::sync::ledger::Blank;
 use std::sync::{Mutex, MutexGuard, Wait};
+use std::thread::yield_now;
 
 /// A session that seats share. It isn't `Drop`: end it by `finish`.
 pub struct Shared<D: Disk, A: Allocator, N: Naming>
@@ -146,7 +147,10 @@ impl<D: Disk, A: Allocator + Copy, N: Naming> Seat<'_, D, A, N> {
 }
 
 // How often a lock that is held is asked for again before the thread sleeps.
-const TRIES: u32 = 100;
+const TRIES: u32 = 70;
+
+// After how many of these tries the thread pauses. After the others it lets another thread run.
+const PAUSED_TRIES: u32 = 20;
 
 // How many pauses there are between two tries. Each try takes the lock's word away from the thread that holds the lock.
 const PAUSES: u32 = 30;
@@ -158,16 +162,21 @@ fn pause() {
     }
 }
 
-// Takes the lock. Most reports are over sooner than a thread that sleeps is woken.
+// Takes the lock. Most reports are over sooner than a thread that sleeps is woken. Where more threads wait than there are processors,
+// the one that holds the lock may be waiting for a processor.
 fn lock<'a, D: Disk, A: Allocator + Copy, N: Naming, R: Wait>(
     rt: &R,
     mutex: &'a Mutex<Locked<D, A, N>>,
 ) -> MutexGuard<'a, Locked<D, A, N>> {
-    for _ in 0..TRIES {
+    for failed in 0..TRIES {
         if let Some(locked) = mutex.try_lock() {
             return locked;
         }
-        pause();
+        if failed < PAUSED_TRIES {
+            pause();
+        } else {
+            yield_now();
+        }
     }
     mutex.lock(rt)
 }
