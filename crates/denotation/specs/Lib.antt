@@ -1,10 +1,10 @@
 -- To believe.
 pub mod Bodies
-pub mod CallLaws
 pub mod Phrases
 pub mod Denotes
 pub mod Making
 -- Steps of the program.
+pub mod CallLaws
 pub mod View
 pub mod Forms
 pub mod Shapes
