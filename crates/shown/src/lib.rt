@@ -4,10 +4,12 @@
 mod counts;
 mod coverage;
 mod entries;
+mod laws;
 mod lines;
 mod names;
 mod options;
 mod whole;
 
+pub use laws::{one_list_of_acceptances, one_text};
 pub use options::{Format, Options, Selection};
 pub use whole::show;
