@@ -304,7 +304,7 @@ def coverage(covered: Optional[Coverage], notes: Notes) -> str:
         rows.append(counted(count, most, remark, notes))
     return """<section class="coverage" id="coverage">
 <h2>Coverage</h2>
-<p>Events that never came: %s. Events that could never come: %s.</p>
+<p>Events that could have come and never did: %s. Events that could have come before no entry: %s.</p>
 <ul class="legend">
 <li><span class="bar accepted"></span> how often it was accepted</li>
 <li><span class="bar rejected"></span> how often it was rejected</li>

@@ -251,7 +251,7 @@ class Pictures(unittest.TestCase):
 
     def test_coverage(self):
         page = Page(render(ENTRIES + COVERAGE + [SUMMARY]))
-        self.assertIn("Events that never came: a b. Events that could never come: c d.", page.words)
+        self.assertIn("Events that could have come and never did: a b. Events that could have come before no entry: c d.", page.words)
         self.assertEqual(
             page.cells,
             [
@@ -265,7 +265,7 @@ class Pictures(unittest.TestCase):
         lines = [COVERAGE[0], COVERAGE[1], '{"never_came":["coin"],"could_never_come":["_tick"]}', summary(0)]
         self.assertEqual([cells[5] for cells in Page(render(lines)).cells], ["Remark", "never came", "could never come"])
         lines = [COVERAGE[1], '{"never_came":[],"could_never_come":[]}', summary(0)]
-        self.assertIn("Events that never came: none. Events that could never come: none.", Page(render(lines)).words)
+        self.assertIn("Events that could have come and never did: none. Events that could have come before no entry: none.", Page(render(lines)).words)
 
     def test_bars(self):
         text = render(COVERAGE + [summary(0)])
