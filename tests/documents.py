@@ -14,8 +14,9 @@ copy of the repository to itself, with `cspwatch` on the PATH and no kit. Of its
 - one of `python` is a session where it has `>>>`, else a program that has to end with status 0.
 
 A shown line may have a note to its right, after two blanks. `cspwatch serve` runs beside the commands that come after it, as
-in a terminal of its own, and has to end by itself before the page does. A block is passed over, and named, where a command in
-it proves, is a form with a word to be filled in, is a test of its own, or is about a release's files. The last line is `N passed, M failed`.
+in a terminal of its own, and has to end by itself before the page does. A block of `sh` is passed over, and named, where a
+command in it proves, is a form with a word to be filled in, is a test of its own, is for root, or needs pytest and there is
+none. Any other block is only to be read. The last line is `N passed, M failed`.
 """
 import argparse
 import collections
@@ -39,11 +40,14 @@ PROVES = re.compile(r"(?:^|[;&|] *)(rt|\.ci/run)\b", re.MULTILINE)
 FORM = re.compile(r"\b(?:SPEC|PROCESS|JOURNAL|ADDR|COMMIT|VERSION|NAME|FILE)\b")
 """A word that the reader is to fill in."""
 
-TESTS = re.compile(r"\b(?:tests/\w+\.py|clients/run_tests\.py)\b")
+TESTS = re.compile(r"\b(?:tests/\w+\.py|clients/run_tests\.py|dist/make_release\.py)")
 """A test, which isn't called a second time."""
 
-RELEASE = re.compile(r"\b(?:SHA256SUMS|make_release)\b")
-"""The files of a release, of which the repository has only the sums."""
+ROOTS = re.compile(r"^install .* /(?:usr|etc)/", re.MULTILINE)
+"""A command that only root can run."""
+
+PYTEST = re.compile(r"\bpython3 -m pytest\b")
+"""A command that needs pytest."""
 
 FILE = re.compile(r"`([\w.-]+\.\w+)`:$")
 """The end of a line that names the file below it."""
@@ -90,8 +94,15 @@ def why_not(step):
     text = "\n".join(step.block.lines)
     if step.does == "file":
         return None
-    reasons = (PROVES, "proves"), (FORM, "a form"), (TESTS, "a test of its own"), (RELEASE, "needs a release")
+    if PYTEST.search(text) and not has_pytest():
+        return "there is no pytest"
+    reasons = (PROVES, "proves"), (FORM, "a form"), (TESTS, "a test of its own"), (ROOTS, "for root")
     return next((reason for pattern, reason in reasons if pattern.search(text)), None)
+
+
+def has_pytest():
+    """Whether the Python that the pages' commands call has pytest."""
+    return subprocess.run(["python3", "-c", "import pytest"], stderr=subprocess.DEVNULL).returncode == 0
 
 
 def is_as_shown(printed, shown):
