@@ -4,7 +4,7 @@
     tests/documents.py [--program FILE] [PAGE ..]
 
 Without a PAGE all pages (*.md) are taken, without --program the program is crates/cspwatch/out/cspwatch. Each page has a
-copy of the repository to itself, with `cspwatch` on the PATH and no kit. Of its blocks
+copy of the repository's own files to itself, with `cspwatch` on the PATH and no kit. Of its blocks
 
 - one of `sh` is run as a whole, from the top of the copy. A block of `text` that follows at once shows what it prints; where
   none does, its last command has to end with status 0;
@@ -336,10 +336,24 @@ def pages():
                 yield os.path.relpath(os.path.join(folder, name), ROOT)
 
 
+def copy_own(template):
+    """Copies the files that belong to the repository, without what only proves: not what a user has made there."""
+    listed = subprocess.run(["git", "ls-files", "-z"], cwd=ROOT, stdout=subprocess.PIPE, stderr=subprocess.DEVNULL)
+    names = [os.fsdecode(name) for name in listed.stdout.split(b"\0") if name and b"/proofs/" not in name]
+    if listed.returncode != 0 or not names:
+        shutil.copytree(ROOT, template, symlinks=True, ignore=shutil.ignore_patterns(".git", "out", "proofs", "__pycache__"))
+        return
+    for name in names:
+        source, target = os.path.join(ROOT, name), os.path.join(template, name)
+        if os.path.lexists(source):
+            os.makedirs(os.path.dirname(target), exist_ok=True)
+            shutil.copy2(source, target, follow_symlinks=False)
+
+
 def prepare(scratch, program):
-    """A copy of the repository without what only proves, and a PATH on which the program is and the kit isn't."""
+    """A copy of the repository, and a PATH on which the program is and the kit isn't."""
     template, tools = os.path.join(scratch, "template"), os.path.join(scratch, "tools")
-    shutil.copytree(ROOT, template, symlinks=True, ignore=shutil.ignore_patterns(".git", "out", "proofs", "__pycache__"))
+    copy_own(template)
     os.makedirs(os.path.join(template, os.path.dirname(PROGRAM)))
     os.symlink(program, os.path.join(template, PROGRAM))
     os.makedirs(tools)
