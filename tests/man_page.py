@@ -4,7 +4,7 @@
     tests/man_page.py [--program FILE]
 
 The page's version is that of `cspwatch --version`. Every command, option and operand that `cspwatch --help` and the help of
-each command show has to stand in man/cspwatch.1, and every command and option in each file of completions/; and no option or
+each command show has to be in man/cspwatch.1, and every command and option in each file of completions/; and no option or
 command of those may be one that no help shows.
 Without --program the program is crates/cspwatch/out/cspwatch. The last line is `N passed, M failed`.
 """
