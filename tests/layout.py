@@ -32,11 +32,22 @@ BEGINS_ITEM = re.compile(r"([-*+#>|]|#+|\d+[.)])$|\||>|```")
 """A word with which no line may begin."""
 
 
+def kept_together(words):
+    """The words, each with those after it that can't begin a line."""
+    found = []
+    for word in words:
+        if found and BEGINS_ITEM.match(word):
+            found[-1] += " " + word
+        else:
+            found.append(word)
+    return found
+
+
 def filled(words, first, later):
     """The words in lines, the first with this beginning and the others with that one."""
     lines, line = [], first + words[0]
     for word in words[1:]:
-        if len(line) + 1 + len(word) > COLUMNS and not BEGINS_ITEM.match(word):
+        if len(line) + 1 + len(word) > COLUMNS:
             lines.append(line)
             line = later + word
         else:
@@ -51,7 +62,7 @@ def laid_out(text):
     def end():
         if paragraph:
             words = WORD.findall("\n".join(paragraph).replace("\n", " "))
-            found.extend(filled(words, begin, " " * len(begin)))
+            found.extend(filled(kept_together(words), begin, " " * len(begin)))
             paragraph.clear()
 
     for line in text.split("\n"):
