@@ -2,6 +2,7 @@
  *
  * FAILING_FILE   the name of the file whose calls count: opening it by this name, and reading, writing, cutting and syncing it;
  * FAILING_FD     in place of a file, the number of the descriptor whose reads and writes count;
+ * FAILING_SOCKETS   in place of a file, which calls on sockets count: `recv`, `send` or `accept`;
  * FAILING_FROM, FAILING_TO   the first and the last call that fails, counted from 1;
  * FAILING_HOW    what the failing call does (`enum how`); an error is FAILING_ERRNO;
  * FAILING_CALLS  a file to which each call that counts adds a line;
@@ -19,6 +20,7 @@
 #include <stdio.h>
 #include <stdlib.h>
 #include <string.h>
+#include <sys/socket.h>
 #include <sys/stat.h>
 #include <sys/syscall.h>
 #include <sys/uio.h>
@@ -39,7 +41,7 @@ enum how {
 static const char *HOWS[] = {"nothing", "part", "all", "short", "zero", "stop_before", "stop_in", "stop_after"};
 
 static int ready;
-static const char *file, *calls_file, *refused_file;
+static const char *file, *sockets, *calls_file, *refused_file;
 static long descriptor = -1, from, to, memory_from, memory_to;
 static int fault;
 static enum how how;
@@ -60,6 +62,7 @@ __attribute__((constructor)) static void begin(void)
 {
     const char *name = getenv("FAILING_HOW");
     file = getenv("FAILING_FILE");
+    sockets = getenv("FAILING_SOCKETS");
     calls_file = getenv("FAILING_CALLS");
     refused_file = getenv("FAILING_REFUSED");
     descriptor = number("FAILING_FD", -1);
@@ -252,6 +255,46 @@ OPEN(open)
 OPEN(open64)
 OPEN_AT(openat)
 OPEN_AT(openat64)
+
+/* Whether calls of this name on sockets count. */
+static int counts_socket(const char *call)
+{
+    return ready && sockets && strcmp(sockets, call) == 0;
+}
+
+ssize_t recv(int fd, void *bytes, size_t size, int flags)
+{
+    if (!counts_socket("recv") || !is_turn("recv", flags, (long)size))
+        return syscall(SYS_recvfrom, fd, bytes, size, flags, NULL, NULL);
+    if (how == SHORT)
+        return syscall(SYS_recvfrom, fd, bytes, size ? 1 : 0, flags, NULL, NULL);
+    return ended(0);
+}
+
+static ssize_t send_bytes(int fd, const void *bytes, size_t size, int flags)
+{
+    return syscall(SYS_sendto, fd, bytes, size, flags, NULL, 0);
+}
+
+ssize_t send(int fd, const void *bytes, size_t size, int flags)
+{
+    if (!counts_socket("send") || !is_turn("send", flags, (long)size))
+        return send_bytes(fd, bytes, size, flags);
+    if (how == SHORT)
+        return send_bytes(fd, bytes, size ? 1 : 0, flags);
+    if (how == ALL)
+        send_bytes(fd, bytes, size, flags);
+    if (how == PART && size)
+        send_bytes(fd, bytes, 1, flags);
+    return ended(0);
+}
+
+int accept4(int fd, struct sockaddr *peer, socklen_t *size, int flags)
+{
+    if (!counts_socket("accept") || !is_turn("accept", flags, 0))
+        return (int)syscall(SYS_accept4, fd, peer, size, flags);
+    return (int)ended(0);
+}
 
 /* Counts a request for memory, and answers whether it is one that is refused. */
 static int is_refused(const char *call, size_t size)

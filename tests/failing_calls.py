@@ -1,7 +1,7 @@
 #!/usr/bin/env python3
 """Each call on the journal's file fails once, and from there on; the program is killed at each; each request for memory is refused.
 
-    tests/failing_calls.py [--program FILE] [--only device stops streams memory] [--keep DIR] [--folder DIR]
+    tests/failing_calls.py [--program FILE] [--only device stops streams sockets memory] [--keep DIR] [--folder DIR]
 
 It needs a C compiler (`cc`), glibc and x86-64: `tests/failing_calls.c` is loaded into the program, counts its calls of the C library, and
 makes the k-th fail, for each k of a run in which none does.
@@ -15,6 +15,11 @@ makes the k-th fail, for each k of a run in which none does.
   After both the file holds each report that was answered, and the one that failed exactly where its gate was written; `replay` and a
   further run of `serve` agree. After a failed creation the next run begins with no record, or refuses a header of which a part was written.
 - `streams`: `check`, whose k-th read of standard input or write to standard output fails: the replies before it stand, status 5.
+- `sockets`: `serve` with two connections, one after the other. The k-th read of a connection fails, or the k-th write, having sent nothing, a
+  part or all: the replies to the lines before it stand, that connection ends, the other is answered as if nothing had been, the journal
+  has every report that was judged, and the status is that of the reports. Reads and writes of one byte change no answer. A read that is
+  interrupted counts as one that failed (none is, where a program handles no signal). The k-th accept fails: `ADDR: cannot accept` and
+  status 5, after the connections that were taken before.
 - `memory`: `check` on five conversations, `print` and `replay`: the k-th request for memory is refused, alone, with the four after it, and
   with all after it. A run then tells 40 before the first reply, or its replies are those of the run without the lines that were answered
   `ERR 40 memory`, or `ERR 30 journal` and then `ERR 31 closed`. And `serve` with two connections, one after the other, on a new journal
@@ -32,6 +37,7 @@ import shutil
 import subprocess
 import sys
 import tempfile
+import time
 
 sys.dont_write_bytecode = True
 
@@ -39,7 +45,7 @@ from sweeping import (  # noqa: E402
     HERE, SCRIPT, Book, History, Link, Run, Server, add_options, begin, journal_bytes, journal_of, read_file, report_of, run, shown,
     status_of_check, summary_of, write_file)
 
-KINDS = ["device", "stops", "streams", "memory"]
+KINDS = ["device", "stops", "streams", "sockets", "memory"]
 ALWAYS = 1_000_000_000
 # What the second connection of a run asks.
 VISIT = [b"E a", b"S"]
@@ -345,6 +351,123 @@ def stream_problems(done, wanted, descriptor, how, fault):
     return [] if good else ["%s, wanted %s and status 5" % (done, text)]
 
 
+# --- Connections ---
+
+# What a failing read or write of a connection does, and the error.
+SOCKET_WAYS = [(how, fault) for fault in (errno.ECONNRESET, errno.EIO, errno.EINTR) for how in ERRORS] + [("short", errno.EIO)]
+CANNOT_ACCEPT = re.compile(rb"127\.0\.0\.1:[0-9]+: cannot accept\n")
+
+
+class Sockets:
+    """Runs of `serve` in which calls on sockets fail. The first connection stays open, with a read that waits, while the second is served."""
+
+    def __init__(self, options, library, book, folder):
+        self.options, self.library, self.book, self.folder = options, library, book, folder
+        self.calls_file, self.journal = os.path.join(folder, "calls"), os.path.join(folder, "j")
+        write_file(os.path.join(folder, "p.csp"), SCRIPT)
+
+    def calls(self):
+        return (read_file(self.calls_file) or b"").count(b"\n")
+
+    def ask_all(self, server, lines):
+        """The connection, and its replies as far as they come."""
+        try:
+            link = Link(server.port)
+        except OSError:
+            return None, []
+        replies = []
+        for line in lines:
+            reply = link.ask(line)
+            if reply is None:
+                break
+            replies.append(reply)
+        return link, replies
+
+    def run(self, kind, first, last, how, fault):
+        """The replies of both connections, and how the run ended."""
+        for path in (self.journal, self.calls_file):
+            if os.path.exists(path):
+                os.remove(path)
+        environment = failing(self.library, first, last, how, fault, FAILING_SOCKETS=kind, FAILING_CALLS=self.calls_file)
+        server = Server(self.options.program, self.folder, connections=2, environment=environment)
+        if not server.listening():
+            return [[], []], server.end()
+        one, of_one = self.ask_all(server, LINES)
+        if kind == "recv" and len(of_one) == len(LINES):
+            self.wait_for(len(LINES) + 1)
+        other, of_other = self.ask_all(server, VISIT)
+        for link in (one, other):
+            if link:
+                link.close()
+        return [of_one, of_other], server.end()
+
+    def wait_for(self, calls):
+        """Waits until so many calls have begun, for a second at most."""
+        end = time.monotonic() + 1
+        while self.calls() < calls and time.monotonic() < end:
+            time.sleep(0.001)
+
+    def problems(self, replies, end, stops):
+        """What is wrong with a run whose connections have so many replies, and have so many lines judged."""
+        history, problems = History(), []
+        for seat, (lines, (replied, judged)) in enumerate(zip((LINES, VISIT), stops), 1):
+            answers = [history.answer(line, seat) for line in lines[:judged]]
+            if replies[seat - 1] != answers[:replied]:
+                problems.append("connection %d read %s, wanted %s" % (seat, replies[seat - 1], answers[:replied]))
+        if end != Run(history.summary() + b"\n", b"", int(history.rejected > 0)):
+            problems.append("it ended with %s, wanted %s" % (end, history.summary()))
+        if read_file(self.journal) != journal_bytes(history.entries):
+            problems.append("the journal is %s, wanted %s" % (shown(read_file(self.journal) or b""), shown(journal_bytes(history.entries))))
+        return problems
+
+    def stops(self, kind, first, last, how):
+        """How many replies each connection has where these calls fail, and how many of its lines are judged."""
+        # A read waits on the first connection once its lines are answered.
+        spare, stops, before = int(kind == "recv"), [], 0
+        for lines, more in ((LINES, spare), (VISIT, 0)):
+            at = max(first - before, 1) - 1
+            fails = how != "short" and at < len(lines) and (before < first or last == ALWAYS)
+            stops.append((at + (how == "all" and kind == "send"), at + (kind == "send")) if fails else (len(lines), len(lines)))
+            before += len(lines) + more
+        return stops
+
+    def attempt(self, kind, call, last, how, fault):
+        replies, end = self.run(kind, call, last, how, fault)
+        problems = self.problems(replies, end, self.stops(kind, call, last, how))
+        what = "%s %d %s %s%s" % (kind, call, how, errno.errorcode[fault], " from there on" if last > call else "")
+        self.book.count("sockets", "%s %s" % (kind, how))
+        self.book.note("sockets", [what + ": " + problem for problem in problems], {"p.csp": SCRIPT})
+
+    def attempt_accept(self, call, last, fault):
+        """The accept with this number fails. One that its peer gave up, or that a signal interrupted, is passed over."""
+        replies, end = self.run("accept", call, last, "nothing", fault)
+        if fault in (errno.ECONNABORTED, errno.EINTR) and last == call:
+            problems = self.problems(replies, end, [(len(LINES),) * 2, (len(VISIT),) * 2])
+        else:
+            history = History()
+            wanted = [[history.answer(line) for line in LINES] if call == 2 else [], []]
+            good = replies == wanted and end.out == history.summary() + b"\n" and CANNOT_ACCEPT.fullmatch(end.err) and end.status == 5
+            problems = [] if good else ["%s, %s" % (replies, end)]
+        self.book.count("sockets", "accept")
+        self.book.note("sockets", ["accept %d %s: %s" % (call, errno.errorcode[fault], problem) for problem in problems], {})
+
+
+def try_sockets(options, library, book):
+    with tempfile.TemporaryDirectory(prefix="failing-", dir=options.folder) as folder:
+        sockets = Sockets(options, library, book, folder)
+        for kind, calls in (("recv", len(LINES) + 1 + len(VISIT)), ("send", len(LINES) + len(VISIT))):
+            for call in range(1, calls + 1):
+                for how, fault in SOCKET_WAYS:
+                    if kind == "send" or how in ("nothing", "short"):
+                        sockets.attempt(kind, call, call, how, fault)
+                        sockets.attempt(kind, call, ALWAYS, how, fault)
+        for call in (1, 2):
+            for fault in (errno.EMFILE, errno.EIO, errno.ECONNABORTED, errno.EINTR):
+                sockets.attempt_accept(call, call, fault)
+                if fault in (errno.EMFILE, errno.EIO):
+                    sockets.attempt_accept(call, ALWAYS, fault)
+
+
 # --- Memory ---
 
 # Scripts and conversations, with the replies that the definition gives.
@@ -592,6 +715,9 @@ def main():
         if "streams" in options.only:
             try_streams(options, library, book)
             book.tell("streams")
+        if "sockets" in options.only:
+            try_sockets(options, library, book)
+            book.tell("sockets")
         if "memory" in options.only:
             try_memory(options, library, book)
     return book.end()

@@ -14,7 +14,7 @@ The kinds are
 - `cuts`: some journals, cut to each length;
 - `limits`: what stands at a limit, and one beyond.
 
-No run may end by a signal, take more than ten seconds, or end with another status than the one that its output calls for. An input that
+No run may end by a signal, take more than ten seconds (--seconds), or end with another status than the one that its output calls for. An input that
 fails is kept (--keep). The last line is `N passed, M failed`, over the inputs.
 """
 import argparse

@@ -3,8 +3,8 @@
 
     tests/run_cases.py [--program FILE] [--only TEXT] [FILE ..]
 
-Without --program the program is crates/cspwatch/out/cspwatch, without a FILE all files of tests/cases are run.
-tests/README.md has the form of a case. The last line is `N passed, M failed`; the status is 0 where none failed.
+Without --program the program is crates/cspwatch/out/cspwatch, without a FILE all files of tests/cases are run, and then the rows of the
+sweeps over the libraries, where the gate has built their programs (`tests/row_sweeps.py`). tests/README.md has the form of a case. The last line is `N passed, M failed`; the status is 0 where none failed.
 """
 import argparse
 import concurrent.futures
@@ -18,6 +18,7 @@ import tempfile
 
 sys.dont_write_bytecode = True
 
+import row_sweeps  # noqa: E402
 import serve_cases  # noqa: E402
 from contents import bounded, lines, octets, shallow, shown  # noqa: E402
 
@@ -170,7 +171,12 @@ def main():
             failed += bool(problems)
             for problem in problems:
                 print("%s: %s" % (name, problem))
-    print("%d passed, %d failed" % (len(cases) - failed, failed))
+    passed = len(cases) - failed
+    if not options.only and not options.files:
+        problems, rows = row_sweeps.play()
+        print("".join(problem + "\n" for problem in problems), end="")
+        passed, failed = passed + rows, failed + len(problems)
+    print("%d passed, %d failed" % (passed, failed))
     return 1 if failed else 0
 
 

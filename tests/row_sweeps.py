@@ -1,0 +1,91 @@
+"""The sweeps among the rows over the libraries, played by the programs that the gate has built: `tests/run_cases.py` calls `play`.
+
+A group of rows begins with a line `# NAME: ..`, and ends with an empty line. Of the programs `crates/PROGRAM/out/PROGRAM` the groups with
+the names below are played, each row's line is compared with that of `stdout`, and how many points each sweep tried is printed: those that
+the program writes on standard error, the reads and writes that a row names, and each row that plays one point.
+"""
+import os
+import re
+import subprocess
+import tempfile
+
+HERE = os.path.dirname(os.path.abspath(__file__))
+CRATES = os.path.join(os.path.dirname(HERE), "crates")
+PROGRAMS = ["part_scenarios", "scenarios", "shared_rows"]
+SWEEPS = ["fault_rows", "crash_rows", "refused_memory", "no_request"]
+SECONDS = 120
+POINTS = re.compile(r"# ([^:]*).*: ([0-9]+) points")
+ENDS = re.compile(r"([0-9]+) reads, ([0-9]+) writes$")
+# Rows that play one point each, of which the program counts none.
+SINGLE = ("talk_fault ", "refusing ", "pieces ")
+
+
+def text_of(*path):
+    with open(os.path.join(CRATES, *path), encoding="utf-8") as file:
+        return file.read()
+
+
+def groups_of(program):
+    """The groups of the sweeps: the name, the rows and the lines that are wanted."""
+    groups = []
+    for rows, wanted in zip(*(text_of(program, name).split("\n\n") for name in ("stdin", "stdout"))):
+        name = rows.split("\n")[0][2:].split(":")[0]
+        if name in SWEEPS:
+            groups.append((name, rows.strip("\n").split("\n"), wanted.strip("\n").split("\n")))
+    return groups
+
+
+def is_built(program):
+    """Whether the program is there, and not older than what it is made from."""
+    path = os.path.join(CRATES, program, "out", program)
+    folder = os.path.join(CRATES, program, "src")
+    newest = max(os.path.getmtime(os.path.join(folder, name)) for name in os.listdir(folder))
+    return os.access(path, os.X_OK) and os.path.getmtime(path) >= newest
+
+
+def played(program, groups):
+    """The lines that the program writes to these groups, group by group, and what it writes on standard error."""
+    given = "".join("\n".join(rows) + "\n\n" for _, rows, _ in groups)
+    with tempfile.TemporaryDirectory(prefix="rows-") as folder:
+        done = subprocess.run([os.path.join(CRATES, program, "out", program)], cwd=folder, input=given.encode(), capture_output=True, timeout=SECONDS)
+    return [lines.strip("\n").split("\n") for lines in done.stdout.decode().split("\n\n")], done.stderr.decode()
+
+
+def points_of(rows, came):
+    """How many points these rows name, or are."""
+    points = 0
+    for row, line in zip(rows, came):
+        ends = ENDS.search(line)
+        points += int(ends[1]) + int(ends[2]) if ends else row.startswith(SINGLE)
+    return points
+
+
+def play_program(program, counts):
+    """What is wrong with the program's rows. For each sweep the counts get its rows and its points."""
+    groups = groups_of(program)
+    came, errors = played(program, groups)
+    problems = []
+    for (name, rows, wanted), got in zip(groups, came + [[]] * len(groups)):
+        count = counts.setdefault(name, [0, 0])
+        count[0] += len(rows) - 1
+        count[1] += points_of(rows, got)
+        problems += ["%s: %s: `%s` gives `%s`, wanted `%s`" % (program, name, row, line, want) for row, line, want in zip(rows, got, wanted) if line != want]
+        if len(got) != len(wanted):
+            problems.append("%s: %s: %d lines, wanted %d" % (program, name, len(got), len(wanted)))
+    for name, points in POINTS.findall(errors):
+        counts[name][1] += int(points)
+    return problems
+
+
+def play():
+    """Plays the rows of all programs that are built, and prints how many points each sweep tried. What is wrong, and how many rows passed."""
+    counts, problems = {}, []
+    for program in PROGRAMS:
+        if is_built(program):
+            problems += play_program(program, counts)
+        else:
+            print("the rows of %s were not played: there is no program, or an old one" % program)
+    for name in SWEEPS:
+        if name in counts:
+            print("%s: %d points, in %d rows" % (name, counts[name][1], counts[name][0]))
+    return problems, sum(rows for rows, _ in counts.values()) - len(problems)
