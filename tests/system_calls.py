@@ -1,11 +1,12 @@
 #!/usr/bin/env python3
-"""Looks at the system calls of `cspwatch serve` by `strace`: that each report is on the device before it is answered.
+"""Looks at the system calls of `cspwatch serve` by `strace`: that each report is on the device before it is answered, and the reply goes out at once.
 
     tests/system_calls.py [--program FILE]
 
 No contract can say that a sync reaches the system, since a real file claims nothing. Here it is seen: a new journal is
 synced before the server listens; for each report the record is written and synced, then its gate is written and synced,
-and only then the reply is sent. Where there is no `strace`, or it may not be used, nothing is tested, and that is said.
+and only then the reply is sent. The connection was asked to send without delay (`TCP_NODELAY`) before. Where there is no `strace`, or it may not be used,
+nothing is tested, and that is said.
 Without --program the program is crates/cspwatch/out/cspwatch. The last line is `N passed, M failed`.
 """
 import argparse
@@ -21,7 +22,7 @@ ROOT = os.path.dirname(os.path.dirname(os.path.abspath(__file__)))
 PROGRAM = os.path.join(ROOT, "crates", "cspwatch", "out", "cspwatch")
 SCRIPT = "channel a, b\nP = a -> b -> P\n"
 TALK = [("E a", "OK 1"), ("E a", "NO 2"), ("R a", "OK 3"), ("E b", "OK 4")]
-CALLS = "openat,pwrite64,fsync,fdatasync,write,sendto,close"
+CALLS = "openat,pwrite64,fsync,fdatasync,write,sendto,close,accept4,setsockopt"
 SECONDS = 30
 
 CALL = re.compile(r"\d+\s+(\w+)\((.*)\)\s+= (-?\d+)")
@@ -101,6 +102,23 @@ def happenings(lines):
     return found
 
 
+def sends_at_once(lines):
+    """Whether the connection that was taken is one without delay before a reply is sent over it."""
+    taken = None
+    for line in lines:
+        match = CALL.match(line)
+        if match is None or int(match[3]) < 0:
+            continue
+        call, arguments, result = match.groups()
+        if call == "accept4":
+            taken = result
+        elif call == "setsockopt" and arguments.startswith("%s, SOL_TCP, TCP_NODELAY, [1]" % taken):
+            return True
+        elif call == "sendto":
+            return False
+    return False
+
+
 def main():
     parser = argparse.ArgumentParser(description=__doc__.split("\n")[0])
     parser.add_argument("--program", default=PROGRAM)
@@ -118,6 +136,7 @@ def main():
         ("a new journal is synced before the server listens", "synced" in opening, opening),
         ("the folder is synced after it", "folder" in opening[opening.index("synced") :] if "synced" in opening else False, opening),
     ]
+    checks.append(("replies go out at once", sends_at_once(lines), [line for line in lines if "sockopt" in line]))
     rest = happened[len(opening) + 1 :]
     wanted = [step for _, reply in TALK for step in ("written", "synced", "gate", "synced", reply)]
     checks.append(("each report is synced twice before it is answered", rest == wanted, rest))

@@ -1,0 +1,74 @@
+#!/usr/bin/env python3
+"""Shows that the first turn ends each loop of `board` and `shared` that would try again.
+
+    tests/first_turns.py
+
+A loop `for _ in rt.forever()` there only repeats what can't fail in fact (its comment says why), but no contract says so. Here each
+of these loops is given one turn in a copy of the repository, so that a second one would reach `unreachable!()`, which stops a program
+that was not proved. The rows of `shared_rows` have to give the same answers as ever. It needs the kit's `rt` (`rt try`, a minute of
+processor time). The last line is `N passed, M failed`.
+"""
+import os
+import shutil
+import subprocess
+import sys
+import tempfile
+
+ROOT = os.path.dirname(os.path.dirname(os.path.abspath(__file__)))
+PARTS = ("src", "specs", "proofs", "stdin", "stdout")
+LOOP = "for _ in rt.forever() {"
+TURN = "for _ in 0..1u8 {"
+# How many such loops there are: one more has to be looked at.
+LOOPS = {"board": 1, "shared": 3}
+
+
+def copied(folder):
+    """Copies all crates without what was built."""
+    for name in ("crates.txt", "HANDLES"):
+        shutil.copy(os.path.join(ROOT, name), folder)
+    for crate in os.listdir(os.path.join(ROOT, "crates")):
+        for part in PARTS:
+            source, target = (os.path.join(top, "crates", crate, part) for top in (ROOT, folder))
+            if os.path.isdir(source):
+                shutil.copytree(source, target)
+            elif os.path.isfile(source):
+                os.makedirs(os.path.dirname(target), exist_ok=True)
+                shutil.copy(source, target)
+
+
+def change(crate):
+    """Gives each loop of the crate one turn. How many there were."""
+    found = 0
+    for at, _, files in os.walk(os.path.join(crate, "src")):
+        for name in files:
+            path = os.path.join(at, name)
+            with open(path, encoding="utf-8") as file:
+                text = file.read()
+            found += text.count(LOOP)
+            with open(path, "w", encoding="utf-8") as file:
+                file.write(text.replace(LOOP, TURN))
+    return found
+
+
+def main():
+    with tempfile.TemporaryDirectory(prefix="turns-") as folder:
+        copied(folder)
+        found = {crate: change(os.path.join(folder, "crates", crate)) for crate in LOOPS}
+        rows = os.path.join(folder, "crates", "shared_rows")
+        with open(os.path.join(rows, "stdin"), "rb") as lines:
+            ran = subprocess.run(["rt", "try", "--seconds", "600"], cwd=rows, stdin=lines, capture_output=True)
+        with open(os.path.join(rows, "stdout"), "rb") as file:
+            wanted = file.read()
+    checks = [
+        ("the loops that would try again are those that were looked at", found == LOOPS, found),
+        ("each of them ends with its first turn", ran.returncode == 0 and ran.stdout == wanted, ran.stderr.decode(errors="replace")[-400:]),
+    ]
+    for name, passes, shown in checks:
+        print("%s: %s" % (name, "passed" if passes else "FAILED: %s" % shown))
+    passed = sum(1 for _, passes, _ in checks if passes)
+    print("%d passed, %d failed" % (passed, len(checks) - passed))
+    return 0 if passed == len(checks) else 1
+
+
+if __name__ == "__main__":
+    sys.exit(main())
