@@ -352,11 +352,9 @@ def decided_elsewhere(folder, case, own, wanted):
     faults = [re.fullmatch(rb"p\.csp:(\d+): (\d+) [a-z]+\n", answer) for answer in (own, wanted)]
     if None in faults:
         return False
-    late = [name for name in re.findall(BODY, text) if name.decode() != root and name[:1] in b"LPQRW"]
-    later = re.sub(BODY, lambda found: found[1] + b" = STOP" if found[1] in late else found[0], text)
-    if later == text:
-        return False
-    if next(reference_answers(folder, [(later, root)])) == own:
+    late = [name for name in re.findall(BODY, text) if name.decode() != root]
+    later = re.sub(BODY, lambda found: found[1] + b" = STOP" if found[1] in late and found[1][:1] in b"LPQRW" else found[0], text)
+    if later != text and next(reference_answers(folder, [(later, root)])) == own:
         return True
     line = text.split(b"\n")[int(faults[0][1]) - 1]
     return any(line.startswith(name + b" = ") for name in late) and faults[0][2] == faults[1][2]
