@@ -13,6 +13,7 @@ is printed, and the exit status is 1 where there is one. The scripts of all are 
 import argparse
 import collections
 import concurrent.futures
+import itertools
 import os
 import random
 import re
@@ -341,21 +342,23 @@ def own_answer(program, case):
 
 
 BODY = rb"(?m)^([A-Za-z][A-Za-z0-9_]*'*) = \(*(?:if\b|[A-Za-z][A-Za-z0-9_]*'*\().*$"
-"""The definition of a name whose body is a condition or a call; in a script that is made here each definition has a line."""
+"""The definition of a name whose body is a condition or a call: each definition of a script that is made here has a line of its own."""
 
 
 def decided_elsewhere(folder, case, own, wanted):
-    """Whether both report a fault, and the program's is that of the script in which each other process that a condition or a call is the
-    body of is STOP: it looks into such a body when it makes that body. Or else the program's fault is in such a body, and is the kind of
-    fault that the reference reports at a use of its name."""
+    """Whether both report a fault, and the reference reports the program's where some of the names that have a condition or a call as body
+    are STOP: those that the program hasn't made yet, since it looks into such a body when it makes it. Or else the program's fault is in
+    such a body, and is the kind of fault that the reference reports at a use of its name."""
     text, root = case
     faults = [re.fullmatch(rb"p\.csp:(\d+): (\d+) [a-z]+\n", answer) for answer in (own, wanted)]
     if None in faults:
         return False
     late = [name for name in re.findall(BODY, text) if name.decode() != root]
-    later = re.sub(BODY, lambda found: found[1] + b" = STOP" if found[1] in late and found[1][:1] in b"LPQRW" else found[0], text)
-    if later != text and next(reference_answers(folder, [(later, root)])) == own:
-        return True
+    for count in range(1, len(late) + 1):
+        for some in itertools.combinations(late, count):
+            later = re.sub(BODY, lambda found: found[1] + b" = STOP" if found[1] in some else found[0], text)
+            if next(reference_answers(folder, [(later, root)])) == own:
+                return True
     line = text.split(b"\n")[int(faults[0][1]) - 1]
     return any(line.startswith(name + b" = ") for name in late) and faults[0][2] == faults[1][2]
 
