@@ -1,21 +1,10 @@
 # Completion for bash. Source this file, or copy it as `cspwatch` to the folder of bash's completions.
 _cspwatch() {
-    local current previous command place word index
+    local current previous command script place
     current=${COMP_WORDS[COMP_CWORD]}
     previous=${COMP_WORDS[COMP_CWORD-1]}
     COMPREPLY=()
-
-    # The command, and how many of its words stand before the cursor.
-    command=
-    place=0
-    for ((index = 1; index < COMP_CWORD; index++)); do
-        word=${COMP_WORDS[index]}
-        case $word in
-            --listen | --connections | --format) index=$((index + 1)) ;;
-            -*) ;;
-            *) if [[ -z $command ]]; then command=$word; else place=$((place + 1)); fi ;;
-        esac
-    done
+    _cspwatch_words
 
     if [[ -z $command ]]; then
         COMPREPLY=($(compgen -W "check serve replay show print help --help -h --version -V" -- "$current"))
@@ -50,27 +39,37 @@ _cspwatch() {
             mapfile -t COMPREPLY < <(compgen -f -- "$current")
             ;;
         check:1 | serve:1 | print:1)
-            # The names that the script defines.
-            word=$(_cspwatch_script)
-            COMPREPLY=($(compgen -W "$(sed -n "s/^[[:space:]]*\([A-Za-z][A-Za-z0-9_]*'*\)[[:space:]]*=.*/\1/p" "$word" 2>/dev/null)" -- "$current"))
+            # The names that the script defines. They may end in primes, which compgen would take for quotes.
+            local name
+            while read -r name; do
+                [[ $name != "$current"* ]] || COMPREPLY+=("$(printf '%q' "$name")")
+            done < <(sed -n "s/^[[:space:]]*\([A-Za-z][A-Za-z0-9_]*'*\)[[:space:]]*=.*/\1/p" "$script" 2>/dev/null)
             ;;
     esac
 }
 
-# The file of the script: the first word of the command.
-_cspwatch_script() {
-    local index word command=
+# Sets `command`, `script` (the first word after it), and `place`: how many words of the command are before the cursor.
+# Bash takes an address as three words: 127.0.0.1 : 4070.
+_cspwatch_words() {
+    local index word
+    command=
+    script=
+    place=0
     for ((index = 1; index < COMP_CWORD; index++)); do
         word=${COMP_WORDS[index]}
         case $word in
-            --listen | --connections | --format) index=$((index + 1)) ;;
+            --listen | --connections | --format)
+                index=$((index + 1))
+                [[ ${COMP_WORDS[index + 1]} != : ]] || index=$((index + 2))
+                ;;
             -*) ;;
             *)
-                if [[ -n $command ]]; then
-                    printf '%s\n' "$word"
-                    return
+                if [[ -z $command ]]; then
+                    command=$word
+                else
+                    [[ $place -gt 0 ]] || script=$word
+                    place=$((place + 1))
                 fi
-                command=$word
                 ;;
         esac
     done

@@ -1,27 +1,30 @@
 # Completion for fish. Copy this file to ~/.config/fish/completions.
 set -l commands check serve replay show print help
 
-# How many words of the command stand before the cursor, without options and what follows them.
-function __cspwatch_place
+# The words of the command before the cursor, without options and what follows them.
+function __cspwatch_words
     set -l words (commandline -opc)
-    set -l count 0
     set -l skip 0
     for word in $words[2..-1]
         if test $skip = 1
             set skip 0
-        else if string match -q -- '--listen' $word; or string match -q -- '--connections' $word; or string match -q -- '--format' $word
+        else if contains -- $word --listen --connections --format
             set skip 1
         else if not string match -q -- '-*' $word
-            set count (math $count + 1)
+            echo $word
         end
     end
-    echo $count
+end
+
+# How many they are: 1 right after the command.
+function __cspwatch_place
+    count (__cspwatch_words)
 end
 
 # The names that the script, which is the first word after the command, defines.
 function __cspwatch_processes
-    set -l words (commandline -opc)
-    test (count $words) -ge 3; and sed -n "s/^[[:space:]]*\([A-Za-z][A-Za-z0-9_]*'*\)[[:space:]]*=.*/\1/p" $words[3] 2>/dev/null
+    set -l words (__cspwatch_words)
+    test (count $words) -ge 2; and sed -n "s/^[[:space:]]*\([A-Za-z][A-Za-z0-9_]*'*\)[[:space:]]*=.*/\1/p" $words[2] 2>/dev/null
 end
 
 complete -c cspwatch -f

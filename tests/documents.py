@@ -4,7 +4,7 @@
     tests/documents.py [--program FILE] [PAGE ..]
 
 Without a PAGE all pages (*.md) are taken, without --program the program is crates/cspwatch/out/cspwatch. Each page has a
-copy of the repository to itself, with `cspwatch` on the PATH and no kit. Of its blocks
+copy of the repository's own files to itself, with `cspwatch` on the PATH and no kit. Of its blocks
 
 - one of `sh` is run as a whole, from the top of the copy. A block of `text` that follows at once shows what it prints; where
   none does, its last command has to end with status 0;
@@ -14,8 +14,9 @@ copy of the repository to itself, with `cspwatch` on the PATH and no kit. Of its
 - one of `python` is a session where it has `>>>`, else a program that has to end with status 0.
 
 A shown line may have a note to its right, after two blanks. `cspwatch serve` runs beside the commands that come after it, as
-in a terminal of its own, and has to end by itself before the page does. A block is passed over, and named, where a command in
-it proves, is a form with a word to be filled in, is a test of its own, or is about a release's files. The last line is `N passed, M failed`.
+in a terminal of its own, and has to end by itself before the page does. A block of `sh` is passed over, and named, where a
+command in it proves, is a form with a word to be filled in, is a test of its own, is for root, or needs pytest and there is
+none. Any other block is only to be read. The last line is `N passed, M failed`.
 """
 import argparse
 import collections
@@ -39,11 +40,14 @@ PROVES = re.compile(r"(?:^|[;&|] *)(rt|\.ci/run)\b", re.MULTILINE)
 FORM = re.compile(r"\b(?:SPEC|PROCESS|JOURNAL|ADDR|COMMIT|VERSION|NAME|FILE)\b")
 """A word that the reader is to fill in."""
 
-TESTS = re.compile(r"\b(?:tests/\w+\.py|clients/run_tests\.py)\b")
+TESTS = re.compile(r"\b(?:tests/\w+\.py|clients/run_tests\.py|dist/make_release\.py)")
 """A test, which isn't called a second time."""
 
-RELEASE = re.compile(r"\b(?:SHA256SUMS|make_release)\b")
-"""The files of a release, of which the repository has only the sums."""
+ROOTS = re.compile(r"^install .* /(?:usr|etc)/", re.MULTILINE)
+"""A command that only root can run."""
+
+PYTEST = re.compile(r"\bpython3 -m pytest\b")
+"""A command that needs pytest."""
 
 FILE = re.compile(r"`([\w.-]+\.\w+)`:$")
 """The end of a line that names the file below it."""
@@ -90,8 +94,15 @@ def why_not(step):
     text = "\n".join(step.block.lines)
     if step.does == "file":
         return None
-    reasons = (PROVES, "proves"), (FORM, "a form"), (TESTS, "a test of its own"), (RELEASE, "needs a release")
+    if PYTEST.search(text) and not has_pytest():
+        return "there is no pytest"
+    reasons = (PROVES, "proves"), (FORM, "a form"), (TESTS, "a test of its own"), (ROOTS, "for root")
     return next((reason for pattern, reason in reasons if pattern.search(text)), None)
+
+
+def has_pytest():
+    """Whether the Python that the pages' commands call has pytest."""
+    return subprocess.run(["python3", "-c", "import pytest"], stderr=subprocess.DEVNULL).returncode == 0
 
 
 def is_as_shown(printed, shown):
@@ -325,10 +336,24 @@ def pages():
                 yield os.path.relpath(os.path.join(folder, name), ROOT)
 
 
+def copy_own(template):
+    """Copies the files that belong to the repository, without what only proves: not what a user has made there."""
+    listed = subprocess.run(["git", "ls-files", "-z"], cwd=ROOT, stdout=subprocess.PIPE, stderr=subprocess.DEVNULL)
+    names = [os.fsdecode(name) for name in listed.stdout.split(b"\0") if name and b"/proofs/" not in name]
+    if listed.returncode != 0 or not names:
+        shutil.copytree(ROOT, template, symlinks=True, ignore=shutil.ignore_patterns(".git", "out", "proofs", "__pycache__"))
+        return
+    for name in names:
+        source, target = os.path.join(ROOT, name), os.path.join(template, name)
+        if os.path.lexists(source):
+            os.makedirs(os.path.dirname(target), exist_ok=True)
+            shutil.copy2(source, target, follow_symlinks=False)
+
+
 def prepare(scratch, program):
-    """A copy of the repository without what only proves, and a PATH on which the program is and the kit isn't."""
+    """A copy of the repository, and a PATH on which the program is and the kit isn't."""
     template, tools = os.path.join(scratch, "template"), os.path.join(scratch, "tools")
-    shutil.copytree(ROOT, template, symlinks=True, ignore=shutil.ignore_patterns(".git", "out", "proofs", "__pycache__"))
+    copy_own(template)
     os.makedirs(os.path.join(template, os.path.dirname(PROGRAM)))
     os.symlink(program, os.path.join(template, PROGRAM))
     os.makedirs(tools)

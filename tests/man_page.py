@@ -4,21 +4,49 @@
     tests/man_page.py [--program FILE]
 
 The page's version is that of `cspwatch --version`. Every command, option and operand that `cspwatch --help` and the help of
-each command show has to stand in man/cspwatch.1, and every command and option in each file of completions/; and no option or
-command of those may be one that no help shows.
+each command show has to be in man/cspwatch.1, and every command and option in each file of completions/; and no option or
+command of those may be one that no help shows. What bash offers for some lines is tried, and what fish offers where there is one.
 Without --program the program is crates/cspwatch/out/cspwatch. The last line is `N passed, M failed`.
 """
 import argparse
 import os
 import re
+import shutil
 import subprocess
 import sys
+import tempfile
 
 ROOT = os.path.dirname(os.path.dirname(os.path.abspath(__file__)))
 PROGRAM = os.path.join(ROOT, "crates", "cspwatch", "out", "cspwatch")
 PAGE = os.path.join(ROOT, "man", "cspwatch.1")
 COMPLETIONS = os.path.join(ROOT, "completions")
 SECONDS = 60
+
+SCRIPT = "channel a\nP = a -> Q'\nQ' = STOP\n"
+"""The file p.csp of the lines that are tried."""
+
+LINES = [
+    ([""], {"check", "serve", "replay", "show", "print"}),
+    (["check", ""], {"p.csp"}),
+    (["check", "p.csp", ""], {"P", "Q'"}),
+    (["serve", "--listen", "127.0.0.1:4070", "p.csp", ""], {"P", "Q'"}),
+    (["serve", "p.csp", "P", ""], {"p.csp"}),
+    (["serve", "p.csp", "P", "j", "--"], {"--listen", "--connections"}),
+    (["show", "--format", ""], {"text", "json"}),
+    (["show", "--r"], {"--rejected"}),
+]
+"""Lines after `cspwatch`, of which the last word is begun, and some of what has to be offered for it."""
+
+BASH = """
+source "$0"
+COMP_WORDS=(cspwatch "$@")
+COMP_CWORD=$#
+_cspwatch
+for offer in "${COMPREPLY[@]}"; do eval "printf '%s\\n' $offer"; done
+"""
+"""Prints what bash offers. Bash takes a colon for a word of its own, and offers words as they have to be typed."""
+
+FISH = 'source $argv[1]; complete -C "cspwatch $argv[2]" | string split -f 1 \\t'
 
 
 def help_of(program, words):
@@ -105,6 +133,31 @@ def completion_problems(name, commands, options):
         yield None if word in options else "completions/%s has %s, which no help shows" % (name, word)
 
 
+def offers(shell, words, folder):
+    """What the shell offers for the last word."""
+    path = os.path.join(COMPLETIONS, "cspwatch." + shell)
+    if shell == "bash":
+        parted = [part for word in words for part in re.split("(:)", word)]
+        command = ["bash", "-c", BASH, path] + parted
+    else:
+        command = ["fish", "-c", FISH, path, " ".join(words)]
+    done = subprocess.run(command, cwd=folder, stdout=subprocess.PIPE, stdin=subprocess.DEVNULL, timeout=SECONDS)
+    return set(done.stdout.decode("utf-8").splitlines())
+
+
+def tried_problems():
+    """The same for the lines that are tried."""
+    with tempfile.TemporaryDirectory() as folder:
+        with open(os.path.join(folder, "p.csp"), "w", encoding="ascii") as file:
+            file.write(SCRIPT)
+        for shell in "bash", "fish":
+            if shutil.which(shell) is None:
+                continue
+            for words, wanted in LINES:
+                missing = wanted - offers(shell, words, folder)
+                yield "%s doesn't offer %s for %s" % (shell, " ".join(sorted(missing)), " ".join(words)) if missing else None
+
+
 def main():
     parser = argparse.ArgumentParser(description=__doc__.split("\n")[0])
     parser.add_argument("--program", default=PROGRAM)
@@ -119,6 +172,7 @@ def main():
     problems += page_problems(version_of(program), commands, switches, operands)
     for name in sorted(os.listdir(COMPLETIONS)):
         problems += completion_problems(name, commands, switches)
+    problems += tried_problems()
     wrong = [problem for problem in problems if problem]
     for problem in wrong:
         print(problem)

@@ -35,16 +35,16 @@ enum cspwatch_result {
      * CSPWATCH_FAULT_READER, and where a new connection is refused. */
     CSPWATCH_FAULT,
     /* No whole reply came: the connection ended or failed, or the time was over. Whether the report was judged is not
-     * known. From now on each call ends so. */
+     * known. From now on each call ends like this. */
     CSPWATCH_NO_REPLY,
-    /* The reply is none of the protocol. From now on each call ends by CSPWATCH_NO_REPLY. */
+    /* The reply isn't one of the protocol's. From now on each call ends by CSPWATCH_NO_REPLY. */
     CSPWATCH_BAD_REPLY,
     /* A name has an LF, or in a refusal a blank, or the line would be longer than CSPWATCH_LINE_LIMIT. Nothing was
      * sent. */
     CSPWATCH_BAD_NAME,
     /* Out of memory. Whether a report was judged is not known. From now on each call ends by CSPWATCH_NO_REPLY. */
     CSPWATCH_OUT_OF_MEMORY,
-    /* There is no connection; errno may say why. cspwatch_connect alone ends so. */
+    /* There is no connection; errno may say why. Only cspwatch_connect ends like this. */
     CSPWATCH_NOT_CONNECTED
 };
 

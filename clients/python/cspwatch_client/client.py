@@ -21,7 +21,7 @@ class Client:
     server judges the reports of one client in their order, after what all clients have reported before.
 
     Each call sends one line and waits for its reply. It raises `Fault` where the server answers that it can't judge
-    or answer, `NoReply` where no whole reply comes, `BadReply` where the reply is none of the protocol, and
+    or answer, `NoReply` where no whole reply comes, `BadReply` where the reply isn't one of the protocol's, and
     `ValueError` where a name can't be sent; nothing is sent then.
 
     As a context manager the client closes itself at the end of the block.
@@ -74,7 +74,7 @@ class Client:
         return self._answer(b"N", next_of)
 
     def close(self) -> None:
-        """Takes leave of the server (`Q`) and closes the connection. A second call does nothing."""
+        """Sends `Q`, reads the reply and closes the connection. A second call does nothing."""
         if self._closed:
             return
         try:

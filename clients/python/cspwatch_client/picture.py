@@ -70,7 +70,7 @@ LEGEND = """<ul class="legend" aria-label="Legend">
 </ul>
 <details>
 <summary>How to read this page</summary>
-<p>Each line from top to bottom is the lifeline of a seat. The entries stand in the order of their places, the first at the top.</p>
+<p>Each line from top to bottom is the lifeline of a seat. The entries are in the order of their places, the first at the top.</p>
 <p>A circle is the report that an event happened. A square is the report that the system refuses every event of a set.</p>
 <p><b>expected</b>: the events that could have come. <b>expected nothing</b>: no event could have come.</p>
 <p><b>must offer one of</b>: the process may come to rest offering just one of these sets. It refuses a set of events

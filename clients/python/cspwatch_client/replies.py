@@ -60,14 +60,14 @@ class FaultCode(IntEnum):
 
 
 class CspwatchError(Exception):
-    """What every exception of this package is, save a `ValueError` for a name that can't be sent."""
+    """What every exception of this package is, except a `ValueError` for a name that can't be sent."""
 
 
 class Fault(CspwatchError):
     """The server answered `ERR code word`: what was asked was not answered, and a report was not judged.
 
     After the code `JOURNAL` the report may be in the journal nevertheless; reading the journal back shows it.
-    The connection goes on, save after the codes `LINE`, `SEATS` and `READER`, and where a new connection is refused.
+    The connection goes on, except after the codes `LINE`, `SEATS` and `READER`, and where a new connection is refused.
     """
 
     def __init__(self, code: int, word: str) -> None:
@@ -86,7 +86,7 @@ class NoReply(CspwatchError):
 
 
 class BadReply(CspwatchError):
-    """The reply is none of the protocol. The client is closed."""
+    """The reply isn't one of the protocol's. The client is closed."""
 
     def __init__(self, reply: bytes) -> None:
         super().__init__("the server replied %r" % reply[:200])
