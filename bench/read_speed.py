@@ -1,14 +1,16 @@
 #!/usr/bin/env python3
 """Times `cspwatch print` on scripts of 65,536 bytes at most, one of each kind, and on scripts that end in a fault.
 
-    read_speed.py PROGRAM [--before PROGRAM] [--turns N] [--only NAME ..]
+    read_speed.py PROGRAM [--before PROGRAM] [--turns N] [--only NAME ..] [--processor]
 
 Each script is printed N times (9 where it isn't said); which program goes first changes with each turn. It reports the shortest
 time and the median in milliseconds, and with an earlier program beside them the median of the ratios, pair by pair: the
-earlier program's time over the program's. A script that the earlier one refuses has no ratio.
+program's time over the earlier program's. A script that they answer differently has no ratio. With --processor the times are
+those that the processor spent on the program, in place of those of the clock: for a machine that does other work.
 """
 import argparse
 import os
+import resource
 import statistics
 import subprocess
 import sys
@@ -110,10 +112,13 @@ KINDS = [("definitions", definitions), ("names", names), ("names turned round", 
          ("generators", generators), ("without end", without_end), ("without events", without_events), ("doubled", doubled), ("an empty last set", empty_last_set)]
 
 
-def timed(program, path, root):
-    start = time.perf_counter()
+def timed(program, path, root, processor):
+    start, before = time.perf_counter(), resource.getrusage(resource.RUSAGE_CHILDREN)
     done = subprocess.run([program, "print", path, root], stdin=subprocess.DEVNULL, stdout=subprocess.DEVNULL, stderr=subprocess.PIPE)
-    return time.perf_counter() - start, done.returncode, done.stderr.decode("latin-1").strip().split(": ")[-1]
+    took, after = time.perf_counter() - start, resource.getrusage(resource.RUSAGE_CHILDREN)
+    if processor:
+        took = after.ru_utime + after.ru_stime - before.ru_utime - before.ru_stime
+    return took, done.returncode, done.stderr.decode("latin-1").strip().split(": ")[-1]
 
 
 def main():
@@ -122,6 +127,7 @@ def main():
     words.add_argument("--before")
     words.add_argument("--turns", type=int, default=9)
     words.add_argument("--only", nargs="*")
+    words.add_argument("--processor", action="store_true")
     given = words.parse_args()
     print("%-20s %7s %9s %9s   %s" % ("script", "bytes", "shortest", "median", "answer"))
     with tempfile.TemporaryDirectory(prefix="reading-") as folder:
@@ -138,12 +144,12 @@ def main():
                 programs = [given.program] + ([given.before] if given.before else [])
                 times = {}
                 for program in programs if turn % 2 == 0 else reversed(programs):
-                    took, status, fault = timed(program, path, "P0" if name == "printed form" else "P")
+                    took, status, fault = timed(program, path, "P0" if name == "printed form" else "P", given.processor)
                     times[program] = (took, status, fault)
                 took, status, fault = times[given.program]
                 own.append(took)
                 answer = fault or "printed"
-                if given.before and times[given.before][1] == status:
+                if given.before and times[given.before][1:] == times[given.program][1:]:
                     ratios.append(times[given.before][0] / took)
             ratio = "   %.2f of the earlier time" % (1 / statistics.median(ratios)) if ratios else ""
             print("%-20s %7d %9.1f %9.1f   %s%s" % (name, len(text), min(own) * 1000, statistics.median(own) * 1000, answer, ratio), flush=True)

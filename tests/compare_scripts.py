@@ -13,6 +13,7 @@ is printed, and the exit status is 1 where there is one. The scripts of all are 
 import argparse
 import collections
 import concurrent.futures
+import itertools
 import os
 import random
 import re
@@ -340,17 +341,32 @@ def own_answer(program, case):
         return done.stdout + done.stderr
 
 
-def decided_elsewhere(text, own, wanted):
-    """Whether both report a fault, of a script in which a condition or a call is the body of a name without parameters. This is wide: any
-    other difference between two faults of such a script is counted here too."""
-    faults = all(re.fullmatch(rb"p\.csp:\d+: \d+ [a-z]+\n", answer) for answer in (own, wanted))
-    return faults and re.search(rb"(?m)^[A-Za-z][A-Za-z0-9_]*'* = \(*(if\b|[A-Za-z][A-Za-z0-9_]*'*\()", text) is not None
+BODY = rb"(?m)^([A-Za-z][A-Za-z0-9_]*'*) = \(*(?:if\b|[A-Za-z][A-Za-z0-9_]*'*\().*$"
+"""The definition of a name whose body is a condition or a call: each definition of a script that is made here has a line of its own."""
 
 
-def reason(program, case, own, wanted):
+def decided_elsewhere(folder, case, own, wanted):
+    """Whether both report a fault, and the reference reports the program's where some of the names that have a condition or a call as body
+    are STOP: those that the program hasn't made yet, since it looks into such a body when it makes it. Or else the program's fault is in
+    such a body, and is the kind of fault that the reference reports at a use of its name."""
+    text, root = case
+    faults = [re.fullmatch(rb"p\.csp:(\d+): (\d+) [a-z]+\n", answer) for answer in (own, wanted)]
+    if None in faults:
+        return False
+    late = [name for name in re.findall(BODY, text) if name.decode() != root]
+    for count in range(1, len(late) + 1):
+        for some in itertools.combinations(late, count):
+            later = re.sub(BODY, lambda found: found[1] + b" = STOP" if found[1] in some else found[0], text)
+            if next(reference_answers(folder, [(later, root)])) == own:
+                return True
+    line = text.split(b"\n")[int(faults[0][1]) - 1]
+    return any(line.startswith(name + b" = ") for name in late) and faults[0][2] == faults[1][2]
+
+
+def reason(folder, program, case, own, wanted):
     """Why the two answers may differ, as docs/DECISIONS.md says; None where they may not."""
     text, root = case
-    if decided_elsewhere(text, own, wanted):
+    if decided_elsewhere(folder, case, own, wanted):
         return "a condition or a call as the body of a name, which the program looks into when it makes that body, and the reference at a use of the name"
     channels = own_answer(program, (text + b"ZZ = STOP\n", "ZZ"))
     if b"{}" in channels:
@@ -376,7 +392,7 @@ def main():
             outcomes[wanted.split(b": ")[-1].decode().strip() if wanted.startswith(b"p.csp:") else "printed"] += 1
             if own == wanted:
                 continue
-            why = reason(given.program, case, own, wanted)
+            why = reason(given.reference, given.program, case, own, wanted)
             reasons[why] += 1
             if given.keep:
                 with open(os.path.join(given.keep, "%d.csp" % place), "wb") as file:

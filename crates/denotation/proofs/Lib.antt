@@ -11,6 +11,7 @@ pub mod Progress
 pub mod Choices
 pub mod Replications
 pub mod Walks
+pub mod Unused
 pub mod Places
 pub mod FirstPlaces
 pub mod Steps

@@ -10,5 +10,6 @@ pub mod Forms
 pub mod Shapes
 pub mod Parts
 pub mod Walks
+pub mod Ahead
 pub mod Places
 pub mod BodyParts

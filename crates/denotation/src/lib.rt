@@ -2,6 +2,7 @@
 //! terms made of phrases by this definition.
 #![tactic(auto)]
 
+mod ahead;
 mod call;
 mod calls;
 mod choice;

@@ -8,6 +8,7 @@ ghost use Rattle.event_phrases.specs.Scopes.{Scope as ScopeOf, within};
 ghost use Rattle.denotation.specs.Walks.{first_scope, once_found, visits, visits_after, visits_from};
 ghost use Rattle.denotation.specs.Places.{from_next, from_place, from_scope, innermost_first, waiting};
 
+use crate::ahead::is_empty_ahead;
 use crate::forms::generator;
 use crate::replicated::values_of;
 use event_phrases::forms::first;
@@ -149,7 +150,8 @@ fn descended<'a, A: Allocator + Copy, G: GlobalScope<A>>(
     Ok(Some(at))
 }
 
-/// The first place behind a value of each of the generators, in this scope.
+/// The first place behind a value of each of the generators, in this scope. Sets of later generators are looked at first, as far as
+/// they can be: where one is empty there is no place, and the values of the earlier ones aren't gone through.
 pub(crate) fn first_place<'a, A: Allocator + Copy, G: GlobalScope<A>>(
     alloc: A,
     scope: &Scope<'a, A, G>,
@@ -157,6 +159,9 @@ pub(crate) fn first_place<'a, A: Allocator + Copy, G: GlobalScope<A>>(
 ) -> Result<Option<Place<'a, A>>, ScriptError>
     ensures { Gives (from_scope (G.scope scope.now.global.now)) result (first_scope (visits (shapes generators.now) (within (G.scope scope.now.global.now) (map input scope.now.inputs.items)))) }
 {
+    if is_empty_ahead(alloc, scope, generators) {
+        return Ok(None);
+    }
     let place = Place {
         inputs: copied(alloc, &scope.inputs)?,
         outer: Vec::new(alloc),

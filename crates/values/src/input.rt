@@ -22,19 +22,15 @@ pub struct Input<A: Allocator> {
 fn last_value<'a, A: Allocator>(inputs: &'a [Input<A>], name: &[u8]) -> Option<&'a Value<A>>
     ensures { option_map (λ v. value_of v.now) result ≡ last_of (map input inputs.now) name.now }
 {
-    match inputs {
-        [] => None,
-        [first, others @ ..] => match last_value(others, name) {
-            Some(value) => Some(value),
-            None => {
-                if name == first.name.as_slice() {
-                    Some(&first.value)
-                } else {
-                    None
-                }
-            }
-        },
+    let mut left = inputs.len();
+    while left > 0 {
+        left -= 1;
+        let input = &inputs[left];
+        if name == input.name.as_slice() {
+            return Some(&input.value);
+        }
     }
+    None
 }
 
 /// A copy of what the name stands for behind the inputs; `UnknownName` where neither they nor the table have it.
