@@ -98,9 +98,10 @@ fn add_level<A: Allocator + Copy>(
         return Err(AfterFault::Depth);
     }
     let level = seen.len();
+    let mut found = Vec::new(alloc);
     for place in from..level {
         let number = seen.number(place);
-        put_targets(all, alloc, number, Label::Tau, seen)?;
+        put_targets(all, number, Label::Tau, &mut found, seen)?;
         if seen.len() > MOST_STATES {
             return Err(AfterFault::States);
         }
@@ -147,8 +148,9 @@ pub fn first_level<A: Allocator + Copy>(
     let events = spec.alphabet().len();
     prove!(events <= 256);
     let mut first = Numbers::new(alloc);
+    let mut found = Vec::new(alloc);
     for number in numbers {
-        put_targets(all, alloc, *number, Label::Event(event), &mut first)?;
+        put_targets(all, *number, Label::Event(event), &mut found, &mut first)?;
         if first.len() > MOST_STATES {
             return Err(AfterFault::States);
         }

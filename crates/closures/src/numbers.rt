@@ -102,12 +102,12 @@ impl<A: Allocator> Numbers<A> {
     }
 }
 
-/// Appends those targets of the steps with this label that aren't in the list.
+/// Appends those targets of the steps with this label that aren't in the list. `found` lends its memory to the list of the targets.
 pub(crate) fn put_targets<A: Allocator + Copy>(
     all: &mut Transitions<A>,
-    alloc: A,
     number: u32,
     label: Label,
+    found: &mut Vec<u32, A>,
     into: &mut Numbers<A>,
 ) -> Result<(), AllocError>
     requires number { number < length all.old.table.processes }
@@ -117,9 +117,9 @@ pub(crate) fn put_targets<A: Allocator + Copy>(
     ensures put { OnOk result (HasPutTargets (Step (bodies_of all.old.bodies) (at all.old.table.processes number) label) (look all.old.table.processes into.old) (look all.new.table.processes into.new)) }
     ensures kept { KeepsNumbers all.old all.new }
 {
-    let mut found = Vec::new(alloc);
-    all.put_targets(number, label, &mut found)?;
-    put_all(all, &found, into)
+    found.clear();
+    all.put_targets(number, label, found)?;
+    put_all(all, found, into)
 }
 
 /// Appends those of the numbers that aren't in the list.
