@@ -5,7 +5,7 @@ use Rattle.std.specs.Prelude.{nat_lt}
 use Rattle.std.specs.List.{list_all}
 use Rattle.alphabet.specs.Channels.{Channel, event_count}
 use Rattle.tokens.specs.declared.error.ScriptErrorKind.{ScriptErrorKind}
-use Rattle.tokens.specs.declared.error.ScriptErrorKind.TheVariants.{Memory, Expected}
+use Rattle.tokens.specs.declared.error.ScriptErrorKind.TheVariants.{Memory}
 use Rattle.syntax.specs.declared.form.Form.TheVariants as forms
 use Rattle.syntax.specs.Grammar.{Syntax, Called, Numeral, Node, Syntaxes}
 use Rattle.values.specs.Values.{◌>>=◌, Name}
@@ -20,7 +20,8 @@ use Rattle.declared_names.specs.Entering.{script_parts, distinct_entries}
 use Rattle.declarations.specs.Fitting.{fitting, fitting_entries}
 use Rattle.declarations.specs.Sigma.{enter_declaration, KeepDeclared}
 use Rattle.declared_names.proofs.Chains.{bind_some, some_same}
-use Rattle.declared_names.proofs.Scripts.{parts_declared, parts_none, fails_too}
+use Rattle.declared_names.proofs.FaultKinds.{none_wanted, none_fails}
+use Rattle.declared_names.proofs.Scripts.{parts_declared, parts_none}
 use Rattle.declarations.proofs.Entire.{entire}
 use Rattle.declarations.proofs.Meanings.{keeps}
 
@@ -129,7 +130,7 @@ entries_none k t h = fails_on k (distinct_entries t) (fitting_entries t) (λ n. 
 
 -- another fault may be told for one that isn't want of memory
 pub other_fails : (k l : ScriptErrorKind) (t : Syntax) → Fails k (distinct_entries t) → (k ≡ Memory → ⊥) → Fails l (fitting_entries t)
-other_fails k l t h n = entries_none l t (fails_too k l (distinct_entries t) h (λ m. absurd (n m)))
+other_fails k l t h n = entries_none l t (none_fails l (distinct_entries t) (none_wanted k (distinct_entries t) n h))
 
 -- names whose parameters are in order, and others
 pub fit_same : (es : List Entry) → list_all (λ e. have_parameters es e.1) es ≡ true → fitting es ≡ Some es
@@ -138,7 +139,7 @@ fit_same es h = ap (λ b. cond b (Some es) None) h
 
 pub unfit_fails : (k : ScriptErrorKind) (es : List Entry) → list_all (λ e. have_parameters es e.1) es ≡ false → Fails k (fitting es)
 unfolding fitting
-unfit_fails k es h = fails_too Expected k (fitting es) (ap (λ b. cond b (Some es) None) h) (λ m. absurd (let e : Expected ≡ Memory = m in cc))
+unfit_fails k es h = none_fails k (fitting es) (ap (λ b. cond b (Some es) None) h)
 
 pub entries_found : (t : Syntax) (es : List Entry) → distinct_entries t ≡ Some es → fitting es ≡ fitting_entries t
 unfolding fitting_entries

@@ -40,7 +40,7 @@ fn fitting<'a, A: Allocator + Copy>(
 ) -> Result<Entries<'a, A>, ScriptError>
     ensures { Gives entries_of result (fitting_of (entries_of entries.entry)) }
 {
-    if parameters_fit(&entries) {
+    if parameters_fit(&entries)? {
         Ok(entries)
     } else {
         Err(fault_of_names(tree))

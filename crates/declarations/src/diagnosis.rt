@@ -49,7 +49,9 @@ fn fields_fault<'a, A: Allocator + Copy>(
                 return Err(fault(set.line(), ScriptErrorKind::Expected));
             }
             Err(own) => {
-                field_fault(alloc, entries, known, set)?;
+                if !matches!(own.kind, ScriptErrorKind::Memory) {
+                    field_fault(alloc, entries, known, set)?;
+                }
                 return Err(own);
             }
         }
@@ -93,7 +95,7 @@ fn diagnosed_channels<'a, A: Allocator + Copy>(
 }
 
 /// The alphabet of these declarations, whose names are among the entries. A fault is told where it is met first.
-#[tactic(auto, using(declared_names::proofs::Scripts::fails_too))]
+#[tactic(auto, using(declared_names::proofs::FaultKinds::fails_too))]
 pub(crate) fn told_alphabet<'a, A: Allocator + Copy>(
     alloc: A,
     entries: &Entries<'a, A>,

@@ -7,7 +7,7 @@ use crate::sight::{Found, Sight, worth_here};
 use declared_names::{Answer, Entries, Meaning, answer_of};
 use std::alloc::{AllocError, Allocator};
 use syntax::Tree;
-use tokens::ScriptError;
+use tokens::{ScriptError, ScriptErrorKind};
 use values::{Input, Known};
 
 /// The name that is all of the phrase, if it is one.
@@ -18,44 +18,74 @@ fn bare_name<A: Allocator>(phrase: &Tree<A>) -> Option<&[u8]> {
     }
 }
 
-/// The name that is all of the body of the definition with this name, as its conditions decide.
-fn next_name<'a, A: Allocator + Copy>(sight: &Sight<'_, 'a, A>, name: &[u8]) -> Option<&'a [u8]> {
-    let entry = sight.entries.get(name)?;
+/// The name that is all of the body of the definition with this name, as its conditions decide; none where one is at fault.
+fn next_name<'a, A: Allocator + Copy>(
+    sight: &Sight<'_, 'a, A>,
+    name: &[u8],
+) -> Result<Option<&'a [u8]>, AllocError> {
+    let Some(entry) = sight.entries.get(name) else {
+        return Ok(None);
+    };
     let Meaning::Definition(body) = &entry.meaning else {
-        return None;
+        return Ok(None);
     };
     match without_conditions(sight, *body) {
-        Ok(phrase) => bare_name(phrase),
-        Err(_) => None,
+        Ok(phrase) => Ok(bare_name(phrase)),
+        Err(error) => match error.kind {
+            ScriptErrorKind::Memory => Err(AllocError),
+            _ => Ok(None),
+        },
     }
 }
 
 /// Whether the name leads to others without end. Names that do are those of processes.
-fn leads_in_a_circle<'a, A: Allocator + Copy>(sight: &Sight<'_, 'a, A>, name: &[u8]) -> bool {
+fn leads_in_a_circle<'a, A: Allocator + Copy>(
+    sight: &Sight<'_, 'a, A>,
+    name: &[u8],
+) -> Result<bool, AllocError> {
     if !sight.entries.is_process(name) {
-        return false;
+        return Ok(false);
     }
     let mut followed = name;
     for _ in 0..sight.entries.len() {
-        match next_name(sight, followed) {
+        match next_name(sight, followed)? {
             Some(next) => followed = next,
-            None => return false,
+            None => return Ok(false),
         }
     }
-    true
+    Ok(true)
+}
+
+/// What the definition with this name is, which was looked into or leads in a circle.
+fn kind_named<'a, A: Allocator + Copy>(
+    sight: &Sight<'_, 'a, A>,
+    name: &[u8],
+    found: Found,
+) -> Result<Option<Kind>, AllocError> {
+    match found {
+        Found::Is(kind) => Ok(Some(kind)),
+        Found::Nothing => {
+            let circle = leads_in_a_circle(sight, name)?;
+            Ok(if circle { Some(Kind::Process) } else { None })
+        }
+        Found::Fault(_) => Ok(None),
+    }
 }
 
 /// What was found of the definition whose name is all of this phrase.
 fn kind_behind<'a, A: Allocator + Copy>(
     sight: &Sight<'_, 'a, A>,
     phrase: &Tree<A>,
-) -> Option<Kind> {
-    let name = bare_name(phrase)?;
-    let place = sight.entries.place(name)?;
+) -> Result<Option<Kind>, AllocError> {
+    let Some(name) = bare_name(phrase) else {
+        return Ok(None);
+    };
+    let Some(place) = sight.entries.place(name) else {
+        return Ok(None);
+    };
     match sight.found.get(place) {
-        Some(Found::Is(kind)) => Some(*kind),
-        Some(Found::Nothing) if leads_in_a_circle(sight, name) => Some(Kind::Process),
-        _ => None,
+        Some(found) => kind_named(sight, name, *found),
+        None => Ok(None),
     }
 }
 
@@ -65,7 +95,7 @@ fn kind_of_body<'a, A: Allocator + Copy>(
     body: &Tree<A>,
 ) -> Result<Kind, ScriptError> {
     let phrase = without_conditions(sight, body)?;
-    if let Some(kind) = kind_behind(sight, phrase) {
+    if let Some(kind) = kind_behind(sight, phrase)? {
         return Ok(kind);
     }
     let kind = kind_of(sight, phrase, Wanted::Anything, phrase.line())?;

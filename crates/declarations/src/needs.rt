@@ -1,10 +1,12 @@
-//! The names that a phrase needs, each behind those that its own definition needs: they are met in the order in which what
+//! The names that a phrase needs, each after those that its own definition needs: they are met in the order in which what
 //! the phrase stands for is found. What isn't looked at there is left out.
 
 use crate::sight::Sight;
 use declared_names::{Meaning, is_process_form};
 use std::alloc::{AllocError, Allocator};
+use std::mem::replace;
 use syntax::{Form, Operator, Tree};
+use tokens::ScriptErrorKind;
 use values::{Input, Worth, stands_for};
 
 /// What is still to be done, by the places of names.
@@ -21,123 +23,139 @@ fn truth_of<'a, A: Allocator + Copy>(
     sight: &Sight<'_, 'a, A>,
     inputs: &[Input<A>],
     phrase: &Tree<A>,
-) -> Option<bool> {
+) -> Result<Option<bool>, AllocError> {
     match stands_for(&sight.alloc, sight.known, inputs, phrase) {
-        Ok(Worth::Truth(truth)) => Some(truth),
-        _ => None,
+        Ok(Worth::Truth(truth)) => Ok(Some(truth)),
+        Ok(_) => Ok(None),
+        Err(error) => match error.kind {
+            ScriptErrorKind::Memory => Err(AllocError),
+            _ => Ok(None),
+        },
     }
 }
 
-/// The name, to be met, if it is declared and no input hides it.
-fn with_name<'a, A: Allocator + Copy>(
+/// Puts the name on the stack, to be met, if it is declared and no input hides it.
+fn push_name<'a, A: Allocator + Copy>(
     sight: &Sight<'_, 'a, A>,
     inputs: &[Input<A>],
     name: &[u8],
-    stack: Vec<Turn, A>,
-) -> Result<Vec<Turn, A>, AllocError> {
-    let mut stack = stack;
+    stack: &mut Vec<Turn, A>,
+) -> Result<(), AllocError> {
     if !inputs.iter().any(|input| input.name.as_slice() == name) {
         if let Some(place) = sight.entries.place(name) {
             stack.push(Turn::Meet(place))?;
         }
     }
-    Ok(stack)
+    Ok(())
 }
 
-/// The names that the phrase behind these inputs needs, to be met, the first one on top of the stack. A process needs none.
+/// Puts the names that the phrase behind these inputs needs on the stack, to be met, the first one on top. A process needs none.
 #[cycle(needs)]
-fn with_needs<'a, A: Allocator + Copy>(
+fn push_needs<'a, A: Allocator + Copy>(
     sight: &Sight<'_, 'a, A>,
     inputs: &[Input<A>],
     phrase: &Tree<A>,
-    stack: Vec<Turn, A>,
-) -> Result<Vec<Turn, A>, AllocError> {
+    stack: &mut Vec<Turn, A>,
+) -> Result<(), AllocError> {
     match phrase {
-        Tree::Name { text, .. } => with_name(sight, inputs, text, stack),
-        Tree::Number { .. } => Ok(stack),
-        Tree::Node { form, parts, .. } => with_needs_of_parts(sight, inputs, *form, parts, stack),
+        Tree::Name { text, .. } => push_name(sight, inputs, text, stack),
+        Tree::Number { .. } => Ok(()),
+        Tree::Node { form, parts, .. } => push_needs_of_parts(sight, inputs, *form, parts, stack),
     }
 }
 
 /// The same of a phrase by its form.
 #[cycle(needs)]
-fn with_needs_of_parts<'a, A: Allocator + Copy>(
+fn push_needs_of_parts<'a, A: Allocator + Copy>(
     sight: &Sight<'_, 'a, A>,
     inputs: &[Input<A>],
     form: Form,
     parts: &[Tree<A>],
-    stack: Vec<Turn, A>,
-) -> Result<Vec<Turn, A>, AllocError> {
-    let mut stack = stack;
+    stack: &mut Vec<Turn, A>,
+) -> Result<(), AllocError> {
     match (form, parts) {
         (Form::If, [condition, first, second]) => {
-            stack = match truth_of(sight, inputs, condition) {
-                Some(true) => with_needs(sight, inputs, first, stack)?,
-                Some(false) => with_needs(sight, inputs, second, stack)?,
-                None => stack,
-            };
-            with_needs(sight, inputs, condition, stack)
+            match truth_of(sight, inputs, condition)? {
+                Some(true) => push_needs(sight, inputs, first, stack)?,
+                Some(false) => push_needs(sight, inputs, second, stack)?,
+                None => {}
+            }
+            push_needs(sight, inputs, condition, stack)
         }
         (Form::Operation(Operator::And | Operator::Or), [first, second]) => {
             let decisive = form == Form::Operation(Operator::Or);
-            if truth_of(sight, inputs, first) == Some(!decisive) {
-                stack = with_needs(sight, inputs, second, stack)?;
+            if truth_of(sight, inputs, first)? == Some(!decisive) {
+                push_needs(sight, inputs, second, stack)?;
             }
-            with_needs(sight, inputs, first, stack)
+            push_needs(sight, inputs, first, stack)
         }
         _ => {
             if !is_process_form(form) {
                 for part in parts.iter().rev() {
-                    stack = with_needs(sight, inputs, part, stack)?;
+                    push_needs(sight, inputs, part, stack)?;
                 }
             }
-            Ok(stack)
+            Ok(())
         }
     }
 }
 
-/// The names that the definition of the name at this place needs, to be met, the first one on top of the stack.
-fn with_needs_at<'a, A: Allocator + Copy>(
+/// Puts the names that the definition of the name at this place needs on the stack, to be met, the first one on top.
+fn push_needs_at<'a, A: Allocator + Copy>(
     sight: &Sight<'_, 'a, A>,
     place: usize,
-    stack: Vec<Turn, A>,
-) -> Result<Vec<Turn, A>, AllocError> {
+    stack: &mut Vec<Turn, A>,
+) -> Result<(), AllocError> {
     let none = Vec::new(sight.alloc);
     match sight.entries.at(place) {
         Some(entry) => match &entry.meaning {
-            Meaning::Definition(body) => with_needs(sight, &none, body, stack),
-            _ => Ok(stack),
+            Meaning::Definition(body) => push_needs(sight, &none, body, stack),
+            _ => Ok(()),
         },
-        None => Ok(stack),
+        None => Ok(()),
     }
 }
 
-/// The places of the names on the stack, and of those that they need, in this order. Costs a turn for each name and for each
-/// use of one.
-fn in_order<'a, A: Allocator + Copy>(
+/// Whether the place is met for the first time; it has been met from then on.
+fn is_first(met: &mut [bool], place: usize) -> bool {
+    match met.get_mut(place) {
+        Some(met) => !replace(met, true),
+        None => false,
+    }
+}
+
+/// Puts the places of the names on the stack, and of those that they need, in this order. Costs a turn for each name and for
+/// each use of one.
+fn put_in_order<'a, A: Allocator + Copy>(
     sight: &Sight<'_, 'a, A>,
-    stack: Vec<Turn, A>,
-) -> Result<Vec<usize, A>, AllocError> {
-    let alloc = sight.alloc;
-    let mut order = Vec::new(alloc);
-    let mut met = vec![in alloc; false; sight.entries.len()]?;
-    let mut stack = stack;
+    stack: &mut Vec<Turn, A>,
+    met: &mut [bool],
+    order: &mut Vec<usize, A>,
+) -> Result<(), AllocError> {
     // A script has far fewer names and uses of names than this.
     for _ in 0..u32::MAX {
         match stack.pop() {
             Some(Turn::Meet(place)) => {
-                if let Some(met) = met.get_mut(place) {
-                    if !*met {
-                        *met = true;
-                        stack.push(Turn::Leave(place))?;
-                        stack = with_needs_at(sight, place, stack)?;
-                    }
+                if is_first(met, place) {
+                    stack.push(Turn::Leave(place))?;
+                    push_needs_at(sight, place, stack)?;
                 }
             }
             Some(Turn::Leave(place)) => order.push(place)?,
             None => break,
         }
     }
+    Ok(())
+}
+
+/// The places of the names on the stack, and of those that they need, in their order.
+fn in_order<'a, A: Allocator + Copy>(
+    sight: &Sight<'_, 'a, A>,
+    stack: &mut Vec<Turn, A>,
+) -> Result<Vec<usize, A>, AllocError> {
+    let mut met = vec![in sight.alloc; false; sight.entries.len()]?;
+    let mut order = Vec::new(sight.alloc);
+    put_in_order(sight, stack, &mut met, &mut order)?;
     Ok(order)
 }
 
@@ -147,8 +165,9 @@ pub(crate) fn needs_of_phrase<'a, A: Allocator + Copy>(
     inputs: &[Input<A>],
     phrase: &Tree<A>,
 ) -> Result<Vec<usize, A>, AllocError> {
-    let stack = with_needs(sight, inputs, phrase, Vec::new(sight.alloc))?;
-    in_order(sight, stack)
+    let mut stack = Vec::new(sight.alloc);
+    push_needs(sight, inputs, phrase, &mut stack)?;
+    in_order(sight, &mut stack)
 }
 
 /// The places of the name and of those that it needs, in their order.
@@ -157,6 +176,7 @@ pub(crate) fn needs_of_name<'a, A: Allocator + Copy>(
     name: &[u8],
 ) -> Result<Vec<usize, A>, AllocError> {
     let none = Vec::new(sight.alloc);
-    let stack = with_name(sight, &none, name, Vec::new(sight.alloc))?;
-    in_order(sight, stack)
+    let mut stack = Vec::new(sight.alloc);
+    push_name(sight, &none, name, &mut stack)?;
+    in_order(sight, &mut stack)
 }

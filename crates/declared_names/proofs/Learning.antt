@@ -5,12 +5,13 @@ use Rattle.std.proofs.lemmas.Bool.Decides.{eqb_tells}
 use Rattle.std.specs.Prelude.{slice_get}
 use Rattle.std.specs.Cmp.Lexicographic.{bytes_decides}
 use Rattle.tokens.specs.declared.error.ScriptErrorKind.{ScriptErrorKind}
-use Rattle.tokens.specs.declared.error.ScriptErrorKind.TheVariants as kinds
+use Rattle.tokens.specs.declared.error.ScriptErrorKind.TheVariants.{Memory}
 use Rattle.values.specs.View.{Fails}
 use Rattle.values.specs.Values.{◌>>=◌, Name}
 use Rattle.values.specs.Worths.{Worth, Known}
 use Rattle.values.specs.Names.{Entry, Meaning, same_name, meaning, worth_of, known_in, next_known, IsReached, IsWithin, Stands}
 use Rattle.values.proofs.Named.{later_steps, sound_step, stands_by_steps}
+use Rattle.declared_names.proofs.FaultKinds.{none_wanted}
 use Rattle.declared_names.specs.Standing.{IsSettled, lacking, Learns, LearnsFirst, LearnsAll}
 
 some_same : {X : Type 0} {x y : X} → Some x ≡ Some y → x ≡ y
@@ -182,17 +183,5 @@ stands es f g h l =
     subst (Stands es) (sym l.0) (stands_by_steps es f h (all_settled es f l.1))
 
 -- a name whose definition is at fault
-pub settled_fault : (k : ScriptErrorKind) (es : List Entry) (f : Known) (n : Name) → (k ≡ kinds.Memory → ⊥) → Fails k (next_known es f n) → IsSettled es f n
-settled_fault kinds.Memory es f n h e = absurd (h refl)
-settled_fault kinds.BadByte es f n h e = settled_none es f n e
-settled_fault kinds.BadToken es f n h e = settled_none es f n e
-settled_fault kinds.Expected es f n h e = settled_none es f n e
-settled_fault kinds.UnknownName es f n h e = settled_none es f n e
-settled_fault kinds.Redeclared es f n h e = settled_none es f n e
-settled_fault kinds.WrongFields es f n h e = settled_none es f n e
-settled_fault kinds.OutOfRange es f n h e = settled_none es f n e
-settled_fault kinds.TooManyEvents es f n h e = settled_none es f n e
-settled_fault kinds.TooDeep es f n h e = settled_none es f n e
-settled_fault kinds.TooLarge es f n h e = settled_none es f n e
-settled_fault kinds.Unsupported es f n h e = settled_none es f n e
-settled_fault kinds.NoSuchProcess es f n h e = settled_none es f n e
+pub settled_fault : (k : ScriptErrorKind) (es : List Entry) (f : Known) (n : Name) → (k ≡ Memory → ⊥) → Fails k (next_known es f n) → IsSettled es f n
+settled_fault k es f n h e = settled_none es f n (none_wanted k (next_known es f n) h e)

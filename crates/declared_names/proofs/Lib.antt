@@ -1,4 +1,5 @@
 pub mod Chains
+pub mod FaultKinds
 pub mod Shapes
 pub mod Loops
 pub mod Tables

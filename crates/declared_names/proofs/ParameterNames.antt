@@ -1,7 +1,5 @@
 -- Parameters, none twice and none with a constant's name.
-use Rattle.std.proofs.Common.{◌≡◌, ℕ, zero, suc, ◌+◌, ◌-◌, ◌<◌, ◌≤◌, List, [], ◌∷◌, ◌++◌, map, length, take, drop, get_or, Bool, true, false, not, ◌&&◌, ◌||◌, cond, Option, Some, None, Vec, Bor, refl, sym, ap, ◌∙◌, arith}
-use Rattle.std.proofs.Math.Seq.{take-length}
-use Rattle.std.proofs.lemmas.List.{length-drop}
+use Rattle.std.proofs.Common.{◌≡◌, ℕ, zero, suc, ◌+◌, ◌<◌, ◌≤◌, List, [], ◌∷◌, ◌++◌, map, length, drop, get_or, Bool, true, false, not, ◌&&◌, ◌||◌, cond, Option, Some, None, Vec, Bor, refl, sym, ap, ◌∙◌, arith}
 use Rattle.std.specs.List.{list_any, list_all}
 use Rattle.std.specs.Option.{option_map}
 use Rattle.std.specs.Prelude.{slice_get}
@@ -13,67 +11,9 @@ use Rattle.declared_names.proofs.Entered.{same_sym}
 abbrev pub plain : {A : Type 0} → List (Vec ℕ A) → List Name
 plain ns = map (λ n. n.items) ns
 
--- ---- each compared with each
-
 -- whether those from the place i on are in order
 abbrev pub left : {A : Type 0} → List Entry → List (Vec ℕ A) → ℕ → Bool
 left es ns i = are_parameters es (plain (drop i ns))
-
-among_plain : {A : Type 0} (m : Name) (ns : List (Vec ℕ A)) → list_any (λ (n : Vec ℕ A). same_name m n.items) ns ≡ list_any (same_name m) (plain ns)
-among_plain m [] = refl
-among_plain m (n ∷ ns) = ap (λ b. same_name m n.items || b) (among_plain m ns)
-
-next_pair : {A : Type 0} (es : List Entry) (ns : List (Vec ℕ A)) (i : ℕ) (n : Vec ℕ A) → i < length ns → n ≡ get_or ns i n → left es ns i ≡ (not (list_any (same_name n.items) (plain (drop (i + 1) ns))) && not (is_constant (meaning es n.items)) && left es ns (i + 1))
-unfolding are_parameters
-next_pair es ns i n h is = ap (λ xs. are_parameters es (plain xs)) (cell ns i n h is)
-
-no_constant : (b c : Bool) → (b && false && c) ≡ false
-no_constant true c = refl
-no_constant false c = refl
-
--- what stands from a place on
-after_all : {X : Type 0} (xs : List X) (i : ℕ) → take (length xs - i) (drop i xs) ≡ drop i xs
-after_all xs i =
-    let size : length xs - i ≡ length (drop i xs) = sym (length-drop i xs) in
-    rw size (take-length (drop i xs))
-
--- whether the next one is among those after it, as its text is held against them
-abbrev pub stands_again : {A : Type 0} → Name → List (Vec ℕ A) → ℕ → Bool
-stands_again m ns i = list_any (λ n. same_name m n.items) (take (length ns - (i + 1)) (drop (i + 1) ns))
-
-again : {A : Type 0} (ns : List (Vec ℕ A)) (i : ℕ) (n : Vec ℕ A) (m : Name) (b : Bool) → m ≡ n.items → stands_again m ns i ≡ b → list_any (same_name n.items) (plain (drop (i + 1) ns)) ≡ b
-again ns i n m b e h =
-    ap (λ x. list_any (same_name x) (plain (drop (i + 1) ns))) (sym e)
-    ∙ sym (among_plain m (drop (i + 1) ns))
-    ∙ ap (list_any (λ k. same_name m k.items)) (sym (after_all ns (i + 1)))
-    ∙ h
-
-module _ {A : Type 0} (es : List Entry) (ns : List (Vec ℕ A)) (i : ℕ) (n : Vec ℕ A) (m : Name) (whole : Bool) (inv : left es ns i ≡ whole) (h : i < length ns) (is : n ≡ get_or ns i n) (e : m ≡ n.items) where
-  constant_of : (b : Bool) → is_constant (meaning es m) ≡ b → is_constant (meaning es n.items) ≡ b
-  constant_of b q = ap (λ x. is_constant (meaning es x)) (sym e) ∙ q
-
-  -- the next one differs from those after it, and is no constant's
-  pub pair_more : stands_again m ns i ≡ false → is_constant (meaning es m) ≡ false → left es ns (i + 1) ≡ whole
-  pair_more p q =
-      sym (ap (λ b. not b && true && left es ns (i + 1)) (again ns i n m false e p))
-      ∙ sym (next_pair es ns i n h is ∙ ap (λ b. not (list_any (same_name n.items) (plain (drop (i + 1) ns))) && not b && left es ns (i + 1)) (constant_of false q))
-      ∙ inv
-
-  pub pair_twice : stands_again m ns i ≡ true → false ≡ whole
-  pair_twice p = sym (next_pair es ns i n h is ∙ ap (λ b. not b && not (is_constant (meaning es n.items)) && left es ns (i + 1)) (again ns i n m true e p)) ∙ inv
-
-  pub pair_constant : is_constant (meaning es m) ≡ true → false ≡ whole
-  pair_constant q =
-      sym (next_pair es ns i n h is
-      ∙ ap (λ c. not (list_any (same_name n.items) (plain (drop (i + 1) ns))) && not c && left es ns (i + 1)) (constant_of true q)
-      ∙ no_constant (not (list_any (same_name n.items) (plain (drop (i + 1) ns)))) (left es ns (i + 1)))
-      ∙ inv
-
-pub pair_end : {A : Type 0} (es : List Entry) (ns : List (Vec ℕ A)) (i : ℕ) (whole : Bool) → left es ns i ≡ whole → length ns ≤ i → true ≡ whole
-unfolding are_parameters
-pair_end es ns i whole inv h = sym (ap (λ xs. are_parameters es (plain xs)) (none_left ns i h)) ∙ inv
-
--- ---- by what stands before
 
 -- whether the name is among these
 abbrev pub among : List (Bor Name) → Name → Bool

@@ -9,6 +9,9 @@ use syntax::Tree;
 
 pub(crate) type Hashing = BuildHasherDefault<FoldHasher>;
 
+/// Names with what they are declared as, in text order.
+pub(crate) type Table<'a, A> = IndexMap<Vec<u8, A>, Entry<'a, A>, Hashing, A>;
+
 /// What a name is declared as.
 #[derive(Drop)]
 pub enum Meaning<'a, A: Allocator> {
@@ -41,7 +44,7 @@ pub struct Entry<'a, A: Allocator> {
 /// The names that a script declares, in text order.
 #[derive(Drop)]
 pub struct Entries<'a, A: Allocator> {
-    pub(crate) table: IndexMap<Vec<u8, A>, Entry<'a, A>, Hashing, A>,
+    pub(crate) table: Table<'a, A>,
     /// Whether the name at each place may be one of a process, where it was found; `None` in a circle of names, which is one.
     pub(crate) answers: Vec<Option<bool>, A>,
     ghost answered: { AreAnswers (listed table.entries) answers.items },

@@ -10,38 +10,35 @@ use tokens::{ScriptError, ScriptErrorKind};
 
 type Names<'a, A> = IndexSet<&'a [u8], Hashing, A>;
 
-/// The names and this one; `Redeclared` where it is among them.
-fn with_new<'a, A: Allocator + Copy>(
-    names: Names<'a, A>,
+/// Puts the name among the names; `Redeclared` where it is there.
+fn put_new<'a, A: Allocator + Copy>(
+    names: &mut Names<'a, A>,
     name: &'a Tree<A>,
-) -> Result<Names<'a, A>, ScriptError> {
-    let mut names = names;
+) -> Result<(), ScriptError> {
     if let Part::Name(text) = part_of(name) {
         if !names.insert(text)? {
             return Err(fault(name.line(), ScriptErrorKind::Redeclared));
         }
     }
-    Ok(names)
+    Ok(())
 }
 
-/// The names and these; `Redeclared` at the first one that stands for the second time.
-fn with_all_new<'a, A: Allocator + Copy>(
-    names: Names<'a, A>,
+/// Puts these among the names; `Redeclared` at the first one that stands for the second time.
+fn put_all_new<'a, A: Allocator + Copy>(
+    names: &mut Names<'a, A>,
     more: &'a [Tree<A>],
-) -> Result<Names<'a, A>, ScriptError> {
-    let mut names = names;
+) -> Result<(), ScriptError> {
     for name in more {
-        names = with_new(names, name)?;
+        put_new(names, name)?;
     }
-    Ok(names)
+    Ok(())
 }
 
-/// The names and those of the constants that this declares, if it declares some.
-fn with_constants<'a, A: Allocator + Copy>(
-    names: Names<'a, A>,
+/// Puts the names of the constants that this declares among the names, if it declares some.
+fn put_constants<'a, A: Allocator + Copy>(
+    names: &mut Names<'a, A>,
     declaration: &'a Tree<A>,
-) -> Result<Names<'a, A>, ScriptError> {
-    let mut names = names;
+) -> Result<(), ScriptError> {
     if let Part::Node(Form::Datatype, [_, constants]) = part_of(declaration) {
         for constant in name_list(constants)? {
             if let Part::Name(text) = part_of(constant) {
@@ -49,19 +46,22 @@ fn with_constants<'a, A: Allocator + Copy>(
             }
         }
     }
-    Ok(names)
+    Ok(())
 }
 
-/// The names of all constants that are declared.
-fn constants_of<'a, A: Allocator + Copy>(
-    alloc: A,
-    declarations: &'a [Tree<A>],
-) -> Result<Names<'a, A>, ScriptError> {
-    let mut constants = IndexSet::new(alloc);
-    for declaration in declarations {
-        constants = with_constants(constants, declaration)?;
+/// Looks at a parameter behind these: `Redeclared` where it is one of them, `Unsupported` where it has the name of a constant.
+fn look_at_parameter<'a, A: Allocator + Copy>(
+    constants: &Names<'a, A>,
+    earlier: &mut Names<'a, A>,
+    parameter: &'a Tree<A>,
+) -> Result<(), ScriptError> {
+    put_new(earlier, parameter)?;
+    match part_of(parameter) {
+        Part::Name(text) if constants.contains(text) => {
+            Err(fault(parameter.line(), ScriptErrorKind::Unsupported))
+        }
+        _ => Ok(()),
     }
-    Ok(constants)
 }
 
 /// Looks at parameters from left to right: `Redeclared` at one that stands for the second time, `Unsupported` at one with the
@@ -73,40 +73,51 @@ fn look_at_parameters<'a, A: Allocator + Copy>(
 ) -> Result<(), ScriptError> {
     let mut earlier = IndexSet::new(alloc);
     for parameter in parameters {
-        earlier = with_new(earlier, parameter)?;
-        if let Part::Name(text) = part_of(parameter) {
-            if constants.contains(text) {
-                return Err(fault(parameter.line(), ScriptErrorKind::Unsupported));
-            }
-        }
+        look_at_parameter(constants, &mut earlier, parameter)?;
     }
     Ok(())
 }
 
-/// The names and those of a declaration; its first fault, where its names or parameters have one.
-fn with_declared<'a, A: Allocator + Copy>(
+/// Puts those of a declaration among the names; its first fault, where its names or parameters have one.
+fn put_declared<'a, A: Allocator + Copy>(
     alloc: A,
     constants: &Names<'a, A>,
-    names: Names<'a, A>,
+    names: &mut Names<'a, A>,
     declaration: &'a Tree<A>,
-) -> Result<Names<'a, A>, ScriptError> {
+) -> Result<(), ScriptError> {
     let Part::Node(form, parts) = part_of(declaration) else {
-        return Ok(names);
+        return Ok(());
     };
     match parts {
         [name, parameters, _] => {
-            let names = with_new(names, name)?;
-            look_at_parameters(alloc, constants, name_list(parameters)?)?;
-            Ok(names)
+            put_new(names, name)?;
+            look_at_parameters(alloc, constants, name_list(parameters)?)
         }
         [first, second] => match form {
-            Form::ChannelsWithFields => with_all_new(names, name_list(first)?),
-            Form::Datatype => with_all_new(with_new(names, first)?, name_list(second)?),
-            _ => with_new(names, first),
+            Form::ChannelsWithFields => put_all_new(names, name_list(first)?),
+            Form::Datatype => {
+                put_new(names, first)?;
+                put_all_new(names, name_list(second)?)
+            }
+            _ => put_new(names, first),
         },
-        [channels] => with_all_new(names, name_list(channels)?),
-        _ => Ok(names),
+        [channels] => put_all_new(names, name_list(channels)?),
+        _ => Ok(()),
     }
+}
+
+/// Looks at the names and the parameters of declarations, where these are the names of all constants, in text order, up to the
+/// first fault.
+fn look_at_names<'a, A: Allocator + Copy>(
+    alloc: A,
+    constants: &Names<'a, A>,
+    declarations: &'a [Tree<A>],
+) -> Result<(), ScriptError> {
+    let mut names = IndexSet::new(alloc);
+    for declaration in declarations {
+        put_declared(alloc, constants, &mut names, declaration)?;
+    }
+    Ok(())
 }
 
 /// Looks at the names and the parameters of declarations, in text order, up to the first fault.
@@ -114,12 +125,11 @@ fn look_through<'a, A: Allocator + Copy>(
     alloc: A,
     declarations: &'a [Tree<A>],
 ) -> Result<(), ScriptError> {
-    let constants = constants_of(alloc, declarations)?;
-    let mut names = IndexSet::new(alloc);
+    let mut constants = IndexSet::new(alloc);
     for declaration in declarations {
-        names = with_declared(alloc, &constants, names, declaration)?;
+        put_constants(&mut constants, declaration)?;
     }
-    Ok(())
+    look_at_names(alloc, &constants, declarations)
 }
 
 /// The first fault in the names that a script with this tree declares, where names are declared twice or parameters aren't as

@@ -1,59 +1,49 @@
-//! Names put among the declared ones, and looked up.
-ghost use Rattle.std.specs.Prelude.{◌≡◌, ◌↔◌, IsTrue, [], length, slice_get, Some, MatchOption};
+//! Names entered among the declared ones, and looked up.
+ghost use Rattle.std.specs.Prelude.{◌≡◌, ◌↔◌, IsTrue, length, slice_get, Some, MatchOption};
 ghost use Rattle.std.specs.Option.{option_map};
 ghost use Rattle.values.specs.View.{Gives};
 ghost use Rattle.values.specs.Names.{meaning as meaning_in};
 ghost use Rattle.declared_names.specs.Entering.{put};
+ghost use Rattle.declared_names.specs.Stored.{listed};
 ghost use Rattle.declared_names.specs.Told.{name_in};
 ghost use Rattle.declared_names.specs.View.{entries as entries_of, meaning_of};
 
-use crate::entries::{Entries, Entry, Meaning};
+use crate::entries::{Entries, Entry, Meaning, Table};
+use crate::part::fault;
 use crate::told::answers;
-use indexmap::IndexMap;
 use std::alloc::Allocator;
 use tokens::{ScriptError, ScriptErrorKind};
 
+/// Enters the name after the others; `Redeclared` where it is among them.
+#[tactic(auto, unfolding(crate::specs::Entering::put), using(crate::proofs::Tables::is_there, crate::proofs::Tables::appended))]
+pub(crate) fn enter<'a, A: Allocator + Copy>(
+    table: &mut Table<'a, A>,
+    name: &[u8],
+    line: u32,
+    meaning: Meaning<'a, A>,
+) -> Result<(), ScriptError>
+    ensures { Gives (λ _. listed table.new.entries) result (put (listed table.old.entries) (name.now, meaning_of meaning.entry)) }
+{
+    if table.contains_key(name) {
+        return Err(fault(line, ScriptErrorKind::Redeclared));
+    }
+    let name = Vec::from_slice(*table.allocator(), name)?;
+    let _old = table.insert(name, Entry { line, meaning })?;
+    Ok(())
+}
+
 impl<'a, A: Allocator + Copy> Entries<'a, A> {
-    /// No names.
-    pub(crate) fn new(alloc: A) -> Entries<'a, A>
-        ensures { entries_of result ≡ [] }
+    /// The names in the table, with what can be found of them all at once.
+    pub(crate) fn complete(alloc: A, table: Table<'a, A>) -> Result<Entries<'a, A>, ScriptError>
+        ensures { Gives entries_of result (Some (listed table.entry.entries)) }
     {
-        Entries {
-            table: IndexMap::new(alloc),
+        let entries = Entries {
+            table,
             answers: Vec::new(alloc),
-        }
-    }
-
-    /// The names and this one behind them; `Redeclared` where it is among them.
-    #[tactic(auto, unfolding(crate::specs::Entering::put), using(crate::proofs::Tables::is_there, crate::proofs::Tables::appended))]
-    pub(crate) fn with(
-        self,
-        name: &[u8],
-        line: u32,
-        meaning: Meaning<'a, A>,
-    ) -> Result<Entries<'a, A>, ScriptError>
-        ensures { Gives entries_of result (put (entries_of self.entry) (name.now, meaning_of meaning.entry)) }
-    {
-        let mut table = self.table;
-        if table.contains_key(name) {
-            return Err(ScriptError {
-                line,
-                kind: ScriptErrorKind::Redeclared,
-            });
-        }
-        let name = Vec::from_slice(*table.allocator(), name)?;
-        let answers = Vec::new(*table.allocator());
-        let _old = table.insert(name, Entry { line, meaning })?;
-        Ok(Entries { table, answers })
-    }
-
-    /// The same names, with what can be found of them all at once.
-    pub(crate) fn complete(self, alloc: A) -> Result<Entries<'a, A>, ScriptError>
-        ensures { Gives entries_of result (Some (entries_of self.entry)) }
-    {
-        let answers = answers(alloc, &self)?;
+        };
+        let answers = answers(alloc, &entries)?;
         Ok(Entries {
-            table: self.table,
+            table: entries.table,
             answers,
         })
     }

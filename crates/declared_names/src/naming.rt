@@ -4,12 +4,15 @@ ghost use Rattle.syntax.specs.View.{shape, shapes};
 ghost use Rattle.syntax.specs.Parsing.{syntaxes};
 ghost use Rattle.values.specs.Names.{field_sets};
 ghost use Rattle.values.specs.View.{Gives};
-ghost use Rattle.declared_names.specs.View.{entries as entries_of, role};
+ghost use Rattle.declared_names.specs.Stored.{listed};
+ghost use Rattle.declared_names.specs.View.{entries as entries_of, meaning_of, role};
 ghost use Rattle.declared_names.specs.Steps.{steps};
 ghost use Rattle.declared_names.specs.Entering.{add_name, list_parts, put_name, put_channels, put_fielded, put_datatype, put_typed, put_defined, put_parametric, put_form, put_declaration, script_parts, distinct_entries as distinct_entries_of};
 
-use crate::entries::{Entries, Meaning};
+use crate::entries::{Entries, Meaning, Table};
+use crate::names::enter;
 use crate::part::{Part, fault, no_parts, only_part, part_of, three_parts, two_parts};
+use indexmap::IndexMap;
 use std::alloc::Allocator;
 use syntax::{Form, Tree};
 use tokens::{ScriptError, ScriptErrorKind};
@@ -42,39 +45,62 @@ pub fn set_list<A: Allocator>(tree: &Tree<A>) -> Result<&[Tree<A>], ScriptError>
     }
 }
 
-/// The names and this one: of a channel with these sets of fields, where there are any, else of a constant.
-#[tactic(auto, unfolding(crate::specs::Entering::put_name))]
-fn with_name<'a, A: Allocator + Copy>(
-    entries: Entries<'a, A>,
-    name: &'a Tree<A>,
-    sets: Option<&'a [Tree<A>]>,
-) -> Result<Entries<'a, A>, ScriptError>
-    ensures { Gives entries_of result (put_name (role sets.entry) (entries_of entries.entry) (shape name.now)) }
+/// What names are declared as: channels with these sets of fields, where there are any, else constants.
+fn meaning_with<'a, A: Allocator>(sets: Option<&'a [Tree<A>]>) -> Meaning<'a, A>
+    ensures { meaning_of result ≡ role sets.entry }
 {
-    let meaning = match sets {
+    match sets {
         Some(sets) => Meaning::Channel(sets),
         None => Meaning::Constant,
-    };
+    }
+}
+
+/// Enters this name: of a channel with these sets of fields, where there are any, else of a constant.
+#[tactic(auto, unfolding(crate::specs::Entering::put_name))]
+fn enter_name<'a, A: Allocator + Copy>(
+    table: &mut Table<'a, A>,
+    name: &'a Tree<A>,
+    sets: Option<&'a [Tree<A>]>,
+) -> Result<(), ScriptError>
+    ensures { Gives (λ _. listed table.new.entries) result (put_name (role sets.entry) (listed table.old.entries) (shape name.now)) }
+{
     match part_of(name) {
-        Part::Name(text) => entries.with(text, name.line(), meaning),
+        Part::Name(text) => enter(table, text, name.line(), meaning_with(sets)),
         _ => Err(fault(name.line(), ScriptErrorKind::Expected)),
     }
 }
 
-/// The names and these, of channels with these sets of fields or else of constants.
+/// Enters these names, of channels with these sets of fields or else of constants.
 #[tactic(auto, using(crate::proofs::Loops::all_start, crate::proofs::Loops::all_more, crate::proofs::Loops::all_fail, crate::proofs::Loops::all_end))]
-fn with_names<'a, A: Allocator + Copy>(
-    entries: Entries<'a, A>,
+fn enter_names<'a, A: Allocator + Copy>(
+    table: &mut Table<'a, A>,
     names: &'a [Tree<A>],
     sets: Option<&'a [Tree<A>]>,
-) -> Result<Entries<'a, A>, ScriptError>
-    ensures { Gives entries_of result (steps (put_name (role sets.entry)) (entries_of entries.entry) (syntaxes (shapes names.now))) }
+) -> Result<(), ScriptError>
+    ensures { Gives (λ _. listed table.new.entries) result (steps (put_name (role sets.entry)) (listed table.old.entries) (syntaxes (shapes names.now))) }
 {
-    let mut entries = entries;
     for name in names {
-        entries = with_name(entries, name, sets)?;
+        enter_name(table, name, sets)?;
     }
-    Ok(entries)
+    Ok(())
+}
+
+/// Appends this name.
+#[tactic(auto, unfolding(crate::specs::Entering::add_name), using(crate::proofs::Tables::pushed))]
+fn push_name<A: Allocator + Copy>(
+    alloc: A,
+    names: &mut Vec<Vec<u8, A>, A>,
+    part: &Tree<A>,
+) -> Result<(), ScriptError>
+    ensures { Gives (λ _. map (λ n. n.items) names.new.items) result (add_name (map (λ n. n.items) names.old.items) (shape part.now)) }
+{
+    match part_of(part) {
+        Part::Name(text) => {
+            names.push(Vec::from_slice(alloc, text)?)?;
+            Ok(())
+        }
+        _ => Err(fault(part.line(), ScriptErrorKind::Expected)),
+    }
 }
 
 /// The names in a list of names.
@@ -86,199 +112,177 @@ fn names_in<A: Allocator + Copy>(
 {
     let mut names = Vec::new(alloc);
     for part in parts {
-        names = with_name_of(alloc, names, part)?;
+        push_name(alloc, &mut names, part)?;
     }
     Ok(names)
 }
 
-/// The names and one more.
-#[tactic(auto, unfolding(crate::specs::Entering::add_name), using(crate::proofs::Tables::pushed))]
-fn with_name_of<A: Allocator + Copy>(
-    alloc: A,
-    names: Vec<Vec<u8, A>, A>,
-    part: &Tree<A>,
-) -> Result<Vec<Vec<u8, A>, A>, ScriptError>
-    ensures { Gives (λ v. map (λ n. n.items) v.items) result (add_name (map (λ n. n.items) names.items) (shape part.now)) }
-{
-    let mut names = names;
-    match part_of(part) {
-        Part::Name(text) => {
-            names.push(Vec::from_slice(alloc, text)?)?;
-            Ok(names)
-        }
-        _ => Err(fault(part.line(), ScriptErrorKind::Expected)),
-    }
-}
-
-/// The names and those of channels with these sets of fields.
+/// Enters the names of channels with these sets of fields.
 #[tactic(auto, unfolding(crate::specs::Entering::put_channels))]
-fn with_channels<'a, A: Allocator + Copy>(
-    entries: Entries<'a, A>,
+fn enter_channels<'a, A: Allocator + Copy>(
+    table: &mut Table<'a, A>,
     names: &'a Tree<A>,
     sets: &'a [Tree<A>],
-) -> Result<Entries<'a, A>, ScriptError>
-    ensures { Gives entries_of result (put_channels (entries_of entries.entry) (shape names.now) (syntaxes (shapes sets.now))) }
+) -> Result<(), ScriptError>
+    ensures { Gives (λ _. listed table.new.entries) result (put_channels (listed table.old.entries) (shape names.now) (syntaxes (shapes sets.now))) }
 {
     let names = name_list(names)?;
-    with_names(entries, names, Some(sets))
+    enter_names(table, names, Some(sets))
 }
 
-/// The names and those of channels whose sets of fields stand in this part.
+/// Enters the names of channels whose sets of fields stand in this part.
 #[tactic(auto, unfolding(crate::specs::Entering::put_fielded))]
-fn with_fielded<'a, A: Allocator + Copy>(
-    entries: Entries<'a, A>,
+fn enter_fielded<'a, A: Allocator + Copy>(
+    table: &mut Table<'a, A>,
     names: &'a Tree<A>,
     sets: &'a Tree<A>,
-) -> Result<Entries<'a, A>, ScriptError>
-    ensures { Gives entries_of result (put_fielded (entries_of entries.entry) (shape names.now) (shape sets.now)) }
+) -> Result<(), ScriptError>
+    ensures { Gives (λ _. listed table.new.entries) result (put_fielded (listed table.old.entries) (shape names.now) (shape sets.now)) }
 {
     let sets = set_list(sets)?;
-    with_channels(entries, names, sets)
+    enter_channels(table, names, sets)
 }
 
-/// The names and those of a datatype and its constants.
+/// Enters the names of a datatype and its constants.
 #[tactic(auto, unfolding(crate::specs::Entering::put_datatype))]
-fn with_datatype<'a, A: Allocator + Copy>(
+fn enter_datatype<'a, A: Allocator + Copy>(
     alloc: A,
-    entries: Entries<'a, A>,
+    table: &mut Table<'a, A>,
     name: &[u8],
     line: u32,
     constants: &'a [Tree<A>],
-) -> Result<Entries<'a, A>, ScriptError>
-    ensures { Gives entries_of result (put_datatype (entries_of entries.entry) name.now (syntaxes (shapes constants.now))) }
+) -> Result<(), ScriptError>
+    ensures { Gives (λ _. listed table.new.entries) result (put_datatype (listed table.old.entries) name.now (syntaxes (shapes constants.now))) }
 {
     let names = names_in(alloc, constants)?;
-    let entries = entries.with(name, line, Meaning::Datatype(names))?;
-    with_names(entries, constants, None)
+    enter(table, name, line, Meaning::Datatype(names))?;
+    enter_names(table, constants, None)
 }
 
 /// The same, of the parts of its declaration.
 #[tactic(auto, unfolding(crate::specs::Entering::put_typed))]
-fn with_typed<'a, A: Allocator + Copy>(
+fn enter_typed<'a, A: Allocator + Copy>(
     alloc: A,
-    entries: Entries<'a, A>,
+    table: &mut Table<'a, A>,
     name: &'a Tree<A>,
     constants: &'a Tree<A>,
-) -> Result<Entries<'a, A>, ScriptError>
-    ensures { Gives entries_of result (put_typed (entries_of entries.entry) (shape name.now) (shape constants.now)) }
+) -> Result<(), ScriptError>
+    ensures { Gives (λ _. listed table.new.entries) result (put_typed (listed table.old.entries) (shape name.now) (shape constants.now)) }
 {
     match part_of(name) {
         Part::Name(text) => {
             let constants = name_list(constants)?;
-            with_datatype(alloc, entries, text, name.line(), constants)
+            enter_datatype(alloc, table, text, name.line(), constants)
         }
         _ => Err(fault(name.line(), ScriptErrorKind::Expected)),
     }
 }
 
-/// The names and that of a definition with this body.
+/// Enters the name of a definition with this body.
 #[tactic(auto, unfolding(crate::specs::Entering::put_defined))]
-fn with_defined<'a, A: Allocator + Copy>(
-    entries: Entries<'a, A>,
+fn enter_defined<'a, A: Allocator + Copy>(
+    table: &mut Table<'a, A>,
     name: &'a Tree<A>,
     body: &'a Tree<A>,
-) -> Result<Entries<'a, A>, ScriptError>
-    ensures { Gives entries_of result (put_defined (entries_of entries.entry) (shape name.now) (shape body.now)) }
+) -> Result<(), ScriptError>
+    ensures { Gives (λ _. listed table.new.entries) result (put_defined (listed table.old.entries) (shape name.now) (shape body.now)) }
 {
     match part_of(name) {
-        Part::Name(text) => entries.with(text, name.line(), Meaning::Definition(body)),
+        Part::Name(text) => enter(table, text, name.line(), Meaning::Definition(body)),
         _ => Err(fault(name.line(), ScriptErrorKind::Expected)),
     }
 }
 
-/// The names and that of a definition with these parameters and this body.
+/// Enters the name of a definition with these parameters and this body.
 #[tactic(auto, unfolding(crate::specs::Entering::put_parametric))]
-fn with_parametric<'a, A: Allocator + Copy>(
+fn enter_parametric<'a, A: Allocator + Copy>(
     alloc: A,
-    entries: Entries<'a, A>,
+    table: &mut Table<'a, A>,
     name: &'a Tree<A>,
     parameters: &'a Tree<A>,
     body: &'a Tree<A>,
-) -> Result<Entries<'a, A>, ScriptError>
-    ensures { Gives entries_of result (put_parametric (entries_of entries.entry) (shape name.now) (shape parameters.now) (shape body.now)) }
+) -> Result<(), ScriptError>
+    ensures { Gives (λ _. listed table.new.entries) result (put_parametric (listed table.old.entries) (shape name.now) (shape parameters.now) (shape body.now)) }
 {
     match part_of(name) {
         Part::Name(text) => {
             let written = name_list(parameters)?;
             let names = names_in(alloc, written)?;
-            entries.with(
-                text,
-                name.line(),
-                Meaning::WithParameters {
-                    written,
-                    names,
-                    body,
-                },
-            )
+            let meaning = Meaning::WithParameters {
+                written,
+                names,
+                body,
+            };
+            enter(table, text, name.line(), meaning)
         }
         _ => Err(fault(name.line(), ScriptErrorKind::Expected)),
     }
 }
 
-/// The names and those of a declaration of this form.
+/// Enters the names of a declaration of this form.
 #[tactic(auto, unfolding(crate::specs::Entering::put_form))]
-fn with_form<'a, A: Allocator + Copy>(
+fn enter_form<'a, A: Allocator + Copy>(
     alloc: A,
-    entries: Entries<'a, A>,
+    table: &mut Table<'a, A>,
     form: Form,
     parts: &'a [Tree<A>],
     line: u32,
-) -> Result<Entries<'a, A>, ScriptError>
-    ensures { Gives entries_of result (put_form (entries_of entries.entry) form (syntaxes (shapes parts.now))) }
+) -> Result<(), ScriptError>
+    ensures { Gives (λ _. listed table.new.entries) result (put_form (listed table.old.entries) form (syntaxes (shapes parts.now))) }
 {
     match form {
         Form::Channels => {
             let names = only_part(parts, line)?;
-            with_channels(entries, names, no_parts(parts))
+            enter_channels(table, names, no_parts(parts))
         }
         Form::ChannelsWithFields => {
             let (names, sets) = two_parts(parts, line)?;
-            with_fielded(entries, names, sets)
+            enter_fielded(table, names, sets)
         }
         Form::Datatype => {
             let (name, constants) = two_parts(parts, line)?;
-            with_typed(alloc, entries, name, constants)
+            enter_typed(alloc, table, name, constants)
         }
         Form::Definition => {
             let (name, body) = two_parts(parts, line)?;
-            with_defined(entries, name, body)
+            enter_defined(table, name, body)
         }
         Form::DefinitionWithParameters => {
             let (name, parameters, body) = three_parts(parts, line)?;
-            with_parametric(alloc, entries, name, parameters, body)
+            enter_parametric(alloc, table, name, parameters, body)
         }
         _ => Err(fault(line, ScriptErrorKind::Expected)),
     }
 }
 
-/// The names and those of a declaration.
+/// Enters the names of a declaration.
 #[tactic(auto, unfolding(crate::specs::Entering::put_declaration))]
-fn with_declaration<'a, A: Allocator + Copy>(
+fn enter_declaration<'a, A: Allocator + Copy>(
     alloc: A,
-    entries: Entries<'a, A>,
+    table: &mut Table<'a, A>,
     declaration: &'a Tree<A>,
-) -> Result<Entries<'a, A>, ScriptError>
-    ensures { Gives entries_of result (put_declaration (entries_of entries.entry) (shape declaration.now)) }
+) -> Result<(), ScriptError>
+    ensures { Gives (λ _. listed table.new.entries) result (put_declaration (listed table.old.entries) (shape declaration.now)) }
 {
     match part_of(declaration) {
-        Part::Node(form, parts) => { with_form(alloc, entries, form, parts, declaration.line()) }
+        Part::Node(form, parts) => enter_form(alloc, table, form, parts, declaration.line()),
         _ => Err(fault(declaration.line(), ScriptErrorKind::Expected)),
     }
 }
 
-/// The names of declarations.
+/// Enters the names of declarations.
 #[tactic(auto, using(crate::proofs::Loops::all_start, crate::proofs::Loops::all_more, crate::proofs::Loops::all_fail, crate::proofs::Loops::all_end))]
-fn with_declarations<'a, A: Allocator + Copy>(
+fn enter_declarations<'a, A: Allocator + Copy>(
     alloc: A,
+    table: &mut Table<'a, A>,
     declarations: &'a [Tree<A>],
-) -> Result<Entries<'a, A>, ScriptError>
-    ensures { Gives entries_of result (steps put_declaration [] (syntaxes (shapes declarations.now))) }
+) -> Result<(), ScriptError>
+    ensures { Gives (λ _. listed table.new.entries) result (steps put_declaration (listed table.old.entries) (syntaxes (shapes declarations.now))) }
 {
-    let mut entries = Entries::new(alloc);
     for declaration in declarations {
-        entries = with_declaration(alloc, entries, declaration)?;
+        enter_declaration(alloc, table, declaration)?;
     }
-    Ok(entries)
+    Ok(())
 }
 
 /// The declarations of a script; `Expected` where the tree is none of a script.
@@ -304,6 +308,7 @@ pub fn distinct_entries<'a, A: Allocator + Copy>(
     ensures { Gives entries_of result (distinct_entries_of (shape tree.now)) }
 {
     let declarations = declarations_of(tree)?;
-    let entries = with_declarations(alloc, declarations)?;
-    entries.complete(alloc)
+    let mut table = IndexMap::new(alloc);
+    enter_declarations(alloc, &mut table, declarations)?;
+    Entries::complete(alloc, table)
 }

@@ -1,8 +1,9 @@
-//! An order of names, each behind those that its definition uses, as far as there is one. What names stand for doesn't
+//! An order of names, each after those that its definition uses, as far as there is one. What names stand for doesn't
 //! depend on it; it saves looking at definitions again.
 
 use crate::entries::{Entries, Meaning};
 use std::alloc::{AllocError, Allocator};
+use std::mem::replace;
 use syntax::Tree;
 
 /// What is still to be done, by the places of names.
@@ -14,13 +15,20 @@ enum Turn {
     Leave(usize),
 }
 
-/// The names that the phrase uses, to be met, the first one on top of the stack.
-fn with_uses<'a, A: Allocator>(
+/// Whether the place is met for the first time; it has been met from then on.
+fn is_first(met: &mut [bool], place: usize) -> bool {
+    match met.get_mut(place) {
+        Some(met) => !replace(met, true),
+        None => false,
+    }
+}
+
+/// Puts the names that the phrase uses on the stack, to be met, the first one on top.
+fn push_names<'a, A: Allocator>(
     entries: &Entries<'a, A>,
     phrase: &Tree<A>,
-    stack: Vec<Turn, A>,
-) -> Result<Vec<Turn, A>, AllocError> {
-    let mut stack = stack;
+    stack: &mut Vec<Turn, A>,
+) -> Result<(), AllocError> {
     match phrase {
         Tree::Name { text, .. } => {
             if let Some(place) = entries.place(text) {
@@ -30,26 +38,50 @@ fn with_uses<'a, A: Allocator>(
         Tree::Number { .. } => {}
         Tree::Node { parts, .. } => {
             for part in parts.iter().rev() {
-                stack = with_uses(entries, part, stack)?;
+                push_names(entries, part, stack)?;
             }
         }
     }
-    Ok(stack)
+    Ok(())
 }
 
-/// The names that the name at this place uses, to be met, the first one on top of the stack.
-fn with_uses_of<'a, A: Allocator>(
+/// Puts the names that the name at this place uses on the stack, to be met, the first one on top.
+fn push_uses<'a, A: Allocator>(
     entries: &Entries<'a, A>,
     place: usize,
-    stack: Vec<Turn, A>,
-) -> Result<Vec<Turn, A>, AllocError> {
+    stack: &mut Vec<Turn, A>,
+) -> Result<(), AllocError> {
     match entries.at(place) {
         Some(entry) => match &entry.meaning {
-            Meaning::Definition(body) => with_uses(entries, body, stack),
-            _ => Ok(stack),
+            Meaning::Definition(body) => push_names(entries, body, stack),
+            _ => Ok(()),
         },
-        None => Ok(stack),
+        None => Ok(()),
     }
+}
+
+/// Puts the places of the names on the stack, and of those that lead on from there, in this order. Costs a turn for each name
+/// and for each use of one.
+fn put_in_order<'a, A: Allocator>(
+    entries: &Entries<'a, A>,
+    stack: &mut Vec<Turn, A>,
+    met: &mut [bool],
+    order: &mut Vec<usize, A>,
+) -> Result<(), AllocError> {
+    // A script has far fewer names and uses of names than this.
+    for _ in 0..u32::MAX {
+        match stack.pop() {
+            Some(Turn::Meet(place)) => {
+                if is_first(met, place) {
+                    stack.push(Turn::Leave(place))?;
+                    push_uses(entries, place, stack)?;
+                }
+            }
+            Some(Turn::Leave(place)) => order.push(place)?,
+            None => break,
+        }
+    }
+    Ok(())
 }
 
 /// All names, to be met, the first one on top of the stack.
@@ -61,42 +93,16 @@ fn all_places<A: Allocator + Copy>(alloc: A, count: usize) -> Result<Vec<Turn, A
     Ok(stack)
 }
 
-/// The places of the names on the stack, and of those that lead on from there, in this order. Costs a turn for each name
-/// and for each use of one.
-fn ordered<'a, A: Allocator + Copy>(
-    alloc: A,
-    entries: &Entries<'a, A>,
-    stack: Vec<Turn, A>,
-) -> Result<Vec<usize, A>, AllocError> {
-    let mut order = Vec::new(alloc);
-    let mut met = vec![in alloc; false; entries.len()]?;
-    let mut stack = stack;
-    // A script has far fewer names and uses of names than this.
-    for _ in 0..u32::MAX {
-        match stack.pop() {
-            Some(Turn::Meet(place)) => {
-                if let Some(met) = met.get_mut(place) {
-                    if !*met {
-                        *met = true;
-                        stack.push(Turn::Leave(place))?;
-                        stack = with_uses_of(entries, place, stack)?;
-                    }
-                }
-            }
-            Some(Turn::Leave(place)) => order.push(place)?,
-            None => break,
-        }
-    }
-    Ok(order)
-}
-
-/// The places of the names, each behind those of the names that its definition uses, as far as there is such an order. No
+/// The places of the names, each after those of the names that its definition uses, as far as there is such an order. No
 /// contract says so: a caller that needs the order looks for itself whether it suits. Costs a turn for each name and for each
 /// use of one.
 pub fn places_by_use<'a, A: Allocator + Copy>(
     alloc: A,
     entries: &Entries<'a, A>,
 ) -> Result<Vec<usize, A>, AllocError> {
-    let stack = all_places(alloc, entries.len())?;
-    ordered(alloc, entries, stack)
+    let mut stack = all_places(alloc, entries.len())?;
+    let mut met = vec![in alloc; false; entries.len()]?;
+    let mut order = Vec::new(alloc);
+    put_in_order(entries, &mut stack, &mut met, &mut order)?;
+    Ok(order)
 }

@@ -1,7 +1,7 @@
 //! Whether the parameters of definitions are as they have to be.
 ghost use Rattle.std.specs.Prelude.{◌≡◌, map, IfOk};
-ghost use Rattle.std.specs.List.{list_all, list_any};
-ghost use Rattle.values.specs.Names.{same_name, meaning as meaning_in, is_constant as is_constant_of, are_parameters as are_parameters_of, have_parameters as have_parameters_of};
+ghost use Rattle.std.specs.List.{list_all};
+ghost use Rattle.values.specs.Names.{meaning as meaning_in, is_constant as is_constant_of, are_parameters as are_parameters_of, have_parameters as have_parameters_of};
 ghost use Rattle.declared_names.specs.View.{entries as entries_of, meaning_of};
 
 use crate::entries::{Entries, Hashing, Meaning};
@@ -22,31 +22,8 @@ fn is_constant<'a, A: Allocator>(entries: &Entries<'a, A>, name: &[u8]) -> bool
     }
 }
 
-/// Whether the name is among these.
-fn is_among<A: Allocator>(names: &[Vec<u8, A>], name: &[u8]) -> bool
-    ensures { result ≡ list_any (λ n. same_name name.now n.items) names.now }
-{
-    names.iter().any(|other| name == other.as_slice())
-}
-
-/// Whether no name stands twice and none is a constant's. Takes no memory, and costs a comparison of each name with each.
-fn differ_in_pairs<'a, A: Allocator>(entries: &Entries<'a, A>, names: &[Vec<u8, A>]) -> bool
-    ensures { result ≡ are_parameters_of (entries_of entries.now) (map (λ n. n.items) names.now) }
-{
-    for (place, name) in names.iter().enumerate() {
-        let text = name.as_slice();
-        if is_among(&names[place + 1..], text) {
-            return false;
-        }
-        if is_constant(entries, text) {
-            return false;
-        }
-    }
-    true
-}
-
-/// Whether no name stands twice and none is a constant's. Costs a few look-ups by its hash for each name.
-fn differ_by_hash<'a, A: Allocator + Copy>(
+/// Whether these names can be parameters: none stands twice, and none is a constant's.
+fn are_parameters<'a, A: Allocator + Copy>(
     entries: &Entries<'a, A>,
     names: &[Vec<u8, A>],
 ) -> Result<bool, AllocError>
@@ -66,42 +43,32 @@ fn differ_by_hash<'a, A: Allocator + Copy>(
     Ok(true)
 }
 
-/// Whether these names can be parameters: none stands twice, and none is a constant's.
-fn are_parameters<'a, A: Allocator + Copy>(entries: &Entries<'a, A>, names: &[Vec<u8, A>]) -> bool
-    ensures { result ≡ are_parameters_of (entries_of entries.now) (map (λ n. n.items) names.now) }
-{
-    match differ_by_hash(entries, names) {
-        Ok(fit) => fit,
-        Err(_) => differ_in_pairs(entries, names),
-    }
-}
-
 /// Whether the parameters of what a name is declared as are as they have to be, if it has any.
 #[tactic(auto, unfolding(values::specs::Names::have_parameters))]
 fn have_parameters<'a, A: Allocator + Copy>(
     entries: &Entries<'a, A>,
     meaning: &Meaning<'a, A>,
-) -> bool
-    ensures { result ≡ have_parameters_of (entries_of entries.now) (meaning_of meaning.now) }
+) -> Result<bool, AllocError>
+    ensures { IfOk result (λ b. b ≡ have_parameters_of (entries_of entries.now) (meaning_of meaning.now)) }
 {
     match meaning {
         Meaning::WithParameters { names, .. } => are_parameters(entries, names),
-        _ => true,
+        _ => Ok(true),
     }
 }
 
 /// Whether the parameters of each definition are as they have to be: none twice, and none with the name of a constant. Costs
-/// a few look-ups by its hash for each of them; where there is no memory for that, a comparison of each with each of its
-/// definition.
-pub fn parameters_fit<'a, A: Allocator + Copy>(entries: &Entries<'a, A>) -> bool
-    ensures { result ≡ list_all (λ e. have_parameters_of (entries_of entries.now) e.1) (entries_of entries.now) }
+/// a few look-ups by its hash for each of them.
+pub fn parameters_fit<'a, A: Allocator + Copy>(entries: &Entries<'a, A>) -> Result<bool, AllocError>
+    ensures { IfOk result (λ b. b ≡ list_all (λ e. have_parameters_of (entries_of entries.now) e.1) (entries_of entries.now)) }
 {
     for place in 0..entries.len() {
         if let Some(entry) = entries.at(place) {
-            if !have_parameters(entries, &entry.meaning) {
-                return false;
+            let fit = have_parameters(entries, &entry.meaning)?;
+            if !fit {
+                return Ok(false);
             }
         }
     }
-    true
+    Ok(true)
 }

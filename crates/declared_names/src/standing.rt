@@ -1,5 +1,5 @@
 //! What the declared names stand for.
-ghost use Rattle.std.specs.Prelude.{◌≡◌, MatchResult};
+ghost use Rattle.std.specs.Prelude.{◌≡◌, IfOk, MatchResult, OnOk};
 ghost use Rattle.tokens.specs.declared.error.ScriptErrorKind.TheVariants.{Memory};
 ghost use Rattle.values.specs.Names.{worth_of as worth_of_meaning, next_known, IsReached, Stands};
 ghost use Rattle.values.specs.Tables.{table};
@@ -10,7 +10,7 @@ ghost use Rattle.declared_names.specs.Standing.{Learns, LearnsAll};
 use crate::entries::{Entries, Entry, Meaning};
 use crate::order::places_by_use;
 use crate::part::{fault, worth_alone};
-use std::alloc::Allocator;
+use std::alloc::{AllocError, Allocator};
 use tokens::{ScriptError, ScriptErrorKind};
 use values::{Known, Value, Worth, constant_set};
 
@@ -52,89 +52,81 @@ fn next_worth<'a, A: Allocator + Copy>(
     }
 }
 
-/// The table with what the name stands for, and whether it has learned that; a name whose definition is at fault stands
-/// for nothing.
-fn learned<'a, A: Allocator + Copy>(
+/// Learns what the name stands for, and returns whether that is new; a name whose definition is at fault stands for nothing.
+fn learn<'a, A: Allocator + Copy>(
     alloc: A,
     entries: &Entries<'a, A>,
-    known: Known<A>,
+    known: &mut Known<A>,
     name: &[u8],
-) -> Result<(Known<A>, bool), ScriptError>
-    requires { IsReached (entries_of entries.now) (table known) }
-    ensures { MatchResult result (λ r. Learns (entries_of entries.now) (table known) (table r.0) r.1 name.now) (λ e. e.kind ≡ Memory) }
+) -> Result<bool, AllocError>
+    requires { IsReached (entries_of entries.now) (table known.old) }
+    ensures { IfOk result (λ new. Learns (entries_of entries.now) (table known.old) (table known.new) new name.now) }
 {
-    let mut known = known;
     if known.has(name) {
-        return Ok((known, false));
+        return Ok(false);
     }
-    match next_worth(alloc, entries, &known, name) {
+    match next_worth(alloc, entries, known, name) {
         Ok(worth) => {
             known.insert(Vec::from_slice(alloc, name)?, worth)?;
-            Ok((known, true))
+            Ok(true)
         }
         Err(error) => match error.kind {
-            ScriptErrorKind::Memory => Err(error),
-            _ => Ok((known, false)),
+            ScriptErrorKind::Memory => Err(AllocError),
+            _ => Ok(false),
         },
     }
 }
 
-/// The table behind a look at each name, and whether it has learned of any.
-fn learned_all<'a, A: Allocator + Copy>(
+/// Looks at each name, and returns whether anything new was learned.
+fn learn_all<'a, A: Allocator + Copy>(
     alloc: A,
     entries: &Entries<'a, A>,
-    known: Known<A>,
-) -> Result<(Known<A>, bool), ScriptError>
-    requires { IsReached (entries_of entries.now) (table known) }
-    ensures { MatchResult result (λ r. LearnsAll (entries_of entries.now) (table known) (table r.0) r.1) (λ e. e.kind ≡ Memory) }
+    known: &mut Known<A>,
+) -> Result<bool, AllocError>
+    requires { IsReached (entries_of entries.now) (table known.old) }
+    ensures { IfOk result (λ new. LearnsAll (entries_of entries.now) (table known.old) (table known.new) new) }
 {
-    let mut known = known;
     let mut any = false;
     for place in 0..entries.len() {
         if let Some(name) = entries.name_at(place) {
-            let (next, new) = learned(alloc, entries, known, name)?;
-            known = next;
+            let new = learn(alloc, entries, known, name)?;
             any = any || new;
         }
     }
-    Ok((known, any))
+    Ok(any)
 }
 
-/// The table behind a look at the names at these places.
-fn learned_in_order<'a, A: Allocator + Copy>(
+/// Looks at the names at these places.
+fn learn_in_order<'a, A: Allocator + Copy>(
     alloc: A,
     entries: &Entries<'a, A>,
-    known: Known<A>,
+    known: &mut Known<A>,
     places: &[usize],
-) -> Result<Known<A>, ScriptError>
-    requires { IsReached (entries_of entries.now) (table known) }
-    ensures { MatchResult result (λ k. IsReached (entries_of entries.now) (table k)) (λ e. e.kind ≡ Memory) }
+) -> Result<(), AllocError>
+    requires { IsReached (entries_of entries.now) (table known.old) }
+    ensures { OnOk result (IsReached (entries_of entries.now) (table known.new)) }
 {
-    let mut known = known;
     for place in places {
         if let Some(name) = entries.name_at(*place) {
-            let (next, _new) = learned(alloc, entries, known, name)?;
-            known = next;
+            let _new = learn(alloc, entries, known, name)?;
         }
     }
-    Ok(known)
+    Ok(())
 }
 
-/// What the names stand for, from a table that says nothing else: looks at all names until nothing is learned.
-fn settled<'a, A: Allocator + Copy>(
+/// Looks at all names until nothing is learned.
+fn settle<'a, A: Allocator + Copy>(
     alloc: A,
     entries: &Entries<'a, A>,
-    known: Known<A>,
-) -> Result<Known<A>, ScriptError>
-    requires { IsReached (entries_of entries.now) (table known) }
-    ensures { MatchResult result (λ k. Stands (entries_of entries.now) (table k)) (λ e. e.kind ≡ Memory) }
+    known: &mut Known<A>,
+) -> Result<(), AllocError>
+    requires { IsReached (entries_of entries.now) (table known.old) }
+    ensures { OnOk result (Stands (entries_of entries.now) (table known.new)) }
 {
-    let mut known = known;
     loop {
-        let (next, new) = learned_all(alloc, entries, known)?;
-        known = next;
+        let new = learn_all(alloc, entries, known)?;
         if !new {
-            return Ok(known);
+            return Ok(());
         }
     }
 }
@@ -148,6 +140,8 @@ pub fn table_of_names<'a, A: Allocator + Copy>(
     ensures { MatchResult result (λ k. Stands (entries_of entries.now) (table k)) (λ e. e.kind ≡ Memory) }
 {
     let places = places_by_use(alloc, entries)?;
-    let known = learned_in_order(alloc, entries, Known::new(alloc), &places)?;
-    settled(alloc, entries, known)
+    let mut known = Known::new(alloc);
+    learn_in_order(alloc, entries, &mut known, &places)?;
+    settle(alloc, entries, &mut known)?;
+    Ok(known)
 }

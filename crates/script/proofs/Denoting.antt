@@ -6,9 +6,6 @@ use Rattle.term.specs.Proc.{Proc}
 use Rattle.term.specs.Specs.{Specified, IsClosed}
 use Rattle.syntax.specs.Grammar.{Syntax}
 use Rattle.syntax.specs.Script.{HasTree}
-use Rattle.tokens.specs.declared.error.ScriptErrorKind.{ScriptErrorKind}
-use Rattle.tokens.specs.declared.error.ScriptErrorKind.TheVariants as kinds
-use Rattle.values.specs.View.{Fails}
 use Rattle.values.specs.Values.{Name}
 use Rattle.values.specs.Worths.{Known}
 use Rattle.values.specs.Names.{Entry, meaning, is_process}
@@ -77,21 +74,3 @@ module _ (t : Syntax) (root : Name) (es : List Entry) (known : Known) (cs : List
 
   pub declares_so : (fs : List Entry) (k : Known) (ds : List Channel) → fs ≡ es → k ≡ known → ds ≡ cs → Declares t fs k ds
   declares_so fs k ds e h c = subst (λ (y : List Entry × Known × List Channel). Declares t y.0 y.1 y.2) (let all : (es, known, cs) ≡ (fs, k, ds) = λ i. (sym e i, sym h i, sym c i) in all) d
-
--- ---- faults
-
--- where something is wanted, only want of memory is at fault
-pub only_memory : {Y : Type 0} (k : ScriptErrorKind) (y : Y) → Fails k (Some y) → k ≡ kinds.Memory
-only_memory kinds.Memory y h = refl
-only_memory kinds.BadByte y h = absurd cc
-only_memory kinds.BadToken y h = absurd cc
-only_memory kinds.Expected y h = absurd cc
-only_memory kinds.UnknownName y h = absurd cc
-only_memory kinds.Redeclared y h = absurd cc
-only_memory kinds.WrongFields y h = absurd cc
-only_memory kinds.OutOfRange y h = absurd cc
-only_memory kinds.TooManyEvents y h = absurd cc
-only_memory kinds.TooDeep y h = absurd cc
-only_memory kinds.TooLarge y h = absurd cc
-only_memory kinds.Unsupported y h = absurd cc
-only_memory kinds.NoSuchProcess y h = absurd cc

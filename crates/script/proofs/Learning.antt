@@ -7,13 +7,14 @@ use Rattle.std.specs.Cmp.Lexicographic.{bytes_decides}
 use Rattle.alphabet.specs.Channels.{Channel}
 use Rattle.alphabet.specs.EventSets.{Set, has}
 use Rattle.tokens.specs.declared.error.ScriptErrorKind.{ScriptErrorKind}
-use Rattle.tokens.specs.declared.error.ScriptErrorKind.TheVariants as kinds
+use Rattle.tokens.specs.declared.error.ScriptErrorKind.TheVariants.{Memory}
 use Rattle.values.specs.View.{Fails}
 use Rattle.values.specs.Values.{◌>>=◌, Name}
 use Rattle.values.specs.Worths.{Known}
 use Rattle.values.specs.Names.{Entry, Meaning, channel, datatype, constant_name, definition, parametric, same_name, meaning}
 use Rattle.syntax.specs.Grammar.{Syntax}
 use Rattle.event_phrases.specs.Events.{Events, event_set, events_of, events_in, EventsStand, set_of, masked}
+use Rattle.declared_names.proofs.FaultKinds.{none_wanted}
 use Rattle.event_phrases.proofs.EventSetLaws.{masked_none}
 use Rattle.script.specs.Standing.{KnownSets, events_by, next_events, AreReached, IsSettled, lacking, Learns, LearnsFirst, LearnsAll}
 use Rattle.script.proofs.Copies.{some_same}
@@ -197,20 +198,8 @@ module _ (cs : List Channel) (known : Known) (es : List Entry) where
   none_reached f h n S e = absurd (let x : None ≡ Some S = sym (h n) ∙ e in cc)
 
   -- a name whose definition is at fault
-  pub settled_fault : (k : ScriptErrorKind) (f : KnownSets) (n : Name) → (k ≡ kinds.Memory → ⊥) → Fails k (masked cs (next_events cs known es (events_by f) n)) → IsSettled cs known es f n
-  settled_fault kinds.Memory f n h e = absurd (h refl)
-  settled_fault kinds.BadByte f n h e = settled_none f n e
-  settled_fault kinds.BadToken f n h e = settled_none f n e
-  settled_fault kinds.Expected f n h e = settled_none f n e
-  settled_fault kinds.UnknownName f n h e = settled_none f n e
-  settled_fault kinds.Redeclared f n h e = settled_none f n e
-  settled_fault kinds.WrongFields f n h e = settled_none f n e
-  settled_fault kinds.OutOfRange f n h e = settled_none f n e
-  settled_fault kinds.TooManyEvents f n h e = settled_none f n e
-  settled_fault kinds.TooDeep f n h e = settled_none f n e
-  settled_fault kinds.TooLarge f n h e = settled_none f n e
-  settled_fault kinds.Unsupported f n h e = settled_none f n e
-  settled_fault kinds.NoSuchProcess f n h e = settled_none f n e
+  pub settled_fault : (k : ScriptErrorKind) (f : KnownSets) (n : Name) → (k ≡ Memory → ⊥) → Fails k (masked cs (next_events cs known es (events_by f) n)) → IsSettled cs known es f n
+  settled_fault k f n h e = settled_none f n (none_wanted k (masked cs (next_events cs known es (events_by f) n)) h e)
 
   -- ---- what the definition of a name says
 

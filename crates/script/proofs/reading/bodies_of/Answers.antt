@@ -3,7 +3,8 @@ use Rattle.values.specs.Tables.{table}
 use Rattle.declared_names.specs.View.{entries}
 use Rattle.script.specs.Standing.{events_by}
 use Rattle.script.specs.Tables.{said}
-use Rattle.script.proofs.Denoting.{no_root, bodies_with, only_memory}
+use Rattle.declared_names.proofs.FaultKinds.{only_memory}
+use Rattle.script.proofs.Denoting.{no_root, bodies_with}
 use Rattle.script.proofs.NamedSets.{sets_lie}
 use Rattle.script.proofs.reading.bodies_of.Goals as goal
 

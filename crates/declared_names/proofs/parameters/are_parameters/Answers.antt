@@ -2,7 +2,7 @@ use Rattle.std.proofs.Common.{sym, ap, ◌∙◌, arith}
 use Rattle.values.specs.Names.{is_constant, meaning}
 use Rattle.declared_names.specs.View.{entries}
 use Rattle.declared_names.proofs.ParameterNames.{plain, behind_none, behind_more, behind_twice, behind_constant, behind_end, is_new, isnt_new, key_added}
-use Rattle.declared_names.proofs.parameters.differ_by_hash.Goals as goal
+use Rattle.declared_names.proofs.parameters.are_parameters.Goals as goal
 
 pub loop-name-init : goal.loop-name-init
 loop-name-init g c = behind_none (entries c.args.entries.now) c.new-earlier.result.keys (plain c.args.names.now) c.new-earlier.ensures.empty
