@@ -347,14 +347,10 @@ def decided_elsewhere(text, own, wanted):
     return faults and re.search(rb"(?m)^[A-Za-z][A-Za-z0-9_]*'* = \(*(if\b|[A-Za-z][A-Za-z0-9_]*'*\()", text) is not None
 
 
-def reason(program, case, own, wanted):
+def reason(text, own, wanted):
     """Why the two answers may differ, as docs/DECISIONS.md says; None where they may not."""
-    text, root = case
     if decided_elsewhere(text, own, wanted):
         return "a condition or a call as the body of a name, which the program looks into when it makes that body, and the reference at a use of the name"
-    channels = own_answer(program, (text + b"ZZ = STOP\n", "ZZ"))
-    if b"{}" in channels:
-        return "a channel without events, before which the program looks at no field"
     return None
 
 
@@ -376,7 +372,7 @@ def main():
             outcomes[wanted.split(b": ")[-1].decode().strip() if wanted.startswith(b"p.csp:") else "printed"] += 1
             if own == wanted:
                 continue
-            why = reason(given.program, case, own, wanted)
+            why = reason(case[0], own, wanted)
             reasons[why] += 1
             if given.keep:
                 with open(os.path.join(given.keep, "%d.csp" % place), "wb") as file:
