@@ -363,14 +363,11 @@ def decided_elsewhere(folder, case, own, wanted):
     return any(line.startswith(name + b" = ") for name in late) and faults[0][2] == faults[1][2]
 
 
-def reason(folder, program, case, own, wanted):
+def reason(folder, case, own, wanted):
     """Why the two answers may differ, as docs/DECISIONS.md says; None where they may not."""
     text, root = case
     if decided_elsewhere(folder, case, own, wanted):
         return "a condition or a call as the body of a name, which the program looks into when it makes that body, and the reference at a use of the name"
-    channels = own_answer(program, (text + b"ZZ = STOP\n", "ZZ"))
-    if b"{}" in channels:
-        return "a channel without events, before which the program looks at no field"
     return None
 
 
@@ -392,7 +389,7 @@ def main():
             outcomes[wanted.split(b": ")[-1].decode().strip() if wanted.startswith(b"p.csp:") else "printed"] += 1
             if own == wanted:
                 continue
-            why = reason(given.reference, given.program, case, own, wanted)
+            why = reason(given.reference, case, own, wanted)
             reasons[why] += 1
             if given.keep:
                 with open(os.path.join(given.keep, "%d.csp" % place), "wb") as file:

@@ -12,9 +12,10 @@ use Rattle.syntax.specs.Grammar.{Syntax, Called, Numeral, Node, Syntaxes, NoSynt
 use Rattle.values.specs.Values.{◌>>=◌, Name}
 use Rattle.values.specs.Worths.{Worth, condition}
 use Rattle.values.specs.Names.{Meaning, channel, datatype, constant_name, definition, parametric, meaning, same_name, is_process}
-use Rattle.event_phrases.specs.Events.{Events, unless_value, channel_fields, set_of, pairs_of, in_order}
+use Rattle.event_phrases.specs.Events.{Events, unless_value, set_of, pairs_of, in_order}
 use Rattle.denotation.specs.Bodies.{Key, Body, stop, prefix, ext, int, seq, par, hide, ren, intr, name, names, numbered, choice_of}
-use Rattle.event_phrases.specs.Fitting.{fitting, has_all}
+use Rattle.event_phrases.specs.Fitting.{fitting}
+use Rattle.event_phrases.specs.Prefixes.{prefix_parts}
 use Rattle.event_phrases.specs.Scopes.{Scope, within, events_by}
 use Rattle.denotation.specs.Phrases.{with_branch, branches, prefixed, renamed, alphabetised, takes, arguments, called_with, over, denoted, denoted_form}
 use Rattle.denotation.specs.Denotes.{place, with_keys, nodes, body_by, paired, called_by, body_of}
@@ -216,20 +217,13 @@ module _ (next : Scope → Count → Option Made) (body : Scope → Option Body)
 -- ---- the choice over the branches
 
 module _ (s : Scope) (next : Scope → Count → Option Made) (body : Scope → Option Body) (h : (s : Scope) (w : Count) → next s w ≡ made w (body s)) where
-  channel_is : (c : Name) (ts : Syntaxes) (w : Count) (o : Option (List Values)) →
-      (o >>= λ sets. cond (has_all ts sets) (make_branches next c ts sets s 0 (events s.channels) w >>= make_choice) None) ≡ made w (o >>= λ sets. cond (has_all ts sets) (branches body c ts sets s 0 (events s.channels) >>= λ ps. Some (choice_of ps)) None)
-  unfolding made
-  channel_is c ts w None = refl
-  channel_is c ts w (Some sets) = by_test (has_all ts sets)
-    where
-      by_test : (t : Bool) → cond t (make_branches next c ts sets s 0 (events s.channels) w >>= make_choice) None ≡ made w (cond t (branches body c ts sets s 0 (events s.channels) >>= λ ps. Some (choice_of ps)) None)
-      by_test false = refl
-      by_test true = ap (λ o. o >>= make_choice) (branches_is next body h c ts sets s 0 (events s.channels) w) ∙ external_is w (branches body c ts sets s 0 (events s.channels))
-
   prefixed_is : (e : Syntax) (w : Count) → make_prefixed s e next w ≡ made w (prefixed s e body)
   unfolding make_prefixed prefixed made
-  prefixed_is (Node forms.Event (MoreSyntax (Called c) ts)) w = channel_is c ts w (channel_fields s.channels s.known c)
-  prefixed_is e w = refl
+  prefixed_is e w = by (prefix_parts s e)
+    where
+      by : (o : Option (Name × Syntaxes × List Values)) → (o >>= λ p. make_branches next p.0 p.1 p.2 s 0 (events s.channels) w >>= make_choice) ≡ made w (o >>= λ p. branches body p.0 p.1 p.2 s 0 (events s.channels) >>= λ ps. Some (choice_of ps))
+      by None = refl
+      by (Some (c, ts, sets)) = ap (λ o. o >>= make_choice) (branches_is next body h c ts sets s 0 (events s.channels) w) ∙ external_is w (branches body c ts sets s 0 (events s.channels))
 
 -- ---- phrases
 

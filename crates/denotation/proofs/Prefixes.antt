@@ -1,46 +1,20 @@
 -- What is made of a prefix, step by step.
-use Rattle.std.proofs.Common.{◌≡◌, ℕ, suc, List, [], ◌∷◌, length, map, Bool, true, false, cond, Option, Some, None, refl, sym, ap, subst, ◌∙◌, arith}
-use Rattle.std.proofs.lemmas.List.{length-map}
+use Rattle.std.proofs.Common.{◌≡◌, ℕ, List, Bool, true, false, cond, Option, Some, None, refl, sym, subst, ◌∙◌}
 use Rattle.alphabet.specs.Channels.{Values, Parts, events}
 use Rattle.term.specs.Proc.{Proc, prefix}
-use Rattle.syntax.specs.declared.form.Form.{Form}
-use Rattle.syntax.specs.declared.form.Form.TheVariants as forms
-use Rattle.syntax.specs.Grammar.{Syntax, Called, Numeral, Node, Syntaxes, NoSyntax, MoreSyntax}
-use Rattle.syntax.specs.Parsing.{syntaxes}
+use Rattle.syntax.specs.Grammar.{Syntax, Syntaxes}
 use Rattle.tokens.specs.declared.error.ScriptErrorKind.{ScriptErrorKind}
 use Rattle.values.specs.Values.{◌>>=◌, Name}
 use Rattle.values.specs.Names.{same_name}
 use Rattle.values.specs.View.{Fails}
 use Rattle.event_phrases.specs.EventForms.{event_fits}
-use Rattle.denotation.specs.Parts.{make_from}
-use Rattle.event_phrases.specs.Events.{channel_fields}
-use Rattle.event_phrases.specs.Forms.{part_list, node_of, name_of, first_of, event_form, event_of}
-use Rattle.event_phrases.specs.Fitting.{Fitting, fitting, has_all}
+use Rattle.event_phrases.specs.Fitting.{Fitting, fitting}
+use Rattle.event_phrases.specs.Prefixes.{prefix_parts}
 use Rattle.event_phrases.specs.Scopes.{Scope}
 use Rattle.denotation.specs.Making.{Count, Made, FoundBranch, AllMade, spend, make_one, make_behind, make_branch, make_branches, make_choice, make_prefixed}
 use Rattle.event_phrases.proofs.Options.{step, fails_at}
-use Rattle.event_phrases.proofs.Shapes.{list_forth}
-
--- ---- by their forms
-
-prefixed_form : (s : Scope) (next : Scope → Count → Option Made) (w : Count) (f : Form) (ts : Syntaxes) → make_prefixed s (Node f ts) next w ≡ (event_form f (part_list ts) >>= make_from s next w)
-unfolding make_prefixed event_form make_from part_list first_of name_of
-prefixed_form s next w forms.Event NoSyntax = refl
-prefixed_form s next w forms.Event (MoreSyntax (Called c) ts) = λ i. make_prefixed s (Node forms.Event (MoreSyntax (Called c) (sym (list_forth ts) i))) next w
-prefixed_form s next w forms.Event (MoreSyntax (Numeral n) ts) = refl
-prefixed_form s next w forms.Event (MoreSyntax (Node f us) ts) = refl
-prefixed_form s next w f ts = refl
-
-pub prefix_is : (s : Scope) (next : Scope → Count → Option Made) (w : Count) (e : Syntax) → make_prefixed s e next w ≡ (event_of e >>= make_from s next w)
-unfolding make_prefixed event_of node_of
-prefix_is s next w (Called n) = refl
-prefix_is s next w (Numeral n) = refl
-prefix_is s next w (Node f ts) = prefixed_form s next w f ts
 
 -- ---- parts
-
-pub same_length : {X Y Z U : Type 0} (xs : List X) (f : X → Z) (ys : List Y) (g : Y → U) → length xs ≡ length ys → length (map f xs) ≡ length (map g ys)
-same_length xs f ys g h = length-map xs f ∙ h ∙ sym (length-map ys g)
 
 pub none_if : {X : Type 0} (o : Option X) → ((x : X) → o ≡ Some x → ⊥) → o ≡ None
 none_if None h = refl
@@ -56,51 +30,23 @@ found_is : (p : Proc) (o : Option Count) → (o >>= λ u. some_found (Some p, u)
 found_is p None = refl
 found_is p (Some u) = refl
 
--- ---- fields
-
-has_all_is : (ts : List Syntax) (sets : List Values) → length ts ≡ length sets → has_all (syntaxes ts) sets ≡ true
-unfolding has_all
-has_all_is [] [] h = refl
-has_all_is [] (v ∷ vs) h = absurd (omega (arith, h))
-has_all_is (t ∷ ts) [] h = absurd (omega (arith, h))
-has_all_is (t ∷ ts) (v ∷ vs) h = has_all_is ts vs (omega (arith, h))
-
-not_all : (ts : List Syntax) (sets : List Values) → (length ts ≡ length sets → ⊥) → has_all (syntaxes ts) sets ≡ false
-unfolding has_all
-not_all [] [] h = absurd (h refl)
-not_all [] (v ∷ vs) h = refl
-not_all (t ∷ ts) [] h = refl
-not_all (t ∷ ts) (v ∷ vs) h = not_all ts vs (λ e. h (ap suc e))
+-- ---- the choice over the branches
 
 module _ (s : Scope) (next : Scope → Count → Option Made) (w : Count) (e : Syntax) where
-  pub no_event : None ≡ event_of e → make_prefixed s e next w ≡ None
-  no_event h = prefix_is s next w e ∙ ap (λ o. o >>= make_from s next w) (sym h)
+  pub no_prefix : (k : ScriptErrorKind) → Fails k (prefix_parts s e) → Fails k (make_prefixed s e next w)
+  unfolding make_prefixed
+  no_prefix k h = fails_at k (prefix_parts s e) (λ p. make_branches next p.0 p.1 p.2 s 0 (events s.channels) w >>= make_choice) h
 
-  module _ (c : Name) (ts : List Syntax) (h : Some (c, ts) ≡ event_of e) where
-    by : List Values → Option Made
-    by sets = cond (has_all (syntaxes ts) sets) (make_branches next c (syntaxes ts) sets s 0 (events s.channels) w >>= make_choice) None
+  module _ (c : Name) (ts : Syntaxes) (sets : List Values) (h : prefix_parts s e ≡ Some (c, ts, sets)) where
+    all_there : make_prefixed s e next w ≡ (make_branches next c ts sets s 0 (events s.channels) w >>= make_choice)
+    unfolding make_prefixed
+    all_there = step (prefix_parts s e) (λ p. make_branches next p.0 p.1 p.2 s 0 (events s.channels) w >>= make_choice) (c, ts, sets) h
 
-    from : make_prefixed s e next w ≡ (channel_fields s.channels s.known c >>= by)
-    unfolding by make_from
-    from = prefix_is s next w e ∙ ap (λ o. o >>= make_from s next w) (sym h)
+    pub branches_fail : (k : ScriptErrorKind) → Fails k (make_branches next c ts sets s 0 (events s.channels) w) → Fails k (make_prefixed s e next w)
+    branches_fail k g = subst (λ o. Fails k o) (sym all_there) (fails_at k (make_branches next c ts sets s 0 (events s.channels) w) make_choice g)
 
-    pub no_channel : None ≡ channel_fields s.channels s.known c → make_prefixed s e next w ≡ None
-    no_channel n = from ∙ ap (λ o. o >>= by) (sym n)
-
-    module _ (sets : List Values) (f : Some sets ≡ channel_fields s.channels s.known c) where
-      pub other_count : (length ts ≡ length sets → ⊥) → make_prefixed s e next w ≡ None
-      unfolding by
-      other_count n = from ∙ ap (λ o. o >>= by) (sym f) ∙ ap (λ b. cond b (make_branches next c (syntaxes ts) sets s 0 (events s.channels) w >>= make_choice) None) (not_all ts sets n)
-
-      all_there : length ts ≡ length sets → make_prefixed s e next w ≡ (make_branches next c (syntaxes ts) sets s 0 (events s.channels) w >>= make_choice)
-      unfolding by
-      all_there n = from ∙ ap (λ o. o >>= by) (sym f) ∙ ap (λ b. cond b (make_branches next c (syntaxes ts) sets s 0 (events s.channels) w >>= make_choice) None) (has_all_is ts sets n)
-
-      pub branches_fail : length ts ≡ length sets → (k : ScriptErrorKind) → Fails k (make_branches next c (syntaxes ts) sets s 0 (events s.channels) w) → Fails k (make_prefixed s e next w)
-      branches_fail n k g = subst (λ o. Fails k o) (sym (all_there n)) (fails_at k (make_branches next c (syntaxes ts) sets s 0 (events s.channels) w) make_choice g)
-
-      pub branches_made : length ts ≡ length sets → (x : AllMade) → make_branches next c (syntaxes ts) sets s 0 (events s.channels) w ≡ Some x → make_prefixed s e next w ≡ make_choice x
-      branches_made n x g = all_there n ∙ step (make_branches next c (syntaxes ts) sets s 0 (events s.channels) w) make_choice x g
+    pub branches_made : (x : AllMade) → make_branches next c ts sets s 0 (events s.channels) w ≡ Some x → make_prefixed s e next w ≡ make_choice x
+    branches_made x g = all_there ∙ step (make_branches next c ts sets s 0 (events s.channels) w) make_choice x g
 
 -- ---- one event
 

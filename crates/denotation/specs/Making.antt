@@ -13,9 +13,10 @@ use Rattle.syntax.specs.Grammar.{Syntax, Called, Numeral, Node, Syntaxes, NoSynt
 use Rattle.values.specs.Values.{◌>>=◌, Name}
 use Rattle.values.specs.Worths.{worth, condition, the_set}
 use Rattle.values.specs.Names.{Meaning, channel, datatype, constant_name, definition, parametric, meaning, same_name, is_process}
-use Rattle.event_phrases.specs.Events.{Events, unless_value, channel_fields, set_of, masked, both, pairs_of, in_order}
+use Rattle.event_phrases.specs.Events.{Events, unless_value, set_of, masked, both, pairs_of, in_order}
 use Rattle.denotation.specs.Bodies.{Key, Body, numbered, names}
-use Rattle.event_phrases.specs.Fitting.{fitting, has_all}
+use Rattle.event_phrases.specs.Fitting.{fitting}
+use Rattle.event_phrases.specs.Prefixes.{prefix_parts}
 use Rattle.event_phrases.specs.Scopes.{Scope, with_input, unless_constant, within, events_by}
 use Rattle.denotation.specs.Phrases.{takes, arguments}
 use Rattle.syntax.specs.Parsing.{syntaxes}
@@ -124,10 +125,9 @@ make_branches next c ts sets s a (p ∷ ps) w =
 unfoldable pub branches_behind : List Proc → Option AllMade → Option AllMade
 branches_behind front o = o >>= λ x. Some (front ++ x.0, x.1)
 
+-- the choice over the branches of a prefix
 unfoldable pub make_prefixed : Scope → Syntax → (Scope → Count → Option Made) → Count → Option Made
-make_prefixed s (Node forms.Event (MoreSyntax (Called c) ts)) next w =
-    channel_fields s.channels s.known c >>= λ sets. if has_all ts sets then (make_branches next c ts sets s 0 (events s.channels) w >>= make_choice) else None
-make_prefixed s t next w = None
+make_prefixed s e next w = prefix_parts s e >>= λ p. make_branches next p.0 p.1 p.2 s 0 (events s.channels) w >>= make_choice
 
 -- a node above one process
 abbrev pub make_one : (Proc → Proc) → Made → Option Made

@@ -10,10 +10,11 @@ use Rattle.syntax.specs.Grammar.{Syntax, Called, Numeral, Node, Syntaxes, NoSynt
 use Rattle.values.specs.Values.{◌>>=◌, Name}
 use Rattle.values.specs.Worths.{Known, worth, condition, the_value, the_set}
 use Rattle.values.specs.Names.{Meaning, parametric, meaning, same_name, is_process}
-use Rattle.event_phrases.specs.Events.{Events, unless_value, channel_fields, set_of, both, pairs_of, in_order}
+use Rattle.event_phrases.specs.Events.{Events, unless_value, set_of, both, pairs_of, in_order}
 use Rattle.denotation.specs.Bodies.{Body, stop, skip, prefix, ext, int, seq, par, hide, ren, intr, name, choice_of, halved}
 use Rattle.event_phrases.specs.Scopes.{Scope, with_input, unless_constant, events_by}
-use Rattle.event_phrases.specs.Fitting.{fitting, has_all}
+use Rattle.event_phrases.specs.Fitting.{fitting}
+use Rattle.event_phrases.specs.Prefixes.{prefix_parts}
 
 -- ---- prefixes
 
@@ -29,11 +30,9 @@ branches next c ts sets s a (p ∷ ps) =
     if same_name c p.channel then (fitting ts sets p.values s >>= λ x. branches next c ts sets s (suc a) ps >>= with_branch next a x)
     else branches next c ts sets s (suc a) ps
 
--- An event phrase before `->`: the choice over the events that fit it. Where the channel has no event none of its fields is looked at.
+-- An event phrase before `->`: the choice over the events that fit it.
 unfoldable pub prefixed : Scope → Syntax → (Scope → Option Body) → Option Body
-prefixed s (Node forms.Event (MoreSyntax (Called c) ts)) next =
-    channel_fields s.channels s.known c >>= λ sets. if has_all ts sets then (branches next c ts sets s 0 (events s.channels) >>= λ ps. Some (choice_of ps)) else None
-prefixed s t next = None
+prefixed s e next = prefix_parts s e >>= λ p. branches next p.0 p.1 p.2 s 0 (events s.channels) >>= λ ps. Some (choice_of ps)
 
 -- ---- calls
 

@@ -28,7 +28,8 @@ use crate::walk::{Place, first_place, next_place};
 use crate::work::Work;
 use event_phrases::forms::event_parts;
 use event_phrases::{
-    GlobalScope, Prefix, Row, Scope, fault, inputs_behind, two_sets, wanted_events, wanted_truth,
+    GlobalScope, Prefix, Row, Scope, fault, inputs_behind, prefix_of, two_sets, wanted_events,
+    wanted_truth,
 };
 use std::alloc::Allocator;
 use syntax::Tree;
@@ -98,26 +99,9 @@ fn prefixed<'a, A: Allocator + Copy, G: GlobalScope<A>>(
 ) -> Result<(Term<A>, Work<A>), ScriptError>
     ensures { Gives (λ x. (proc x.0, count x.1)) result (make_prefixed (within (G.scope scope.now.global.now) (map input scope.now.inputs.items)) (shape event.now) (make (shape then.now)) (count work)) }
 {
-    match event_parts(event) {
-        None => Err(fault(event.line(), ScriptErrorKind::Expected)),
-        Some((channel, fields)) => match scope.fields(channel) {
-            None => Err(scope.no_channel(event)),
-            Some(sets) => {
-                if fields.len() != sets.len() {
-                    return Err(fault(event.line(), ScriptErrorKind::WrongFields));
-                }
-                let prefix = Prefix {
-                    channel,
-                    fields,
-                    sets,
-                    then,
-                    line: event.line(),
-                };
-                let (terms, work) = branches(alloc, scope, &prefix, work)?;
-                chosen(alloc, terms, work, scope.line)
-            }
-        },
-    }
+    let prefix = prefix_of(alloc, scope, event, then)?;
+    let (terms, work) = branches(alloc, scope, &prefix, work)?;
+    chosen(alloc, terms, work, scope.line)
 }
 
 /// Two processes that are joined so.

@@ -9,3 +9,7 @@ pub mod TwoSets
 pub mod Images
 pub mod Scopes
 pub mod Renamings
+pub mod Unused
+pub mod Passing
+pub mod Mentions
+pub mod PrefixParts

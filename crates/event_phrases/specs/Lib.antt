@@ -2,8 +2,10 @@
 pub mod Events
 pub mod Scopes
 pub mod Fitting
+pub mod Prefixes
 pub mod View
 pub mod Forms
 pub mod EventForms
 -- Steps of the program.
 pub mod Shapes
+pub mod Uses

@@ -4,6 +4,7 @@
 
 mod beginning;
 mod events;
+mod fields;
 pub mod forms;
 mod global_scope;
 mod pairs;
@@ -12,7 +13,9 @@ mod renaming;
 mod row;
 mod scope;
 mod sets;
+mod uses;
 
+pub use fields::prefix_of;
 pub use global_scope::{GlobalScope, Set, Wanted};
 pub use pairs::ordered;
 pub use prefix::{Prefix, inputs_behind};

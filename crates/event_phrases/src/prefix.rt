@@ -38,7 +38,7 @@ pub struct Prefix<'a, A: Allocator> {
 }
 
 /// Whether the value is one of the set.
-fn has_value<A: Allocator>(set: &Values<A>, value: &Value<A>) -> bool
+pub(crate) fn has_value<A: Allocator>(set: &Values<A>, value: &Value<A>) -> bool
     ensures { result ≡ is_among (value_of value.now) (values set.now) }
 {
     set.contains(value)

@@ -15,6 +15,7 @@ use Rattle.values.specs.Names.{same_name}
 use Rattle.event_phrases.specs.Events.{fields_named, channel_fields, unless_value}
 use Rattle.denotation.specs.Bodies.{Body, prefix, choice_of, halved, halved_in}
 use Rattle.event_phrases.specs.Fitting.{against, fits_field, fitting, has_all, then_fits}
+use Rattle.event_phrases.specs.Prefixes.{fields_pass, has_event, at_no_fault, prefix_parts}
 use Rattle.event_phrases.specs.Scopes.{Scope}
 use Rattle.denotation.specs.Phrases.{branches, prefixed, with_branch}
 use Rattle.read_back.proofs.Trees.{dotted_trees, tree_of_event, no_parts}
@@ -93,6 +94,14 @@ all_fields [] [] h = refl
 all_fields [] (set ∷ sets) h = absurd h
 all_fields (v ∷ vs) [] h = absurd h
 all_fields (v ∷ vs) (set ∷ sets) h = all_fields vs sets h.1
+
+-- a channel has an event where there is a value for each field
+an_event : (sets : List Values) (vs : Values) → AreChosen vs sets → has_event sets ≡ true
+unfolding has_event
+an_event [] vs h = refl
+an_event (set ∷ sets) [] h = absurd h
+an_event ([] ∷ sets) (v ∷ vs) h = elim h.0 [ ]
+an_event ((u ∷ us) ∷ sets) (v ∷ vs) h = an_event sets vs h.1
 
 abbrev fit_or_not : Bool → Scope → Option (Option Scope)
 fit_or_not b s = Some (cond b (Some s) None)
@@ -229,11 +238,20 @@ module _ (s : Scope) (primes m : ℕ) (h : IsPrintedScope s primes m) (a : ℕ) 
   only_choice next None = refl
   only_choice next (Some q) = refl
 
+  has_one : has_event its_channel.fields ≡ true
+  has_one = an_event its_channel.fields parts.values is_chosen
+
+  its_parts : prefix_parts s (tree_of_event s.channels (ev a)) ≡ Some (parts.channel, dotted_trees parts.values, its_channel.fields)
+  unfolding prefix_parts at_no_fault
+  its_parts =
+      ap (λ o. o >>= λ sets. cond (has_all (dotted_trees parts.values) sets) (at_no_fault (dotted_trees parts.values) sets s >>= λ u. Some (parts.channel, dotted_trees parts.values, sets)) None) has_fields
+      ∙ ap (λ b. cond b (at_no_fault (dotted_trees parts.values) its_channel.fields s >>= λ u. Some (parts.channel, dotted_trees parts.values, its_channel.fields)) None) (all_fields parts.values its_channel.fields is_chosen)
+      ∙ ap (λ b. cond b (Some tt) (fields_pass (dotted_trees parts.values) its_channel.fields s) >>= λ u. Some (parts.channel, dotted_trees parts.values, its_channel.fields)) has_one
+
   -- the process behind the event, with the event before it
   pub prefix_denoted : (next : Scope → Option Body) → prefixed s (tree_of_event s.channels (ev a)) next ≡ (next s >>= λ q. Some (prefix a q))
   unfolding prefixed
   prefix_denoted next =
-      ap (λ o. o >>= λ sets. cond (has_all (dotted_trees parts.values) sets) (branches next parts.channel (dotted_trees parts.values) sets s 0 (events s.channels) >>= λ ps. Some (choice_of ps)) None) has_fields
-      ∙ ap (λ b. cond b (branches next parts.channel (dotted_trees parts.values) its_channel.fields s 0 (events s.channels) >>= λ ps. Some (choice_of ps)) None) (all_fields parts.values its_channel.fields is_chosen)
+      ap (λ o. o >>= λ p. branches next p.0 p.1 p.2 s 0 (events s.channels) >>= λ ps. Some (choice_of ps)) its_parts
       ∙ ap (λ o. o >>= λ ps. Some (choice_of ps)) (its_branches next)
       ∙ only_choice next (next s)

@@ -18,9 +18,10 @@ use Rattle.syntax.specs.Grammar.{Syntax, Called, Numeral, Node, Syntaxes, NoSynt
 use Rattle.values.specs.Values.{◌>>=◌, Name, is_among, is_same}
 use Rattle.values.specs.Worths.{Worth, one, many, truth, Known, worth, condition, the_set}
 use Rattle.values.specs.Names.{Meaning, channel, datatype, constant_name, definition, parametric, is_constant, meaning, same_name, is_process}
-use Rattle.event_phrases.specs.Events.{Events, Beginning, unless_value, channel_fields, field_value, beginning, begins_so, number_in, pairs_from, pair_of, pairs_of, set_below, set_of, both}
+use Rattle.event_phrases.specs.Events.{Events, Beginning, unless_value, field_value, beginning, begins_so, number_in, pairs_from, pair_of, pairs_of, set_below, set_of, both}
 use Rattle.denotation.specs.Bodies.{Key, Body, stop, skip, prefix, ext, int, seq, par, hide, ren, intr, name, names, numbered, half, halved_in, halved, choice_of}
-use Rattle.event_phrases.specs.Fitting.{Fitting, against, against_input, against_part, fits_field, then_fits, fitting, has_all}
+use Rattle.event_phrases.specs.Fitting.{Fitting, against, against_input, against_part, fits_field, then_fits, fitting}
+use Rattle.event_phrases.specs.Prefixes.{prefix_parts}
 use Rattle.event_phrases.specs.Scopes.{Scope, within, with_input, unless_constant, events_by}
 use Rattle.denotation.specs.Phrases.{with_branch, branches, prefixed, takes, arguments, called_with, for_each, generated, over, some_internal, renamed, alphabetised, denoted, denoted_form}
 use Rattle.denotation.specs.Denotes.{body_by, paired, called_by, body_of, place, Reached}
@@ -172,17 +173,11 @@ module _ (cs : List Channel) (next : Scope → Option Body) (h : NextLies cs nex
 
 prefixed_lies : (cs : List Channel) (next : Scope → Option Body) → NextLies cs next → (s : Scope) (t : Syntax) (b : Body) → s.channels ≡ cs → prefixed s t next ≡ Some b → Lies (event_count cs) b
 unfolding prefixed
-prefixed_lies cs next h s (Node forms.Event (MoreSyntax (Called c) ts)) b same e =
-    let (sets, u, v) = bind_some (channel_fields s.channels s.known c) (λ sets. cond (has_all ts sets) (branches next c ts sets s 0 (events s.channels) >>= λ ps. Some (choice_of ps)) None) b e in
-    by sets (has_all ts sets) v
-  where
-    by : (sets : List Values) (t : Bool) → cond t (branches next c ts sets s 0 (events s.channels) >>= λ ps. Some (choice_of ps)) None ≡ Some b → Lies (event_count cs) b
-    by sets true v =
-        let (ps, x, y) = bind_some (branches next c ts sets s 0 (events s.channels)) (λ ps. Some (choice_of ps)) b v in
-        let z : length (events s.channels) ≡ length (events cs) = ap (λ ds. length (events ds)) same in
-        subst (Lies (event_count cs)) (some_same y) (choice_lies (event_count cs) ps (branches_lie cs next h c ts sets s same (events s.channels) 0 ps (omega (arith, z, event_count-is cs)) x))
-    by sets false v = absurd cc
-prefixed_lies cs next h s t b same e = absurd cc
+prefixed_lies cs next h s t b same e =
+    let (p, u, v) = bind_some (prefix_parts s t) (λ p. branches next p.0 p.1 p.2 s 0 (events s.channels) >>= λ ps. Some (choice_of ps)) b e in
+    let (ps, x, y) = bind_some (branches next p.0 p.1 p.2 s 0 (events s.channels)) (λ ps. Some (choice_of ps)) b v in
+    let z : length (events s.channels) ≡ length (events cs) = ap (λ ds. length (events ds)) same in
+    subst (Lies (event_count cs)) (some_same y) (choice_lies (event_count cs) ps (branches_lie cs next h p.0 p.1 p.2 s same (events s.channels) 0 ps (omega (arith, z, event_count-is cs)) x))
 
 -- ---- renamings
 

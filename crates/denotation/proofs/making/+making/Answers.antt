@@ -1,6 +1,5 @@
-use Rattle.std.proofs.Common.{rules, arith, ◌≡◌, suc, ◌+◌, ◌*◌, ◌<◌, length, map, sym, ap, subst, ◌∙◌}
+use Rattle.std.proofs.Common.{rules, arith, ◌≡◌, Some, suc, ◌+◌, ◌*◌, ◌<◌, length, map, sym, ap, subst, ◌∙◌}
 use Rattle.std.specs.Option.{option_map}
-use Rattle.std.proofs.lemmas.List.{length-map}
 use Rattle.std.proofs.lemmas.Result.{err_from_is_err_and}
 use Rattle.alphabet.specs.Channels.{events}
 use Rattle.syntax.specs.Parsing.{syntaxes}
@@ -11,7 +10,7 @@ use Rattle.values.specs.View.{Gives, Fails}
 use Rattle.event_phrases.specs.Scopes.{within}
 use Rattle.event_phrases.specs.Forms.{tall}
 use Rattle.denotation.specs.Forms.{inner_tall}
-use Rattle.denotation.specs.Making.{make, make_phrase, make_prefixed}
+use Rattle.denotation.specs.Making.{AllMade, make, make_branches, make_phrase}
 use Rattle.denotation.specs.Shapes.{plain}
 use Rattle.denotation.specs.Places.{from_scope, innermost_first}
 use Rattle.denotation.specs.Walks.{make_visits, visits_after}
@@ -19,7 +18,7 @@ use Rattle.event_phrases.specs.View.{listed, row}
 use Rattle.denotation.specs.View.{count}
 use Rattle.denotation.proofs.FormLaws.{made_so, not_made}
 use Rattle.event_phrases.proofs.Scopes.{fails_none}
-use Rattle.denotation.proofs.Prefixes.{same_length, none_if, no_event, no_channel, other_count, branches_fail, branches_made, some_fit, fitting_fails, no_fit, behind_fails, event_fails, event_made}
+use Rattle.denotation.proofs.Prefixes.{none_if, no_prefix, branches_fail, branches_made, some_fit, fitting_fails, no_fit, behind_fails, event_fails, event_made}
 use Rattle.denotation.proofs.Steps.{joined_first, joined_second, joined_so, sharing_first, sharing_set, sharing_second, sharing_so, alphabetised_first, alphabetised_sets, alphabetised_second, alphabetised_so, hiding_first, hiding_set, hiding_so, renaming_first, renaming_on, conditional_fails, conditional_first, conditional_second, guarded_fails, guarded_met, guarded_not, replicated_fails, replicated_so}
 use Rattle.denotation.proofs.Replications.{put_behind}
 use Rattle.denotation.proofs.Walks.{no_first, from_first, none_before, walk_end, stands_fails, no_next, next_found, no_process, one_process, not_more}
@@ -279,36 +278,36 @@ process-returns g t c =
     let s = within (g.G.GlobalScope.scope c.args.scope.now.global.now) (map input c.args.scope.now.inputs.items) in
     fails_none c.fault.result.kind (make (shape c.args.tree.now) s (count c.args.work)) (not_made (shape c.args.tree.now) s (count c.args.work) (sym c.in-None.ensures.shape))
 
-pub prefixed-returns-in-None : goal.prefixed-returns-in-None
-prefixed-returns-in-None g t c =
+pub prefixed-returns-in_err-prefix : goal.prefixed-returns-in_err-prefix
+prefixed-returns-in_err-prefix g t c =
     let s = within (g.G.GlobalScope.scope c.args.scope.now.global.now) (map input c.args.scope.now.inputs.items) in
-    fails_none c.fault.result.kind (make_prefixed s (shape c.args.event.now) (make (shape c.args.then.now)) (count c.args.work)) (no_event s (make (shape c.args.then.now)) (count c.args.work) (shape c.args.event.now) c.in-None.ensures)
-
-pub prefixed-returns-in-None-fields : goal.prefixed-returns-in-None-fields
-prefixed-returns-in-None-fields g t c =
-    let s = within (g.G.GlobalScope.scope c.args.scope.now.global.now) (map input c.args.scope.now.inputs.items) in
-    fails_none c.no_channel.result.kind (make_prefixed s (shape c.args.event.now) (make (shape c.args.then.now)) (count c.args.work)) (no_channel s (make (shape c.args.then.now)) (count c.args.work) (shape c.args.event.now) c.in-Some.channel.now (shapes c.in-Some.fields.now) c.in-Some.ensures c.in-None-fields.ensures)
-
-pub prefixed-returns-then-fields-sets : goal.prefixed-returns-then-fields-sets
-prefixed-returns-then-fields-sets g t c =
-    let s = within (g.G.GlobalScope.scope c.args.scope.now.global.now) (map input c.args.scope.now.inputs.items) in
-    fails_none c.fault-then-fields-sets.result.kind (make_prefixed s (shape c.args.event.now) (make (shape c.args.then.now)) (count c.args.work)) (other_count s (make (shape c.args.then.now)) (count c.args.work) (shape c.args.event.now) c.in-Some.channel.now (shapes c.in-Some.fields.now) c.in-Some.ensures (map (λ v. listed v.items) c.in-Some-fields.sets.now) c.in-Some-fields.ensures (λ e. c.if-fields-sets.true (omega (arith, e, length-map c.in-Some.fields.now (shape {A = g.row.A.Denot}), length-map c.in-Some-fields.sets.now (λ v. listed v.items)))))
+    let p = err_from_is_err_and c.from_residual.result c.from_residual.ensures.1 in
+    rw (p.1, p.2) (no_prefix s (make (shape c.args.then.now)) (count c.args.work) (shape c.args.event.now) c.in_err-prefix.field-0.0.kind c.in_err-prefix.ensures.parts)
 
 pub prefixed-branches-requires : goal.prefixed-branches-requires
 prefixed-branches-requires g t c κs within =
-    let m : 6 * tall (shape c.args.then.now) + 3 < 6 * tall (shape c.args.then.now) + 4 = omega arith in
+    let e : tall (shape c.in_ok-prefix.prefix.then.now) ≡ tall (shape c.args.then.now) = ap (λ t. tall (shape t)) c.in_ok-prefix.ensures.then in
+    let m : 6 * tall (shape c.in_ok-prefix.prefix.then.now) + 3 < 6 * tall (shape c.args.then.now) + 4 = omega (arith, e) in
     search (rules, m)
 
-pub prefixed-returns-in_err-terms-in-Some-fields : goal.prefixed-returns-in_err-terms-in-Some-fields
-prefixed-returns-in_err-terms-in-Some-fields g t c =
+pub prefixed-returns-in_err-terms : goal.prefixed-returns-in_err-terms
+prefixed-returns-in_err-terms g t c =
     let s = within (g.G.GlobalScope.scope c.args.scope.now.global.now) (map input c.args.scope.now.inputs.items) in
-    let p = err_from_is_err_and c.from_residual.result c.from_residual.ensures.1 in
-    rw (p.1, p.2) (branches_fail s (make (shape c.args.then.now)) (count c.args.work) (shape c.args.event.now) c.in-Some.channel.now (shapes c.in-Some.fields.now) c.in-Some.ensures (map (λ v. listed v.items) c.in-Some-fields.sets.now) c.in-Some-fields.ensures (same_length c.in-Some.fields.now shape c.in-Some-fields.sets.now (λ v. listed v.items) c.if-fields-sets.false) c.in_err-terms-in-Some-fields.field-0.0.kind c.in_err-terms-in-Some-fields.ensures)
+    let q = c.in_ok-prefix.prefix in
+    let p = err_from_is_err_and c.from_residual-in_err-terms.result c.from_residual-in_err-terms.ensures.1 in
+    let same : make (shape q.then.now) ≡ make (shape c.args.then.now) = ap (λ t. make (shape t)) c.in_ok-prefix.ensures.then in
+    rw (p.1, p.2) (branches_fail s (make (shape c.args.then.now)) (count c.args.work) (shape c.args.event.now) q.channel.now (syntaxes (shapes q.fields.now)) (map (λ v. listed v.items) q.sets.now) c.in_ok-prefix.ensures.parts c.in_err-terms.field-0.0.kind
+    (subst (λ next. Fails c.in_err-terms.field-0.0.kind (make_branches next q.channel.now (syntaxes (shapes q.fields.now)) (map (λ v. listed v.items) q.sets.now) s 0 (events s.channels) (count c.args.work))) same c.in_err-terms.ensures))
 
-pub prefixed-returns-in_ok-terms-in-Some-fields : goal.prefixed-returns-in_ok-terms-in-Some-fields
-prefixed-returns-in_ok-terms-in-Some-fields g t c =
+pub prefixed-returns : goal.prefixed-returns
+prefixed-returns g t c =
     let s = within (g.G.GlobalScope.scope c.args.scope.now.global.now) (map input c.args.scope.now.inputs.items) in
-    subst (λ o. Gives (λ x. (proc x.0, count x.1)) c.chosen.result o) (sym (branches_made s (make (shape c.args.then.now)) (count c.args.work) (shape c.args.event.now) c.in-Some.channel.now (shapes c.in-Some.fields.now) c.in-Some.ensures (map (λ v. listed v.items) c.in-Some-fields.sets.now) c.in-Some-fields.ensures (same_length c.in-Some.fields.now shape c.in-Some-fields.sets.now (λ v. listed v.items) c.if-fields-sets.false) (map proc c.in_ok-terms-in-Some-fields.terms.items, count c.in_ok-terms-in-Some-fields.work) c.in_ok-terms-in-Some-fields.ensures)) c.chosen.ensures
+    let q = c.in_ok-prefix.prefix in
+    let same : make (shape q.then.now) ≡ make (shape c.args.then.now) = ap (λ t. make (shape t)) c.in_ok-prefix.ensures.then in
+    let x : AllMade = (map proc c.in_ok-terms.terms.items, count c.in_ok-terms.work) in
+    subst (λ o. Gives (λ x. (proc x.0, count x.1)) c.chosen.result o)
+    (sym (branches_made s (make (shape c.args.then.now)) (count c.args.work) (shape c.args.event.now) q.channel.now (syntaxes (shapes q.fields.now)) (map (λ v. listed v.items) q.sets.now) c.in_ok-prefix.ensures.parts x
+    (subst (λ next. make_branches next q.channel.now (syntaxes (shapes q.fields.now)) (map (λ v. listed v.items) q.sets.now) s 0 (events s.channels) (count c.args.work) ≡ Some x) same c.in_ok-terms.ensures))) c.chosen.ensures
 
 pub branch-returns-in_err-found : goal.branch-returns-in_err-found
 branch-returns-in_err-found g t c =
