@@ -1,5 +1,5 @@
-//! The names that a phrase needs, each behind those that its own definition needs: they are met in the order in which what
-//! the phrase stands for is found. What isn't looked at there is left out.
+//! The names that a phrase needs, each after those that its own definition needs: they are met in the order in which what
+//! the phrase means is found. What isn't looked at there is left out.
 
 use crate::sight::Sight;
 use declared_names::{Meaning, is_process_form};
@@ -16,7 +16,7 @@ enum Turn {
     Leave(usize),
 }
 
-/// The truth that the phrase stands for behind these inputs, if it is one.
+/// The truth that the phrase means after these inputs, if it is one.
 fn truth_of<'a, A: Allocator + Copy>(
     sight: &Sight<'_, 'a, A>,
     inputs: &[Input<A>],
@@ -44,7 +44,7 @@ fn with_name<'a, A: Allocator + Copy>(
     Ok(stack)
 }
 
-/// The names that the phrase behind these inputs needs, to be met, the first one on top of the stack. A process needs none.
+/// The names that the phrase after these inputs needs, to be met, the first one on top of the stack. A process needs none.
 #[cycle(needs)]
 fn with_needs<'a, A: Allocator + Copy>(
     sight: &Sight<'_, 'a, A>,
@@ -141,7 +141,7 @@ fn in_order<'a, A: Allocator + Copy>(
     Ok(order)
 }
 
-/// The places of the names that the phrase behind these inputs needs, in their order.
+/// The places of the names that the phrase after these inputs needs, in their order.
 pub(crate) fn needs_of_phrase<'a, A: Allocator + Copy>(
     sight: &Sight<'_, 'a, A>,
     inputs: &[Input<A>],

@@ -24,7 +24,7 @@ impl<'a, A: Allocator + Copy> Entries<'a, A> {
         }
     }
 
-    /// The names and this one behind them; `Redeclared` where it is among them.
+    /// The names and this one after them; `Redeclared` where it is among them.
     #[tactic(auto, unfolding(crate::specs::Entering::put), using(crate::proofs::Tables::is_there, crate::proofs::Tables::appended))]
     pub(crate) fn with(
         self,

@@ -1,4 +1,4 @@
-//! An order of names, each behind those that its definition uses, as far as there is one. What names stand for doesn't
+//! An order of names, each after those that its definition uses, as far as there is one. What names mean doesn't
 //! depend on it; it saves looking at definitions again.
 
 use crate::entries::{Entries, Meaning};
@@ -90,7 +90,7 @@ fn ordered<'a, A: Allocator + Copy>(
     Ok(order)
 }
 
-/// The places of the names, each behind those of the names that its definition uses, as far as there is such an order. No
+/// The places of the names, each after those of the names that its definition uses, as far as there is such an order. No
 /// contract says so: a caller that needs the order looks for itself whether it suits. Costs a turn for each name and for each
 /// use of one.
 pub fn places_by_use<'a, A: Allocator + Copy>(

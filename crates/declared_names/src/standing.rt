@@ -1,4 +1,4 @@
-//! What the declared names stand for.
+//! What the declared names mean.
 ghost use Rattle.std.specs.Prelude.{◌≡◌, MatchResult};
 ghost use Rattle.tokens.specs.declared.error.ScriptErrorKind.TheVariants.{Memory};
 ghost use Rattle.values.specs.Names.{worth_of as worth_of_meaning, next_known, IsReached, Stands};
@@ -14,7 +14,7 @@ use std::alloc::Allocator;
 use tokens::{ScriptError, ScriptErrorKind};
 use values::{Known, Value, Worth, constant_set};
 
-/// What a declared name stands for, where names stand for what the table says.
+/// What a declared name means, where names mean what the table says.
 #[tactic(auto, unfolding(values::specs::Names::worth_of))]
 fn worth_of_entry<'a, A: Allocator + Copy>(
     alloc: A,
@@ -36,7 +36,7 @@ fn worth_of_entry<'a, A: Allocator + Copy>(
     }
 }
 
-/// What the definition of the name says, where names stand for what the table says.
+/// What the definition of the name says, where names mean what the table says.
 #[tactic(auto, unfolding(values::specs::Names::next_known))]
 fn next_worth<'a, A: Allocator + Copy>(
     alloc: A,
@@ -52,7 +52,7 @@ fn next_worth<'a, A: Allocator + Copy>(
     }
 }
 
-/// The table with what the name stands for, and whether it has learned that; a name whose definition is at fault stands
+/// The table with what the name means, and whether it has learned that; a name whose definition is at fault stands
 /// for nothing.
 fn learned<'a, A: Allocator + Copy>(
     alloc: A,
@@ -79,7 +79,7 @@ fn learned<'a, A: Allocator + Copy>(
     }
 }
 
-/// The table behind a look at each name, and whether it has learned of any.
+/// The table after a look at each name, and whether it has learned of any.
 fn learned_all<'a, A: Allocator + Copy>(
     alloc: A,
     entries: &Entries<'a, A>,
@@ -100,7 +100,7 @@ fn learned_all<'a, A: Allocator + Copy>(
     Ok((known, any))
 }
 
-/// The table behind a look at the names at these places.
+/// The table after a look at the names at these places.
 fn learned_in_order<'a, A: Allocator + Copy>(
     alloc: A,
     entries: &Entries<'a, A>,
@@ -120,7 +120,7 @@ fn learned_in_order<'a, A: Allocator + Copy>(
     Ok(known)
 }
 
-/// What the names stand for, from a table that says nothing else: looks at all names until nothing is learned.
+/// What the names mean, from a table that says nothing else: looks at all names until nothing is learned.
 fn settled<'a, A: Allocator + Copy>(
     alloc: A,
     entries: &Entries<'a, A>,
@@ -139,8 +139,8 @@ fn settled<'a, A: Allocator + Copy>(
     }
 }
 
-/// What the declared names stand for. A definition is looked at when what it uses is known, so mostly once; one that
-/// stands for nothing is looked at twice, up to where it is at fault.
+/// What the declared names mean. A definition is looked at when what it uses is known, so mostly once; one that
+/// means nothing is looked at twice, up to where it is at fault.
 pub fn table_of_names<'a, A: Allocator + Copy>(
     alloc: A,
     entries: &Entries<'a, A>,

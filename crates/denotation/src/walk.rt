@@ -23,7 +23,7 @@ pub(crate) struct Opened<'a, A: Allocator> {
     name: &'a [u8],
     /// The values that come later.
     left: Values<A>,
-    /// The generators behind it.
+    /// The generators after it.
     inner: &'a [Tree<A>],
 }
 
@@ -131,7 +131,7 @@ fn entered<'a, A: Allocator + Copy, G: GlobalScope<A>>(
     }
 }
 
-/// The first place from this one on that is behind a value of each generator.
+/// The first place from this one on that is after a value of each generator.
 fn descended<'a, A: Allocator + Copy, G: GlobalScope<A>>(
     alloc: A,
     scope: &Scope<'a, A, G>,
@@ -149,7 +149,7 @@ fn descended<'a, A: Allocator + Copy, G: GlobalScope<A>>(
     Ok(Some(at))
 }
 
-/// The first place behind a value of each of the generators, in this scope.
+/// The first place after a value of each of the generators, in this scope.
 pub(crate) fn first_place<'a, A: Allocator + Copy, G: GlobalScope<A>>(
     alloc: A,
     scope: &Scope<'a, A, G>,
@@ -165,7 +165,7 @@ pub(crate) fn first_place<'a, A: Allocator + Copy, G: GlobalScope<A>>(
     descended(alloc, scope, place)
 }
 
-/// The next place behind a value of each generator, after the one with these inputs and generators.
+/// The next place after a value of each generator, after the one with these inputs and generators.
 pub(crate) fn next_place<'a, A: Allocator + Copy, G: GlobalScope<A>>(
     alloc: A,
     scope: &Scope<'a, A, G>,
