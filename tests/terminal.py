@@ -18,7 +18,7 @@ PROGRAM = os.path.join(ROOT, "crates", "cspwatch", "out", "cspwatch")
 SECONDS = 60
 
 UNKNOWN = "        a name isn't declared, or a value depends on itself"
-NO_TOKEN = "        no token begins so, or a comment isn't closed"
+NO_TOKEN = "        no token begins like this, or a comment isn't closed"
 SERVE = ["serve", "p.csp", "P", "j", "--listen", "127.0.0.1:0", "--connections"]
 SERVE_EXAMPLE = "Example: cspwatch serve p.csp P run.journal --listen 127.0.0.1:7000 --connections 2"
 GOOD, UNDECLARED = b"channel a\nP = a -> STOP\n", b"channel a\nP = a -> Q\n"

@@ -1,4 +1,4 @@
--- Channels with fields, and the events that they stand for.
+-- Channels with fields, and the events that they mean.
 use Rattle.std.specs.Prelude.{◌≡◌, ℕ, ◌+◌, ◌<◌, ◌≤◌, ℤ, pos, negsuc, int_lt, ◌^◌, nat_lt, Bool, true, false, not, ◌&&◌, List, [], ◌∷◌, ◌++◌, map, length, nat_eq, slice_index_or}
 use Rattle.std.specs.List.{flat_map, list_any, list_all}
 use Rattle.std.specs.Fmt.{signed_decimal}
@@ -68,7 +68,7 @@ abbrev pub name_of : List Channel → Event → List ℕ
 name_of cs tick = tick_name
 name_of cs (ev k) = slice_index_or (names cs) k []
 
--- places count from 1, with tick behind the last event
+-- places count from 1, with tick after the last event
 abbrev pub place_of : List Channel → Event → ℕ
 place_of cs tick = event_count cs + 1
 place_of cs (ev k) = k + 1
@@ -80,7 +80,7 @@ is_below (number y) (constant n) = true
 is_below (constant m) (number z) = false
 is_below (constant m) (constant n) = is_lt (slice_cmp nat_cmp m n)
 
--- each value is below all behind it, so none stands twice
+-- each value is below all after it, so none stands twice
 abbrev pub is_rising : Values → Bool
 is_rising [] = true
 is_rising (v ∷ vs) = list_all (λ w. is_below v w) vs && is_rising vs
@@ -110,7 +110,7 @@ is_in_range (number (pos n)) = nat_lt n (2 ^ 63)
 is_in_range (number (negsuc n)) = nat_lt n (2 ^ 63)
 is_in_range (constant name) = true
 
--- no channel has the name of one behind it
+-- no channel has the name of one after it
 abbrev pub are_distinct : List Channel → Bool
 are_distinct [] = true
 are_distinct (c ∷ cs) = not (is_declared cs c.name) && are_distinct cs

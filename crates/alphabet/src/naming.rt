@@ -66,7 +66,7 @@ fn event_name<A: Allocator + Copy>(
     Ok(name)
 }
 
-/// Puts the name of one event behind the others.
+/// Puts the name of one event after the others.
 fn add_name<A: Allocator + Copy>(
     names: &mut IndexSet<Vec<u8, A>, Hashing, A>,
     channel: &[u8],
@@ -109,7 +109,7 @@ pub fn chosen<A: Allocator>(
     None
 }
 
-/// Puts the names of all events of a channel behind the others, or leaves the table as it was.
+/// Puts the names of all events of a channel after the others, or leaves the table as it was.
 pub fn add_names<A: Allocator + Copy>(
     names: &mut IndexSet<Vec<u8, A>, Hashing, A>,
     channel: &[u8],

@@ -26,7 +26,7 @@ pub const SIGMA_LIMIT: usize = 256;
 /// How reports write termination.
 const TICK_NAME: &[u8] = b"_tick";
 
-/// Channels with fields, and the events that they stand for, numbered in alphabet order: channels as declared, then
+/// Channels with fields, and their events, numbered in alphabet order: channels as declared, then
 /// fields place by place in their order, tick last.
 #[derive(Drop)]
 pub struct Alphabet<A: Allocator> {
@@ -121,7 +121,7 @@ impl<A: Allocator> Alphabet<A> {
         }
     }
 
-    /// The event at this place. Places count from 1 in alphabet order, and tick's is behind the last event's. Constant cost.
+    /// The event at this place. Places count from 1 in alphabet order, and tick's is after the last event's. Constant cost.
     pub fn at(&self, place: usize) -> Option<Event>
         ensures { (x : Event) → (result ≡ Some x) ↔ (IsEvent self.now x × (place_of self.now x ≡ place)) }
     {
@@ -229,7 +229,7 @@ impl<A: Allocator> Alphabet<A> {
 }
 
 impl<A: Allocator + Copy> Alphabet<A> {
-    /// Declares a channel: all its events stand behind those that are there. The fields' values are in order and none
+    /// Declares a channel: all its events come after those that are there. The fields' values are in order and none
     /// twice, the names are names of the language, and no constant has a channel's name.
     ///
     /// Answers `Redeclared` where a channel has the name, else `TooManyEvents` where there would be more than 256 events,

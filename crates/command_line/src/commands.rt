@@ -18,7 +18,7 @@ pub(crate) enum Wish<'a> {
     Check { spec: &'a str, process: &'a str },
     /// To print what the script in the file `spec` denotes for the process.
     Print { spec: &'a str, process: &'a str },
-    /// To judge the records of the journal in the file anew.
+    /// To judge the records of the journal in the file again.
     Replay { journal: &'a str },
     /// To print the reports of the journal in the file, and why those that were rejected were.
     Show { journal: &'a str, options: Options },
@@ -44,8 +44,9 @@ const BAD_ADDRESS: &str = "ADDR is 127.x.y.z:port, in decimals without leading z
 
 // What the help of the program ends with.
 const STATUSES: &str = "\
-Exit status: 0 all is done, 1 a report was rejected, 2 bad use, 3 the script is refused,
-4 the journal gives no session, 5 a file or a stream failed, 6 out of memory or at a limit";
+Exit status: 0 done, 1 a report was rejected, 2 bad use, 3 the script was refused,
+4 the journal was refused or failed, 5 a file or a stream failed,
+6 a limit was met or memory ran out";
 
 // An example of each command, at the end of its help.
 const CHECK_EXAMPLE: &str = "Example: printf 'E a\\nR a b\\n' | cspwatch check p.csp P";
@@ -103,7 +104,7 @@ fn print_command<'a>(alloc: Global) -> Result<Command<'a>, AllocError> {
 
 fn replay_command<'a>(alloc: Global) -> Result<Command<'a>, AllocError> {
     Command::new(alloc, "replay")
-        .about("Judges the records of a journal anew, and prints their summary")
+        .about("Judges the records of a journal again, and prints their counts")
         .after_help(REPLAY_EXAMPLE)
         .arg(word(alloc, "JOURNAL", "The file of the journal"))
 }
@@ -131,7 +132,7 @@ fn format_option<'a>(alloc: Global) -> Arg<'a> {
 // Each argument is made where it is added: one that was made before would have to be dropped at each early end.
 fn show_command<'a>(alloc: Global) -> Result<Command<'a>, AllocError> {
     Command::new(alloc, "show")
-        .about("Prints the reports of a journal, judged anew, and why they were rejected")
+        .about("Prints the reports of a journal, and why some were rejected")
         .after_help(SHOW_EXAMPLE)
         .arg(word(
             alloc,

@@ -42,14 +42,14 @@ fn write_line<E: Write>(errors: &mut E, text: &[u8]) -> io::Result<()> {
 fn meaning_of(kind: ScriptErrorKind) -> &'static str {
     match kind {
         ScriptErrorKind::BadByte => "a control character, or one that is not ASCII",
-        ScriptErrorKind::BadToken => "no token begins so, or a comment isn't closed",
-        ScriptErrorKind::Expected => "something else has to come here",
+        ScriptErrorKind::BadToken => "no token begins like this, or a comment isn't closed",
+        ScriptErrorKind::Expected => "something else is expected here",
         ScriptErrorKind::UnknownName => "a name isn't declared, or a value depends on itself",
         ScriptErrorKind::Redeclared => "a name is declared twice",
         ScriptErrorKind::WrongFields => "an event has too many or too few fields",
         ScriptErrorKind::OutOfRange => "a number or a field's value is out of its range",
         ScriptErrorKind::TooManyEvents => "the channels have more than 256 events",
-        ScriptErrorKind::TooDeep => "phrases or brackets are too deep in one another",
+        ScriptErrorKind::TooDeep => "phrases or brackets are nested too deeply",
         ScriptErrorKind::TooLarge => "the script, a set or the processes are too large",
         ScriptErrorKind::Unsupported => "CSPM has this form, but cspwatch doesn't read it",
         ScriptErrorKind::NoSuchProcess => "the script defines no process of this name",

@@ -1,4 +1,4 @@
-//! `cspwatch replay`: the history that a journal holds, judged anew.
+//! `cspwatch replay`: the history that a journal holds, judged again.
 
 ghost use Rattle.std.specs.Prelude.{◌≡◌, ◌⊎◌, List, false, IfOk};
 ghost use Rattle.program.specs.Entry.{Entry};
@@ -19,7 +19,7 @@ use std::fs::File;
 use std::io::Write;
 use std::rt::Files;
 
-// The line with the counts of the history that the disk holds, judged anew, and the exit status that it asks for.
+// The line with the counts of the history that the disk holds, judged again, and the exit status that it asks for.
 fn line_of<D: Disk + Drop>(alloc: Global, disk: D) -> Result<(Vec<u8>, Exit), SessionError>
     ensures { IfOk result (λ r. (h : List Entry) × (r.0.items ≡ status_text (status_of h false)) × (r.1 ≡ replay_exit h)) }
 {
@@ -34,7 +34,7 @@ fn line_of<D: Disk + Drop>(alloc: Global, disk: D) -> Result<(Vec<u8>, Exit), Se
     Ok((line, exit))
 }
 
-/// Judges the records of the journal in the file anew, writes their summary, and answers the exit status. What stands past
+/// Judges the records of the journal in the file again, writes their summary, and answers the exit status. What stands past
 /// the first closed gate is cut off.
 pub fn replay<R: Files<File = File> + AllocGlobal, O: Write, E: Write>(
     rt: &R,

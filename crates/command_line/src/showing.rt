@@ -1,4 +1,4 @@
-//! `cspwatch show`: the reports of a journal, judged anew, and why those that were rejected were.
+//! `cspwatch show`: the reports of a journal, judged again, and why those that were rejected were.
 
 ghost use Rattle.std.specs.Prelude.{◌≡◌, ◌⊎◌, List, IfOk};
 ghost use Rattle.term.specs.Specs.{Specified};
@@ -19,7 +19,7 @@ use std::fs::File;
 use std::io::Write;
 use std::rt::Files;
 
-// What is shown of the history that the disk holds, judged anew, and the exit status that it asks for.
+// What is shown of the history that the disk holds, judged again, and the exit status that it asks for.
 fn text_of<D: Disk + Drop>(
     alloc: Global,
     disk: D,
@@ -38,7 +38,7 @@ fn text_of<D: Disk + Drop>(
     Ok((text, exit))
 }
 
-/// Judges the records of the journal in the file anew, writes what is asked for of them, and answers the exit status. What stands
+/// Judges the records of the journal in the file again, writes what is asked for of them, and answers the exit status. What stands
 /// past the first closed gate is cut off.
 pub fn show<R: Files<File = File> + AllocGlobal, O: Write, E: Write>(
     rt: &R,

@@ -12,7 +12,7 @@ use Rattle.connections.specs.declared.outcome.Ending.TheVariants as ending
 -- For a gate that gives these places, refuses one for these faults, and serves a connection so.
 module _ {P : Type 0} (gives : P → Type 0) (refuses : Fault → Type 0)
     (serves : P → P → Tally → Option (List ℕ) → Option (List ℕ) → Option (List ℕ) → Option (List ℕ) → Result End WireError → Type 0) where
-  -- What came of a connection whose reader and writer told these bytes as it was taken: it was served to its end at a place that the
+  -- What came of a connection whose reader and writer knew these bytes as it was taken: it was served to its end at a place that the
   -- gate gave; or the gate gave no place for this fault; or no thread could be started.
   abbrev pub IsOutcome : Option (List ℕ) → Option (List ℕ) → Outcome P → Type 0
   IsOutcome left written (Over over) =

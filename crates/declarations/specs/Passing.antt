@@ -13,7 +13,7 @@ passes p (constant n) = p n
 abbrev pub all_pass : (Name → Bool) → Values → Bool
 all_pass p vs = list_all (passes p) vs
 
--- all constants of what it stands for pass the test; a truth has none
+-- all constants of what it means pass the test; a truth has none
 abbrev pub pass : (Name → Bool) → Worth → Bool
 pass p (one v) = passes p v
 pass p (many vs) = all_pass p vs

@@ -26,7 +26,7 @@ use values::Known;
 pub struct Declared<'a, A: Allocator> {
     /// The declared names in text order, none twice.
     pub entries: Entries<'a, A>,
-    /// What the names of numbers, constants and sets of values stand for.
+    /// What the names of numbers, constants and sets of values mean.
     pub known: Known<A>,
     /// The channels with the values of their fields.
     pub alphabet: Alphabet<A>,
@@ -65,12 +65,12 @@ fn fitting_entries<'a, A: Allocator + Copy>(
 
 /// What the script with this tree declares. Each name in the tree is a name of the language.
 ///
-/// Tells the first fault in its names, in text order: `Redeclared` where a name stands for the second time, or a parameter
+/// Tells the first fault in its names, in text order: `Redeclared` where a name is declared for the second time, or a parameter
 /// for the second time in its list, and `Unsupported` at a parameter with the name of a constant; else, for the first channel
 /// that is at fault, the first fault in the sets of its fields and in the definitions that they need, or `TooManyEvents` at
-/// its name where there would be more than 256 events. `Memory` is told on line 1.
+/// its name where there would be more than 256 events. `Memory` is reported on line 1.
 ///
-/// Costs a turn for each name and each use of one, and what it takes to find what each named number and set stands for,
+/// Costs a turn for each name and each use of one, and what it takes to find what each named number and set means,
 /// once: also of those that nothing uses.
 pub fn declare<'a, A: Allocator + Copy>(
     alloc: A,

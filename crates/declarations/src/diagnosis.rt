@@ -1,4 +1,4 @@
-//! Which fault is told of a phrase that stands for nothing: the first one that is met when its parts, and the definitions
+//! Which fault is reported of a phrase that means nothing: the first one that is met when its parts, and the definitions
 //! of the names in it, are looked into from the left.
 ghost use Rattle.std.specs.Prelude.{◌≡◌, []};
 ghost use Rattle.syntax.specs.Parsing.{syntaxes};
@@ -21,7 +21,7 @@ use syntax::{Form, Tree};
 use tokens::{ScriptError, ScriptErrorKind};
 use values::{Input, Known, Worth, is_value};
 
-/// What is told of the phrase, which is to be a set of values for a channel's field and which evaluation refuses.
+/// What is reported of the phrase, which is to be a set of values for a channel's field and which evaluation refuses.
 fn field_fault<'a, A: Allocator + Copy>(
     alloc: A,
     entries: &Entries<'a, A>,
@@ -74,7 +74,7 @@ fn channels_fault<'a, A: Allocator + Copy>(
     Ok(())
 }
 
-/// What is told where the channels of these declarations can't be made for this fault: the fault that is met first when
+/// What is reported where the channels of these declarations can't be made for this fault: the fault that is met first when
 /// the definitions of the names in the sets of their fields are looked into.
 fn diagnosed_channels<'a, A: Allocator + Copy>(
     alloc: A,
@@ -111,13 +111,13 @@ pub(crate) fn told_alphabet<'a, A: Allocator + Copy>(
     }
 }
 
-/// What is told of a name that is used on this line and isn't of the kind that is wanted there, or stands for nothing:
-/// `Unsupported` for the words of CSPM that stand for something without a declaration, `UnknownName` for another name that
+/// What is reported of a name that is used on this line and isn't of the kind that is wanted there, or means nothing:
+/// `Unsupported` for the words of CSPM that mean something without a declaration, `UnknownName` for another name that
 /// isn't declared, the first fault in the definitions that it needs, `UnknownName` for a value that depends on itself; else
 /// `Expected`.
 ///
 /// Costs one look-up for the name of a channel or of what is known, and for one that isn't declared; else a turn for each
-/// declared name, and about what it takes to find what the names stand for that it needs. `Memory` is told for want of it.
+/// declared name, and about what it takes to find what the names mean that it needs. `Memory` is reported where it runs out.
 pub fn fault_of_name<'a, A: Allocator + Copy>(
     alloc: A,
     entries: &Entries<'a, A>,
@@ -153,11 +153,11 @@ fn kind_by_definitions<'a, A: Allocator + Copy>(
     kind_of_name(&sight, name, line)
 }
 
-/// What is told of a phrase behind these inputs that isn't what is wanted: the first fault in a condition that decides which
+/// What is reported of a phrase after these inputs that isn't what is wanted: the first fault in a condition that decides which
 /// phrase it is; then a form that can't be what is wanted, before its parts are looked into; else the first fault in its parts
 /// and in the definitions of the names in them, from the left.
 ///
-/// Costs about what it takes to find what the names stand for that it needs. `Memory` is told for want of it.
+/// Costs about what it takes to find what the names mean that it needs. `Memory` is reported where it runs out.
 pub fn fault_of_phrase<'a, A: Allocator + Copy>(
     alloc: A,
     entries: &Entries<'a, A>,
@@ -172,7 +172,7 @@ pub fn fault_of_phrase<'a, A: Allocator + Copy>(
     }
 }
 
-/// What the phrase behind these inputs is, of which this is wanted.
+/// What the phrase after these inputs is, of which this is wanted.
 fn kind_behind_inputs<'a, A: Allocator + Copy>(
     alloc: A,
     entries: &Entries<'a, A>,
@@ -189,7 +189,7 @@ fn kind_behind_inputs<'a, A: Allocator + Copy>(
     Ok(kind)
 }
 
-/// What is told of an event phrase behind these inputs that gives no channel and first values of its fields.
+/// What is reported of an event phrase after these inputs that gives no channel and first values of its fields.
 pub fn fault_of_beginning<'a, A: Allocator + Copy>(
     alloc: A,
     entries: &Entries<'a, A>,
@@ -203,7 +203,7 @@ pub fn fault_of_beginning<'a, A: Allocator + Copy>(
     }
 }
 
-/// Looks into an event phrase behind these inputs.
+/// Looks into an event phrase after these inputs.
 fn beginning_behind_inputs<'a, A: Allocator + Copy>(
     alloc: A,
     entries: &Entries<'a, A>,
@@ -215,7 +215,7 @@ fn beginning_behind_inputs<'a, A: Allocator + Copy>(
     event_in_set(&sight, phrase, false)
 }
 
-/// What is told of an event phrase behind these inputs whose name is no channel's: the definition of that name isn't looked
+/// What is reported of an event phrase after these inputs whose name is no channel's: the definition of that name isn't looked
 /// into.
 pub fn fault_of_channel<'a, A: Allocator>(
     entries: &Entries<'a, A>,
@@ -235,7 +235,7 @@ pub fn fault_of_channel<'a, A: Allocator>(
     }
 }
 
-/// What is wrong with a call on this line of a name that is no definition with so many parameters: what is told of a name that
+/// What is wrong with a call on this line of a name that is no definition with so many parameters: what is reported of a name that
 /// isn't declared, else `Expected`.
 pub fn fault_of_call<'a, A: Allocator>(
     entries: &Entries<'a, A>,

@@ -155,7 +155,7 @@ fn nothing_found<'s, 'a, A: Allocator + Copy>(
     })
 }
 
-/// What can be seen behind these inputs, with what is found of the definitions that the phrase needs.
+/// What can be seen after these inputs, with what is found of the definitions that the phrase needs.
 pub(crate) fn seen_behind<'s, 'a, A: Allocator + Copy>(
     alloc: A,
     entries: &'s Entries<'a, A>,

@@ -1,4 +1,4 @@
-//! What a script declares: its names with what they stand for, and the events of its channels.
+//! What a script declares: its names with what they mean, and the events of its channels.
 #![tactic(auto)]
 
 mod declared;

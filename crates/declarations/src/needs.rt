@@ -18,7 +18,7 @@ enum Turn {
     Leave(usize),
 }
 
-/// The truth that the phrase stands for behind these inputs, if it is one.
+/// The truth that the phrase means after these inputs, if it is one.
 fn truth_of<'a, A: Allocator + Copy>(
     sight: &Sight<'_, 'a, A>,
     inputs: &[Input<A>],
@@ -159,7 +159,7 @@ fn in_order<'a, A: Allocator + Copy>(
     Ok(order)
 }
 
-/// The places of the names that the phrase behind these inputs needs, in their order.
+/// The places of the names that the phrase after these inputs needs, in their order.
 pub(crate) fn needs_of_phrase<'a, A: Allocator + Copy>(
     sight: &Sight<'_, 'a, A>,
     inputs: &[Input<A>],

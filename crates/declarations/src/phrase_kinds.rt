@@ -11,7 +11,7 @@ use syntax::{Form, Operator, Tree};
 use tokens::{ScriptError, ScriptErrorKind};
 use values::Worth;
 
-/// What a phrase is that stands for a set of values, or the fault of one that stands for nothing.
+/// What a phrase is that means a set of values, or the fault of one that means nothing.
 fn ended(own: Option<ScriptError>) -> Result<Kind, ScriptError> {
     match own {
         Some(own) => Err(own),
@@ -45,26 +45,26 @@ fn is_input<A: Allocator>(field: &Tree<A>) -> bool {
     }
 }
 
-/// A phrase that stands for nothing.
+/// A phrase that means nothing.
 #[derive(Clone, Copy)]
 struct Spot {
     wanted: Wanted,
     /// The line of the brackets round the phrase, or else its own.
     outer: u32,
     line: u32,
-    /// What is told of it where its parts are as they should be; none where it stands for a set.
+    /// What is reported of it where its parts are as they should be; none where it means a set.
     own: Option<ScriptError>,
 }
 
-/// What evaluation tells of a phrase: its kind, its fault, or neither where its parts are to be looked into.
+/// What evaluation says of a phrase: its kind, its fault, or neither where its parts are to be looked into.
 enum Told {
     Is(Kind),
     Fault(ScriptError),
     Nothing,
 }
 
-/// What evaluation tells of the phrase. A condition isn't evaluated as a whole, since its parts say more; nor is what is made
-/// of two sets, since that is dear and tells nothing but that it is too large.
+/// What evaluation says of the phrase. A condition isn't evaluated as a whole, since its parts say more; nor is what is made
+/// of two sets, since that is costly and says nothing but that it is too large.
 fn told_of<A: Allocator + Copy>(
     sight: &Sight<'_, '_, A>,
     phrase: &Tree<A>,
@@ -89,7 +89,7 @@ fn told_of<A: Allocator + Copy>(
     }
 }
 
-/// What is told where this fault is met behind the phrase, which is of this kind: a set of values that is too large is met
+/// What is reported where this fault is met after the phrase, which is of this kind: a set of values that is too large is met
 /// first.
 fn told_behind<A: Allocator + Copy>(
     sight: &Sight<'_, '_, A>,
@@ -340,7 +340,7 @@ pub(crate) fn event_in_set<A: Allocator + Copy>(
     }
 }
 
-/// Looks into the fields behind the name of an event, each of which is to be a value of its set.
+/// Looks into the fields after the name of an event, each of which is to be a value of its set.
 #[cycle(kinds)]
 fn values_in_sets<A: Allocator + Copy>(
     sight: &Sight<'_, '_, A>,

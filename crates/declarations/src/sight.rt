@@ -30,10 +30,10 @@ pub(crate) struct Sight<'s, 'a, A: Allocator> {
     pub(crate) found: Vec<Found, A>,
 }
 
-/// Words of CSPM that stand for something without a declaration, which this profile leaves out.
+/// Words of CSPM that mean something without a declaration, which this profile leaves out.
 const BUILT_IN: [&str; 8] = ["CHAOS", "RUN", "DIV", "WAIT", "Int", "Bool", "Char", "Proc"];
 
-/// What is told of a name that isn't declared.
+/// What is reported of a name that isn't declared.
 pub(crate) fn undeclared(name: &[u8], line: u32) -> ScriptError {
     for word in &BUILT_IN {
         if word.as_bytes() == name {
@@ -43,7 +43,7 @@ pub(crate) fn undeclared(name: &[u8], line: u32) -> ScriptError {
     fault(line, ScriptErrorKind::UnknownName)
 }
 
-/// What a phrase is that stands for this: `Nothing` for a set without values, whatever it is made of.
+/// What a phrase is that means this: `Nothing` for a set without values, whatever it is made of.
 pub(crate) fn kind_of_worth<A: Allocator>(worth: &Worth<A>) -> Kind {
     match worth {
         Worth::One(Value::Number(_)) => Kind::Number,
@@ -59,12 +59,12 @@ pub(crate) fn kind_of_worth<A: Allocator>(worth: &Worth<A>) -> Kind {
     }
 }
 
-/// Whether the name stands for a value, which hides a channel of its name.
+/// Whether the name means a value, which hides a channel of its name.
 pub(crate) fn hides<A: Allocator>(sight: &Sight<'_, '_, A>, name: &[u8]) -> bool {
     is_value(sight.known, sight.inputs, name)
 }
 
-/// What a phrase behind the inputs stands for.
+/// What a phrase after the inputs means.
 pub(crate) fn worth_here<A: Allocator + Copy>(
     sight: &Sight<'_, '_, A>,
     phrase: &Tree<A>,
@@ -193,7 +193,7 @@ pub(crate) fn field_sets<'a, A: Allocator + Copy>(
     }
 }
 
-/// Whether the phrase stands for a value of the set.
+/// Whether the phrase means a value of the set.
 pub(crate) fn is_in<A: Allocator + Copy>(
     sight: &Sight<'_, '_, A>,
     value: &Tree<A>,

@@ -1,4 +1,4 @@
--- How what names stand for is found: one name after the other, until no definition says more.
+-- How what names mean is found: one name after the other, until no definition says more.
 use Rattle.std.specs.Prelude.{◌≡◌, ℕ, ◌+◌, ◌<◌, List, [], ◌∷◌, length, Bool, true, false, is_some, Some, if◌then◌else◌, slice_get}
 use Rattle.values.specs.Values.{Name}
 use Rattle.values.specs.Worths.{Worth, Known}

@@ -1,4 +1,4 @@
--- One part behind the other, where each step may fail.
+-- One part after the other, where each step may fail.
 use Rattle.std.specs.Prelude.{Option, Some, None}
 use Rattle.syntax.specs.Grammar.{Syntax, Syntaxes, NoSyntax, MoreSyntax}
 use Rattle.values.specs.Values.{◌>>=◌}

@@ -1,4 +1,4 @@
-//! Which fault is told of the names that a script declares. No contract says it.
+//! Which fault is reported of the names that a script declares. No contract says it.
 
 use crate::entries::Hashing;
 use crate::naming::name_list;
@@ -64,7 +64,7 @@ fn look_at_parameter<'a, A: Allocator + Copy>(
     }
 }
 
-/// Looks at parameters from left to right: `Redeclared` at one that stands for the second time, `Unsupported` at one with the
+/// Looks at parameters from left to right: `Redeclared` at one that is given for the second time, `Unsupported` at one with the
 /// name of a constant.
 fn look_at_parameters<'a, A: Allocator + Copy>(
     alloc: A,
@@ -133,7 +133,7 @@ fn look_through<'a, A: Allocator + Copy>(
 }
 
 /// The first fault in the names that a script with this tree declares, where names are declared twice or parameters aren't as
-/// they have to be: `Redeclared` at a name or a parameter that stands for the second time, `Unsupported` at a parameter
+/// they have to be: `Redeclared` at a name or a parameter that is given for the second time, `Unsupported` at a parameter
 /// with the name of a constant; `Memory` where it can't be looked for. Costs a few look-ups by its hash for each name.
 pub fn fault_of_names<A: Allocator + Copy>(tree: &Tree<A>) -> ScriptError {
     if let Tree::Node { parts, .. } = tree {

@@ -1,4 +1,4 @@
-//! The names that a script declares, and what they stand for.
+//! The names that a script declares, and what they mean.
 #![tactic(auto)]
 
 mod entries;

@@ -299,7 +299,7 @@ pub fn declarations_of<A: Allocator>(tree: &Tree<A>) -> Result<&[Tree<A>], Scrip
     }
 }
 
-/// The names that a script declares, in text order, none twice: `Redeclared` where a name stands for the second time. Looks
+/// The names that a script declares, in text order, none twice: `Redeclared` where a name is declared for the second time. Looks
 /// at no parameters.
 pub fn distinct_entries<'a, A: Allocator + Copy>(
     alloc: A,

@@ -83,7 +83,7 @@ pub(crate) fn three_parts<A: Allocator>(
     }
 }
 
-/// No parts, behind the last one.
+/// No parts, after the last one.
 #[tactic(auto, using(crate::proofs::Shapes::behind_all))]
 pub fn no_parts<A: Allocator>(parts: &[Tree<A>]) -> &[Tree<A>]
     ensures { result.now ≡ [] }
@@ -91,7 +91,7 @@ pub fn no_parts<A: Allocator>(parts: &[Tree<A>]) -> &[Tree<A>]
     &parts[parts.len()..]
 }
 
-/// What a phrase stands for, where names stand for what the table says and no input stands before it.
+/// What a phrase means, where names mean what the table says and no input stands before it.
 pub fn worth_alone<A: Allocator + Copy>(
     alloc: A,
     known: &Known<A>,

@@ -14,7 +14,7 @@ use std::alloc::{AllocError, Allocator};
 use tokens::{ScriptError, ScriptErrorKind};
 use values::{Known, Value, Worth, constant_set};
 
-/// What a declared name stands for, where names stand for what the table says.
+/// What a declared name means, where names mean what the table says.
 #[tactic(auto, unfolding(values::specs::Names::worth_of))]
 fn worth_of_entry<'a, A: Allocator + Copy>(
     alloc: A,
@@ -36,7 +36,7 @@ fn worth_of_entry<'a, A: Allocator + Copy>(
     }
 }
 
-/// What the definition of the name says, where names stand for what the table says.
+/// What the definition of the name says, where names mean what the table says.
 #[tactic(auto, unfolding(values::specs::Names::next_known))]
 fn next_worth<'a, A: Allocator + Copy>(
     alloc: A,
@@ -131,8 +131,8 @@ fn settle<'a, A: Allocator + Copy>(
     }
 }
 
-/// What the declared names stand for. A definition is looked at when what it uses is known, so mostly once; one that
-/// stands for nothing is looked at twice, up to where it is at fault.
+/// What the declared names mean. A definition is looked at when what it uses is known, so mostly once; one that
+/// means nothing is looked at twice, up to where it is at fault.
 pub fn table_of_names<'a, A: Allocator + Copy>(
     alloc: A,
     entries: &Entries<'a, A>,

@@ -52,7 +52,7 @@ unfoldable pub has_key : List Key → Key → Bool
 has_key [] k = false
 has_key (j ∷ js) k = if same_key j k then true else has_key js k
 
--- the list, and behind it what isn't in it yet
+-- the list, and after it what isn't in it yet
 unfoldable pub with_key : List Key → Key → List Key
 with_key ks k = if has_key ks k then ks else ks ++ k ∷ []
 

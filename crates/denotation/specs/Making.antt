@@ -106,7 +106,7 @@ put (Some x) xs = x ∷ xs
 abbrev pub FoundBranch : Type 0
 FoundBranch = Option Proc × Count
 
--- a branch behind what fits
+-- a branch after what fits
 abbrev pub make_behind : (Scope → Count → Option Made) → ℕ → Count → Option Scope → Option FoundBranch
 make_behind next a w None = Some (None, w)
 make_behind next a w (Some inner) = next inner w >>= λ p. spend 1 p.1 >>= λ u. Some (Some (prefix a p.0), u)

@@ -47,7 +47,7 @@ unfoldable pub takes : Option Meaning → Syntaxes → Bool
 takes (Some (parametric xs t)) ts = is_for_all xs ts
 takes m ts = false
 
--- the values that phrases stand for
+-- the values that phrases mean
 unfoldable pub arguments : Known → Syntaxes → Option Values
 arguments known NoSyntax = Some []
 arguments known (MoreSyntax t ts) = worth known t >>= λ w. the_value w >>= λ v. arguments known ts >>= λ vs. Some (v ∷ vs)

@@ -28,7 +28,7 @@ abbrev pub from_next : {A : Type 0} → Scope → Option (Place A) → List Visi
 from_next s None = []
 from_next s (Some p) = from_place s p
 
--- the same of a place behind a value of each generator
+-- the same of a place after a value of each generator
 abbrev pub from_scope : {A : Type 0} → Scope → Option (Place A) → List Visit
 from_scope s None = []
 from_scope s (Some p) = stands (within s (map input p.inputs.items)) ∷ after_place s p

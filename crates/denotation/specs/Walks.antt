@@ -15,10 +15,10 @@ pub data Visit : Type 0 where
   opens : Visit
   -- a generator without a set of values
   fails : Visit
-  -- the scope behind a value of each generator
+  -- the scope after a value of each generator
   stands : Scope → Visit
 
--- what is met behind an input with each of these values
+-- what is met after an input with each of these values
 unfoldable pub behind_each : (Scope → List Visit) → Scope → Name → Values → List Visit
 behind_each next s x [] = []
 behind_each next s x (v ∷ vs) = next (with_input s x v) ++ behind_each next s x vs
@@ -56,7 +56,7 @@ first_scope (stands s ∷ vs) = Some (stands s ∷ vs)
 
 -- ---- in the middle of a walk
 
--- a generator that has a value: its name, the values that come later, and the generators behind it
+-- a generator that has a value: its name, the values that come later, and the generators after it
 abbrev pub Waiting : Type 0
 Waiting = Name × Values × List Syntax
 
@@ -79,6 +79,6 @@ visits_after s is (g ∷ gs) = behind_each (visits g.2) (within s (all_but_last 
 abbrev pub visits_from : Scope → List (Name × FieldValue) → Waiting → List Waiting → List Visit
 visits_from s is g gs = behind_each (visits g.2) (within s is) g.0 g.1 ++ visits_after s is gs
 
--- what is met once this generator is found, which has these generators behind it
+-- what is met once this generator is found, which has these generators after it
 abbrev pub once_found : Scope → List (Name × FieldValue) → List Waiting → List Syntax → Syntax → Option (List Visit)
 once_found s is gs inner g = found_generator (within s is) g >>= λ p. Some (visits_from s is (p.0, p.1, inner) gs)

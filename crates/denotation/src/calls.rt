@@ -21,7 +21,7 @@ use term::Term;
 use tokens::{ScriptError, ScriptErrorKind};
 use values::Value;
 
-/// The values that these phrases stand for, from the left; the fault of the first that stands for none.
+/// The values that these phrases mean, from the left; the fault of the first that means none.
 fn argument_values<A: Allocator + Copy, G: GlobalScope<A>>(
     alloc: A,
     scope: &Scope<'_, A, G>,

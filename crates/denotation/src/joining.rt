@@ -78,7 +78,7 @@ pub(crate) fn shared<A: Allocator + Copy>(
     Ok((Term::Par(set, first, second), work))
 }
 
-/// The term behind the event with this number, where there is room for the node above it.
+/// The term after the event with this number, where there is room for the node above it.
 pub(crate) fn behind_event<A: Allocator + Copy>(
     alloc: A,
     number: usize,

@@ -88,7 +88,7 @@ fn branches<'a, A: Allocator + Copy, G: GlobalScope<A>>(
     Ok((terms, work))
 }
 
-/// The process that an event phrase and what stands behind its arrow are a phrase for: the choice over the events that fit.
+/// The process that an event phrase and what stands after its arrow are a phrase for: the choice over the events that fit.
 #[cycle(making)]
 fn prefixed<'a, A: Allocator + Copy, G: GlobalScope<A>>(
     alloc: A,

@@ -24,7 +24,7 @@ pub(crate) struct Opened<'a, A: Allocator> {
     name: &'a [u8],
     /// The values that come later.
     left: Values<A>,
-    /// The generators behind it.
+    /// The generators after it.
     inner: &'a [Tree<A>],
 }
 
@@ -132,7 +132,7 @@ fn entered<'a, A: Allocator + Copy, G: GlobalScope<A>>(
     }
 }
 
-/// The first place from this one on that is behind a value of each generator.
+/// The first place from this one on that is after a value of each generator.
 fn descended<'a, A: Allocator + Copy, G: GlobalScope<A>>(
     alloc: A,
     scope: &Scope<'a, A, G>,
@@ -170,7 +170,7 @@ pub(crate) fn first_place<'a, A: Allocator + Copy, G: GlobalScope<A>>(
     descended(alloc, scope, place)
 }
 
-/// The next place behind a value of each generator, after the one with these inputs and generators.
+/// The next place after a value of each generator, after the one with these inputs and generators.
 pub(crate) fn next_place<'a, A: Allocator + Copy, G: GlobalScope<A>>(
     alloc: A,
     scope: &Scope<'a, A, G>,

@@ -13,7 +13,7 @@ pub record Torn (at n : ℕ) (old new : List ℕ) : Type 0 where
   pub fits : length over ≡ length (take n (drop at old))
   pub is : new ≡ take at old ++ over ++ drop (at + n) old ++ more
 
--- A cut of which any part was done: behind it stand any bytes or none.
+-- A cut of which any part was done: after it come any bytes or none.
 pub record CutShort (len : ℕ) (old new : List ℕ) : Type 0 where
   pub more : List ℕ
   pub is : new ≡ take len old ++ more

@@ -1,6 +1,6 @@
 //! A disk that holds one file: what its reads give, and what a crash may leave of it.
 //!
-//! Nothing here says what a real device does. An `impl` tells by two flags of its ghost state what it claims: that
+//! Nothing here says what a real device does. An `impl` says by two flags of its ghost state what it claims: that
 //! reads give the bytes that were written, and which files a crash may leave. A clause on the bytes stands under the
 //! first flag, a clause on a crash under the second, and what is not claimed is not said.
 #![tactic(auto)]

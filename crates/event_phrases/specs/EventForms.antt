@@ -1,4 +1,4 @@
--- What phrases for events, sets of events and fields stand for, by their forms.
+-- What phrases for events, sets of events and fields mean, by their forms.
 use Rattle.std.specs.Cmp.Lexicographic.{pointwise}
 use Rattle.std.specs.Prelude.{ℕ, List, [], ◌∷◌, ◌++◌, length, Bool, not, ◌&&◌, ◌||◌, Option, Some, None, if◌then◌else◌, nat_eq, nat_lt}
 use Rattle.alphabet.specs.Channels.{FieldValue, Values, Parts, Channel, events, event_count}

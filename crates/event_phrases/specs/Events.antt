@@ -1,4 +1,4 @@
--- What event phrases and phrases for sets of events stand for, where Sigma is known.
+-- What event phrases and phrases for sets of events mean, where Sigma is known.
 use Rattle.std.specs.Prelude.{◌≡◌, ℕ, zero, suc, ◌+◌, ◌^◌, List, [], ◌∷◌, ◌++◌, length, drop, Bool, true, false, not, ◌&&◌, ◌||◌, Option, Some, None, if◌then◌else◌, nat_eq, nat_lt, filter, map, ◌↔◌}
 use Rattle.std.specs.List.{list_any, flat_map, range_with_len}
 use Rattle.std.specs.Cmp.Lexicographic.{pointwise}
@@ -18,11 +18,11 @@ Events = ℕ → Bool
 abbrev pub no_events : Events
 no_events a = false
 
--- what names of sets of events stand for
+-- what names of sets of events mean
 abbrev pub KnownEvents : Type 0
 KnownEvents = Name → Option Events
 
--- a name that stands for a value or a truth, as an input's name does, hides its other uses
+-- a name that means a value or a truth, as an input's name does, hides its other uses
 abbrev pub unless_value : {X : Type 0} → Option Worth → Option X → Option X
 unless_value None x = x
 unless_value (Some (one v)) x = None
@@ -111,7 +111,7 @@ unfoldable pub together : (Syntax → Option Events) → Syntaxes → Option Eve
 together gives NoSyntax = Some no_events
 together gives (MoreSyntax t ts) = gives t >>= λ A. together gives ts >>= λ B. Some (either A B)
 
--- what a phrase for a set of events stands for
+-- what a phrase for a set of events means
 unfoldable pub event_set : List Channel → Known → KnownEvents → Syntax → Option Events
 event_set cs known sets (Node forms.Brackets (MoreSyntax t NoSyntax)) = event_set cs known sets t
 event_set cs known sets (Node forms.Event (MoreSyntax (Called n) NoSyntax)) = unless_value (known n) (sets n)
@@ -126,7 +126,7 @@ event_set cs known sets (Node forms.Difference (MoreSyntax t (MoreSyntax u NoSyn
 event_set cs known sets (Node forms.If (MoreSyntax c (MoreSyntax t (MoreSyntax u NoSyntax)))) = condition known c >>= λ b. if b then event_set cs known sets t else event_set cs known sets u
 event_set cs known sets t = None
 
--- what a name with this meaning stands for
+-- what a name with this meaning means
 unfoldable pub events_of : List Channel → Known → KnownEvents → Meaning → Option Events
 events_of cs known sets (channel ts) = None
 events_of cs known sets (datatype ns) = None
@@ -134,12 +134,12 @@ events_of cs known sets constant_name = None
 events_of cs known sets (definition t) = event_set cs known sets t
 events_of cs known sets (parametric xs t) = None
 
--- what names stand for after so many steps, in each of which a definition is looked into
+-- what names mean after so many steps, in each of which a definition is looked into
 unfoldable pub events_in : List Channel → Known → List Entry → ℕ → KnownEvents
 events_in cs known es zero n = None
 events_in cs known es (suc k) n = meaning es n >>= events_of cs known (events_in cs known es k)
 
--- Each name stands for what it stands for after some number of steps, and for nothing else.
+-- Each name means what it means after some number of steps, and nothing else.
 abbrev pub EventsStand : List Channel → Known → List Entry → KnownEvents → Type 0
 EventsStand cs known es sets = (n : Name) (A : Events) → (sets n ≡ Some A) ↔ ((k : ℕ) × (events_in cs known es k n ≡ Some A))
 

@@ -8,7 +8,7 @@ use Rattle.values.specs.Worths.{worth, the_set}
 use Rattle.event_phrases.specs.Events.{field_value}
 use Rattle.event_phrases.specs.Scopes.{Scope, with_input, unless_constant}
 
--- Nothing where a field is at fault; Some None where the event doesn't fit; else the scope behind the fields.
+-- Nothing where a field is at fault; Some None where the event doesn't fit; else the scope after the fields.
 abbrev pub Fitting : Type 0
 Fitting = Option (Option Scope)
 
@@ -17,7 +17,7 @@ unfoldable pub against : Values → FieldValue → Scope → Option FieldValue �
 against set v s None = None
 against set v s (Some w) = if is_among w set then (if is_same w v then Some (Some s) else Some None) else None
 
--- against an input: its name stands for the event's value
+-- against an input: its name means the event's value
 unfoldable pub against_input : FieldValue → Scope → Name → Fitting
 against_input v s x = unless_constant s x (Some (Some (with_input s x v)))
 

@@ -31,7 +31,7 @@ unfoldable pub if_none : {X Y : Type 0} → List X → Y → Option Y
 if_none [] y = Some y
 if_none (x ∷ xs) y = None
 
--- the first part, and those behind it
+-- the first part, and those after it
 unfoldable pub first_of : {X : Type 0} → List X → Option (X × List X)
 first_of [] = None
 first_of (x ∷ xs) = Some (x, xs)
@@ -87,7 +87,7 @@ set_phrase_of t = node_of t >>= λ n. set_form n.0 n.1
 
 -- ---- events
 
--- the name of a channel and the fields behind it
+-- the name of a channel and the fields after it
 unfoldable pub event_form : Form → List Syntax → Option (Name × List Syntax)
 event_form forms.Event ts = first_of ts >>= λ p. name_of p.0 >>= λ n. Some (n, p.1)
 event_form f ts = None

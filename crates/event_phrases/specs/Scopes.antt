@@ -12,15 +12,15 @@ use Rattle.event_phrases.specs.Events.{Events, KnownEvents, event_set}
 pub record Scope : Type 0 where
   pub entries : List Entry
   pub channels : List Channel
-  -- what names stand for: also the inputs before the phrase
+  -- what names mean: also the inputs before the phrase
   pub known : Known
   pub sets : KnownEvents
 
--- the name of an input stands for a value
+-- the name of an input means a value
 abbrev pub with_input : Scope → Name → FieldValue → Scope
 with_input s x v = record s { known = λ n. if same_name n x then Some (one v) else s.known n }
 
--- behind these inputs
+-- after these inputs
 abbrev pub within : Scope → List (Name × FieldValue) → Scope
 within s is = record s { known = behind s.known is }
 
@@ -28,14 +28,14 @@ within s is = record s { known = behind s.known is }
 abbrev pub unless_constant : {X : Type 0} → Scope → Name → Option X → Option X
 unless_constant s x y = if is_constant (meaning s.entries x) then None else y
 
--- the set of events that a phrase stands for
+-- the set of events that a phrase means
 abbrev pub events_by : Scope → Syntax → Option Events
 events_by s t = event_set s.channels s.known s.sets t
 
--- the value that a phrase stands for
+-- the value that a phrase means
 abbrev pub value_by : Scope → Syntax → Option FieldValue
 value_by s t = worth s.known t >>= λ w. the_value w
 
--- the set of values that a phrase stands for
+-- the set of values that a phrase means
 abbrev pub values_by : Scope → Syntax → Option Values
 values_by s t = worth s.known t >>= λ w. the_set w

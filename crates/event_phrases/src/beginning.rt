@@ -62,7 +62,7 @@ fn given<A: Allocator + Copy, G: GlobalScope<A>>(
     }
 }
 
-/// The values before, and behind them those that the fields give, each of which is one of its field's.
+/// The values before, and after them those that the fields give, each of which is one of its field's.
 #[tactic(auto, unfolding(crate::specs::EventForms::within_by), using(crate::proofs::Scopes::not_within))]
 fn more_values<A: Allocator + Copy, G: GlobalScope<A>>(
     alloc: A,
@@ -108,7 +108,7 @@ fn values_of<A: Allocator + Copy, G: GlobalScope<A>>(
     more_values(alloc, scope, fields, sets, Vec::new(alloc), line)
 }
 
-/// The channel and the first values that an event phrase without inputs gives. Its fault isn't the one that is told.
+/// The channel and the first values that an event phrase without inputs gives. Its fault isn't the one that is reported.
 pub(crate) fn beginning<A: Allocator + Copy, G: GlobalScope<A>>(
     alloc: A,
     scope: &Scope<'_, A, G>,
@@ -147,7 +147,7 @@ pub(crate) fn wanted_beginning<A: Allocator + Copy, G: GlobalScope<A>>(
     }
 }
 
-/// The phrase that is left where brackets go and each condition chooses its branch. Its fault isn't the one that is told.
+/// The phrase that is left where brackets go and each condition chooses its branch. Its fault isn't the one that is reported.
 fn chosen<'t, A: Allocator + Copy, G: GlobalScope<A>>(
     alloc: A,
     scope: &Scope<'_, A, G>,
@@ -170,7 +170,7 @@ fn chosen<'t, A: Allocator + Copy, G: GlobalScope<A>>(
     }
 }
 
-/// The event that a phrase without inputs gives, with all its fields. Its fault isn't the one that is told.
+/// The event that a phrase without inputs gives, with all its fields. Its fault isn't the one that is reported.
 pub(crate) fn whole_event<A: Allocator + Copy, G: GlobalScope<A>>(
     alloc: A,
     scope: &Scope<'_, A, G>,

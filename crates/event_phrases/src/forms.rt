@@ -8,7 +8,7 @@ ghost use Rattle.event_phrases.specs.Shapes.{plain_set, plain_field};
 use std::alloc::Allocator;
 use syntax::{Form, Tree};
 
-/// Which events the phrases of a set stand for.
+/// Which events the phrases of a set mean.
 #[derive(Clone, Copy, Debug, PartialEq, Eq)]
 pub(crate) enum Extent {
     /// All events that begin so: `{|c, d.0|}`

@@ -46,7 +46,7 @@ pub trait GlobalScope<A: Allocator>: Drop {
     /// What is known.
     ghost scope: { Self → Scope };
 
-    /// What names stand for.
+    /// What names mean.
     fn known(&self) -> &Known<A>
         ensures { table result.now ≡ (scope self.now).known };
 
@@ -63,7 +63,7 @@ pub trait GlobalScope<A: Allocator>: Drop {
     fn sigma(&self) -> EventSet
         ensures { (x : Event) → member result x ≡ is_numbered_below (event_count (scope self.now).channels) x };
 
-    /// What a name of a set of events stands for.
+    /// What a name of a set of events means.
     fn set(&self, name: &[u8]) -> Option<EventSet>
         ensures { result ≡ masked (scope self.now).channels ((scope self.now).sets name.now) };
 
@@ -92,6 +92,6 @@ pub trait GlobalScope<A: Allocator>: Drop {
     /// What is wrong with a call on this line of a name that is no definition with so many parameters.
     fn call_fault(&self, name: &[u8], line: u32) -> ScriptError;
 
-    /// What is wrong with a phrase behind these inputs that isn't what is wanted.
+    /// What is wrong with a phrase after these inputs that isn't what is wanted.
     fn phrase_fault(&self, inputs: &[Input<A>], phrase: &Tree<A>, wanted: Wanted) -> ScriptError;
 }

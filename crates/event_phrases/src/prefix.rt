@@ -44,7 +44,7 @@ pub(crate) fn has_value<A: Allocator>(set: &Values<A>, value: &Value<A>) -> bool
     set.contains(value)
 }
 
-/// The inputs behind a field, if the event's value fits it; the field's values are this set.
+/// The inputs after a field, if the event's value fits it; the field's values are this set.
 #[tactic(auto, unfolding(crate::specs::EventForms::fits_by, crate::specs::Fitting::against, crate::specs::Fitting::against_input, crate::specs::Fitting::against_part), using(crate::proofs::Scopes::behind_input))]
 fn fits_phrase<A: Allocator + Copy, G: GlobalScope<A>>(
     alloc: A,
@@ -109,7 +109,7 @@ fn fits<A: Allocator + Copy, G: GlobalScope<A>>(
     }
 }
 
-/// The inputs behind the fields, if the event's values fit them, from left to right.
+/// The inputs after the fields, if the event's values fit them, from left to right.
 #[tactic(auto, unfolding(crate::specs::Fitting::fitting))]
 pub(crate) fn fitting<A: Allocator + Copy, G: GlobalScope<A>>(
     alloc: A,

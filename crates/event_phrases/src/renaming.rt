@@ -21,7 +21,7 @@ use syntax::Tree;
 use tokens::{ScriptError, ScriptErrorKind};
 use values::Value;
 
-/// The values, and behind them copies of these.
+/// The values, and after them copies of these.
 fn extended<A: Allocator + Clone>(
     values: Vec<Value<A>, A>,
     more: &[Value<A>],
@@ -35,7 +35,7 @@ fn extended<A: Allocator + Clone>(
     Ok(values)
 }
 
-/// The values behind so many.
+/// The values after so many.
 fn behind<A: Allocator>(values: &[Value<A>], count: usize) -> &[Value<A>]
     ensures { result.now ≡ drop count values.now }
 {
@@ -46,7 +46,7 @@ fn behind<A: Allocator>(values: &[Value<A>], count: usize) -> &[Value<A>]
     }
 }
 
-/// The right side of a pair, followed by the event's values behind so many.
+/// The right side of a pair, followed by the event's values after so many.
 #[tactic(auto, using(crate::proofs::Rows::drop_view))]
 fn image<A: Allocator + Copy>(
     alloc: A,
@@ -64,7 +64,7 @@ fn image<A: Allocator + Copy>(
     })
 }
 
-/// The pairs before, and behind them those of the events that begin with the left side; `OutOfRange` where one is taken
+/// The pairs before, and after them those of the events that begin with the left side; `OutOfRange` where one is taken
 /// to no event.
 fn pairs_from<A: Allocator + Copy>(
     alloc: A,
@@ -90,7 +90,7 @@ fn pairs_from<A: Allocator + Copy>(
     Ok(pairs)
 }
 
-/// The pairs before, and behind them those of one `left <- right`.
+/// The pairs before, and after them those of one `left <- right`.
 fn pairs_with<A: Allocator + Copy, G: GlobalScope<A>>(
     alloc: A,
     scope: &Scope<'_, A, G>,

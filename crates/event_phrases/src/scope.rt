@@ -51,7 +51,7 @@ pub(crate) fn copies<A: Allocator + Copy>(
     Ok(copies)
 }
 
-/// What a phrase for a value or a set of values stands for behind these inputs.
+/// What a phrase for a value or a set of values means after these inputs.
 pub(crate) fn worth<A: Allocator + Copy, G: GlobalScope<A>>(
     alloc: A,
     global: &G,
@@ -63,7 +63,7 @@ pub(crate) fn worth<A: Allocator + Copy, G: GlobalScope<A>>(
     stands_for(&alloc, global.known(), inputs, tree)
 }
 
-/// The fault that is told of a phrase behind these inputs which isn't what is wanted for this error; want of memory stays.
+/// The fault that is reported of a phrase after these inputs which isn't what is wanted for this error; out of memory stays as it is.
 pub(crate) fn told<A: Allocator, G: GlobalScope<A>>(
     global: &G,
     inputs: &[Input<A>],
@@ -79,7 +79,7 @@ pub(crate) fn told<A: Allocator, G: GlobalScope<A>>(
     }
 }
 
-/// What a phrase stands for behind these inputs, where this is wanted of it; the fault where it stands for nothing.
+/// What a phrase means after these inputs, where this is wanted of it; the fault where it means nothing.
 #[tactic(auto, using(crate::proofs::Scopes::fails_too))]
 pub(crate) fn wanted_worth<A: Allocator + Copy, G: GlobalScope<A>>(
     alloc: A,
@@ -96,7 +96,7 @@ pub(crate) fn wanted_worth<A: Allocator + Copy, G: GlobalScope<A>>(
     }
 }
 
-/// The truth that a condition stands for. Its fault isn't the one that is told.
+/// The truth that a condition means. Its fault isn't the one that is reported.
 #[tactic(auto, unfolding(values::specs::Worths::condition))]
 pub(crate) fn truth<A: Allocator + Copy, G: GlobalScope<A>>(
     alloc: A,
@@ -109,7 +109,7 @@ pub(crate) fn truth<A: Allocator + Copy, G: GlobalScope<A>>(
     the_truth(worth, tree.line())
 }
 
-/// The truth that a condition stands for, and the fault where it stands for none.
+/// The truth that a condition means, and the fault where it means none.
 #[tactic(auto, using(crate::proofs::Scopes::fails_too))]
 pub fn wanted_truth<A: Allocator + Copy, G: GlobalScope<A>>(
     alloc: A,
@@ -124,7 +124,7 @@ pub fn wanted_truth<A: Allocator + Copy, G: GlobalScope<A>>(
     }
 }
 
-/// The number or constant that a phrase stands for, and the fault where it stands for none.
+/// The number or constant that a phrase means, and the fault where it means none.
 pub fn wanted_value<A: Allocator + Copy, G: GlobalScope<A>>(
     alloc: A,
     scope: &Scope<'_, A, G>,
@@ -136,7 +136,7 @@ pub fn wanted_value<A: Allocator + Copy, G: GlobalScope<A>>(
     the_value(worth, tree.line())
 }
 
-/// The set of values that a phrase stands for, and the fault where it stands for none.
+/// The set of values that a phrase means, and the fault where it means none.
 pub fn wanted_values<A: Allocator + Copy, G: GlobalScope<A>>(
     alloc: A,
     scope: &Scope<'_, A, G>,
@@ -148,7 +148,7 @@ pub fn wanted_values<A: Allocator + Copy, G: GlobalScope<A>>(
     the_set(worth, tree.line())
 }
 
-/// The inputs, and one more behind them.
+/// The inputs, and one more after them.
 pub(crate) fn with_input<A: Allocator + Copy>(
     alloc: A,
     inputs: Vec<Input<A>, A>,
@@ -165,7 +165,7 @@ pub(crate) fn with_input<A: Allocator + Copy>(
     Ok(inputs)
 }
 
-/// The scope behind an input with this name and this value.
+/// The scope after an input with this name and this value.
 #[tactic(auto, using(crate::proofs::Scopes::behind_input))]
 pub fn behind_input<'a, A: Allocator + Copy, G: GlobalScope<A>>(
     alloc: A,

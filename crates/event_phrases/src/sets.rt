@@ -67,7 +67,7 @@ fn several<A: Allocator + Copy, G: GlobalScope<A>>(
     Ok(set)
 }
 
-/// The set of events that a phrase stands for. Its fault isn't the one that is told.
+/// The set of events that a phrase means. Its fault isn't the one that is reported.
 #[cycle(sets)]
 fn event_set<A: Allocator + Copy, G: GlobalScope<A>>(
     alloc: A,
@@ -121,7 +121,7 @@ fn set_of_phrase<A: Allocator + Copy, G: GlobalScope<A>>(
     }
 }
 
-/// The set of events that a phrase stands for, and the fault where it stands for none.
+/// The set of events that a phrase means, and the fault where it means none.
 #[tactic(auto, using(crate::proofs::Scopes::fails_too))]
 pub fn wanted_events<A: Allocator + Copy, G: GlobalScope<A>>(
     alloc: A,
@@ -136,7 +136,7 @@ pub fn wanted_events<A: Allocator + Copy, G: GlobalScope<A>>(
     }
 }
 
-/// The sets of events that two phrases stand for.
+/// The sets of events that two phrases mean.
 pub fn two_sets<A: Allocator + Copy, G: GlobalScope<A>>(
     alloc: A,
     scope: &Scope<'_, A, G>,
@@ -150,7 +150,7 @@ pub fn two_sets<A: Allocator + Copy, G: GlobalScope<A>>(
     Ok((first, second))
 }
 
-/// The set of events that a phrase stands for where no input stands before it. Its fault isn't the one that is told.
+/// The set of events that a phrase means where no input stands before it. Its fault isn't the one that is reported.
 pub fn set_of_events<A: Allocator + Copy, G: GlobalScope<A>>(
     alloc: A,
     global: &G,

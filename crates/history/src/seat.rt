@@ -33,7 +33,7 @@ impl SeatNumber {
         Some(SeatNumber { number })
     }
 
-    /// The seat behind the one with this number; there is none behind 65,535.
+    /// The seat after the one with this number; there is none after 65,535.
     pub fn after(number: u16) -> Option<SeatNumber>
         ensures { MatchOption result (number ≡ 65535) (λ seat. seat ≡ suc number) }
     {

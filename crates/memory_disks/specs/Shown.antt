@@ -14,6 +14,6 @@ fault_bytes d = d.inner.bytes.items
 abbrev pub calls_to_fault : {A : Type 0} → FaultDisk A → ℕ
 calls_to_fault d = d.left
 
--- what the calls behind it do
+-- what the calls after it do
 abbrev pub afterwards_of : {A : Type 0} → FaultDisk A → Afterwards
 afterwards_of d = d.afterwards

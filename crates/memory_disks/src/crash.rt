@@ -24,9 +24,9 @@ pub enum Part {
     Nothing,
     /// All of it.
     Everything,
-    /// The first byte of a write alone, or a cut that leaves one byte behind it.
+    /// The first byte of a write alone, or a cut that leaves one byte after it.
     FirstByte,
-    /// The written range, or what stood behind the cut, filled with `+`.
+    /// The written range, or what stood after the cut, filled with `+`.
     Plus,
 }
 

@@ -8,7 +8,7 @@ use count::Count;
 use disk::{Disk, DiskFault};
 use std::alloc::Allocator;
 
-/// What the calls behind the one that fails do.
+/// What the calls after the one that fails do.
 #[derive(Clone, Copy, Debug, PartialEq, Eq)]
 pub enum Afterwards {
     GoOn,

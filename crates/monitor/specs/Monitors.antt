@@ -67,7 +67,7 @@ abbrev pub MeetsNone : (ℕ → Proc) → List Event → Report → Type 0
 MeetsNone B u (report.Event x) = NoLimit B (Advance B u x)
 MeetsNone B u (report.Refusal X) = Unit {0}
 
--- Why the report can't be judged after the trace u: the limit that the event's levels meet, or want of memory, which
+-- Why the report can't be judged after the trace u: the limit that the event's levels meet, or out of memory, which
 -- says nothing. A refusal meets no limit.
 abbrev pub Stops : (ℕ → Proc) → List Event → Report → AfterFault → Type 0
 Stops B u (report.Event x) fault = MeetsLimit B (Advance B u x) fault

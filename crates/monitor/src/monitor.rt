@@ -141,7 +141,7 @@ impl<A: Allocator + Copy> Monitor<A> {
 
 impl<A: Allocator + Copy> Monitor<A> {
     /// The minimal acceptances after the present trace, in a fixed order: of two sets the first event that is in one of
-    /// them alone tells which stands first, by having it. Refused only where memory is.
+    /// them alone decides which is first, by having it. Refused only where memory is.
     pub fn acceptances(&self, alloc: A) -> Result<Vec<EventSet, A>, AllocError>
         ensures { IfOk result (λ sets. AreAcceptances (bodies_of self.now.spec.bodies) root self.now.trace sets.items) }
     {

@@ -51,7 +51,7 @@ primed name n = name ++ replicate n 39
 abbrev pub differ : List Name → List Name → ℕ → Bool
 differ taken names n = list_all (λ name. not (is_among taken (primed name n))) names
 
--- the first number from n on that passes the test, of so many that are tried; else the one behind them
+-- the first number from n on that passes the test, of so many that are tried; else the one after them
 unfoldable pub first_from : (ℕ → Bool) → ℕ → ℕ → ℕ
 first_from test n zero = n
 first_from test n (suc more) = if test n then n else first_from test (suc n) more

@@ -40,7 +40,7 @@ fn put_gap<A: Allocator, B: Allocator>(
     }
 }
 
-/// Appends the values, each behind a comma.
+/// Appends the values, each after a comma.
 fn put_other_values<A: Allocator, B: Allocator>(
     text: &mut Vec<u8, B>,
     values: &[Value<A>],
@@ -83,7 +83,7 @@ fn put_field<A: Allocator, B: Allocator>(
     text.extend_from_slice(b"}")
 }
 
-/// Appends the fields, each behind a dot.
+/// Appends the fields, each after a dot.
 fn put_other_fields<A: Allocator, B: Allocator>(
     text: &mut Vec<u8, B>,
     fields: &[Field<A>],

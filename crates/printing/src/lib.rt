@@ -1,4 +1,4 @@
-//! The printed form of a specification: a text of the language that stands for it.
+//! The printed form of a specification: a text of the language that denotes it.
 #![tactic(auto)]
 
 mod declarations;

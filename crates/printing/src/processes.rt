@@ -78,7 +78,7 @@ fn put_pair<A: Allocator, B: Allocator>(
     alphabet.name_into(Event::Of(pair.1), text)
 }
 
-/// Appends the pairs, each behind a comma.
+/// Appends the pairs, each after a comma.
 fn put_other_pairs<A: Allocator, B: Allocator>(
     text: &mut Vec<u8, B>,
     alphabet: &Alphabet<A>,

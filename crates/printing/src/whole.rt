@@ -28,7 +28,7 @@ fn text_of<A: Allocator, B: Allocator + Clone>(
     Ok(text)
 }
 
-/// Appends the printed form of a specification: a script of the language that stands for it, with the root as `P0`.
+/// Appends the printed form of a specification: a script of the language that denotes it, with the root as `P0`.
 ///
 /// First a datatype `T` with all constants of the fields by their bytes, where there are any; then a line for each channel
 /// as declared, and a line for each body by its number, `P0`, `P1` and so on, each operator in brackets of its own. `T`, and

@@ -59,7 +59,7 @@ impl Exit {
         }
     }
 
-    /// Where a script is refused: `Limit` for want of memory, else `BadScript`.
+    /// Where a script is refused: `Limit` where memory ran out, else `BadScript`.
     pub fn of_script(fault: &ScriptError) -> Exit
         ensures { result ≡ script_exit fault.now }
     {
@@ -80,7 +80,7 @@ impl Exit {
         }
     }
 
-    /// Where a journal gives no session: `FileFailed` where its file failed, `Limit` for a limit or want of memory, else `BadJournal`.
+    /// Where a journal gives no session: `FileFailed` where its file failed, `Limit` for a limit or where memory ran out, else `BadJournal`.
     pub fn of_journal(error: &SessionError) -> Exit
         ensures { result ≡ journal_exit error.now }
     {

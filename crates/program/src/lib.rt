@@ -1,6 +1,6 @@
 //! What the commands do, over any reader, writer and disk. Each call's contract is the promise of its command.
 //!
-//! `check` judges the lines of a reader by what a script denotes, `replay` judges a journal's records anew, `show` writes what it found
+//! `check` judges the lines of a reader by what a script denotes, `replay` judges a journal's records again, `show` writes what it found
 //! of each, and `print` prints what a script denotes. An `Exit` is the program's exit status.
 #![tactic(auto)]
 

@@ -1,4 +1,4 @@
-//! The history that a journal holds, judged anew.
+//! The history that a journal holds, judged again.
 
 ghost use Rattle.std.specs.Prelude.{◌≡◌, ◌⊎◌, ℕ, List, false, IsTrue, IfOk, IfErr, MatchResult};
 ghost use Rattle.term.specs.Specs.{Specified};
@@ -43,13 +43,13 @@ fn exit_of(rejected: u64) -> Exit
     }
 }
 
-/// Judges the records of the journal on the disk anew: the session that goes on from it, the line with its counts, and the exit status.
+/// Judges the records of the journal on the disk again: the session that goes on from it, the line with its counts, and the exit status.
 /// The errors are those of `Session::replay`, or `Memory`.
 pub fn replay<D: Disk + Drop, A: Allocator + Copy>(
     alloc: A,
     disk: D,
 ) -> Result<Replayed<D, A>, SessionError>
-    // The file stands for the session's history, of which each verdict is that of what its script denotes.
+    // The file holds the session's history, of which each verdict is that of what its script denotes.
     ensures replayed { IfOk result (λ r. IsTrue (D.state disk).claims_bytes
         → IsReplayOf (D.state disk).bytes r.header.script.items r.header.root.items r.session.spec r.session.history) }
     ensures read { IfOk result (λ r. IsRead r.header.script.items r.header.root.items r.session.spec) }
@@ -59,7 +59,7 @@ pub fn replay<D: Disk + Drop, A: Allocator + Copy>(
     // Or the file has no session for this reason.
     ensures fault { IfErr result (λ error. IsTrue (D.state disk).claims_bytes → HasNoSession (D.state disk).bytes error) }
 
-    // A file that stands for a history gives it, and one that has a fault is refused for it, device and memory apart.
+    // A file that holds a history gives it, and one that has a fault is refused for it, device and memory apart.
     ensures only { IsTrue (D.state disk).claims_bytes → (script root : List ℕ) (spec : Specified) (h : List Entry)
         → IsReplayOf (D.state disk).bytes script root spec h
         → MatchResult result (λ r. r.session.history ≡ h) IsOutside }

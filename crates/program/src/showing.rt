@@ -1,4 +1,4 @@
-//! The history that a journal holds, judged anew: a line for each report, why it was rejected, and how often each event came.
+//! The history that a journal holds, judged again: a line for each report, why it was rejected, and how often each event came.
 
 ghost use Rattle.std.specs.Prelude.{◌≡◌, ◌⊎◌, ◌++◌, ℕ, List, IsTrue, IfOk, IfErr, OnOk, MatchResult};
 ghost use Rattle.term.specs.Specs.{Specified};
@@ -80,14 +80,14 @@ fn text_of<D: Disk, A: Allocator + Copy>(
     Ok(text)
 }
 
-/// Judges the records of the journal on the disk anew, as `replay` does, and writes what is asked for of its history: the lines, and the
+/// Judges the records of the journal on the disk again, as `replay` does, and writes what is asked for of its history: the lines, and the
 /// exit status. The errors are those of `replay`.
 pub fn show<D: Disk + Drop, A: Allocator + Copy>(
     alloc: A,
     disk: D,
     options: Options,
 ) -> Result<Displayed<D, A>, SessionError>
-    // The file stands for the session's history, of which each verdict is that of what its script denotes.
+    // The file holds the session's history, of which each verdict is that of what its script denotes.
     ensures replayed { IfOk result (λ r. IsTrue (D.state disk).claims_bytes
         → IsReplayOf (D.state disk).bytes r.header.script.items r.header.root.items r.session.spec r.session.history) }
 
@@ -98,7 +98,7 @@ pub fn show<D: Disk + Drop, A: Allocator + Copy>(
     // Or the file has no session for this reason.
     ensures fault { IfErr result (λ error. IsTrue (D.state disk).claims_bytes → HasNoSession (D.state disk).bytes error) }
 
-    // A file that stands for a history shows it, and one that has a fault is refused for it, device and memory apart.
+    // A file that holds a history shows it, and one that has a fault is refused for it, device and memory apart.
     ensures only { IsTrue (D.state disk).claims_bytes → (script root : List ℕ) (spec : Specified) (h : List Entry)
         → IsReplayOf (D.state disk).bytes script root spec h
         → MatchResult result (λ r. r.session.history ≡ h) IsOutside }

@@ -1,4 +1,4 @@
-//! What printed specifications stand for when they are read again: a law. The function does nothing: its contract is the law.
+//! What printed specifications mean when they are read again: a law. The function does nothing: its contract is the law.
 #![tactic(auto)]
 
 ghost use Rattle.std.specs.Prelude.{◌≤◌, ℕ, List, length};

@@ -1,4 +1,4 @@
--- How what names of sets of events stand for is found: one name after the other, until no definition says more.
+-- How what names of sets of events mean is found: one name after the other, until no definition says more.
 use Rattle.std.specs.Prelude.{◌≡◌, ℕ, ◌+◌, ◌<◌, List, [], ◌∷◌, length, Bool, true, false, is_some, Option, Some, if◌then◌else◌, slice_get}
 use Rattle.std.specs.Option.{option_map}
 use Rattle.alphabet.specs.Channels.{Channel}
@@ -8,7 +8,7 @@ use Rattle.values.specs.Worths.{Known}
 use Rattle.values.specs.Names.{Entry, meaning}
 use Rattle.event_phrases.specs.Events.{Events, KnownEvents, events_of, events_in, set_of}
 
--- which set a name stands for
+-- which set a name means
 abbrev pub KnownSets : Type 0
 KnownSets = Name → Option Set
 
@@ -20,7 +20,7 @@ events_by f n = option_map has (f n)
 unfoldable pub next_events : List Channel → Known → List Entry → KnownEvents → KnownEvents
 next_events cs known es f n = meaning es n >>= events_of cs known f
 
--- each stands for the events that it stands for after some number of steps
+-- each means the events that it means after some number of steps
 abbrev pub AreReached : List Channel → Known → List Entry → KnownSets → Type 0
 AreReached cs known es f = (n : Name) (S : Set) → f n ≡ Some S → (k : ℕ) × (A : Events) × (events_in cs known es k n ≡ Some A) × (S ≡ set_of cs A)
 

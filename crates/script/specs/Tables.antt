@@ -5,6 +5,6 @@ use Rattle.values.specs.Values.{Name}
 use Rattle.values.specs.Names.{same_name}
 use Rattle.script.specs.declared.table.Table.{Table}
 
--- what the name stands for
+-- what the name means
 abbrev pub said : {V A : Type 0} → Table V A → Name → Option V
 said t n = lookup (λ k. same_name n k.items) t.entries.entries

@@ -9,7 +9,7 @@ use Rattle.script.specs.declared.script.Script.{Script}
 use Rattle.script.specs.Standing.{KnownSets, events_by, AreReached, Learns, LearnsFirst, LearnsAll}
 use Rattle.script.specs.Tables.{said}
 
--- these names, where the names of sets of events stand for this
+-- these names, where the names of sets of events mean this
 abbrev pub scope_with : {A : Type 0} → Names A → KnownSets → Scope
 scope_with n f = record { entries = entries n.entries; channels = n.sigma.alphabet; known = table n.known; sets = events_by f }
 

@@ -8,7 +8,7 @@ use std::alloc::{AllocError, Allocator};
 use syntax::Tree;
 use values::Known;
 
-/// The names that a script declares, what those of numbers, constants and sets of values stand for, and Sigma.
+/// The names that a script declares, what those of numbers, constants and sets of values mean, and Sigma.
 #[derive(Drop)]
 pub(crate) struct Names<'a, A: Allocator> {
     pub(crate) entries: Entries<'a, A>,

@@ -72,10 +72,10 @@ fn denoted<A: Allocator + Copy>(
 /// The specification that the text of a script denotes for the root, which is the name of one of its processes; or the first
 /// fault.
 ///
-/// The size is looked at first, then the tokens, then the grammar, as `syntax::parse` tells their faults; then the
-/// declarations, as `declarations::declare` tells theirs; then the root (`NoSuchProcess` on line 1); then the bodies of what is
-/// reached from it, as `denotation::gathered` tells theirs. What isn't reached has to fit the grammar, and no more. `Memory` is
-/// told on line 1. `docs/LANGUAGE.md` says which texts are scripts, and `docs/SEMANTICS.md` what they mean.
+/// The size is looked at first, then the tokens, then the grammar, as `syntax::parse` reports their faults; then the
+/// declarations, as `declarations::declare` reports theirs; then the root (`NoSuchProcess` on line 1); then the bodies of what is
+/// reached from it, as `denotation::gathered` reports theirs. What isn't reached has to fit the grammar, and no more. `Memory` is
+/// reported on line 1. `docs/LANGUAGE.md` says which texts are scripts, and `docs/SEMANTICS.md` what they mean.
 ///
 /// Costs the text's length, a turn for each name and each use of one, a copy of each event's values, and a turn for each node
 /// of the bodies and each event that a prefix is held against.

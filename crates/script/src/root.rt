@@ -15,7 +15,7 @@ pub(crate) fn no_process() -> ScriptError {
     }
 }
 
-/// The truth that a condition stands for; none where the condition is at fault.
+/// The truth that a condition means; none where the condition is at fault.
 fn truth_of<A: Allocator + Copy>(
     alloc: A,
     known: &Known<A>,
@@ -72,7 +72,7 @@ fn is_process<A: Allocator>(phrase: &Tree<A>) -> bool {
     }
 }
 
-/// What is told of a bare name on this line to which the root leads on: of one that has parameters or isn't declared.
+/// What is reported of a bare name on this line to which the root leads on: of one that has parameters or isn't declared.
 fn name_fault<A: Allocator + Copy>(
     alloc: A,
     names: &Names<'_, A>,
@@ -92,7 +92,7 @@ fn name_fault<A: Allocator + Copy>(
 }
 
 /// What is wrong with a root: by the bare names that it leads on to, with its conditions decided, that it is of another kind, that
-/// such a name isn't declared, or that one has parameters; else what was told of it.
+/// such a name isn't declared, or that one has parameters; else what was reported of it.
 pub(crate) fn root_fault<A: Allocator + Copy>(
     alloc: A,
     names: &Names<'_, A>,

@@ -1,4 +1,4 @@
-//! Which sets of events names stand for.
+//! Which sets of events names mean.
 ghost use Rattle.std.specs.Prelude.{◌≡◌, IfOk, MatchResult};
 ghost use Rattle.event_phrases.specs.Events.{EventsStand, event_set, masked};
 ghost use Rattle.tokens.specs.declared.error.ScriptErrorKind.TheVariants.{Memory};
@@ -20,7 +20,7 @@ use std::alloc::Allocator;
 use syntax::Tree;
 use tokens::{ScriptError, ScriptErrorKind};
 
-/// What the body of a definition says, where names stand for the sets in the table.
+/// What the body of a definition says, where names mean the sets in the table.
 fn set_of_body<'a, A: Allocator + Copy>(
     alloc: A,
     names: &Names<'a, A>,
@@ -34,7 +34,7 @@ fn set_of_body<'a, A: Allocator + Copy>(
     set_of_events(alloc, &script, body)
 }
 
-/// What the definition of the name says, where names stand for the sets in the table.
+/// What the definition of the name says, where names mean the sets in the table.
 #[tactic(auto, unfolding(crate::specs::Standing::next_events))]
 fn next_set<'a, A: Allocator + Copy>(
     alloc: A,
@@ -54,8 +54,8 @@ fn next_set<'a, A: Allocator + Copy>(
     }
 }
 
-/// The table with the set that the name stands for, and whether it has learned that; a name whose definition is at fault or
-/// is none of a set of events stands for none.
+/// The table with the set that the name means, and whether it has learned that; a name whose definition is at fault or
+/// is none of a set of events means none.
 fn learned<'a, A: Allocator + Copy>(
     alloc: A,
     names: &Names<'a, A>,
@@ -77,7 +77,7 @@ fn learned<'a, A: Allocator + Copy>(
     }
 }
 
-/// The table behind a look at each name, and whether it has learned of any.
+/// The table after a look at each name, and whether it has learned of any.
 fn learned_all<'a, A: Allocator + Copy>(
     alloc: A,
     names: &Names<'a, A>,
@@ -98,7 +98,7 @@ fn learned_all<'a, A: Allocator + Copy>(
     Ok((sets, any))
 }
 
-/// The table behind a look at the names at these places.
+/// The table after a look at the names at these places.
 fn learned_in_order<'a, A: Allocator + Copy>(
     alloc: A,
     names: &Names<'a, A>,
@@ -118,7 +118,7 @@ fn learned_in_order<'a, A: Allocator + Copy>(
     Ok(sets)
 }
 
-/// The sets that the names stand for, from a table that says nothing else: looks at all names until nothing is learned.
+/// The sets that the names mean, from a table that says nothing else: looks at all names until nothing is learned.
 fn settled<'a, A: Allocator + Copy>(
     alloc: A,
     names: &Names<'a, A>,
@@ -138,7 +138,7 @@ fn settled<'a, A: Allocator + Copy>(
     }
 }
 
-/// The sets of events that the names stand for. A definition is looked at when the sets that it uses are known, so mostly
+/// The sets of events that the names mean. A definition is looked at when the sets that it uses are known, so mostly
 /// once; one that is none of a set of events is looked at twice, up to the first form in it that no set has.
 pub(crate) fn named_sets<'a, A: Allocator + Copy>(
     alloc: A,

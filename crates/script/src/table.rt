@@ -10,7 +10,7 @@ use std::hash::{BuildHasherDefault, FoldHasher};
 
 type Hashing = BuildHasherDefault<FoldHasher>;
 
-/// What names stand for.
+/// What names mean.
 #[derive(Drop)]
 pub(crate) struct Table<V: Drop, A: Allocator> {
     entries: IndexMap<Vec<u8, A>, V, Hashing, A>,
@@ -26,7 +26,7 @@ impl<V: Drop, A: Allocator + Copy> Table<V, A> {
         }
     }
 
-    /// The table where the name stands for this value.
+    /// The table where the name means this value.
     pub(crate) fn with(self, name: &[u8], value: V) -> Result<Table<V, A>, AllocError>
         ensures { IfOk result (λ t. (other : List ℕ) → said t other ≡ (if same_name other name.now then Some value else said self other)) }
     {
@@ -38,14 +38,14 @@ impl<V: Drop, A: Allocator + Copy> Table<V, A> {
 }
 
 impl<V: Drop, A: Allocator> Table<V, A> {
-    /// What the name stands for. Costs one look-up by its hash.
+    /// What the name means. Costs one look-up by its hash.
     pub(crate) fn get(&self, name: &[u8]) -> Option<&V>
         ensures { option_map (λ v. v.now) result ≡ said self.now name.now }
     {
         self.entries.get(name)
     }
 
-    /// Whether the table says what the name stands for.
+    /// Whether the table says what the name means.
     pub(crate) fn has(&self, name: &[u8]) -> bool
         ensures { result ≡ is_some (said self.now name.now) }
     {

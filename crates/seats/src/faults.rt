@@ -1,11 +1,11 @@
-//! The faults of sessions and seats, as the line protocol tells them.
+//! The faults of sessions and seats, as the line protocol reports them.
 ghost use Rattle.std.specs.Prelude.{◌≡◌};
 ghost use Rattle.seats.specs.Faults.{told_as, refused_as};
 
 use shared::SeatFault;
 use wire::Fault;
 
-/// A session's fault, as the line protocol tells it.
+/// A session's fault, as the line protocol reports it.
 pub(crate) fn told(fault: shared::Fault) -> Fault
     ensures { result ≡ told_as fault }
 {
@@ -22,7 +22,7 @@ pub(crate) fn told(fault: shared::Fault) -> Fault
     }
 }
 
-/// Why a connection gets no seat, as the line protocol tells it: 22, 26, 31 or 40.
+/// Why a connection gets no seat, as the line protocol reports it: 22, 26, 31 or 40.
 pub fn refusal_of(fault: SeatFault) -> Fault
     ensures { result ≡ refused_as fault }
 {

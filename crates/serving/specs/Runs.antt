@@ -27,7 +27,7 @@ no_answers = record { rejected = false; misuse = false; limit = false }
 abbrev pub IsNewSeat : List Entry → SeatTold → Type 0
 IsNewSeat opening seat = (seat.mine ≡ []) × (seat.closed ≡ false) × StartsWith seat.seen opening
 
--- this is why there is no seat, as a connection is told
+-- this is why there is no seat, as it is reported to a connection
 abbrev pub IsRefusal : Fault → Type 0
 IsRefusal fault = (why : SeatFault) × (fault ≡ refused_as why)
 
@@ -38,7 +38,7 @@ IsAnsweredAt spec first last tally left rest old new end =
     Serves (LineReplies (Reports (bodies_of spec.bodies)) (Statuses (bodies_of spec.bodies)) (Nexts (bodies_of spec.bodies)) spec.alphabet)
     (noted first no_answers) (noted last tally) left rest old new end
 
--- For an accept that takes such connections, or fails, of readers and writers that tell these bytes.
+-- For an accept that takes such connections, or fails, of readers and writers that know these bytes.
 module _ {L R W : Type 0} (takes : L → R → W → L → Type 0) (fails : L → L → Type 0) (left : R → Option (List ℕ)) (contents : W → Option (List ℕ)) where
   -- The connections of a session of this specification that began with this history: what came of each, in the order in which they were
   -- taken, at a seat of its own, and how the accepting ended.

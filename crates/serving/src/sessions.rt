@@ -61,7 +61,7 @@ fn room_for<D: Disk>(
     Ok(Room { alphabet, endings })
 }
 
-// Ends a session that can't be served for want of memory.
+// Ends a session that can't be served because memory ran out.
 fn give_up<D: Disk + Drop, L>(
     session: Session<D, Global>,
     accept: L,
@@ -140,7 +140,7 @@ fn serve_in<D: Disk + Send, N: Naming + Send + Sync, T: Threads + Wait + Sync, L
     }
 }
 
-// What is answered of a session whose connections are over, or that had none for want of memory.
+// What is answered of a session whose connections are over, or that had none because memory ran out.
 fn close<D: Disk + Drop, L>(
     session: Session<D, Global>,
     answered: Option<u64>,

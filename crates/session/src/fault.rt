@@ -136,7 +136,7 @@ pub enum SessionError {
     Memory,
     /// The file does not begin with a header.
     BadHeader,
-    /// The file ends where a gate must stand, or before the LF of a line behind an open gate.
+    /// The file ends where a gate must stand, or before the LF of a line after an open gate.
     Truncated,
     /// The record with this place, counted from 1, is none that the session could have written there.
     BadRecord(usize),

@@ -91,7 +91,7 @@ impl StateSet {
     }
 
     /// The minimal acceptances after the trace, in a fixed order: of two sets the first event that is in one of them
-    /// alone tells which stands first, by having it. The set is one of this space. Refused only where memory is.
+    /// alone decides which is first, by having it. The set is one of this space. Refused only where memory is.
     pub fn acceptances<A: Allocator + Copy>(
         self,
         space: &Space<A>,

@@ -16,7 +16,7 @@ Step B P label.Tau Q = Hid B P Q
 Step B P (label.Event tick) Q = Ticks P × (Q ≡ stop)
 Step B P (label.Event (ev a)) Q = Act P a Q
 
--- The new list is the old one and behind it just the targets of the steps, in any order, one perhaps twice.
+-- The new list is the old one and after it just the targets of the steps, in any order, one perhaps twice.
 abbrev pub AppendsTargets : (ℕ → Proc) → Proc → Label → List Proc → List Proc → Type 0
 AppendsTargets B P l old new = (found : List Proc) × (new ≡ old ++ found) × ((Q : Proc) → In Q found ↔ Step B P l Q)
 

@@ -1,4 +1,4 @@
-//! What a term can do, told without memory.
+//! What a term can do, found without memory.
 
 ghost use Rattle.std.specs.Prelude.{◌≡◌, ◌↔◌, ℕ, IsTrue, true, false};
 ghost use Rattle.alphabet.specs.EventSets.{has, member};

@@ -29,7 +29,7 @@ pub enum Label {
     Event(Event),
 }
 
-/// Why the targets of a term's steps can't be told.
+/// Why the targets of a term's steps can't be found.
 #[derive(Clone, Copy, Debug, PartialEq, Eq, Error)]
 pub enum StepFault {
     /// A target is deeper than a state may be.

@@ -56,7 +56,7 @@ spell_signs (pieces.Name ∷ ps) = spell_signs ps
 spell_signs (pieces.Part place kind ∷ ps) = spell_signs ps
 spell_signs (pieces.Others place kind start ∷ ps) = spell_signs ps
 
--- a rule's tokens where the first part has these tokens, and the others have what they have behind it
+-- a rule's tokens where the first part has these tokens, and the others have what they have after it
 unfoldable pub spell_part : List Lexeme → (List Piece → List Lexeme) → List Piece → List Lexeme
 spell_part part others [] = []
 spell_part part others (pieces.Sign s ∷ ps) = sign_lexeme s ∷ spell_part part others ps
@@ -259,7 +259,7 @@ needs_none (pieces.Name ∷ ps) = false
 needs_none (pieces.Part place kind ∷ ps) = false
 needs_none (p ∷ ps) = needs_none ps
 
--- the next part is what the rule asks for, and the others are behind it
+-- the next part is what the rule asks for, and the others are after it
 abbrev pub FitsPart : Syntax → (List Piece → Type 0) → List Piece → Type 0
 FitsPart t others [] = ⊥
 FitsPart t others (pieces.Sign s ∷ ps) = FitsPart t others ps

@@ -111,7 +111,7 @@ opens operators.Sharing = true
 opens operators.Alphabetised = true
 opens op = false
 
--- what stands behind the first token of an operator
+-- what comes after the first token of an operator
 unfoldable pub behind : Operator → List Piece
 behind operators.Renaming = pieces.Part places.Inside kinds.Pair ∷ pieces.Others places.Inside kinds.Pair (starts.Behind symbols.Comma) ∷ pieces.Sign (signs.Symbol symbols.CloseRenaming) ∷ []
 behind operators.Sharing = pieces.Part places.Inside (kinds.Phrase 16) ∷ pieces.Sign (signs.Symbol symbols.CloseSharing) ∷ pieces.Part places.Outside (kinds.Phrase 13) ∷ []

@@ -44,11 +44,11 @@ abbrev pub Gives : {X Y : Type 0} → (X → Y) → Result X ScriptError → Opt
 Gives view (Ok x) read = read ≡ Some (view x)
 Gives view (Err e) read = Fails e.kind read
 
--- a part and the tokens behind it
+-- a part and the tokens after it
 abbrev pub Found : Type 0
 Found = Syntax × List Lexeme
 
--- parts and the tokens behind them
+-- parts and the tokens after them
 abbrev pub Row : Type 0
 Row = List Syntax × List Lexeme
 
@@ -63,7 +63,7 @@ is_sign (signs.Symbol s) (Sign t) = sameb symbol_type t s
 is_sign (signs.Keyword k) (Kept j) = sameb keyword_type j k
 is_sign s x = false
 
--- behind a sign that must stand first
+-- after a sign that must stand first
 unfoldable pub after : Signs → List Lexeme → Option (List Lexeme)
 after s (x ∷ rest) = if is_sign s x then Some rest else None
 after s [] = None
@@ -254,7 +254,7 @@ put parts x = Some (parts ++ x.0 ∷ [], x.1)
 abbrev pub keep : List Syntax → List Lexeme → Option Row
 keep parts toks = Some (parts, toks)
 
--- a piece of a rule; the flag tells whether a bracket may be opened
+-- a piece of a rule; the flag says whether a bracket may be opened
 unfoldable pub step : Reader → Bool → Piece → List Syntax → List Lexeme → Option Row
 step read opening (pieces.Sign s) parts toks = after s toks >>= keep parts
 step read opening (pieces.Open s) parts toks = if opening then (after (signs.Symbol s) toks >>= keep parts) else None
@@ -291,7 +291,7 @@ operator_at [] = None
 unfoldable pub next_operator : ℕ → Syntax → List Lexeme → Option (Operator × List Lexeme)
 next_operator l left toks = operator_at toks >>= λ x. if nat_le (level x.0) l && left_fits x.0 left then Some x else None
 
--- a part and what stands behind an operator, as one phrase
+-- a part and what comes after an operator, as one phrase
 unfoldable pub grown : Reader → Bool → Operator → Syntax → List Lexeme → Option Found
 grown read opening op left toks = row read opening (behind op) (left ∷ []) toks >>= node_of (forms.Operation op)
 
@@ -322,7 +322,7 @@ operand_on heavy light opening k toks None = form_at k toks >>= λ f. node (pick
 unfoldable pub operand : Reader → Reader → Bool → Kind → List Lexeme → Option Found
 operand heavy light opening k toks = if is_alone k then name_at toks else operand_on heavy light opening k toks (numeral_at k toks)
 
--- behind the first operand of a phrase
+-- after the first operand of a phrase
 unfoldable pub go_on : Reader → Bool → ℕ → Kind → Found → Option Found
 go_on read opening room (kinds.Phrase l) x = climb read opening room l room x.0 x.1
 go_on read opening room k x = Some x
@@ -364,7 +364,7 @@ may_open (suc brackets) = true
 abbrev pub reader : ℕ → ℕ → ℕ → Reader
 reader brackets room layers = at (reads brackets room layers) (inside brackets room)
 
--- nothing stands behind it
+-- nothing comes after it
 unfoldable pub ended : Found → Option Syntax
 ended (t, []) = Some t
 ended (t, x ∷ rest) = None

@@ -11,7 +11,7 @@ use crate::piece::{Fields, Kind, Sign};
 use std::alloc::Allocator;
 use tokens::{Keyword, ScriptError, Symbol, Token, Word};
 
-/// The tokens behind a sign, if it stands first.
+/// The tokens after a sign, if it stands first.
 #[tactic(auto, unfolding(crate::specs::Parsing::after, crate::specs::Parsing::is_sign))]
 pub(crate) fn past<A: Allocator>(tokens: &[Token<A>], sign: Sign) -> Option<&[Token<A>]>
     ensures { option_map (λ x. lexemes x.now) result ≡ after_sign sign (lexemes tokens.now) }
@@ -26,7 +26,7 @@ pub(crate) fn past<A: Allocator>(tokens: &[Token<A>], sign: Sign) -> Option<&[To
     }
 }
 
-/// The tokens behind a sign that must stand first.
+/// The tokens after a sign that must stand first.
 pub(crate) fn after<A: Allocator>(
     tokens: &[Token<A>],
     sign: Sign,
@@ -97,7 +97,7 @@ fn of_word(keyword: Keyword) -> Option<Form>
     }
 }
 
-/// The form that begins with a name, by what stands behind the name.
+/// The form that begins with a name, by what stands after the name.
 #[tactic(auto, unfolding(crate::specs::Parsing::named_form))]
 fn of_name<A: Allocator>(tokens: &[Token<A>]) -> Form
     ensures { result ≡ named_form (lexemes tokens.now) }
@@ -111,7 +111,7 @@ fn of_name<A: Allocator>(tokens: &[Token<A>]) -> Form
     }
 }
 
-/// The set that begins with a brace, by what stands behind the brace.
+/// The set that begins with a brace, by what stands after the brace.
 #[tactic(auto, unfolding(crate::specs::Parsing::brace_form))]
 fn of_brace<A: Allocator>(tokens: &[Token<A>]) -> Form
     ensures { result ≡ brace_form (lexemes tokens.now) }
@@ -125,7 +125,7 @@ fn of_brace<A: Allocator>(tokens: &[Token<A>]) -> Form
     }
 }
 
-/// The set of events that begins with `{|`, by what stands behind it.
+/// The set of events that begins with `{|`, by what stands after it.
 #[tactic(auto, unfolding(crate::specs::Parsing::events_form))]
 fn of_events<A: Allocator>(tokens: &[Token<A>]) -> Form
     ensures { result ≡ events_form (lexemes tokens.now) }
@@ -185,7 +185,7 @@ fn value_form<A: Allocator>(tokens: &[Token<A>]) -> Option<Form>
     }
 }
 
-/// Whether the values of an input are restricted, by what stands behind its sign.
+/// Whether the values of an input are restricted, by what stands after its sign.
 #[tactic(auto, unfolding(crate::specs::Parsing::input_form))]
 fn of_input<A: Allocator>(tokens: &[Token<A>]) -> Form
     ensures { result ≡ input_form (lexemes tokens.now) }
@@ -214,7 +214,7 @@ fn field_form<A: Allocator>(tokens: &[Token<A>]) -> Option<Form>
     }
 }
 
-/// The definition that begins with a name, by what stands behind the name.
+/// The definition that begins with a name, by what stands after the name.
 #[tactic(auto, unfolding(crate::specs::Parsing::defined_form))]
 fn of_defined<A: Allocator>(tokens: &[Token<A>]) -> Form
     ensures { result ≡ defined_form (lexemes tokens.now) }

@@ -7,7 +7,7 @@ use crate::operator::{Operator, level};
 use crate::piece::{Fields, Kind, Piece, Place, Sign, Start};
 use tokens::{Keyword, Symbol};
 
-/// What a node of a tree stands for.
+/// What a node of a tree means.
 #[derive(Clone, Copy, PartialEq, Eq)]
 pub enum Form {
     /// `STOP`
@@ -54,7 +54,7 @@ pub enum Form {
     Negation,
     /// `not b`
     Not,
-    /// An operator between two phrases or behind one.
+    /// An operator between two phrases or after one.
     Operation(Operator),
     /// `x:A, y:B`
     Generators,

@@ -12,7 +12,7 @@ use tokens::{ScriptError, ScriptErrorKind, Symbol, Token, Word};
 
 /// What a definition by patterns has in place of a parameter: a phrase that is no name.
 ///
-/// The tokens are those behind the opening bracket. A phrase that doesn't read has its own fault.
+/// The tokens are those after the opening bracket. A phrase that doesn't read has its own fault.
 fn unless_patterns<A: Allocator + Clone + Drop>(
     alloc: &A,
     tokens: &[Token<A>],
@@ -59,7 +59,7 @@ fn is_datatype<A: Allocator>(declaration: &Tree<A>) -> bool {
     }
 }
 
-/// The fault of a declaration that doesn't read, or of what stands in a declaration's place behind a datatype.
+/// The fault of a declaration that doesn't read, or of what stands in a declaration's place after a datatype.
 fn of_declaration<A: Allocator + Clone + Drop>(
     alloc: &A,
     tokens: &[Token<A>],
@@ -84,7 +84,7 @@ fn of_declaration<A: Allocator + Clone + Drop>(
 
 /// The fault of tokens that are no script: this one, where nothing is left out that CSPM has.
 ///
-/// A definition by patterns is told at its first pattern, a datatype with fields at its first dot.
+/// A definition by patterns is reported at its first pattern, a datatype with fields at its first dot.
 pub(crate) fn unless_left_out<A: Allocator + Clone + Drop>(
     alloc: &A,
     tokens: &[Token<A>],

@@ -5,7 +5,7 @@ ghost use Rattle.syntax.specs.Operators.{behind as behind_of, left_limit as left
 use crate::piece::{Kind, Piece, Place, Sign, Start};
 use tokens::{Keyword, Symbol};
 
-/// An operator between two phrases or behind one.
+/// An operator between two phrases or after one.
 #[derive(Clone, Copy, PartialEq, Eq)]
 pub enum Operator {
     /// `P[[a <- b]]`
@@ -154,7 +154,7 @@ pub(crate) fn opens(operator: Operator) -> bool
     )
 }
 
-/// What stands behind its first token.
+/// What stands after its first token.
 #[tactic(auto, unfolding(crate::specs::Operators::behind, crate::specs::Operators::right_limit))]
 pub(crate) fn behind(operator: Operator) -> &'static [Piece]
     ensures pieces { result.now ≡ behind_of operator }

@@ -54,12 +54,12 @@ pub(crate) enum Place {
     Inside,
 }
 
-/// What tells that one more part follows.
+/// What shows that one more part follows.
 #[derive(Clone, Copy)]
 pub(crate) enum Start {
     /// A separator, which stands before it.
     Behind(Symbol),
-    /// A dot before it, which stands behind no part that takes all that can follow.
+    /// A dot before it, which stands after no part that takes all that can follow.
     Dot,
     /// The sign that it begins with, as a field that a name may take.
     Field(Fields),

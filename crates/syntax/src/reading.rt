@@ -2,7 +2,7 @@
 //!
 //! One function reads a part of any kind: its form is known from the next tokens, and the form's rule says how it
 //! goes on. A phrase then climbs: while the next token is an operator that may follow, it takes what the operator's
-//! row of the table puts behind it.
+//! row of the table puts after it.
 ghost use Rattle.std.specs.Prelude.{◌≡◌, ◌≤◌, ◌<◌, ◌+◌, ◌-◌, ◌++◌, ◌∷◌, ℕ, List, [], Bool, Option, Some, IfOk, IfSome, length, max, nat_lt, not, if◌then◌else◌};
 ghost use Rattle.std.specs.Option.{option_map};
 ghost use Rattle.tokens.specs.Lexeme.{lexemes};
@@ -366,7 +366,7 @@ fn first_line<A: Allocator>(tree: &Tree<A>) -> u32 {
     tree.line()
 }
 
-/// What an operator makes of its left side and of what stands behind it.
+/// What an operator makes of its left side and of what stands after it.
 #[cycle(reading)]
 #[tactic(auto, unfolding(crate::specs::Parsing::grown))]
 fn grown<'t, A: Allocator + Clone + Drop>(

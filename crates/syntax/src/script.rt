@@ -13,7 +13,7 @@ use crate::tree::Tree;
 use std::alloc::Allocator;
 use tokens::{ScriptError, ScriptErrorKind, Token, end_line, scan};
 
-/// The tree of the script that has these tokens, in a text that ends on this line; a fault's line 0 stands for it.
+/// The tree of the script that has these tokens, in a text that ends on this line; line 0 of a fault is that line.
 #[tactic(auto, using(crate::proofs::Branches::fails_none))]
 pub(crate) fn read_script<A: Allocator + Clone + Drop>(
     alloc: &A,
@@ -41,11 +41,11 @@ pub(crate) fn read_script<A: Allocator + Clone + Drop>(
 
 /// The syntax tree of a script, or its first fault.
 ///
-/// The size is looked at first (`TooLarge` on line 1), then the tokens from the left, as `scan` tells their faults, and
+/// The size is looked at first (`TooLarge` on line 1), then the tokens from the left, as `scan` reports their faults, and
 /// then the first token that can't go on as a script within the limits: `Expected` where the grammar wants another, at
-/// the end of the text on the line behind the last line feed; `TooDeep` where every tree is higher than 250 or has more
+/// the end of the text on the line after the last line feed; `TooDeep` where every tree is higher than 250 or has more
 /// than 250 brackets open at once; `Unsupported` at a pattern in place of a parameter and at a field of a datatype.
-/// `Memory` is told on line 1. The time grows with the length of the text, and the deepest texts take 2 to 2.5 MB of
+/// `Memory` is reported on line 1. The time grows with the length of the text, and the deepest texts take 2 to 2.5 MB of
 /// stack. `docs/LANGUAGE.md` has the grammar.
 #[tactic(auto, using(crate::proofs::Texts::has_tree))]
 pub fn parse<A: Allocator + Clone + Drop>(alloc: A, text: &[u8]) -> Result<Tree<A>, ScriptError>

@@ -1,4 +1,4 @@
--- Sets of processes that the parts of a step are told by.
+-- Sets of processes by which the parts of a step are given.
 use Rattle.std.specs.Prelude.{◌≡◌, ℕ, true, ◌⊎◌, List}
 use Rattle.alphabet.specs.EventSets.{Set, has}
 use Rattle.term.specs.Traces.{In}

@@ -1,5 +1,5 @@
 -- Processes and channels as lists of numbers, which give them back: what a model that holds them needs. It says nothing
--- of their meaning. The list of a process has its nodes from the leaves up, each behind its parts.
+-- of their meaning. The list of a process has its nodes from the leaves up, each after its parts.
 use Rattle.std.specs.Prelude.{◌≡◌, ℕ, ℤ, zero, suc, ◌⊎◌, List, [], ◌∷◌}
 use Rattle.std.specs.Coded.{Coded, code_by, coded×, coded⊎, coded_ℕ, coded_ℤ, coded_list}
 use Rattle.alphabet.specs.Channels.{FieldValue, number, constant, Channel}

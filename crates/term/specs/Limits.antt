@@ -15,7 +15,7 @@ deepest_state = 1000
 abbrev pub most_states : ℕ
 most_states = 4096
 
--- A set of processes, told by its members.
+-- A set of processes, given by its members.
 abbrev pub Terms : Type 1
 Terms = Proc → Type 0
 

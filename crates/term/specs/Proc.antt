@@ -7,7 +7,7 @@ use Rattle.term.specs.declared.terms.Term.{Term}
 use Rattle.term.specs.declared.terms.Term.TheVariants.{Stop, Skip, Prefix', Ext', Int', Seq', Par', Hide', Ren', Intr', Name}
 
 -- A process: `STOP`, `SKIP`, `a -> P`, `P [] Q`, `P |~| Q`, `P ; Q`, `P [| A |] Q`, `P \ A`, `P[[R]]`, `P /\ Q`,
--- and the name of a body by its number. An event is told by its number in Sigma.
+-- and the name of a body by its number. An event is given by its number in Sigma.
 pub data Proc : Type 0 where
   stop : Proc
   skip : Proc

@@ -4,7 +4,7 @@ use Rattle.std.specs.Prelude.{◌≡◌, ℕ, Bool, true, false, ◌||◌, List,
 use Rattle.term.specs.Events.{Event, tick, ev}
 use Rattle.alphabet.specs.EventSets.{Set, has}
 
--- A refusal is a set of events and tick, told by its members.
+-- A refusal is a set of events and tick, given by its members.
 -- (Roscoe, The Theory and Practice of Concurrency, stable failures)
 abbrev pub Refusal : Type 0
 Refusal = Event → Bool

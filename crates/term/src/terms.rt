@@ -75,7 +75,7 @@ impl<A: Allocator> Term<A> {
     }
 
     /// The depth: 1 for `STOP`, `SKIP` and a name, else 1 more than that of the deepest part. A depth past the
-    /// greatest `u64` is told as that number.
+    /// greatest `u64` is reported as that number.
     pub fn depth(&self) -> u64
         ensures { result ≡ min (depth (proc self.now)) (2 ^ 64 - 1) }
     {
@@ -92,7 +92,7 @@ impl<A: Allocator> Term<A> {
         }
     }
 
-    /// The number of nodes. A size past the greatest `u64` is told as that number.
+    /// The number of nodes. A size past the greatest `u64` is reported as that number.
     pub fn size(&self) -> u64
         ensures { result ≡ min (size (proc self.now)) (2 ^ 64 - 1) }
     {

@@ -32,7 +32,7 @@ value_from n (d ∷ ds) = if nat_le (10 * n + (d - 48)) 1000000 then value_from 
 
 -- ---- comments
 
--- one step through a comment: how many are open then, and what stands behind
+-- one step through a comment: how many are open then, and what comes after
 unfoldable pub comment_step : ℕ → List ℕ → Option (ℕ × List ℕ)
 comment_step d [] = None
 comment_step d (c ∷ []) = Some (d, [])
@@ -40,7 +40,7 @@ comment_step d (c ∷ e ∷ rest) =
     if c == 123 && e == 45 then Some (d + 1, rest)
     else (if c == 45 && e == 125 then Some (d - 1, rest) else Some (d, e ∷ rest))
 
--- what stands behind so many open comments
+-- what comes after so many open comments
 unfoldable pub behind_comments : List ℕ → ℕ → Option (List ℕ)
 behind_comments [] d = if d == 0 then Some [] else None
 behind_comments (c ∷ []) d = if d == 0 then Some (c ∷ []) else None
@@ -65,7 +65,7 @@ is_reserved_as w r = pointwise nat_eq w (reserved_text r)
 abbrev pub reserved_of : List ℕ → Option Reserved
 reserved_of w = find (is_reserved_as w) RESERVED
 
--- a token, or none for what is left out, and the text behind it
+-- a token, or none for what is left out, and the text after it
 abbrev pub Step : Type 0
 Step = Option Lexeme × List ℕ
 

@@ -46,7 +46,7 @@ pub record IsDigits (word : List ℕ) : Type 0 where
   pub spelled : word ≡ first ∷ others
   pub digits : All is_ascii_digit word
 
--- the number that digits stand for, behind those that stand for n
+-- the number that digits mean, after those that mean n
 abbrev pub value_of : ℕ → List ℕ → ℕ
 value_of n [] = n
 value_of n (d ∷ ds) = value_of (10 * n + (d - 48)) ds
@@ -117,7 +117,7 @@ abbrev pub EndsLine : List ℕ → Type 0
 EndsLine [] = Unit {0}
 EndsLine (c ∷ rest) = c ≡ 10
 
--- a part, before what stands behind it
+-- a part, before what comes after it
 abbrev pub IsPart : Part → List ℕ → Type 0
 IsPart (Blank c) rest = is_blank c ≡ true
 IsPart (Line body) rest = All is_of_line body × EndsLine rest

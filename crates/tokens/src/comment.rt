@@ -3,7 +3,7 @@ ghost use Rattle.std.specs.Option.{option_map};
 ghost use Rattle.std.specs.Prelude.{◌≡◌, ◌+◌, ◌<◌, ◌^◌, length};
 ghost use Rattle.tokens.specs.Scanning.{behind_comments, comment_step};
 
-/// One step through a comment: how many are open then, and what stands behind.
+/// One step through a comment: how many are open then, and what comes after.
 #[tactic(auto, unfolding(crate::specs::Scanning::comment_step))]
 fn step_in_comment(depth: usize, text: &[u8]) -> Option<(usize, &[u8])>
     requires { (0 < depth) × (depth + length text.now < 2 ^ 64) }
@@ -17,7 +17,7 @@ fn step_in_comment(depth: usize, text: &[u8]) -> Option<(usize, &[u8])>
     }
 }
 
-/// What stands behind the comment that is open, or `None` where it isn't closed.
+/// What stands after the comment that is open, or `None` where it isn't closed.
 #[tactic(auto, using(crate::proofs::Comments::behind_none_open))]
 pub(crate) fn behind_comment(text: &[u8]) -> Option<&[u8]>
     requires { length text.now < 2 ^ 63 }

@@ -25,7 +25,7 @@ pub(crate) enum Found<'a> {
     Symbol(Symbol),
 }
 
-/// What stands first in a text, its token if it is one, and what stands behind it.
+/// What stands first in a text, its token if it is one, and what stands after it.
 #[derive(Clone, Copy)]
 pub(crate) struct Part<'a> {
     pub(crate) token: Option<Found<'a>>,

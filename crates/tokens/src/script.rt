@@ -48,7 +48,7 @@ pub fn end_line(text: &[u8]) -> u32
 
 /// The tokens of a script, each with its line.
 ///
-/// The first fault from the left is told: `TooLarge` on line 1 for a text of more than 65,536 bytes,
+/// The first fault from the left is reported: `TooLarge` on line 1 for a text of more than 65,536 bytes,
 /// `BadByte` and `BadToken` where no token begins, `Unsupported` for what CSPM has and this profile
 /// leaves out, `OutOfRange` for a number over 1,000,000, `BadToken` where a block comment that isn't
 /// closed begins, and `Memory` on line 1. The time grows with the length of the text.

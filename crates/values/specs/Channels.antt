@@ -25,7 +25,7 @@ unfoldable pub channels_of : Known → List Entry → Option (List Channel)
 channels_of known [] = Some []
 channels_of known (e ∷ es) = channels_of known es >>= with_channel known e.0 e.1
 
--- What a script declares: each name once, parameters that are in order, what the names stand for, and channels with at most 256 events.
+-- What a script declares: each name once, parameters that are in order, what the names mean, and channels with at most 256 events.
 pub record Declares (t : Syntax) (entries : List Entry) (known : Known) (channels : List Channel) : Type 0 where
   pub named : declared t ≡ Some entries
   pub once : are_distinct entries ≡ true

@@ -1,4 +1,4 @@
--- The names that a script declares, and what they stand for.
+-- The names that a script declares, and what they mean.
 use Rattle.std.specs.Prelude.{◌≡◌, ℕ, zero, suc, List, [], ◌∷◌, ◌++◌, map, length, Bool, true, false, not, ◌&&◌, Option, Some, None, if◌then◌else◌, nat_eq, ◌↔◌}
 use Rattle.std.specs.List.{list_any}
 use Rattle.std.specs.Cmp.Lexicographic.{pointwise}
@@ -109,9 +109,9 @@ have_parameters es constant_name = true
 have_parameters es (definition t) = true
 have_parameters es (parametric xs t) = are_parameters es xs
 
--- ---- what names stand for
+-- ---- what names mean
 
--- what a name with this meaning stands for, where these names are known
+-- what a name with this meaning means, where these names are known
 unfoldable pub worth_of : Known → Name → Meaning → Option Worth
 worth_of known n (channel sets) = None
 worth_of known n (datatype constants) = Some (many (set_of (map constant constants)))
@@ -119,16 +119,16 @@ worth_of known n constant_name = Some (one (constant n))
 worth_of known n (definition t) = worth known t
 worth_of known n (parametric xs t) = None
 
--- what names stand for after so many steps, in each of which a definition is looked into
+-- what names mean after so many steps, in each of which a definition is looked into
 unfoldable pub known_in : List Entry → ℕ → Known
 known_in es zero n = None
 known_in es (suc k) n = meaning es n >>= worth_of (known_in es k) n
 
--- Each name stands for what it stands for after some number of steps, and for nothing else. So a name that needs itself stands for nothing.
+-- Each name means what it means after some number of steps, and nothing else. So a name that needs itself means nothing.
 abbrev pub Stands : List Entry → Known → Type 0
 Stands es known = (n : Name) (w : Worth) → (known n ≡ Some w) ↔ ((k : ℕ) × (known_in es k n ≡ Some w))
 
--- ---- how what names stand for is found, step by step
+-- ---- how what names mean is found, step by step
 
 -- what the first knows, the second knows too
 abbrev pub IsWithin : Known → Known → Type 0

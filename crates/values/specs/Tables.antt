@@ -1,4 +1,4 @@
--- What a table of names says that they stand for.
+-- What a table of names says that they mean.
 use Rattle.std.specs.Prelude.{ℕ, List, [], ◌∷◌, map, Bool, true, false, Option, Some, None, if◌then◌else◌}
 use Rattle.alphabet.specs.Channels.{FieldValue}
 use Rattle.std.specs.declared.vec.Vec.{Vec}
@@ -10,7 +10,7 @@ use Rattle.values.specs.declared.known.Known.{Known as Table}
 use Rattle.values.specs.declared.input.Input.{Input}
 use Rattle.values.specs.View.{value, worth}
 
--- the first entry with the name says what it stands for
+-- the first entry with the name says what it means
 unfoldable pub known_by : List (Name × Plain) → Known
 known_by [] n = None
 known_by (e ∷ es) n = if same_name n e.0 then Some e.1 else known_by es n
@@ -19,7 +19,7 @@ known_by (e ∷ es) n = if same_name n e.0 then Some e.1 else known_by es n
 abbrev pub entries : {A : Type 0} → List (Vec ℕ A × Worth A) → List (Name × Plain)
 entries = map (λ e. (e.0.items, worth e.1))
 
--- what a table says that names stand for
+-- what a table says that names mean
 abbrev pub table : {A : Type 0} → Table A → Known
 table t = known_by (entries t.worths.entries)
 
@@ -29,11 +29,11 @@ table t = known_by (entries t.worths.entries)
 abbrev pub input : {A : Type 0} → Input A → Name × FieldValue
 input i = (i.name.items, value i.value)
 
--- the name of an input stands for its value
+-- the name of an input means its value
 abbrev pub with_input : Known → Name → FieldValue → Known
 with_input known x v n = if same_name n x then Some (one v) else known n
 
--- what names stand for behind these inputs, of which the last is the innermost
+-- what names mean after these inputs, of which the last is the innermost
 unfoldable pub behind : Known → List (Name × FieldValue) → Known
 behind known [] = known
 behind known (i ∷ is) = behind (with_input known i.0 i.1) is
@@ -48,7 +48,7 @@ unfoldable pub last_of : List (Name × FieldValue) → Name → Option FieldValu
 last_of [] n = None
 last_of (i ∷ is) n = or_else (last_of is n) (if same_name n i.0 then Some i.1 else None)
 
--- what a name stands for is one value or a truth
+-- what a name means is one value or a truth
 unfoldable pub names_value : Option Plain → Bool
 names_value None = false
 names_value (Some (one v)) = true

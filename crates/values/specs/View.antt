@@ -21,13 +21,13 @@ value (stored.Constant n) = constant n.items
 abbrev pub values : {A : Type 0} → BTreeSet (Value A) → Values
 values s = map value s.keys
 
--- what a phrase stands for
+-- what a phrase means
 abbrev pub worth : {A : Type 0} → Worth A → Plain
 worth (worths.One v) = one (value v)
 worth (worths.Many s) = many (values s)
 worth (worths.Truth b) = truth b
 
--- a fault of this kind is answered only where nothing is wanted, save for want of memory
+-- a fault of this kind is answered only where nothing is wanted, except out of memory
 abbrev pub Fails : {Y : Type 0} → ScriptErrorKind → Option Y → Type 0
 Fails kinds.Memory wanted = Unit {0}
 Fails _ wanted = wanted ≡ None

@@ -1,4 +1,4 @@
--- What phrases for values, for sets of values and for truths stand for.
+-- What phrases for values, for sets of values and for truths mean.
 use Rattle.std.specs.Prelude.{List, [], ◌∷◌, Bool, true, false, not, Option, Some, None, if◌then◌else◌, ℤ, pos, ◌+ℤ◌, ◌-ℤ◌, ◌*ℤ◌, int_lt, int_le}
 use Rattle.alphabet.specs.Channels.{FieldValue, number, constant, Values}
 use Rattle.syntax.specs.declared.operator.Operator.{Operator}
@@ -8,13 +8,13 @@ use Rattle.syntax.specs.declared.form.Form.TheVariants as forms
 use Rattle.syntax.specs.Grammar.{Syntax, Called, Numeral, Node, Syntaxes, NoSyntax, MoreSyntax}
 use Rattle.values.specs.Values.{◌>>=◌, Name, is_same, limited, remainder, set_of, union, intersection, difference, fitting_set, range}
 
--- what a phrase stands for: one value, a set of values in order, or a truth
+-- what a phrase means: one value, a set of values in order, or a truth
 pub data Worth : Type 0 where
   one : FieldValue → Worth
   many : Values → Worth
   truth : Bool → Worth
 
--- what names stand for
+-- what names mean
 abbrev pub Known : Type 0
 Known = Name → Option Worth
 
@@ -73,7 +73,7 @@ calculated operators.Times y z = limited (y *ℤ z)
 calculated operators.Remainder y z = remainder y z
 calculated op y z = None
 
--- the same of what their sides stand for
+-- the same of what their sides mean
 unfoldable pub computed : Operator → List Worth → Option Worth
 computed op ws = two_numbers ws >>= λ p. calculated op p.0 p.1 >>= λ z. Some (one (number z))
 
@@ -112,11 +112,11 @@ is_comparison operators.Greater = true
 is_comparison operators.GreaterOrEqual = true
 is_comparison op = false
 
--- the truth that a comparison makes of what its sides stand for
+-- the truth that a comparison makes of what its sides mean
 unfoldable pub comparison : Operator → List Worth → Option Worth
 comparison op ws = the_two ws >>= λ p. compared op p.0 p.1 >>= λ b. Some (truth b)
 
--- what an operator makes of what its sides stand for
+-- what an operator makes of what its sides mean
 unfoldable pub operated : Operator → List Worth → Option Worth
 operated op ws = if is_comparison op then comparison op ws else computed op ws
 
@@ -148,7 +148,7 @@ intersection_with ws = two_sets ws >>= λ p. Some (many (intersection p.0 p.1))
 unfoldable pub difference_with : List Worth → Option Worth
 difference_with ws = two_sets ws >>= λ p. Some (many (difference p.0 p.1))
 
--- what a form makes of what its parts stand for
+-- what a form makes of what its parts mean
 unfoldable pub formed : Form → List Worth → Option Worth
 formed forms.Event ws = the_only ws
 formed forms.Brackets ws = the_only ws
@@ -171,7 +171,7 @@ unfoldable pub truth_only : Option Worth → Option Worth
 truth_only o = o >>= λ w. the_truth w >>= λ b. Some (truth b)
 
 unfoldable mutual
-  -- what a phrase stands for; what is left of a condition isn't looked at where it doesn't decide
+  -- what a phrase means; what is left of a condition isn't looked at where it doesn't decide
   pub worth : Known → Syntax → Option Worth
   worth known (Called n) = known n
   worth known (Numeral n) = limited (pos n) >>= λ z. Some (one (number z))
@@ -180,12 +180,12 @@ unfoldable mutual
   worth known (Node (forms.Operation operators.Or) (MoreSyntax t (MoreSyntax u NoSyntax))) = worth known t >>= λ w. the_truth w >>= λ b. if b then Some (truth true) else truth_only (worth known u)
   worth known (Node f ts) = worths known ts >>= λ ws. formed f ws
 
-  -- what each of them stands for
+  -- what each of them means
   pub worths : Known → Syntaxes → Option (List Worth)
   worths known NoSyntax = Some []
   worths known (MoreSyntax t ts) = worth known t >>= λ w. worths known ts >>= λ ws. Some (w ∷ ws)
 
--- the truth that a phrase stands for
+-- the truth that a phrase means
 unfoldable pub condition : Known → Syntax → Option Bool
 condition known t = worth known t >>= λ w. the_truth w
 

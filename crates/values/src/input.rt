@@ -1,4 +1,4 @@
-//! Inputs before a phrase, whose names stand for values and hide other uses.
+//! Inputs before a phrase, whose names mean values and hide other uses.
 ghost use Rattle.std.specs.Prelude.{◌≡◌, map};
 ghost use Rattle.std.specs.Option.{option_map};
 ghost use Rattle.values.specs.View.{Gives, value as value_of, worth as worth_of};
@@ -10,7 +10,7 @@ use crate::worth::Worth;
 use std::alloc::Allocator;
 use tokens::ScriptError;
 
-/// An input: its name, and the value that the name stands for behind it.
+/// An input: its name, and the value that the name means after it.
 #[derive(Drop)]
 pub struct Input<A: Allocator> {
     pub name: Vec<u8, A>,
@@ -33,7 +33,7 @@ fn last_value<'a, A: Allocator>(inputs: &'a [Input<A>], name: &[u8]) -> Option<&
     None
 }
 
-/// A copy of what the name stands for behind the inputs; `UnknownName` where neither they nor the table have it.
+/// A copy of what the name means after the inputs; `UnknownName` where neither they nor the table have it.
 #[tactic(auto, using(crate::proofs::Inputs::by_input, crate::proofs::Inputs::by_table))]
 pub(crate) fn worth_behind<A: Allocator + Clone>(
     known: &Known<A>,
@@ -49,7 +49,7 @@ pub(crate) fn worth_behind<A: Allocator + Clone>(
     }
 }
 
-/// Whether the name stands for one value or a truth behind the inputs. Such a name hides a channel, a process or a set of events
+/// Whether the name means one value or a truth after the inputs. Such a name hides a channel, a process or a set of events
 /// of its name. Costs a turn for each input and a look-up.
 #[tactic(auto, using(crate::proofs::Inputs::by_input, crate::proofs::Inputs::by_table))]
 pub fn is_value<A: Allocator>(known: &Known<A>, inputs: &[Input<A>], name: &[u8]) -> bool

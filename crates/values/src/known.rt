@@ -1,4 +1,4 @@
-//! What names stand for.
+//! What names mean.
 ghost use Rattle.std.specs.Prelude.{◌≡◌, ℕ, List, Some, None, is_some, OnOk, OnErr, if◌then◌else◌};
 ghost use Rattle.std.specs.Option.{option_map};
 ghost use Rattle.values.specs.Names.{same_name};
@@ -14,7 +14,7 @@ use tokens::{ScriptError, ScriptErrorKind};
 
 type Hashing = BuildHasherDefault<FoldHasher>;
 
-/// A table of names and what they stand for.
+/// A table of names and what they mean.
 #[derive(Drop)]
 pub struct Known<A: Allocator> {
     pub(crate) worths: IndexMap<Vec<u8, A>, Worth<A>, Hashing, A>,
@@ -33,14 +33,14 @@ impl<A: Allocator + Copy> Known<A> {
 }
 
 impl<A: Allocator> Known<A> {
-    /// What the name stands for.
+    /// What the name means.
     fn get(&self, name: &[u8]) -> Option<&Worth<A>>
         ensures { option_map (λ w. worth_of w.now) result ≡ table self.now name.now }
     {
         self.worths.get(name)
     }
 
-    /// Whether the table says what the name stands for.
+    /// Whether the table says what the name means.
     pub fn has(&self, name: &[u8]) -> bool
         ensures { result ≡ is_some (table self.now name.now) }
     {
@@ -50,7 +50,7 @@ impl<A: Allocator> Known<A> {
         }
     }
 
-    /// Whether the name stands for one value or a truth.
+    /// Whether the name means one value or a truth.
     #[tactic(auto, unfolding(crate::specs::Tables::names_value))]
     pub(crate) fn is_one(&self, name: &[u8]) -> bool
         ensures { result ≡ names_value (table self.now name.now) }
@@ -64,7 +64,7 @@ impl<A: Allocator> Known<A> {
 }
 
 impl<A: Allocator + Clone> Known<A> {
-    /// Says what the name stands for, in place of what it stood for. Where memory is refused the table stays. Costs one
+    /// Says what the name means, in place of what it meant. Where memory is refused the table stays. Costs one
     /// look-up by the name's hash.
     #[tactic(auto, using(crate::proofs::Lists::inserted, crate::proofs::Lists::kept))]
     pub fn insert(&mut self, name: Vec<u8, A>, worth: Worth<A>) -> Result<(), AllocError>
@@ -75,7 +75,7 @@ impl<A: Allocator + Clone> Known<A> {
         Ok(())
     }
 
-    /// A copy of what the name stands for; `UnknownName` where the table hasn't got it.
+    /// A copy of what the name means; `UnknownName` where the table hasn't got it.
     pub fn worth(&self, name: &[u8], line: u32) -> Result<Worth<A>, ScriptError>
         ensures { Gives worth_of result (table self.now name.now) }
     {

@@ -4,7 +4,7 @@ ghost use Rattle.values.specs.Names.{Entry, IsReached, IsWithin, Stands, next_kn
 ghost use Rattle.values.specs.Worths.{Known};
 
 /// A table that has what it has after some number of steps, and to which a further step adds nothing, says what the
-/// names stand for.
+/// names mean.
 pub fn steps_reach_all()
     ensures { (entries : List Entry) (table : Known) → IsReached entries table → IsWithin (next_known entries table) table → Stands entries table }
 {}

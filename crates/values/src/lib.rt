@@ -1,4 +1,4 @@
-//! What numbers, sets, truths and names of a script stand for.
+//! What numbers, sets, truths and names of a script mean.
 #![tactic(auto)]
 
 mod input;

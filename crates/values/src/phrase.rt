@@ -1,4 +1,4 @@
-//! What phrases for values, sets of values and truths stand for.
+//! What phrases for values, sets of values and truths mean.
 ghost use Rattle.std.specs.Prelude.{◌≡◌, Some, map};
 ghost use Rattle.syntax.specs.View.{shape, shapes};
 ghost use Rattle.syntax.specs.Grammar.{Node};
@@ -35,7 +35,7 @@ fn calculated(operator: Operator, numbers: (i64, i64), line: u32) -> Result<i64,
     }
 }
 
-/// The same of what their sides stand for.
+/// The same of what their sides mean.
 #[tactic(auto, unfolding(crate::specs::Worths::computed))]
 fn computed<A: Allocator>(
     operator: Operator,
@@ -49,7 +49,7 @@ fn computed<A: Allocator>(
     Ok(Worth::One(Value::Number(number)))
 }
 
-/// What an operator makes of what its sides stand for.
+/// What an operator makes of what its sides mean.
 #[tactic(auto, unfolding(crate::specs::Worths::operated))]
 fn operated<A: Allocator>(
     operator: Operator,
@@ -155,7 +155,7 @@ fn difference_with<A: Allocator>(
     Ok(Worth::Many(set))
 }
 
-/// What a form makes of what its parts stand for.
+/// What a form makes of what its parts mean.
 #[tactic(auto, unfolding(crate::specs::Worths::formed))]
 fn formed<A: Allocator + Clone>(
     alloc: &A,
@@ -182,7 +182,7 @@ fn formed<A: Allocator + Clone>(
     }
 }
 
-/// What a phrase stands for behind these inputs, where other names stand for what the table says. The last input of a
+/// What a phrase means after these inputs, where other names mean what the table says. The last input of a
 /// name is the one that counts. The branch that a condition doesn't choose isn't looked at, and neither is the second
 /// side of `and` and `or` where the first decides.
 ///
@@ -218,7 +218,7 @@ pub fn stands_for<A: Allocator + Clone>(
     }
 }
 
-/// What the branch stands for that the condition chooses. The other one isn't looked at.
+/// What the branch means that the condition chooses. The other one isn't looked at.
 #[cycle(phrase)]
 #[tactic(auto, using(crate::proofs::Branches::not_three))]
 fn conditional<A: Allocator + Clone>(
@@ -269,7 +269,7 @@ fn connected<A: Allocator + Clone>(
     }
 }
 
-/// The truth that a phrase stands for.
+/// The truth that a phrase means.
 #[cycle(phrase)]
 #[tactic(auto, unfolding(crate::specs::Worths::condition))]
 fn truth_of_phrase<A: Allocator + Clone>(
@@ -284,7 +284,7 @@ fn truth_of_phrase<A: Allocator + Clone>(
     the_truth(worth, tree.line())
 }
 
-/// What each of the phrases stands for.
+/// What each of the phrases means.
 #[cycle(phrase)]
 fn each_stands_for<A: Allocator + Clone>(
     alloc: &A,

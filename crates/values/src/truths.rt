@@ -148,7 +148,7 @@ pub(crate) fn is_comparison(operator: Operator) -> bool
     }
 }
 
-/// The truth that a comparison makes of what its sides stand for.
+/// The truth that a comparison makes of what its sides mean.
 #[tactic(auto, unfolding(crate::specs::Worths::comparison))]
 pub(crate) fn comparison<A: Allocator>(
     operator: Operator,

@@ -1,4 +1,4 @@
-//! What phrases stand for: values, sets of values, and truths.
+//! What phrases mean: values, sets of values, and truths.
 ghost use Rattle.std.specs.Prelude.{◌≡◌, Some, IfOk, map};
 ghost use Rattle.alphabet.specs.Channels.{constant};
 ghost use Rattle.values.specs.Values.{set_of};
@@ -12,7 +12,7 @@ use std::alloc::{AllocError, Allocator};
 use std::collections::BTreeSet;
 use tokens::{ScriptError, ScriptErrorKind};
 
-/// What a phrase stands for.
+/// What a phrase means.
 #[derive(Drop)]
 pub enum Worth<A: Allocator> {
     /// A number or a constant.

@@ -72,7 +72,7 @@ module _ {J : Type 0} (Says : J → List ℕ → J → List ℕ → Type 0) wher
   Hears j k old new heard begun (Err Read) = ⊥
   Hears j k old new heard begun (Err Memory) = ⊥
 
-  -- The whole of a connection, by the bytes that reader and writer tell.
+  -- The whole of a connection, by the bytes that reader and writer know.
   abbrev pub Serves : J → J → Option (List ℕ) → Option (List ℕ) → Option (List ℕ) → Option (List ℕ) → Result End WireError → Type 0
   Serves j k left rest old new (Ok Quit) = (heard : List ℕ) × (Consumes left rest heard) × (HasQuit j k old new heard)
   Serves j k left rest old new (Ok Line) = (heard : List ℕ) × (Consumes left rest heard) × (IsTooLong j k old new heard)

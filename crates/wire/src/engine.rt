@@ -148,7 +148,7 @@ fn answer_line<J: Judge, A: Allocator, B: Allocator>(
     quit
 }
 
-// Hears the last piece of a line, behind which stood an LF.
+// Hears the last piece of a line, after which stood an LF.
 fn hear_line<W: Sink, J: Judge, A: Allocator, B: Allocator>(
     piece: &[u8],
     desk: &mut Desk<B>,

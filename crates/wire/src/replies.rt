@@ -71,7 +71,7 @@ fn add_status<B: Allocator>(reply: &mut Vec<u8, B>, status: Status)
     }
 }
 
-// Makes the names of the events of a set, each behind a blank.
+// Makes the names of the events of a set, each after a blank.
 fn name_all<A: Allocator, B: Allocator>(
     alphabet: &Alphabet<A>,
     set: EventSet,
