@@ -3,3 +3,4 @@ pub mod Lists
 pub mod Members
 pub mod NameLists
 pub mod Parts
+pub mod Enclosed

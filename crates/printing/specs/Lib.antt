@@ -3,3 +3,4 @@ pub mod Names
 pub mod Printed
 -- Steps of the program.
 pub mod View
+pub mod Inside

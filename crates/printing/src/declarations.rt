@@ -3,6 +3,7 @@ ghost use Rattle.std.specs.Prelude.{◌≡◌, ◌++◌, OnOk, map, codes};
 ghost use Rattle.std.specs.List.{flat_map};
 ghost use Rattle.alphabet.specs.Channels.{value_text};
 ghost use Rattle.alphabet.specs.Stored.{value_of, field_of, channel_of};
+ghost use Rattle.printing.specs.Names.{primed, datatype_name};
 ghost use Rattle.printing.specs.Printed.{joined, gap, field_text, fields_text, channel_line, datatype_line};
 ghost use Rattle.printing.specs.View.{bytes};
 
@@ -142,6 +143,23 @@ pub(crate) fn put_channels<A: Allocator, B: Allocator>(
     Ok(())
 }
 
+/// Appends what stands before the constants of the datatype.
+fn put_head<B: Allocator>(text: &mut Vec<u8, B>, primes: usize) -> Result<(), AllocError>
+    ensures { OnOk result (text.new.items ≡ text.old.items ++ codes "datatype " ++ primed datatype_name primes ++ codes " = ") }
+{
+    text.extend_from_slice(b"datatype ")?;
+    put_datatype_name(text, primes)?;
+    text.extend_from_slice(b" = ")
+}
+
+/// Appends a constant after others.
+fn put_constant<B: Allocator>(text: &mut Vec<u8, B>, name: &[u8]) -> Result<(), AllocError>
+    ensures { OnOk result (text.new.items ≡ text.old.items ++ codes " | " ++ name.now) }
+{
+    text.extend_from_slice(b" | ")?;
+    text.extend_from_slice(name)
+}
+
 /// Appends the declaration of the datatype with these constants, if there are any.
 pub(crate) fn put_datatype<B: Allocator>(
     text: &mut Vec<u8, B>,
@@ -154,13 +172,10 @@ pub(crate) fn put_datatype<B: Allocator>(
     let Some(first) = names.next() else {
         return Ok(());
     };
-    text.extend_from_slice(b"datatype ")?;
-    put_datatype_name(text, primes)?;
-    text.extend_from_slice(b" = ")?;
+    put_head(text, primes)?;
     text.extend_from_slice(first)?;
     for name in names {
-        text.extend_from_slice(b" | ")?;
-        text.extend_from_slice(name)?;
+        put_constant(text, name)?;
     }
     text.extend_from_slice(b"\n")
 }

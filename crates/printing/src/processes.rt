@@ -5,6 +5,7 @@ ghost use Rattle.alphabet.specs.EventSets.{members};
 ghost use Rattle.alphabet.specs.Channels.{event_count, name_of};
 ghost use Rattle.term.specs.Proc.{proc, bodies_of};
 ghost use Rattle.term.specs.Specs.{SetInSigma, PairsInSigma, IsProcessOf};
+ghost use Rattle.printing.specs.Inside.{has_brackets as has_brackets_of, inside};
 ghost use Rattle.printing.specs.Printed.{joined, set_text, shared_text, pair_text, mark as mark_of, process_text, body_line, body_lines};
 
 use crate::names::put_body_name;
@@ -126,8 +127,88 @@ fn mark<A: Allocator>(term: &Term<A>) -> &'static [u8]
     }
 }
 
+/// Appends the events that are hidden, after a process.
+fn put_hidden<A: Allocator, B: Allocator>(
+    text: &mut Vec<u8, B>,
+    alphabet: &Alphabet<A>,
+    set: EventSet,
+) -> Result<(), AllocError>
+    requires { SetInSigma (event_count alphabet.now) set }
+    ensures { OnOk result (text.new.items ≡ text.old.items ++ codes " \\ " ++ set_text alphabet.now set) }
+{
+    text.extend_from_slice(b" \\ ")?;
+    put_set(text, alphabet, set)
+}
+
+/// Appends the pairs of a renaming, after a process.
+fn put_renaming<A: Allocator, B: Allocator>(
+    text: &mut Vec<u8, B>,
+    alphabet: &Alphabet<A>,
+    pairs: &[(u8, u8)],
+) -> Result<(), AllocError>
+    requires { PairsInSigma (event_count alphabet.now) pairs.now }
+    ensures { OnOk result (text.new.items ≡ text.old.items ++ codes " [[" ++ joined (codes ", ") (map (pair_text alphabet.now) pairs.now) ++ codes "]]") }
+{
+    text.extend_from_slice(b" [[")?;
+    put_pairs(text, alphabet, pairs)?;
+    text.extend_from_slice(b"]]")
+}
+
+/// Whether the printed process has brackets of its own.
+#[tactic(auto, unfolding(crate::specs::Inside::has_brackets))]
+fn has_brackets<A: Allocator>(term: &Term<A>) -> bool
+    ensures { result ≡ has_brackets_of (proc term.now) }
+{
+    match term {
+        Term::Stop | Term::Skip | Term::Name(_) | Term::Prefix(Event::Tick, _) => false,
+        _ => true,
+    }
+}
+
+/// Appends a process of the specification without the brackets round it.
+#[cycle(processes)]
+#[tactic(auto, unfolding(crate::specs::Inside::inside))]
+fn put_inside<A: Allocator, B: Allocator>(
+    text: &mut Vec<u8, B>,
+    spec: &Spec<A>,
+    primes: usize,
+    term: &Term<A>,
+) -> Result<(), AllocError>
+    requires { IsProcessOf spec.now (proc term.now) }
+    ensures { OnOk result (text.new.items ≡ text.old.items ++ inside spec.now.alphabet primes (proc term.now)) }
+{
+    match term {
+        Term::Stop | Term::Prefix(Event::Tick, _) => text.extend_from_slice(b"STOP"),
+        Term::Skip => text.extend_from_slice(b"SKIP"),
+        Term::Name(number) => put_body_name(text, *number, primes),
+        Term::Prefix(event, p) => {
+            spec.alphabet().name_into(*event, text)?;
+            text.extend_from_slice(b" -> ")?;
+            put_process(text, spec, primes, p)
+        }
+        Term::Ext(p, q) | Term::Int(p, q) | Term::Seq(p, q) | Term::Intr(p, q) => {
+            put_process(text, spec, primes, p)?;
+            text.extend_from_slice(mark(term))?;
+            put_process(text, spec, primes, q)
+        }
+        Term::Par(set, p, q) => {
+            put_process(text, spec, primes, p)?;
+            put_shared(text, spec.alphabet(), *set)?;
+            put_process(text, spec, primes, q)
+        }
+        Term::Hide(set, p) => {
+            put_process(text, spec, primes, p)?;
+            put_hidden(text, spec.alphabet(), *set)
+        }
+        Term::Ren(pairs, p) => {
+            put_process(text, spec, primes, p)?;
+            put_renaming(text, spec.alphabet(), pairs)
+        }
+    }
+}
+
 /// Appends a process of the specification. Costs its text, and needs room on the stack for its depth.
-#[tactic(auto, unfolding(crate::specs::Printed::process_text))]
+#[cycle(processes)]
 fn put_process<A: Allocator, B: Allocator>(
     text: &mut Vec<u8, B>,
     spec: &Spec<A>,
@@ -137,46 +218,12 @@ fn put_process<A: Allocator, B: Allocator>(
     requires { IsProcessOf spec.now (proc term.now) }
     ensures { OnOk result (text.new.items ≡ text.old.items ++ process_text spec.now.alphabet primes (proc term.now)) }
 {
-    match term {
-        Term::Stop | Term::Prefix(Event::Tick, _) => text.extend_from_slice(b"STOP"),
-        Term::Skip => text.extend_from_slice(b"SKIP"),
-        Term::Name(number) => put_body_name(text, *number, primes),
-        Term::Prefix(event, p) => {
-            text.extend_from_slice(b"(")?;
-            spec.alphabet().name_into(*event, text)?;
-            text.extend_from_slice(b" -> ")?;
-            put_process(text, spec, primes, p)?;
-            text.extend_from_slice(b")")
-        }
-        Term::Ext(p, q) | Term::Int(p, q) | Term::Seq(p, q) | Term::Intr(p, q) => {
-            text.extend_from_slice(b"(")?;
-            put_process(text, spec, primes, p)?;
-            text.extend_from_slice(mark(term))?;
-            put_process(text, spec, primes, q)?;
-            text.extend_from_slice(b")")
-        }
-        Term::Par(set, p, q) => {
-            text.extend_from_slice(b"(")?;
-            put_process(text, spec, primes, p)?;
-            put_shared(text, spec.alphabet(), *set)?;
-            put_process(text, spec, primes, q)?;
-            text.extend_from_slice(b")")
-        }
-        Term::Hide(set, p) => {
-            text.extend_from_slice(b"(")?;
-            put_process(text, spec, primes, p)?;
-            text.extend_from_slice(b" \\ ")?;
-            put_set(text, spec.alphabet(), *set)?;
-            text.extend_from_slice(b")")
-        }
-        Term::Ren(pairs, p) => {
-            text.extend_from_slice(b"(")?;
-            put_process(text, spec, primes, p)?;
-            text.extend_from_slice(b" [[")?;
-            put_pairs(text, spec.alphabet(), pairs)?;
-            text.extend_from_slice(b"]])")
-        }
+    if !has_brackets(term) {
+        return put_inside(text, spec, primes, term);
     }
+    text.extend_from_slice(b"(")?;
+    put_inside(text, spec, primes, term)?;
+    text.extend_from_slice(b")")
 }
 
 /// Appends the definition of a body.

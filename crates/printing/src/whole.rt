@@ -1,12 +1,41 @@
 //! The whole text.
 ghost use Rattle.std.specs.Prelude.{◌≡◌, ◌++◌, IfOk, OnOk, OnErr};
-ghost use Rattle.printing.specs.Printed.{printed};
+ghost use Rattle.printing.specs.Names.{constants as constants_of, datatype_primes as primes_of_datatype, body_primes as primes_of_bodies};
+ghost use Rattle.printing.specs.Printed.{datatype_line, printed};
 
 use crate::declarations::{put_channels, put_datatype};
 use crate::names::{body_primes, constants, datatype_primes, taken};
 use crate::processes::put_bodies;
+use alphabet::Alphabet;
 use std::alloc::{AllocError, Allocator};
 use term::Spec;
+
+/// How many primes the name of the datatype has, and how many those of so many bodies.
+fn primes_of<A: Allocator, B: Allocator + Clone>(
+    alloc: &B,
+    alphabet: &Alphabet<A>,
+    bodies: usize,
+) -> Result<(usize, usize), AllocError>
+    ensures { IfOk result (λ p. (p.0 ≡ primes_of_datatype alphabet.now) × (p.1 ≡ primes_of_bodies alphabet.now bodies)) }
+{
+    let taken = taken(alloc, alphabet)?;
+    let for_datatype = datatype_primes(alloc, &taken)?;
+    let for_bodies = body_primes(alloc, &taken, bodies)?;
+    Ok((for_datatype, for_bodies))
+}
+
+/// Appends the declaration of the datatype with all constants of the fields, if there are any.
+fn put_constants<A: Allocator, B: Allocator + Clone>(
+    alloc: &B,
+    text: &mut Vec<u8, B>,
+    alphabet: &Alphabet<A>,
+    primes: usize,
+) -> Result<(), AllocError>
+    ensures { OnOk result (text.new.items ≡ text.old.items ++ datatype_line primes (constants_of alphabet.now)) }
+{
+    let constants = constants(alloc, alphabet)?;
+    put_datatype(text, &constants, primes)
+}
 
 /// The text of a specification.
 fn text_of<A: Allocator, B: Allocator + Clone>(
@@ -17,12 +46,9 @@ fn text_of<A: Allocator, B: Allocator + Clone>(
 {
     let alphabet = spec.alphabet();
     let bodies = spec.bodies();
-    let constants = constants(alloc, alphabet)?;
-    let taken = taken(alloc, alphabet)?;
-    let for_datatype = datatype_primes(alloc, &taken)?;
-    let for_bodies = body_primes(alloc, &taken, bodies)?;
+    let (for_datatype, for_bodies) = primes_of(alloc, alphabet, bodies)?;
     let mut text = Vec::new(alloc.clone()?);
-    put_datatype(&mut text, &constants, for_datatype)?;
+    put_constants(alloc, &mut text, alphabet, for_datatype)?;
     put_channels(&mut text, alphabet)?;
     put_bodies(&mut text, spec, for_bodies)?;
     Ok(text)
