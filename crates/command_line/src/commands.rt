@@ -9,7 +9,7 @@ use std::convert::AsStr;
 use std::net::SocketAddrV4;
 
 /// The version of the program, as `--version` prints it.
-const VERSION: &str = "0.4.1";
+const VERSION: &str = "0.5.0";
 
 /// What the words ask for.
 #[derive(Clone, Copy)]
