@@ -59,10 +59,11 @@ pub fn replay<D: Disk + Drop, A: Allocator + Copy>(
     // Or the file has no session for this reason.
     ensures fault { IfErr result (λ error. IsTrue (D.state disk).claims_bytes → HasNoSession (D.state disk).bytes error) }
 
-    // A file that holds a history gives it, and one that has a fault is refused for it, device and memory apart.
+    // A file that holds a history gives it, with what its script denotes, and one that has a fault is refused for it,
+    // device and memory apart.
     ensures only { IsTrue (D.state disk).claims_bytes → (script root : List ℕ) (spec : Specified) (h : List Entry)
         → IsReplayOf (D.state disk).bytes script root spec h
-        → MatchResult result (λ r. r.session.history ≡ h) IsOutside }
+        → MatchResult result (λ r. (r.session.spec ≡ spec) × (r.session.history ≡ h)) IsOutside }
     ensures refuses { IsTrue (D.state disk).claims_bytes → (error : JournalError) → HasFault (D.state disk).bytes error
         → MatchResult result (λ _. ⊥) (λ e. (e ≡ journal_error error) ⊎ IsOutside e) }
 {

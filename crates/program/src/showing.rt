@@ -98,10 +98,11 @@ pub fn show<D: Disk + Drop, A: Allocator + Copy>(
     // Or the file has no session for this reason.
     ensures fault { IfErr result (λ error. IsTrue (D.state disk).claims_bytes → HasNoSession (D.state disk).bytes error) }
 
-    // A file that holds a history shows it, and one that has a fault is refused for it, device and memory apart.
+    // Of a file that holds a history exactly what `Displays` has of it is shown, which is one text (`shown::one_text`); one
+    // that has a fault is refused for it. Device and memory apart.
     ensures only { IsTrue (D.state disk).claims_bytes → (script root : List ℕ) (spec : Specified) (h : List Entry)
         → IsReplayOf (D.state disk).bytes script root spec h
-        → MatchResult result (λ r. r.session.history ≡ h) IsOutside }
+        → MatchResult result (λ r. Displays spec h options r.text.items × (r.exit ≡ replay_exit h)) IsOutside }
     ensures refuses { IsTrue (D.state disk).claims_bytes → (error : JournalError) → HasFault (D.state disk).bytes error
         → MatchResult result (λ _. ⊥) (λ e. (e ≡ journal_error error) ⊎ IsOutside e) }
 {

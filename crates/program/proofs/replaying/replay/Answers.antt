@@ -4,4 +4,4 @@ pub returns-in-Ok-summary_line-clause-only : goal.returns-in-Ok-summary_line-cla
 returns-in-Ok-summary_line-clause-only g c claims script root spec h is =
     let same = c.in-Ok.ensures.only claims script root spec h is in
     let begun = same.2 in
-    begun.history_is
+    (begun.spec_is, begun.history_is)
