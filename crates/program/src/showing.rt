@@ -102,7 +102,7 @@ pub fn show<D: Disk + Drop, A: Allocator + Copy>(
     // that has a fault is refused for it. Device and memory apart.
     ensures only { IsTrue (D.state disk).claims_bytes → (script root : List ℕ) (spec : Specified) (h : List Entry)
         → IsReplayOf (D.state disk).bytes script root spec h
-        → MatchResult result (λ r. Displays spec h options r.text.items × (r.exit ≡ replay_exit h)) IsOutside }
+        → MatchResult result (λ r. (r.session.history ≡ h) × Displays spec h options r.text.items × (r.exit ≡ replay_exit h)) IsOutside }
     ensures refuses { IsTrue (D.state disk).claims_bytes → (error : JournalError) → HasFault (D.state disk).bytes error
         → MatchResult result (λ _. ⊥) (λ e. (e ≡ journal_error error) ⊎ IsOutside e) }
 {
