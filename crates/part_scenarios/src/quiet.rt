@@ -13,7 +13,7 @@ use refusing::Refusing;
 use script::read;
 use spaces::{Space, StateSet};
 use std::alloc::{AllocError, Allocator, Global};
-use term::Spec;
+use term::{Spec, Term};
 
 /// Appends the place of the event with this name, and whether it leads back to the event.
 fn put_place<A: Allocator>(
@@ -184,6 +184,16 @@ fn put_spaced<'a>(
     put_space(into, refusing, &mut space, names)
 }
 
+/// Appends how many bodies a specification of `STOP` alone has, which is made where every request is refused, and whether there was one.
+fn put_made(into: &mut String, refusing: &Refusing<Global>) -> Result<bool, AllocError> {
+    let mut bodies = Vec::new(refusing);
+    bodies.push(Term::Stop)?;
+    refusing.refuse();
+    let spec = Spec::new(Alphabet::new(refusing), bodies);
+    put_word(into, &spec.bodies())?;
+    Ok(refusing.has_refused())
+}
+
 /// Whose calls are made.
 #[derive(Clone, Copy)]
 enum Part {
@@ -214,8 +224,8 @@ fn put_part(
     }
 }
 
-/// Appends what the script's specification, its space and a monitor of it tell, each where every request is refused, and whether there was
-/// one.
+/// Appends what the script's specification, its space and a monitor of it tell, and how many bodies a specification has that is made, each
+/// where every request is refused, and whether there was one.
 pub(crate) fn put_quiet(
     into: &mut String,
     alloc: Global,
@@ -225,7 +235,9 @@ pub(crate) fn put_quiet(
     let by_spec = put_part(into, alloc, Part::Spec, names, text)?;
     let by_space = put_part(into, alloc, Part::Space, names, text)?;
     let by_monitor = put_part(into, alloc, Part::Monitor, names, text)?;
-    into.push_str(if by_spec || by_space || by_monitor {
+    into.push(';')?;
+    let by_made = put_made(into, &Refusing::new(alloc, 0))?;
+    into.push_str(if by_spec || by_space || by_monitor || by_made {
         ", a request"
     } else {
         ", no request"

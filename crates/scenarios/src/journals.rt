@@ -5,8 +5,9 @@ ghost use Rattle.journal.specs.Format.{IsFormed, IsRecordable};
 
 use crate::asks::{put_bytes, put_file};
 use disk::Disk;
-use journal::{Header, Journal, Kind, Record, prepare_record};
+use journal::{Header, Journal, Kind, Prepared, Record, Version, prepare_record};
 use memory_disks::MemoryDisk;
+use refusing::Refusing;
 use session::SeatNumber;
 use std::alloc::{AllocError, Global};
 
@@ -40,7 +41,36 @@ fn put_read(
     Ok(())
 }
 
-/// Puts the records into the journal, and notes each that it doesn't take.
+/// Puts the line into the journal where every request for memory is refused, and notes where the journal doesn't take it, or where there
+/// was a request.
+fn put_quietly<'a, D: Disk>(
+    refusing: &'a Refusing<Global>,
+    journal: &mut Journal<D>,
+    line: &Prepared<&'a Refusing<Global>>,
+    out: &mut String,
+) -> Result<(), AllocError> {
+    refusing.refuse();
+    let done = journal.put(line);
+    let asked = refusing.has_refused();
+    out.push_str(if done.is_err() { " no put" } else { "" })?;
+    out.push_str(if asked { " a request" } else { "" })
+}
+
+/// Puts the record into the journal.
+fn put_one<D: Disk>(
+    alloc: Global,
+    journal: &mut Journal<D>,
+    record: &Record<Global>,
+    out: &mut String,
+) -> Result<(), AllocError>
+    requires { IsRecordable record.now }
+{
+    let refusing = Refusing::new(alloc, 0);
+    let line = prepare_record(&refusing, record)?;
+    put_quietly(&refusing, journal, &line, out)
+}
+
+/// Puts the records into the journal.
 fn put_all<D: Disk>(
     alloc: Global,
     journal: &mut Journal<D>,
@@ -50,12 +80,18 @@ fn put_all<D: Disk>(
     requires { All IsRecordable records.now.items }
 {
     for record in records {
-        let line = prepare_record(alloc, record)?;
-        if journal.put(&line).is_err() {
-            out.push_str(" no put")?;
-        }
+        put_one(alloc, journal, record, out)?;
     }
     Ok(())
+}
+
+/// Notes where a new journal is of another version than the second.
+fn put_version(version: Version, out: &mut String) -> Result<(), AllocError> {
+    out.push_str(if version == Version::Two {
+        ""
+    } else {
+        " another version"
+    })
 }
 
 /// The file of a new journal of these records.
@@ -71,6 +107,7 @@ fn rewritten<D: Disk + Drop>(
     match Journal::create(alloc, disk, &header.script, &header.root) {
         Ok(mut journal) => {
             let done = put_all(alloc, &mut journal, records, out);
+            let done = done.and(put_version(journal.version(), out));
             (done, journal.into_disk())
         }
         Err((error, disk)) => (write!(out, "{error}"), disk),

@@ -16,7 +16,7 @@
 //! | `crashes PART ROW` | the file that a crash after each number of calls leaves, of which this part of what no sync has followed is done (`nothing`, `everything`, `first`, `plus`), and what a session of that file answers to `S` and leaves; each with the first number that has it |
 //! | `stops ROW` | what sessions answer to `S` of every file that a stop after each number of calls may leave: each beginning and each end of what no sync has followed is done, the rest is as before, or `+`; each list of answers with the first number that has it |
 //! | `lengths FILE # ASKS` | sessions of the file cut to each length, each outcome with the first length that has it |
-//! | `copied FILE` | the journal in the file: its header and its records, and the file of a journal of the same |
+//! | `copied FILE` | the journal in the file: its header and its records, and the file of a journal of the same, into which each record is put where every request for memory is refused |
 //! | `seat NUMBER` | the seat with this number, and the one after it |
 //! | `fault_text session NAME`, `fault_text journal NAME` | a fault's number and word, and its text |
 //! | `file TEXT # CALLS` | a disk on a real file of this text, and one in memory: what each call answers, where the two differ in an answer or in their bytes, and the bytes at the end |

@@ -1,9 +1,12 @@
 //! How a row's words are read, and how what came of it is written.
 
+ghost use Rattle.alphabet.specs.Channels.{IsEvent};
+
+use alphabet::{Alphabet, Event};
 use disk::Disk;
 use memory_disks::Afterwards;
-use shared::Session;
-use std::alloc::{AllocError, Global};
+use shared::{Session, Summary};
+use std::alloc::{AllocError, Allocator};
 
 /// The first word, and what is written after it.
 pub(crate) fn first_word(text: &str) -> (&str, &str) {
@@ -48,24 +51,47 @@ pub(crate) fn put_receipts(count: Option<u64>, out: &mut String) -> Result<(), A
     }
 }
 
-/// Appends the length of the history, the counts of its entries, and whether the session is open.
-pub(crate) fn put_session<D: Disk>(
-    session: &Session<D, Global>,
+/// Appends counts, and whether the session is closed.
+pub(crate) fn put_status(
+    summary: &Summary,
+    closed: bool,
     out: &mut String,
 ) -> Result<(), AllocError> {
-    let summary = session.summary();
-    let end = if session.is_closed() {
-        "closed"
-    } else {
-        "open"
-    };
+    let end = if closed { "closed" } else { "open" };
     write!(
         out,
-        "L {}; S {} {} {} {} {end}",
-        session.history().len(),
-        summary.judged,
-        summary.events,
-        summary.refusals,
-        summary.rejected
+        "S {} {} {} {} {end}",
+        summary.judged, summary.events, summary.refusals, summary.rejected
     )
+}
+
+/// Appends the counts of the session's entries, and whether it is open.
+pub(crate) fn put_counts<D: Disk, A: Allocator>(
+    session: &Session<D, A>,
+    out: &mut String,
+) -> Result<(), AllocError> {
+    put_status(&session.summary(), session.is_closed(), out)
+}
+
+/// Appends the length of the history, the counts of its entries, and whether the session is open.
+pub(crate) fn put_session<D: Disk, A: Allocator>(
+    session: &Session<D, A>,
+    out: &mut String,
+) -> Result<(), AllocError> {
+    write!(out, "L {}; ", session.history().len())?;
+    put_counts(session, out)
+}
+
+/// Appends an event's name after a space.
+pub(crate) fn put_name<A: Allocator>(
+    alphabet: &Alphabet<A>,
+    event: Event,
+    out: &mut String,
+) -> Result<(), AllocError>
+    requires { IsEvent alphabet.now event }
+{
+    let mut name = Vec::new(*out.allocator());
+    alphabet.name_into(event, &mut name)?;
+    out.push(' ')?;
+    out.push_str(str::from_utf8(&name).unwrap_or("?"))
 }
