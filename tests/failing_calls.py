@@ -17,8 +17,9 @@ makes the k-th fail, for each k of a run in which none does.
 - `streams`: `check`, whose k-th read of standard input or write to standard output fails: the replies before it stand, status 5.
 - `sockets`: `serve` with two connections, one after the other. The k-th read of a connection fails, or the k-th write, having sent nothing, a
   part or all: the replies to the lines before it stand, that connection ends, the other is answered as if nothing had been, the journal
-  has every report that was judged, and the status is that of the reports. Reads and writes of one byte change no answer. The k-th accept
-  fails: `ADDR: cannot accept` and status 5, after the connections that were taken before.
+  has every report that was judged, and the status is that of the reports. Reads and writes of one byte change no answer. A read that is
+  interrupted counts as one that failed (none is, where a program handles no signal). The k-th accept fails: `ADDR: cannot accept` and
+  status 5, after the connections that were taken before.
 - `memory`: `check` on five conversations, `print` and `replay`: the k-th request for memory is refused, alone, with the four after it, and
   with all after it. A run then tells 40 before the first reply, or its replies are those of the run without the lines that were answered
   `ERR 40 memory`, or `ERR 30 journal` and then `ERR 31 closed`. And `serve` with two connections, one after the other, on a new journal
