@@ -23,7 +23,7 @@ PROGRAM = os.path.join(ROOT, "crates", "cspwatch", "out", "cspwatch")
 RELEASE = os.path.join(HERE, "RELEASE")
 SUMS = os.path.join(HERE, "SHA256SUMS")
 COPY = os.path.join(HERE, "cspwatch")
-BUILD = [(["rt", "all", "check", "--jobs", "4"], ROOT), (["rt", "run", "--", "--version"], os.path.join(ROOT, "crates", "cspwatch"))]
+BUILD = [(["rt", "ci"], ROOT)]
 
 C_LIBRARY = re.compile(r"(linux-vdso|linux-gate|libc|libm|libpthread|libdl|ld-linux[\w-]*)\.so(\.\d+)*")
 """What a program that needs the C library alone is linked to."""
