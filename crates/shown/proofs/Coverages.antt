@@ -12,6 +12,7 @@ use Rattle.history.specs.declared.entry.Entry.{Entry}
 use Rattle.shown.specs.declared.options.Format.{Format}
 use Rattle.shown.specs.Coverage.{IsCoverage, absent_text, accepted_count, possible_count, count_text, coverage_line, coverage_lines, has_never_come, is_below}
 use Rattle.shown.specs.Slots.{CountAll, count_at, is_absent, slot}
+use Rattle.shown.specs.Tallies.{tallied}
 use Rattle.shown.proofs.Texts.{after_mark}
 
 -- the line of one event more
@@ -47,30 +48,30 @@ tested n x true s t e same = ap (λ c. is_below n x && c) (same (below n x e))
 tested n x false s t e same = ap (λ c. c && s) e ∙ sym (ap (λ c. c && t) e)
 
 -- what was written is the coverage of the history whose counts these are
-pub covered : {T E : Type 0} (r : Result T E) (format : Format) (cs : List Channel) (h : List Entry) (nexts : List Set) (accepted rejected possible : List ℕ)
+pub covered : {T E : Type 0} (r : Result T E) (format : Format) (cs : List Channel) (h : List Entry) (nexts : List Set) (accepted rejected : List ℕ) (possible : List Set)
     (start now new : List ℕ) (never impossible : Set) (n : ℕ) → n ≡ event_count cs → CountAll (event_count cs) h nexts accepted rejected possible →
-    ((x : Event) → member never x ≡ (is_below n x && is_absent true (count_at accepted x) (count_at possible x))) →
-    ((x : Event) → member impossible x ≡ (is_below n x && is_absent false (count_at accepted x) (count_at possible x))) →
-    now ≡ start ++ coverage_lines (λ x. count_text format cs x (count_at accepted x) (count_at rejected x) (count_at possible x)) (event_count cs) →
+    ((x : Event) → member never x ≡ (is_below n x && is_absent true (count_at accepted x) (tallied possible x))) →
+    ((x : Event) → member impossible x ≡ (is_below n x && is_absent false (count_at accepted x) (tallied possible x))) →
+    now ≡ start ++ coverage_lines (λ x. count_text format cs x (count_at accepted x) (count_at rejected x) (tallied possible x)) (event_count cs) →
     OnOk r (new ≡ now ++ absent_text format cs never impossible) →
     OnOk r ((added : List ℕ) × IsCoverage format cs h nexts added × (new ≡ start ++ added))
 covered (Err e) format cs h nexts accepted rejected possible start now new never impossible n same counts nevers impossibles lines all = all
 covered (Ok v) format cs h nexts accepted rejected possible start now new never impossible n same counts nevers impossibles lines all =
     let m = event_count cs in
     let added = coverage_lines (coverage_line format cs h nexts) m ++ absent_text format cs never impossible in
-    let line : (x : Event) → slot x < suc m → count_text format cs x (count_at accepted x) (count_at rejected x) (count_at possible x) ≡ coverage_line format cs h nexts x =
-    λ x l. ap (λ a. count_text format cs x a (count_at rejected x) (count_at possible x)) (counts.accepted_are.each x l)
-    ∙ ap₂ (λ j p. count_text format cs x (accepted_count h x) j p) (counts.rejected_are.each x l) (counts.possible_are.each x l) in (
+    let line : (x : Event) → slot x < suc m → count_text format cs x (count_at accepted x) (count_at rejected x) (tallied possible x) ≡ coverage_line format cs h nexts x =
+    λ x l. ap (λ a. count_text format cs x a (count_at rejected x) (tallied possible x)) (counts.accepted_are.each x l)
+    ∙ ap₂ (λ j p. count_text format cs x (accepted_count h x) j p) (counts.rejected_are.each x l) (counts.possible_are x) in (
       added,
       record {
         never = never;
         impossible = impossible;
-        never_are = λ x. nevers x ∙ ap (λ j. is_below j x && is_absent true (count_at accepted x) (count_at possible x)) same
-            ∙ tested m x (is_below m x) (is_absent true (count_at accepted x) (count_at possible x)) (has_never_come h nexts x) refl
-            (λ l. ap₂ (λ a p. (a == 0) && nat_lt 0 p) (counts.accepted_are.each x l) (counts.possible_are.each x l));
-        impossible_are = λ x. impossibles x ∙ ap (λ j. is_below j x && is_absent false (count_at accepted x) (count_at possible x)) same
-            ∙ tested m x (is_below m x) (is_absent false (count_at accepted x) (count_at possible x)) (possible_count nexts x == 0) refl
-            (λ l. ap (λ p. p == 0) (counts.possible_are.each x l));
+        never_are = λ x. nevers x ∙ ap (λ j. is_below j x && is_absent true (count_at accepted x) (tallied possible x)) same
+            ∙ tested m x (is_below m x) (is_absent true (count_at accepted x) (tallied possible x)) (has_never_come h nexts x) refl
+            (λ l. ap₂ (λ a p. (a == 0) && nat_lt 0 p) (counts.accepted_are.each x l) (counts.possible_are x));
+        impossible_are = λ x. impossibles x ∙ ap (λ j. is_below j x && is_absent false (count_at accepted x) (tallied possible x)) same
+            ∙ tested m x (is_below m x) (is_absent false (count_at accepted x) (tallied possible x)) (possible_count nexts x == 0) refl
+            (λ l. ap (λ p. p == 0) (counts.possible_are x));
         is = refl;
       },
       all ∙ ap (λ t. t ++ absent_text format cs never impossible) (lines ∙ ap (λ t. start ++ t) (same_lines _ (coverage_line format cs h nexts) m line))

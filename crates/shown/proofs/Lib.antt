@@ -1,5 +1,5 @@
 pub mod Texts
-pub mod MemberCounts
+pub mod Digits
 pub mod Coverages
 pub mod EntryLines
 pub mod Showing

@@ -22,6 +22,7 @@ use Rattle.shown.specs.Findings.{HasNext, ShowsEntry}
 use Rattle.shown.specs.Coverage.{IsCoverage, accepted_count, rejected_count, possible_count, reports}
 use Rattle.shown.specs.Shows.{none, more, Shows, HasCoverageIf}
 use Rattle.shown.specs.Slots.{AreCounts, Adds, CountAll, CountsEntry, HasRoom, count_at, slot}
+use Rattle.shown.specs.Tallies.{tallied}
 use Rattle.shown.specs.Steps.{IsShown}
 
 one_more : {X : Type 0} (p : X → Bool) (xs : List X) (x : X) → count_by p (xs ++ x ∷ []) ≡ count_by p xs + cond (p x) 1 0
@@ -36,7 +37,7 @@ added n old new count count' passes were adds more' =
       each = λ x l. adds.each x (omega (arith, were.all)) ∙ ap (λ k. k + cond (passes x) 1 0) (were.each x l) ∙ sym (more' x);
     }
 
-all_added : (n : ℕ) (h : List Entry) (nexts : List Set) (e : Entry) (next : Set) (a r p a' r' p' : List ℕ) → CountAll n h nexts a r p → CountsEntry e next a r p a' r' p' →
+all_added : (n : ℕ) (h : List Entry) (nexts : List Set) (e : Entry) (next : Set) (a r : List ℕ) (p : List Set) (a' r' : List ℕ) (p' : List Set) → CountAll n h nexts a r p → CountsEntry e next a r p a' r' p' →
     CountAll n (h ++ e ∷ []) (nexts ++ next ∷ []) a' r' p'
 all_added n h nexts e next a r p a' r' p' were adds =
     record {
@@ -44,8 +45,7 @@ all_added n h nexts e next a r p a' r' p' were adds =
           (λ x. one_more (λ (y : Entry). reports x y.report && y.verdict) h e);
       rejected_are = added n r r' (rejected_count h) (rejected_count (h ++ e ∷ [])) (λ x. reports x e.report && not e.verdict) were.rejected_are adds.rejected
           (λ x. one_more (λ (y : Entry). reports x y.report && not y.verdict) h e);
-      possible_are = added n p p' (possible_count nexts) (possible_count (nexts ++ next ∷ [])) (member next) were.possible_are adds.possible
-          (λ x. one_more (λ X. member X x) nexts next);
+      possible_are = λ x. adds.possible x ∙ ap (λ k. k + cond (member next x) 1 0) (were.possible_are x) ∙ sym (one_more (λ X. member X x) nexts next);
     }
 
 small_by : (n : ℕ) (count : Event → ℕ) (counts : List ℕ) (x : Event) (b : Bool) → nat_lt (slot x) (suc n) ≡ b → AreCounts n count counts → count x ≤ 1000000 → count_at counts x < 2 ^ 32
@@ -57,13 +57,12 @@ small_by n count counts x false e are le =
     omega (arith, get_or_past counts (slot x) 0 (omega (arith, are.all)))
 
 -- the counts of a history are small
-room : (n : ℕ) (h : List Entry) (nexts : List Set) (a r p : List ℕ) → n ≤ 256 → length nexts ≡ length h → length h ≤ 1000000 → CountAll n h nexts a r p → HasRoom a r p
-room n h nexts a r p few same small were =
+room : (n : ℕ) (h : List Entry) (nexts : List Set) (a r : List ℕ) (p : List Set) → length nexts ≡ length h → length h ≤ 1000000 → CountAll n h nexts a r p → HasRoom a r p
+room n h nexts a r p same small were =
     record {
-      few = omega (arith, were.possible_are.all);
       accepted_small = λ x. let le = count_by-le-length (λ (y : Entry). reports x y.report && y.verdict) h in small_by n (accepted_count h) a x (nat_lt (slot x) (suc n)) refl were.accepted_are (omega (arith, le));
       rejected_small = λ x. let le = count_by-le-length (λ (y : Entry). reports x y.report && not y.verdict) h in small_by n (rejected_count h) r x (nat_lt (slot x) (suc n)) refl were.rejected_are (omega (arith, le));
-      possible_small = λ x. let le = count_by-le-length (λ X. member X x) nexts in small_by n (possible_count nexts) p x (nat_lt (slot x) (suc n)) refl were.possible_are (omega (arith, le));
+      possible_small = λ x. let le = count_by-le-length (λ X. member X x) nexts in omega (arith, le, were.possible_are x);
     }
 
 -- a history around one of its entries
@@ -93,11 +92,11 @@ module _ (options : Options) (spec : Specified) (h : List Entry) (i : ℕ) (e : 
   pub place_here : (place : ℕ) → place ≡ i + 1 → place ≡ suc (length (take i h))
   place_here place at = omega (arith, at, length-take i h)
 
-  pub room_here : (text : List ℕ) (trace : List Event) (a r p : List ℕ) → IsJudged B h → IsShown options spec (take i h) text trace a r p → IsTrue options.coverage → HasRoom a r p
+  pub room_here : (text : List ℕ) (trace : List Event) (a r : List ℕ) (p : List Set) → IsJudged B h → IsShown options spec (take i h) text trace a r p → IsTrue options.coverage → HasRoom a r p
   room_here text trace a r p judged shown wanted =
-      room (event_count spec.alphabet) (take i h) shown.nexts a r p shown.few shown.same (omega (arith, length-take i h, judged.small)) (shown.counts_are wanted)
+      room (event_count spec.alphabet) (take i h) shown.nexts a r p shown.same (omega (arith, length-take i h, judged.small)) (shown.counts_are wanted)
 
-  pub shown_next : (next : Set) (text text' : List ℕ) (trace trace' : List Event) (a r p a' r' p' : List ℕ) → IsShown options spec (take i h) text trace a r p →
+  pub shown_next : (next : Set) (text text' : List ℕ) (trace trace' : List Event) (a r : List ℕ) (p : List Set) (a' r' : List ℕ) (p' : List Set) → IsShown options spec (take i h) text trace a r p →
       ((x : Event) → IsTrue (member next x) ↔ Trace B root (trace ++ x ∷ [])) →
       (part : List ℕ) × ShowsEntry options spec (take i h) e part × (text' ≡ text ++ part) →
       (IsTrue options.coverage → CountsEntry e next a r p a' r' p') → trace' ≡ events (take i h ++ e ∷ []) →
@@ -109,7 +108,6 @@ module _ (options : Options) (spec : Specified) (h : List Entry) (i : ℕ) (e : 
         nexts = shown.nexts ++ next ∷ [];
         parts_are = more shown.parts_are part.1;
         nexts_are = more shown.nexts_are has;
-        few = shown.few;
         same = length-append shown.nexts (next ∷ []) ∙ ap (λ n. n + 1) shown.same ∙ sym (length-append (take i h) (e ∷ []));
         text_is = part.2 ∙ ap (λ t. t ++ part.0) shown.text_is ∙ ap (λ t. flat_map (λ q. q) shown.parts ++ t) (sym (append-nil part.0)) ∙ sym (flat_map-append (λ q. q) shown.parts (part.0 ∷ []));
         trace_is = moved;
@@ -118,22 +116,21 @@ module _ (options : Options) (spec : Specified) (h : List Entry) (i : ℕ) (e : 
       subst (λ g. IsShown options spec g text' trace' a' r' p') (sym longer) it
 
 -- nothing is shown yet
-pub nothing_shown : (options : Options) (spec : Specified) (n : ℕ) (text : List ℕ) (trace : List Event) (a r p : List ℕ) → n ≡ event_count spec.alphabet → n ≤ 256 → text ≡ [] → trace ≡ [] →
-    AreCounts n (λ _. 0) a → AreCounts n (λ _. 0) r → AreCounts n (λ _. 0) p → IsShown options spec [] text trace a r p
-nothing_shown options spec n text trace a r p same few empty begun za zr zp =
+pub nothing_shown : (options : Options) (spec : Specified) (n : ℕ) (text : List ℕ) (trace : List Event) (a r : List ℕ) (p : List Set) → n ≡ event_count spec.alphabet → text ≡ [] → trace ≡ [] →
+    AreCounts n (λ _. 0) a → AreCounts n (λ _. 0) r → ((x : Event) → tallied p x ≡ 0) → IsShown options spec [] text trace a r p
+nothing_shown options spec n text trace a r p same empty begun za zr zp =
     record {
       parts = [];
       nexts = [];
       parts_are = none;
       nexts_are = none;
-      few = omega (arith, same, few);
       same = refl;
       text_is = empty;
       trace_is = begun;
       counts_are = λ _. record {
         accepted_are = subst (λ m. AreCounts m (λ _. 0) a) same za;
         rejected_are = subst (λ m. AreCounts m (λ _. 0) r) same zr;
-        possible_are = subst (λ m. AreCounts m (λ _. 0) p) same zp;
+        possible_are = zp;
       };
     }
 
@@ -142,7 +139,7 @@ covers : (b : Bool) (options : Options) (spec : Specified) (h : List Entry) (nex
 covers b options spec h nexts text wanted is = subst (λ c. HasCoverageIf c options spec h nexts text) (sym wanted) is
 
 -- all is shown, without coverage
-pub shown_alone : (options : Options) (spec : Specified) (h : List Entry) (text : List ℕ) (trace : List Event) (a r p : List ℕ) → IsShown options spec h text trace a r p → options.coverage ≡ false → Shows options spec h text
+pub shown_alone : (options : Options) (spec : Specified) (h : List Entry) (text : List ℕ) (trace : List Event) (a r : List ℕ) (p : List Set) → IsShown options spec h text trace a r p → options.coverage ≡ false → Shows options spec h text
 shown_alone options spec h text trace a r p shown unwanted =
     record {
       parts = shown.parts;
@@ -155,7 +152,7 @@ shown_alone options spec h text trace a r p shown unwanted =
     }
 
 -- and with it
-pub shown_covered : {T E : Type 0} (result : Result T E) (options : Options) (spec : Specified) (h : List Entry) (text text' : List ℕ) (trace : List Event) (a r p : List ℕ) →
+pub shown_covered : {T E : Type 0} (result : Result T E) (options : Options) (spec : Specified) (h : List Entry) (text text' : List ℕ) (trace : List Event) (a r : List ℕ) (p : List Set) →
     (shown : IsShown options spec h text trace a r p) → options.coverage ≡ true →
     OnOk result ((put : List ℕ) × IsCoverage options.format spec.alphabet h shown.nexts put × (text' ≡ text ++ put)) → OnOk result (Shows options spec h text')
 shown_covered (Err x) options spec h text text' trace a r p shown wanted put = put

@@ -5,5 +5,6 @@ pub mod Findings
 pub mod Coverage
 pub mod Shows
 -- Steps of the program.
+pub mod Tallies
 pub mod Slots
 pub mod Steps

@@ -1,5 +1,5 @@
 -- What was made of the first entries of a history.
-use Rattle.std.specs.Prelude.{◌≡◌, ◌≤◌, ℕ, IsTrue, List, length}
+use Rattle.std.specs.Prelude.{◌≡◌, ℕ, IsTrue, List, length}
 use Rattle.std.specs.List.{flat_map}
 use Rattle.alphabet.specs.declared.events.Event.{Event}
 use Rattle.alphabet.specs.EventSets.{Set}
@@ -14,12 +14,11 @@ use Rattle.shown.specs.Shows.{OneForEach}
 use Rattle.shown.specs.Slots.{CountAll}
 
 -- the text, the trace and, where coverage is wanted, the counts are those of these entries
-pub record IsShown (options : Options) (spec : Specified) (h : List Entry) (text : List ℕ) (trace : List Event) (accepted rejected possible : List ℕ) : Type 0 where
+pub record IsShown (options : Options) (spec : Specified) (h : List Entry) (text : List ℕ) (trace : List Event) (accepted rejected : List ℕ) (possible : List Set) : Type 0 where
   pub parts : List (List ℕ)
   pub nexts : List Set
   pub parts_are : OneForEach (ShowsEntry options spec) h parts
   pub nexts_are : OneForEach (λ before e X. HasNext (bodies_of spec.bodies) before X) h nexts
-  pub few : event_count spec.alphabet ≤ 256
   pub same : length nexts ≡ length h
   pub text_is : text ≡ flat_map (λ part. part) parts
   pub trace_is : trace ≡ events h

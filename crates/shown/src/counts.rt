@@ -1,12 +1,11 @@
 //! Counts of events.
 
-ghost use Rattle.std.specs.Prelude.{◌≡◌, ◌+◌, ◌<◌, ◌≤◌, ◌^◌, cond, length, suc, IfOk, OnOk};
+ghost use Rattle.std.specs.Prelude.{◌≡◌, ◌+◌, ◌<◌, ◌≤◌, ◌^◌, cond, length, IfOk};
 ghost use Rattle.alphabet.specs.declared.events.Event.{Event};
 ghost use Rattle.alphabet.specs.Events.{is_event};
-ghost use Rattle.alphabet.specs.EventSets.{member};
 ghost use Rattle.shown.specs.Slots.{AreCounts, count_at, slot};
 
-use alphabet::{Event, EventSet};
+use alphabet::Event;
 use std::alloc::{AllocError, Allocator};
 
 /// The place of the event's count: tick's is the first.
@@ -48,17 +47,5 @@ pub(crate) fn count_event(counts: &mut [u64], event: Event)
     let place = slot(event);
     if place < counts.len() {
         counts[place] += 1;
-    }
-}
-
-/// Counts each event of the set once more.
-pub(crate) fn count_set(counts: &mut [u64], set: EventSet)
-    requires some { length counts.old ≤ 257 }
-    requires small { (x : Event) → count_at counts.old x < 2 ^ 32 }
-    ensures length { length counts.new ≡ length counts.old }
-    ensures each { (x : Event) → slot x < length counts.old → count_at counts.new x ≡ count_at counts.old x + cond (member set x) 1 0 }
-{
-    for event in set.iter() {
-        count_event(counts, event);
     }
 }

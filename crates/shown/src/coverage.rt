@@ -7,11 +7,13 @@ ghost use Rattle.alphabet.specs.Channels.{event_count};
 ghost use Rattle.history.specs.declared.entry.Entry.{Entry as entry_type};
 ghost use Rattle.shown.specs.Coverage.{IsCoverage, absent_text, count_text, coverage_lines, is_below, reports};
 ghost use Rattle.shown.specs.Slots.{Adds, AreCounts, CountAll, CountsEntry, HasRoom, count_at, is_absent};
+ghost use Rattle.shown.specs.Tallies.{tallied};
 
-use crate::counts::{count_event, count_of, count_set, zeros};
+use crate::counts::{count_event, count_of, zeros};
 use crate::lines::put_listed;
 use crate::names::{put_name, put_number, put_set};
 use crate::options::Format;
+use crate::tally::Tally;
 use alphabet::{Alphabet, Event, EventSet, Report};
 use history::Entry;
 use std::alloc::{AllocError, Allocator};
@@ -21,7 +23,7 @@ use std::alloc::{AllocError, Allocator};
 pub(crate) struct Counts<A: Allocator> {
     pub(crate) accepted: Vec<u64, A>,
     pub(crate) rejected: Vec<u64, A>,
-    pub(crate) possible: Vec<u64, A>,
+    pub(crate) possible: Tally<A>,
 }
 
 impl<A: Allocator + Copy> Counts<A> {
@@ -30,11 +32,11 @@ impl<A: Allocator + Copy> Counts<A> {
         requires { events ≤ 256 }
         ensures accepted { IfOk result (λ counts. AreCounts events (λ _. 0) counts.accepted.items) }
         ensures rejected { IfOk result (λ counts. AreCounts events (λ _. 0) counts.rejected.items) }
-        ensures possible { IfOk result (λ counts. AreCounts events (λ _. 0) counts.possible.items) }
+        ensures possible { IfOk result (λ counts. (x : Event) → tallied counts.possible x ≡ 0) }
     {
         let accepted = zeros(alloc, events)?;
         let rejected = zeros(alloc, events)?;
-        let possible = zeros(alloc, events)?;
+        let possible = Tally::new(alloc)?;
         Ok(Counts {
             accepted,
             rejected,
@@ -68,15 +70,15 @@ pub(crate) fn count_entry<A: Allocator>(
     next: EventSet,
     wanted: bool,
 )
-    requires { IsTrue wanted → HasRoom counts.old.accepted.items counts.old.rejected.items counts.old.possible.items }
+    requires { IsTrue wanted → HasRoom counts.old.accepted.items counts.old.rejected.items counts.old.possible }
     ensures { IsTrue wanted → CountsEntry entry.now next
-        counts.old.accepted.items counts.old.rejected.items counts.old.possible.items counts.new.accepted.items counts.new.rejected.items counts.new.possible.items }
+        counts.old.accepted.items counts.old.rejected.items counts.old.possible counts.new.accepted.items counts.new.rejected.items counts.new.possible }
 {
     if !wanted {
         return;
     }
     count_report(counts, entry);
-    count_set(&mut counts.possible, next);
+    counts.possible.add(next);
 }
 
 /// Appends the line of an event with these counts.
@@ -126,11 +128,11 @@ fn put_event<A: Allocator, B: Allocator>(
     format: Format,
 ) -> Result<(), AllocError>
     ensures { OnOk result (text.new.items ≡ text.old.items
-        ++ count_text format alphabet.now event (count_at counts.now.accepted.items event) (count_at counts.now.rejected.items event) (count_at counts.now.possible.items event)) }
+        ++ count_text format alphabet.now event (count_at counts.now.accepted.items event) (count_at counts.now.rejected.items event) (tallied counts.now.possible event)) }
 {
     let accepted = count_of(&counts.accepted, event);
     let rejected = count_of(&counts.rejected, event);
-    let possible = count_of(&counts.possible, event);
+    let possible = counts.possible.count_of(event);
     put_count(text, alphabet, event, accepted, rejected, possible, format)
 }
 
@@ -142,7 +144,7 @@ fn put_events<A: Allocator, B: Allocator>(
     format: Format,
 ) -> Result<(), AllocError>
     ensures { OnOk result (text.new.items ≡ text.old.items
-        ++ coverage_lines (λ x. count_text format alphabet.now x (count_at counts.now.accepted.items x) (count_at counts.now.rejected.items x) (count_at counts.now.possible.items x)) (event_count alphabet.now)) }
+        ++ coverage_lines (λ x. count_text format alphabet.now x (count_at counts.now.accepted.items x) (count_at counts.now.rejected.items x) (tallied counts.now.possible x)) (event_count alphabet.now)) }
 {
     for number in 0..alphabet.len() {
         put_event(text, alphabet, counts, Event::Of(number as u8), format)?;
@@ -152,9 +154,9 @@ fn put_events<A: Allocator, B: Allocator>(
 
 /// Whether the event never came though it could, or could never come.
 fn is_absent<B: Allocator>(counts: &Counts<B>, possible: bool, event: Event) -> bool
-    ensures { result ≡ is_absent possible (count_at counts.now.accepted.items event) (count_at counts.now.possible.items event) }
+    ensures { result ≡ is_absent possible (count_at counts.now.accepted.items event) (tallied counts.now.possible event) }
 {
-    let times = count_of(&counts.possible, event);
+    let times = counts.possible.count_of(event);
     if possible {
         count_of(&counts.accepted, event) == 0 && times > 0
     } else {
@@ -165,7 +167,7 @@ fn is_absent<B: Allocator>(counts: &Counts<B>, possible: bool, event: Event) -> 
 /// The events, of tick and so many others, that never came though they could, or that could never come.
 fn absent<B: Allocator>(counts: &Counts<B>, possible: bool, events: usize) -> EventSet
     requires { events ≤ 256 }
-    ensures { (x : Event) → member result x ≡ (is_below events x && is_absent possible (count_at counts.now.accepted.items x) (count_at counts.now.possible.items x)) }
+    ensures { (x : Event) → member result x ≡ (is_below events x && is_absent possible (count_at counts.now.accepted.items x) (tallied counts.now.possible x)) }
 {
     let mut set = EventSet::empty();
     if is_absent(counts, possible, Event::Tick) {
@@ -215,7 +217,7 @@ pub(crate) fn put_coverage<A: Allocator, B: Allocator>(
     counts: &Counts<B>,
     format: Format,
 ) -> Result<(), AllocError>
-    ensures { (h : List entry_type) (nexts : List Set) → CountAll (event_count alphabet.now) h nexts counts.now.accepted.items counts.now.rejected.items counts.now.possible.items
+    ensures { (h : List entry_type) (nexts : List Set) → CountAll (event_count alphabet.now) h nexts counts.now.accepted.items counts.now.rejected.items counts.now.possible
         → OnOk result ((added : List ℕ) × IsCoverage format alphabet.now h nexts added × (text.new.items ≡ text.old.items ++ added)) }
 {
     let never = absent(counts, true, alphabet.len());

@@ -8,6 +8,7 @@ mod laws;
 mod lines;
 mod names;
 mod options;
+mod tally;
 mod whole;
 
 pub use laws::{one_list_of_acceptances, one_text};

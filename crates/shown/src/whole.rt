@@ -40,10 +40,10 @@ fn show_entry<A: Allocator + Copy>(
     requires within { index < length history.now }
     requires judged { IsJudged (bodies_of monitor.old.spec.bodies) history.now }
     requires shown { IsShown options monitor.old.spec (take index history.now) text.old.items monitor.old.trace
-        counts.old.accepted.items counts.old.rejected.items counts.old.possible.items }
+        counts.old.accepted.items counts.old.rejected.items counts.old.possible }
     ensures spec { monitor.new.spec ≡ monitor.old.spec }
     ensures shown { OnOk result (IsShown options monitor.old.spec (take (index + 1) history.now) text.new.items monitor.new.trace
-        counts.new.accepted.items counts.new.rejected.items counts.new.possible.items) }
+        counts.new.accepted.items counts.new.rejected.items counts.new.possible) }
 {
     let entry = history[index];
     let next = monitor.next();
@@ -63,10 +63,10 @@ fn show_entries<A: Allocator + Copy>(
 ) -> Result<(), AllocError>
     requires judged { IsJudged (bodies_of monitor.old.spec.bodies) history.now }
     requires shown { IsShown options monitor.old.spec [] text.old.items monitor.old.trace
-        counts.old.accepted.items counts.old.rejected.items counts.old.possible.items }
+        counts.old.accepted.items counts.old.rejected.items counts.old.possible }
     ensures spec { monitor.new.spec ≡ monitor.old.spec }
     ensures shown { OnOk result (IsShown options monitor.old.spec history.now text.new.items monitor.new.trace
-        counts.new.accepted.items counts.new.rejected.items counts.new.possible.items) }
+        counts.new.accepted.items counts.new.rejected.items counts.new.possible) }
 {
     for index in 0..history.len() {
         show_entry(text, counts, monitor, alloc, history, index, options)?;
@@ -85,7 +85,7 @@ fn put_whole<A: Allocator + Copy>(
 ) -> Result<(), AllocError>
     requires judged { IsJudged (bodies_of monitor.old.spec.bodies) history.now }
     requires shown { IsShown options monitor.old.spec [] text.old.items monitor.old.trace
-        counts.old.accepted.items counts.old.rejected.items counts.old.possible.items }
+        counts.old.accepted.items counts.old.rejected.items counts.old.possible }
     ensures { OnOk result (Shows options monitor.old.spec history.now text.new.items) }
 {
     show_entries(text, counts, monitor, alloc, history, options)?;

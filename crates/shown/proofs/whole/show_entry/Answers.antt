@@ -6,7 +6,7 @@ use Rattle.shown.proofs.whole.show_entry.Goals as goal
 pub count_entry-requires : goal.count_entry-requires
 count_entry-requires g c =
     room_here c.args.options c.args.monitor.now.spec c.args.history.now c.args.index c.index-history-index.result c.requires.within c.index-history-index.is
-    c.args.text.now.items c.args.monitor.now.trace c.args.counts.now.accepted.items c.args.counts.now.rejected.items c.args.counts.now.possible.items c.requires.judged c.requires.shown
+    c.args.text.now.items c.args.monitor.now.trace c.args.counts.now.accepted.items c.args.counts.now.rejected.items c.args.counts.now.possible c.requires.judged c.requires.shown
 
 pub follow-requires-clause-within : goal.follow-requires-clause-within
 follow-requires-clause-within g c =
@@ -26,7 +26,7 @@ returns-clause-shown g c =
     on_ok c.follow.result
     (λ moved. shown_next c.args.options c.args.monitor.now.spec c.args.history.now c.args.index e c.requires.within c.index-history-index.is
     c.next-next.result c.args.text.now.items c.put_part.new.text.items c.args.monitor.now.trace c.follow.new.monitor.trace
-    c.args.counts.now.accepted.items c.args.counts.now.rejected.items c.args.counts.now.possible.items
-    c.count_entry.new.counts.accepted.items c.count_entry.new.counts.rejected.items c.count_entry.new.counts.possible.items
+    c.args.counts.now.accepted.items c.args.counts.now.rejected.items c.args.counts.now.possible
+    c.count_entry.new.counts.accepted.items c.count_entry.new.counts.rejected.items c.count_entry.new.counts.possible
     c.requires.shown c.next-next.ensures (c.in_ok-put_part.ensures before c.requires.shown.trace_is place) c.count_entry.ensures moved)
     (c.follow.ensures.trace before c.requires.shown.trace_is)
