@@ -122,8 +122,9 @@ fn make_text<A: Allocator + Copy>(
 /// The text of a history that was judged for the specification: the lines of its entries, and then those of coverage, as far as
 /// they are wanted. Nothing but refused memory makes it fail.
 ///
-/// Costs what judging the history costs; with coverage, a turn more for each event that could come before an entry; and for each
-/// rejected refusal its acceptances. The text is one growing list; beside it, only acceptances take memory for an entry.
+/// Costs what judging the history costs; with coverage, a step more for each binary digit that an entry changes of the counts of
+/// what could come, for all events together; and for each rejected refusal its acceptances. The text is one growing list; beside
+/// it, only acceptances take memory for an entry.
 pub fn show<A: Allocator + Copy>(
     alloc: A,
     spec: Spec<A>,
