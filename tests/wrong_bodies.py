@@ -22,6 +22,8 @@ import time
 
 ROOT = os.path.dirname(os.path.dirname(os.path.abspath(__file__)))
 PARTS = ("src", "specs", "proofs")
+# What the prover says of a function that it did not check, since one that it calls is not proved.
+CALLS = "no proof: it calls"
 
 
 def libraries():
@@ -46,8 +48,9 @@ def is_newer(crate):
     return any(os.path.isfile(it) and os.path.getmtime(it) > os.path.getmtime(rlib(crate)) for it in files)
 
 
-def check(crate, crates, function, folder):
-    """Checks this function and what it calls, in a copy of the crate. The call is that of `rt check --only`: what depends on the kit stands here."""
+def check(crate, crates, functions, folder):
+    """Checks these functions and what they call in the folder's copy of the crate, and keeps there what later checks of other texts of it can take.
+    The call is that of `rt check --only`: what depends on the kit stands here."""
     kit = os.path.dirname(os.path.dirname(os.path.realpath(shutil.which("rt") or "rt")))
     root = "src/main.rt" if os.path.isfile(folder + "/src/main.rt") else "src/lib.rt"
     words = [kit + "/bin/rattle", "check", "--crate-name", crate, root, "-L", "dependency=%s/rlibs" % kit]
@@ -56,67 +59,130 @@ def check(crate, crates, function, folder):
     for name in sorted(below(crate, crates)):
         words += ["-L", "dependency=" + os.path.dirname(rlib(name))]
     words += ["--antt-project", kit + "/rattle/logic/antt-project.json", "--logic-built", kit + "/logic_built"]
-    words += ["--links", crate + "=", "--jobs", "1", "--only", function]
+    words += ["--incremental", "kept", "--links", crate + "=", "--jobs", "1"]
+    words += [word for function in functions for word in ("--only", function)]
     how = {"stdin": subprocess.DEVNULL, "stdout": subprocess.PIPE, "stderr": subprocess.STDOUT, "errors": "replace"}
     return subprocess.run(words, cwd=folder, **how)
 
 
-def read(edit):
-    """The rule that the edit breaks, if it names one, the function that has to refuse it, and its changes: a file, what
-    stands there, and what comes in its place."""
-    rule = function = path = old = None
-    changes = []
-    with open(edit, encoding="utf-8") as file:
-        for line in file.read().split("\n"):
-            word, _, rest = line.partition(":")
-            rule = rest.strip() if word == "rule" else rule
-            function = rest.strip() if word == "function" else function
-            path = rest.strip() if word == "file" else path
-            old = rest[1:] if word == "old" else old
-            if word == "new":
-                changes.append((path, old, rest[1:]))
-    return rule, function, changes
+class Edit:
+    """A wrong body: the rule that it breaks, if it names one, the function that has to refuse it, and its changes: a file, what stands there, and
+    what comes in its place."""
+
+    def __init__(self, path):
+        self.path, self.crate, self.name = path, path.split("/")[-3], os.path.basename(path)[: -len(".edit")]
+        self.rule = self.function = at = old = None
+        self.changes = []
+        # Whether it has to be tried without others.
+        self.is_alone = False
+        with open(path, encoding="utf-8") as file:
+            for line in file.read().split("\n"):
+                word, _, rest = line.partition(":")
+                self.rule = rest.strip() if word == "rule" else self.rule
+                self.function = rest.strip() if word == "function" else self.function
+                at = rest.strip() if word == "file" else at
+                old = rest[1:] if word == "old" else old
+                if word == "new":
+                    self.changes.append((at, old, rest[1:]))
+
+    def told(self, why, seconds):
+        broken = " (%s)" % self.rule if self.rule else ""
+        return "%s%s: %s, %.0f s" % (os.path.relpath(self.path, ROOT), broken, why or "refused", seconds)
 
 
-def change(path, old, new):
-    """Puts the new text in the place of the old one, and answers whether that stood there once."""
-    if not old or not os.path.isfile(path):
-        return False
-    with open(path, encoding="utf-8") as file:
-        text = file.read()
-    with open(path, "w", encoding="utf-8") as file:
-        file.write(text.replace(old, new))
-    return text.count(old) == 1
+def texts_of(crate):
+    """The crate's files, each with its text."""
+    texts = {}
+    for path in sorted(it for part in PARTS for it in glob.glob("%s/crates/%s/%s/**" % (ROOT, crate, part), recursive=True)):
+        if os.path.isfile(path):
+            with open(path, encoding="utf-8") as file:
+                texts[os.path.relpath(path, "%s/crates/%s" % (ROOT, crate))] = file.read()
+    return texts
 
 
-def fault(crate, function, ran):
-    """What is wrong with the edit by the prover's answer, or None where the function was read and refused."""
+def changed(texts, edit):
+    """The texts with the edit's changes, or None where it has none, or one whose old text does not stand once in its file."""
+    for path, old, new in edit.changes:
+        if not old or texts.get(path, "").count(old) != 1:
+            return None
+        texts = {**texts, path: texts[path].replace(old, new)}
+    return texts if edit.changes else None
+
+
+def is_in_body(text, old):
+    """Whether the old text is in a function's body, so that no check of another function sees what comes in its place."""
+    lines = text[: text.index(old)].split("\n")
+    for number in range(len(lines) - 1, -1, -1):
+        item = re.match(r"( *)(pub(\(\w+\))? )?fn ", lines[number])
+        if item:
+            opening = re.compile(item[1] + r"(\{|(pub|fn|\)).* \{)$")
+            return any(opening.match(line) for line in lines[number:-1])
+    return False
+
+
+def may_share(texts, edit):
+    """Whether the edit may be tried together with others."""
+    return not edit.is_alone and all(path.endswith(".rt") and is_in_body(texts[path], old) for path, old, _ in edit.changes)
+
+
+def together(texts, edits):
+    """The first edit and those after it that can be tried in one text, each of another function; and that text."""
+    made, text = edits[:1], changed(texts, edits[0])
+    for edit in edits[1:] if text and may_share(texts, edits[0]) else []:
+        if changed(texts, edit) and may_share(texts, edit) and edit.function not in [it.function for it in made]:
+            more = changed(text, edit)
+            made, text = ([*made, edit], more) if more else (made, text)
+    return made, text
+
+
+def write(folder, texts):
+    for part in PARTS:
+        shutil.rmtree("%s/%s" % (folder, part), ignore_errors=True)
+    for path, text in texts.items():
+        os.makedirs(os.path.dirname("%s/%s" % (folder, path)), exist_ok=True)
+        with open("%s/%s" % (folder, path), "w", encoding="utf-8") as file:
+            file.write(text)
+
+
+def fault(edit, ran):
+    """What is wrong with the edit by the prover's answer, or an empty text where the function was read and refused."""
     lines = ran.stdout.rstrip("\n").split("\n")
     unread = [line for line in lines if re.match(r"(\./)?(src|specs)/\S+: error", line) or "Run the lower steps again" in line]
     if unread:
         return "does not read: " + unread[0][:200]
-    refusal = r"fn %s::%s: (not proved|no proof: expected answers)" % (crate, function)
-    if ran.returncode == 1 and any(re.match(refusal, line) for line in lines):
-        return None
-    return "NOT REFUSED at %s (status %d): %s" % (function, ran.returncode, lines[-1][:200])
+    answer = "fn %s::%s: " % (edit.crate, edit.function)
+    if ran.returncode == 1 and any(re.match(re.escape(answer) + "(not proved|no proof: expected answers)", line) for line in lines):
+        return ""
+    said = [line for line in lines if line.startswith(answer)] or lines[-1:]
+    return "NOT REFUSED at %s (status %d): %s" % (edit.function, ran.returncode, said[0][:200])
 
 
-def attempt(crate, crates, edit):
-    """Whether the edit was refused, and a line that says so or why not."""
-    began = time.monotonic()
+def attempt(crate, crates, edits):
+    """Tries the crate's edits, and prints of each whether it was refused, or why not. The result is how many were.
+
+    Edits of bodies of several functions are tried in one text: each function is refused there for its own body alone, since it is checked against
+    the contracts of those that it calls. One that isn't checked there, since it calls one that was refused, is tried again.
+    """
+    passed, texts = 0, texts_of(crate)
     with tempfile.TemporaryDirectory(prefix="wrong-") as folder:
-        for part in PARTS:
-            if os.path.isdir("%s/crates/%s/%s" % (ROOT, crate, part)):
-                shutil.copytree("%s/crates/%s/%s" % (ROOT, crate, part), "%s/%s" % (folder, part))
-        rule, function, changes = read(edit)
-        if not function or not changes:
-            why = "does not read: it names no function, or changes nothing"
-        elif not all(change("%s/%s" % (folder, path), old, new) for path, old, new in changes):
-            why = "does not read: an 'old:' text does not stand once in its file"
-        else:
-            why = fault(crate, function, check(crate, crates, function, folder))
-    broken = " (%s)" % rule if rule else ""
-    return not why, "%s%s: %s, %.0f s" % (os.path.relpath(edit, ROOT), broken, why or "refused", time.monotonic() - began)
+        while edits:
+            began = time.monotonic()
+            made, text = together(texts, edits)
+            if made[0].function and text:
+                write(folder, text)
+                ran = check(crate, crates, [it.function for it in made], folder)
+                faults = [(it, fault(it, ran)) for it in made]
+            else:
+                faults = [(made[0], "does not read: it names no function, changes nothing, or an 'old:' text does not stand once in its file")]
+            for edit, why in faults:
+                # What calls one that was refused is tried without that one, and all else that isn't refused by itself.
+                if why and made[1:]:
+                    edit.is_alone = CALLS not in why or all(it for _, it in faults)
+                    continue
+                edits = [it for it in edits if it is not edit]
+                passed += not why
+                print(edit.told(why, (time.monotonic() - began) / len(made)), flush=True)
+    return passed
 
 
 def main():
@@ -127,13 +193,12 @@ def main():
     parser.add_argument("names", nargs="*", help="crates, or edits as CRATE/EDIT")
     options = parser.parse_args()
     crates = libraries()
-    edits = [(it.split("/")[-3], it) for it in sorted(glob.glob(ROOT + "/crates/*/wrong/*.edit"))]
+    edits = [Edit(it) for it in sorted(glob.glob(ROOT + "/crates/*/wrong/*.edit"))]
     if options.must_fail:
-        edits += [(it.split("/")[-3], it) for it in sorted(glob.glob(ROOT + "/crates/*/must-fail/*.edit")) if read(it)[1]]
-    if options.rules:
-        edits = [it for it in edits if read(it[1])[0]]
-    edits = [it for it in edits if not options.names or {it[0], it[0] + "/" + os.path.basename(it[1])[:-5]} & {*options.names}]
-    needed = sorted({it for crate, _ in edits for it in below(crate, crates)})
+        edits += [it for it in map(Edit, sorted(glob.glob(ROOT + "/crates/*/must-fail/*.edit"))) if it.function]
+    edits = [it for it in edits if it.rule or not options.rules]
+    edits = [it for it in edits if not options.names or {it.crate, it.crate + "/" + it.name} & {*options.names}]
+    needed = sorted({it for edit in edits for it in below(edit.crate, crates)})
     missing = [it for it in needed if not os.path.isdir(rlib(it))]
     if missing or not edits:
         print("not built (`rt lib` in crates/NAME does it, `rt ci` all): " + " ".join(missing) if missing else "there is no such edit")
@@ -142,11 +207,10 @@ def main():
     older = [it for it in needed if is_newer(it)]
     if older:
         print("note: files of these crates are newer than their libraries, which `rt lib` builds anew: " + " ".join(older))
-    passed = 0
+    of_crates = [[it for it in edits if it.crate == crate] for crate in sorted({it.crate for it in edits})]
+    of_crates.sort(key=len, reverse=True)
     with concurrent.futures.ThreadPoolExecutor(options.jobs) as pool:
-        for is_refused, line in pool.map(lambda it: attempt(it[0], crates, it[1]), edits):
-            print(line, flush=True)
-            passed += is_refused
+        passed = sum(pool.map(lambda these: attempt(these[0].crate, crates, these), of_crates))
     spent = resource.getrusage(resource.RUSAGE_CHILDREN)
     cost = (len(edits), spent.ru_utime + spent.ru_stime, spent.ru_maxrss / 1e6)
     print("%d wrong bodies: %.0f seconds of processor time, at most %.1f GB each" % cost)

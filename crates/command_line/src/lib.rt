@@ -5,9 +5,7 @@
 //! them to those calls.
 #![tactic(auto)]
 
-mod addresses;
 mod checking;
-mod commands;
 mod forms;
 mod hints;
 mod journal_files;
@@ -18,7 +16,6 @@ mod scripts;
 mod server;
 mod showing;
 mod telling;
-mod words;
 
 pub use checking::check;
 pub use forms::print;

@@ -4,7 +4,6 @@ ghost use Rattle.program.specs.declared.exit.Exit.{Exit as Status};
 ghost use Rattle.program.specs.Exits.{exit_code};
 
 use crate::checking::check;
-use crate::commands::{Wish, example_of, read_words};
 use crate::forms::print;
 use crate::patient::Patient;
 use crate::replaying::replay;
@@ -20,6 +19,7 @@ use std::rt::Files;
 use std::sync::Wait;
 use std::thread::Threads;
 use wire::Plain;
+use words::{Wish, example_of, read_words};
 
 // Does what is wished for, and answers the exit status.
 fn fulfil<

@@ -2,7 +2,6 @@
 ghost use Rattle.std.specs.Prelude.{◌≡◌};
 ghost use Rattle.command_line.specs.Statuses.{run_exit};
 
-use crate::commands::Service;
 use crate::forms::put_out;
 use crate::journal_files::{journal_at, keep_name};
 use crate::scripts::{tell_read, text_of};
@@ -18,6 +17,7 @@ use std::net::{Net, SocketAddr, TcpListener, TcpStream};
 use std::rt::Files;
 use std::sync::Wait;
 use std::thread::Threads;
+use words::Service;
 
 // What is left of a run once its connections are over: the counts of its history, whether the journal failed in this run, and
 // what came of the connections.

@@ -1,43 +1,16 @@
 //! The command line.
 use crate::addresses::address_of;
+use crate::wish::{Service, Wish};
 use clap::error::ErrorKind;
 use clap::{Arg, ArgAction, ArgMatches, Command, Error};
-use program::{Format, Options, Selection};
-use serving::Connections;
+use connections::Connections;
+use shown::{Format, Options, Selection};
 use std::alloc::{AllocError, Global};
 use std::convert::AsStr;
 use std::net::SocketAddrV4;
 
 /// The version of the program, as `--version` prints it.
 const VERSION: &str = "0.5.0";
-
-/// What the words ask for.
-#[derive(Clone, Copy)]
-pub(crate) enum Wish<'a> {
-    /// To judge the reports on standard input by the process of the script in the file `spec`.
-    Check { spec: &'a str, process: &'a str },
-    /// To print what the script in the file `spec` denotes for the process.
-    Print { spec: &'a str, process: &'a str },
-    /// To judge the records of the journal in the file again.
-    Replay { journal: &'a str },
-    /// To print the reports of the journal in the file, and why those that were rejected were.
-    Show { journal: &'a str, options: Options },
-    /// To judge the reports of connections by the process of the script in the file `spec`, with the journal in its file.
-    Serve(Service<'a>),
-}
-
-/// What is served, and where.
-#[derive(Clone, Copy)]
-pub(crate) struct Service<'a> {
-    pub(crate) spec: &'a str,
-    pub(crate) process: &'a str,
-    pub(crate) journal: &'a str,
-    /// The address as the word has it, and as it is read.
-    pub(crate) listen: &'a str,
-    pub(crate) address: SocketAddrV4,
-    /// How many connections are served.
-    pub(crate) connections: Connections,
-}
 
 // How a fault of the address is reported.
 const BAD_ADDRESS: &str = "ADDR is 127.x.y.z:port, in decimals without leading zeros";
@@ -219,7 +192,9 @@ fn wish_at<'a>(matches: &ArgMatches<'a>, address: SocketAddrV4) -> Option<Wish<'
 
 // The fault of use of an address.
 fn bad_address(alloc: Global) -> Result<Error, AllocError> {
-    serve_command(alloc)?.error(ErrorKind::ValueValidation, BAD_ADDRESS)
+    serve_command(alloc)?
+        .bin_name("cspwatch serve")?
+        .error(ErrorKind::ValueValidation, BAD_ADDRESS)
 }
 
 // The wish to serve, or the fault of use of its address.
@@ -284,7 +259,7 @@ fn wish_in<'a>(alloc: Global, matches: &ArgMatches<'a>) -> Result<Option<Wish<'a
 
 /// Reads the words, the first of which is the program's name. What `clap` takes has the words of its command, but no
 /// clause here says so: `Ok(None)` is the answer where one is missing.
-pub(crate) fn read_words<'a, S: AsStr>(
+pub fn read_words<'a, S: AsStr>(
     alloc: Global,
     words: &'a [S],
 ) -> Result<Option<Wish<'a>>, Error> {
@@ -293,7 +268,7 @@ pub(crate) fn read_words<'a, S: AsStr>(
 }
 
 /// An example of the command that the words name, if they name one.
-pub(crate) fn example_of<S: AsStr>(words: &[S]) -> Option<&'static str> {
+pub fn example_of<S: AsStr>(words: &[S]) -> Option<&'static str> {
     match words.get(1)?.as_str() {
         "check" => Some(CHECK_EXAMPLE),
         "print" => Some(PRINT_EXAMPLE),

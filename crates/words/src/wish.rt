@@ -1,0 +1,37 @@
+//! What a user may wish for.
+
+use connections::Connections;
+use shown::Options;
+use std::net::SocketAddrV4;
+
+/// What the words ask for. The words for a file are its name.
+#[derive(Clone, Copy)]
+pub enum Wish<'a> {
+    /// To judge the reports on standard input by the process of the script in the file `spec`.
+    Check { spec: &'a str, process: &'a str },
+    /// To print what the script in the file `spec` denotes for the process.
+    Print { spec: &'a str, process: &'a str },
+    /// To judge the records of the journal in the file again.
+    Replay { journal: &'a str },
+    /// To print the reports of the journal in the file, and why those that were rejected were.
+    Show { journal: &'a str, options: Options },
+    /// To judge the reports of connections by the process of the script in the file `spec`, with the journal in its file.
+    Serve(Service<'a>),
+}
+
+/// What is served, and where.
+#[derive(Clone, Copy)]
+pub struct Service<'a> {
+    /// The file of the script.
+    pub spec: &'a str,
+    /// The process of the script to judge by.
+    pub process: &'a str,
+    /// The file of the journal.
+    pub journal: &'a str,
+    /// The address as the word has it.
+    pub listen: &'a str,
+    /// The address as it is read.
+    pub address: SocketAddrV4,
+    /// How many connections are served.
+    pub connections: Connections,
+}
