@@ -3,13 +3,12 @@
 use crate::kinds::{Kind, Wanted, is_number_form, is_truth_form, takes, takes_form};
 use crate::sight::{
     Sight, field_sets, is_in, kind_of_call, kind_of_event, kind_of_events, kind_of_worth,
-    worth_here,
+    truth_here, worth_here,
 };
 use declared_names::{fault, is_process_form};
 use std::alloc::Allocator;
 use syntax::{Form, Operator, Tree};
 use tokens::{ScriptError, ScriptErrorKind};
-use values::Worth;
 
 /// What a phrase is that means a set of values, or the fault of one that means nothing.
 fn ended(own: Option<ScriptError>) -> Result<Kind, ScriptError> {
@@ -172,7 +171,7 @@ fn decided<A: Allocator + Copy>(
     sight: &Sight<'_, '_, A>,
     phrase: &Tree<A>,
 ) -> Result<bool, ScriptError> {
-    if let Ok(Worth::Truth(truth)) = worth_here(sight, phrase) {
+    if let Some(truth) = truth_here(sight, phrase)? {
         return Ok(truth);
     }
     kind_of(sight, phrase, Wanted::Truth, phrase.line())?;

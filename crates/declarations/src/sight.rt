@@ -72,6 +72,18 @@ pub(crate) fn worth_here<A: Allocator + Copy>(
     stands_for(&sight.alloc, sight.known, sight.inputs, phrase)
 }
 
+/// The truth that a phrase stands for after the inputs, if it is one. The error is out of memory alone.
+pub(crate) fn truth_here<A: Allocator + Copy>(
+    sight: &Sight<'_, '_, A>,
+    phrase: &Tree<A>,
+) -> Result<Option<bool>, ScriptError> {
+    match worth_here(sight, phrase) {
+        Ok(Worth::Truth(truth)) => Ok(Some(truth)),
+        Err(error) if error.kind == ScriptErrorKind::Memory => Err(error),
+        _ => Ok(None),
+    }
+}
+
 /// What was found of the definition with this name, which is used on this line.
 fn kind_found<A: Allocator>(
     sight: &Sight<'_, '_, A>,
