@@ -1,6 +1,5 @@
 -- One branch more of a prefix.
-use Rattle.std.proofs.Common.{◌≡◌, ℕ, suc, ◌+◌, List, [], ◌∷◌, ◌++◌, map, Option, Some, None, refl, sym, ap, subst, ◌∙◌, append_assoc, append-nil}
-use Rattle.std.proofs.lemmas.List.{map-append}
+use Rattle.std.proofs.Common.{◌≡◌, ℕ, suc, ◌+◌, List, [], ◌∷◌, ◌++◌, drop, Option, Some, None, refl, sym, ap, subst, ◌∙◌, arith, append_assoc, append-nil}
 use Rattle.alphabet.specs.Channels.{Values, Parts}
 use Rattle.syntax.specs.Grammar.{Syntax, Syntaxes}
 use Rattle.syntax.specs.Parsing.{syntaxes}
@@ -77,10 +76,12 @@ module _ (test : Parts → Fitting) (next : Scope → Count → Option Made) whe
     unfolding branches_behind
     last_turn u e = turn ∙ ap (λ o. branches_behind front (o >>= more_fits)) e ∙ ap (λ ps. some_all (ps, u)) (append-nil front)
 
-    pub next_turn : (b : ℕ) (p : Proc) (rest : List Parts) (u : Count) (new : List Proc) → make_first_fit test next i ps w ≡ Some (Some (b, p, rest), u) → new ≡ front ++ p ∷ [] → branches_behind new (make_fits test next (suc b) rest u) ≡ whole
-    next_turn b p rest u new e n =
-        ap (λ front. branches_behind front (make_fits test next (suc b) rest u)) n
-        ∙ sym (turn ∙ ap (λ o. branches_behind front (o >>= more_fits)) e ∙ put_front front p (make_fits test next (suc b) rest u))
+    pub next_turn : (b : ℕ) (p : Proc) (es : List Parts) (u : Count) (new : List Proc) → make_first_fit test next i ps w ≡ Some (Some (b, p, drop (suc b) es), u) → new ≡ front ++ p ∷ [] → branches_behind new (make_fits test next (b + 1) (drop (b + 1) es) u) ≡ whole
+    next_turn b p es u new e n =
+        let k : b + 1 ≡ suc b = omega arith in
+        ap (λ k. branches_behind new (make_fits test next k (drop k es) u)) k
+        ∙ ap (λ front. branches_behind front (make_fits test next (suc b) (drop (suc b) es) u)) n
+        ∙ sym (turn ∙ ap (λ o. branches_behind front (o >>= more_fits)) e ∙ put_front front p (make_fits test next (suc b) (drop (suc b) es) u))
 
 -- ---- one branch
 

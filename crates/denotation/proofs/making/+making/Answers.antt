@@ -1,4 +1,4 @@
-use Rattle.std.proofs.Common.{rules, arith, ◌≡◌, Some, suc, ◌+◌, ◌*◌, ◌<◌, length, drop, map, sym, ap, subst, ◌∙◌}
+use Rattle.std.proofs.Common.{rules, arith, ◌≡◌, Some, suc, ◌+◌, ◌*◌, ◌<◌, ◌≤◌, IfSome, length, drop, map, sym, ap, subst, ◌∙◌}
 use Rattle.std.specs.Option.{option_map}
 use Rattle.std.proofs.lemmas.Result.{err_from_is_err_and}
 use Rattle.alphabet.specs.Channels.{events}
@@ -353,6 +353,11 @@ next_branch-returns-in_err-term-in-Some-clause-branch g t c =
     let p = err_from_is_err_and c.from_residual-in_err-term-in-Some.result c.from_residual-in_err-term-in-Some.ensures.1 in
     rw (p.1, p.2) (body_fails test next c.args.from (drop c.args.from es) (count c.args.work) number inner (drop (suc number) es) found c.in_err-term-in-Some.field-0.0.kind c.in_err-term-in-Some.ensures)
 
+pub next_branch-behind_event-requires : goal.next_branch-behind_event-requires
+next_branch-behind_event-requires g t c =
+    let facts = subst (λ o. IfSome o (λ x. (c.args.from ≤ x.0) × (x.0 < 256))) c.in-Some.is c.in_ok-found.ensures.number in
+    facts.1
+
 pub next_branch-returns-in_err-term-in-Some-2-clause-branch : goal.next_branch-returns-in_err-term-in-Some-2-clause-branch
 next_branch-returns-in_err-term-in-Some-2-clause-branch g t c =
     let s = within (g.G.GlobalScope.scope c.args.scope.now.global.now) (map input c.args.scope.now.inputs.items) in
@@ -411,6 +416,11 @@ branches-returns-in-None g t c =
     let next = make (shape q.then.now) in
     last_turn test next c.loop-found.from (drop c.loop-found.from es) (count c.loop-found.work) (map proc c.loop-found.terms.items) (make_fits test next 0 es (count c.args.work)) c.loop-found.invariant (count c.in_ok-found.left) (c.in_ok-found.ensures.branch ∙ ap (λ o. some_found (option_map (λ p. (p.0, proc p.1, drop (suc p.0) es)) o, count c.in_ok-found.left)) c.in-None.is)
 
+pub branches-loop-found-smaller : goal.branches-loop-found-smaller
+branches-loop-found-smaller g t c =
+    let facts = subst (λ o. IfSome o (λ x. (c.loop-found.from ≤ x.0) × (x.0 < 256))) c.in-Some.is c.in_ok-found.ensures.number in
+    omega (arith, facts.0, facts.1)
+
 pub branches-loop-found-preserved : goal.branches-loop-found-preserved
 branches-loop-found-preserved g t c =
     let s = within (g.G.GlobalScope.scope c.args.scope.now.global.now) (map input c.args.scope.now.inputs.items) in
@@ -418,7 +428,7 @@ branches-loop-found-preserved g t c =
     let q = c.args.prefix.now in
     let test = led_fits q.channel.now (listed q.leading.items) (shapes q.fields.now) (map (λ v. listed v.items) q.sets.now) s in
     let next = make (shape q.then.now) in
-    next_turn test next c.loop-found.from (drop c.loop-found.from es) (count c.loop-found.work) (map proc c.loop-found.terms.items) (make_fits test next 0 es (count c.args.work)) c.loop-found.invariant c.in-Some.number (proc c.in-Some.term) (drop (suc c.in-Some.number) es) (count c.in_ok-found.left) (map proc c.push.new.self.items) (c.in_ok-found.ensures.branch ∙ ap (λ o. some_found (option_map (λ p. (p.0, proc p.1, drop (suc p.0) es)) o, count c.in_ok-found.left)) c.in-Some.is) (put_behind proc c.loop-found.terms.items c.push.new.self.items c.in-Some.term c.in_ok-push.ensures.items)
+    next_turn test next c.loop-found.from (drop c.loop-found.from es) (count c.loop-found.work) (map proc c.loop-found.terms.items) (make_fits test next 0 es (count c.args.work)) c.loop-found.invariant c.in-Some.number (proc c.in-Some.term) es (count c.in_ok-found.left) (map proc c.push.new.self.items) (c.in_ok-found.ensures.branch ∙ ap (λ o. some_found (option_map (λ p. (p.0, proc p.1, drop (suc p.0) es)) o, count c.in_ok-found.left)) c.in-Some.is) (put_behind proc c.loop-found.terms.items c.push.new.self.items c.in-Some.term c.in_ok-push.ensures.items)
 
 pub conditional_phrase-process-requires : goal.conditional_phrase-process-requires
 conditional_phrase-process-requires g t c κs within =
