@@ -13,3 +13,4 @@ pub mod Walks
 pub mod Ahead
 pub mod Places
 pub mod BodyParts
+pub mod Branches

@@ -1,19 +1,20 @@
 //! Terms made of phrases for processes.
-ghost use Rattle.std.specs.Prelude.{◌≡◌, ◌<◌, Some, map};
+ghost use Rattle.std.specs.Prelude.{◌≡◌, ◌<◌, ◌≤◌, suc, drop, Some, IfOk, IfSome, map};
 ghost use Rattle.std.specs.Option.{option_map};
 ghost use Rattle.alphabet.specs.Channels.{events as events_of};
-ghost use Rattle.syntax.specs.Parsing.{syntaxes};
 ghost use Rattle.syntax.specs.View.{shape, shapes};
 ghost use Rattle.term.specs.Proc.{proc};
 ghost use Rattle.values.specs.Tables.{input};
 ghost use Rattle.values.specs.View.{Gives};
+ghost use Rattle.event_phrases.specs.Leading.{led_fits};
 ghost use Rattle.event_phrases.specs.Scopes.{within};
+ghost use Rattle.denotation.specs.Branches.{make_first_fit, make_fits};
 ghost use Rattle.denotation.specs.Forms.{joined, sharing, alphabetised, hiding, renaming, conditional, guarded, replicated};
-ghost use Rattle.denotation.specs.Making.{branches_behind, make, make_branch, make_branches, make_phrase, make_prefixed};
+ghost use Rattle.denotation.specs.Making.{branches_behind, make, make_phrase, make_prefixed};
 ghost use Rattle.denotation.specs.Places.{from_scope};
 ghost use Rattle.denotation.specs.Shapes.{plain};
 ghost use Rattle.denotation.specs.Walks.{make_visits, with_made};
-ghost use Rattle.event_phrases.specs.View.{listed, row};
+ghost use Rattle.event_phrases.specs.View.{listed};
 ghost use Rattle.denotation.specs.View.{count};
 
 use crate::calls::called_with;
@@ -28,7 +29,7 @@ use crate::walk::{Place, first_place, next_place};
 use crate::work::Work;
 use event_phrases::forms::event_parts;
 use event_phrases::{
-    GlobalScope, Prefix, Row, Scope, fault, inputs_behind, prefix_of, two_sets, wanted_events,
+    GlobalScope, Prefix, Scope, fault, next_fitting, prefix_of, two_sets, wanted_events,
     wanted_truth,
 };
 use std::alloc::Allocator;
@@ -36,23 +37,22 @@ use syntax::Tree;
 use term::Term;
 use tokens::{ScriptError, ScriptErrorKind};
 
-/// What an event adds to the branches of a prefix.
+/// The first branch of a prefix from the event with this number on, with its event's number.
 #[cycle(making)]
-fn branch<'a, A: Allocator + Copy, G: GlobalScope<A>>(
+fn next_branch<'a, A: Allocator + Copy, G: GlobalScope<A>>(
     alloc: A,
     scope: &Scope<'a, A, G>,
     prefix: &Prefix<'a, A>,
-    number: usize,
-    event: &Row<A>,
+    from: usize,
     work: Work<A>,
-) -> Result<(Option<Term<A>>, Work<A>), ScriptError>
-    requires { number < 256 }
-    ensures { Gives (λ x. (option_map proc x.0, count x.1)) result (make_branch (make (shape prefix.now.then.now)) prefix.now.channel.now (syntaxes (shapes prefix.now.fields.now)) (map (λ v. listed v.items) prefix.now.sets.now) (within (G.scope scope.now.global.now) (map input scope.now.inputs.items)) number (row event.now) (count work)) }
+) -> Result<(Option<(usize, Term<A>)>, Work<A>), ScriptError>
+    ensures branch { Gives (λ x. (option_map (λ p. (p.0, proc p.1, drop (suc p.0) (events_of (G.scope scope.now.global.now).channels))) x.0, count x.1)) result (make_first_fit (led_fits prefix.now.channel.now (listed prefix.now.leading.items) (shapes prefix.now.fields.now) (map (λ v. listed v.items) prefix.now.sets.now) (within (G.scope scope.now.global.now) (map input scope.now.inputs.items))) (make (shape prefix.now.then.now)) from (drop from (events_of (G.scope scope.now.global.now).channels)) (count work)) }
+    ensures number { IfOk result (λ x. IfSome x.0 (λ p. (from ≤ p.0) × (p.0 < 256))) }
 {
-    let found = inputs_behind(alloc, scope, prefix, event)?;
+    let found = next_fitting(alloc, scope, prefix, from)?;
     match found {
         None => Ok((None, work)),
-        Some(inputs) => {
+        Some((number, inputs)) => {
             let inner = Scope {
                 global: scope.global,
                 inputs,
@@ -60,7 +60,7 @@ fn branch<'a, A: Allocator + Copy, G: GlobalScope<A>>(
             };
             let (term, work) = process(alloc, &inner, prefix.then, work)?;
             let (term, work) = behind_event(alloc, number, term, work, scope.line)?;
-            Ok((Some(term), work))
+            Ok((Some((number, term)), work))
         }
     }
 }
@@ -73,19 +73,22 @@ fn branches<'a, A: Allocator + Copy, G: GlobalScope<A>>(
     prefix: &Prefix<'a, A>,
     work: Work<A>,
 ) -> Result<(Vec<Term<A>, A>, Work<A>), ScriptError>
-    ensures { Gives (λ x. (map proc x.0.items, count x.1)) result (make_branches (make (shape prefix.now.then.now)) prefix.now.channel.now (syntaxes (shapes prefix.now.fields.now)) (map (λ v. listed v.items) prefix.now.sets.now) (within (G.scope scope.now.global.now) (map input scope.now.inputs.items)) 0 (events_of (G.scope scope.now.global.now).channels) (count work)) }
+    ensures { Gives (λ x. (map proc x.0.items, count x.1)) result (make_fits (led_fits prefix.now.channel.now (listed prefix.now.leading.items) (shapes prefix.now.fields.now) (map (λ v. listed v.items) prefix.now.sets.now) (within (G.scope scope.now.global.now) (map input scope.now.inputs.items))) (make (shape prefix.now.then.now)) 0 (events_of (G.scope scope.now.global.now).channels) (count work)) }
 {
     let mut terms = Vec::new(alloc);
     let mut work = work;
-    let events = scope.global.events();
-    for (number, event) in events.iter().enumerate() {
-        let (term, next) = branch(alloc, scope, prefix, number, event, work)?;
-        work = next;
-        if let Some(term) = term {
-            terms.push(term)?;
+    let mut from = 0;
+    loop {
+        let (found, left) = next_branch(alloc, scope, prefix, from, work)?;
+        work = left;
+        match found {
+            None => return Ok((terms, work)),
+            Some((number, term)) => {
+                terms.push(term)?;
+                from = number + 1;
+            }
         }
     }
-    Ok((terms, work))
 }
 
 /// The process that an event phrase and what stands after its arrow are a phrase for: the choice over the events that fit.

@@ -13,3 +13,4 @@ pub mod Unused
 pub mod Passing
 pub mod Mentions
 pub mod PrefixParts
+pub mod FirstValues

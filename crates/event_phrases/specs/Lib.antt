@@ -9,3 +9,4 @@ pub mod EventForms
 -- Steps of the program.
 pub mod Shapes
 pub mod Uses
+pub mod Leading

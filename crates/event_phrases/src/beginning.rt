@@ -53,7 +53,7 @@ fn given_by<A: Allocator + Copy, G: GlobalScope<A>>(
 
 /// The value that a field gives.
 #[tactic(auto, using(crate::proofs::EventLaws::value_so, crate::proofs::EventLaws::no_value))]
-fn given<A: Allocator + Copy, G: GlobalScope<A>>(
+pub(crate) fn given<A: Allocator + Copy, G: GlobalScope<A>>(
     alloc: A,
     scope: &Scope<'_, A, G>,
     tree: &Tree<A>,

@@ -9,6 +9,7 @@ ghost use Rattle.values.specs.Tables.{input};
 ghost use Rattle.values.specs.Values.{is_among};
 ghost use Rattle.values.specs.View.{Fails, Gives, value as value_of, values};
 ghost use Rattle.event_phrases.specs.Forms.{given};
+ghost use Rattle.event_phrases.specs.Leading.{leading as leading_in};
 ghost use Rattle.event_phrases.specs.Prefixes.{all_pass as all_pass_in, at_no_fault as at_no_fault_of, fields_pass as fields_pass_in, has_event as has_event_in, prefix_parts, scopes_after};
 ghost use Rattle.event_phrases.specs.Scopes.{Scope as PlainScope, with_input as with_input_of, within};
 ghost use Rattle.event_phrases.specs.Shapes.{plain_field};
@@ -18,6 +19,7 @@ ghost use Rattle.event_phrases.specs.View.{listed};
 use crate::beginning::is_one_of;
 use crate::forms::{FieldPhrase, event_parts, field};
 use crate::global_scope::{GlobalScope, Set, Wanted};
+use crate::leading::leading_values;
 use crate::prefix::{Prefix, has_value};
 use crate::scope::{Scope, copies, fault, wanted_worth, with_input};
 use crate::uses::mentions;
@@ -252,6 +254,7 @@ pub fn prefix_of<'a, A: Allocator + Copy, G: GlobalScope<A>>(
 ) -> Result<Prefix<'a, A>, ScriptError>
     ensures parts { Gives (λ p. (p.channel.now, syntaxes (shapes p.fields.now), map (λ v. listed v.items) p.sets.now)) result (prefix_parts (within (G.scope scope.now.global.now) (map input scope.now.inputs.items)) (shape event.now)) }
     ensures then { IfOk result (λ p. p.then.now ≡ then.now) }
+    ensures leading { IfOk result (λ p. listed p.leading.items ≡ leading_in (within (G.scope scope.now.global.now) (map input scope.now.inputs.items)).known (shapes p.fields.now) (map (λ v. listed v.items) p.sets.now)) }
 {
     match event_parts(event) {
         None => Err(fault(event.line(), ScriptErrorKind::Expected)),
@@ -262,10 +265,12 @@ pub fn prefix_of<'a, A: Allocator + Copy, G: GlobalScope<A>>(
                     return Err(fault(event.line(), ScriptErrorKind::WrongFields));
                 }
                 at_no_fault(alloc, scope, fields, sets)?;
+                let leading = leading_values(alloc, scope, fields, sets)?;
                 Ok(Prefix {
                     channel,
                     fields,
                     sets,
+                    leading,
                     then,
                     line: event.line(),
                 })

@@ -7,6 +7,7 @@ mod events;
 mod fields;
 pub mod forms;
 mod global_scope;
+mod leading;
 mod pairs;
 mod prefix;
 mod renaming;
@@ -17,8 +18,9 @@ mod uses;
 
 pub use fields::prefix_of;
 pub use global_scope::{GlobalScope, Set, Wanted};
+pub use leading::next_fitting;
 pub use pairs::ordered;
-pub use prefix::{Prefix, inputs_behind};
+pub use prefix::Prefix;
 pub use renaming::pairs_of;
 pub use row::Row;
 pub use scope::{Scope, behind_input, fault, wanted_truth, wanted_value, wanted_values};

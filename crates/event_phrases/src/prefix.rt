@@ -6,17 +6,17 @@ ghost use Rattle.syntax.specs.View.{shape, shapes};
 ghost use Rattle.values.specs.Tables.{input};
 ghost use Rattle.values.specs.Values.{is_among};
 ghost use Rattle.values.specs.View.{Gives, value as value_of, values};
-ghost use Rattle.event_phrases.specs.EventForms.{event_fits, fits_by};
+ghost use Rattle.event_phrases.specs.EventForms.{fits_by};
 ghost use Rattle.event_phrases.specs.Scopes.{within};
 ghost use Rattle.event_phrases.specs.Fitting.{fits_field, fitting as fitting_of};
 ghost use Rattle.event_phrases.specs.Shapes.{plain_field};
-ghost use Rattle.event_phrases.specs.View.{listed, row};
+ghost use Rattle.event_phrases.specs.View.{listed};
 
 use crate::beginning::is_one_of;
 use crate::forms::{FieldPhrase, field};
 use crate::global_scope::{GlobalScope, Set, Wanted};
-use crate::row::{Row, is_equal};
-use crate::scope::{Scope, copies, fault, wanted_worth, with_input};
+use crate::row::is_equal;
+use crate::scope::{fault, wanted_worth, with_input};
 use std::alloc::Allocator;
 use syntax::Tree;
 use tokens::{ScriptError, ScriptErrorKind};
@@ -31,6 +31,8 @@ pub struct Prefix<'a, A: Allocator> {
     pub fields: &'a [Tree<A>],
     /// The values of each of the channel's fields.
     pub sets: &'a [Set<A>],
+    /// The values that the first fields give, which are the same for all events.
+    pub leading: Vec<Value<A>, A>,
     /// The process after the arrow.
     pub then: &'a Tree<A>,
     /// The line of the event phrase.
@@ -141,31 +143,4 @@ pub(crate) fn fitting<A: Allocator + Copy, G: GlobalScope<A>>(
             },
         },
     }
-}
-
-/// The inputs after a prefix, where the event fits it, and `None` where it doesn't. A fault has the line of the phrase that is
-/// at fault: a field without a value, a value outside its field's set (`OutOfRange`), an input by a constant's name
-/// (`Unsupported`).
-#[tactic(auto, unfolding(crate::specs::EventForms::event_fits))]
-pub fn inputs_behind<A: Allocator + Copy, G: GlobalScope<A>>(
-    alloc: A,
-    scope: &Scope<'_, A, G>,
-    prefix: &Prefix<'_, A>,
-    event: &Row<A>,
-) -> Result<Option<Vec<Input<A>, A>>, ScriptError>
-    ensures { Gives (option_map (λ v. within (G.scope scope.now.global.now) (map input v.items))) result (event_fits prefix.now.channel.now (syntaxes (shapes prefix.now.fields.now)) (map (λ v. listed v.items) prefix.now.sets.now) (within (G.scope scope.now.global.now) (map input scope.now.inputs.items)) (row event.now)) }
-{
-    if prefix.channel != event.channel.as_slice() {
-        return Ok(None);
-    }
-    let inputs = copies(alloc, &scope.inputs)?;
-    fitting(
-        alloc,
-        scope.global,
-        inputs,
-        prefix.fields,
-        prefix.sets,
-        &event.values,
-        prefix.line,
-    )
 }

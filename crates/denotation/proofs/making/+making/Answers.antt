@@ -1,4 +1,4 @@
-use Rattle.std.proofs.Common.{rules, arith, ◌≡◌, Some, suc, ◌+◌, ◌*◌, ◌<◌, length, map, sym, ap, subst, ◌∙◌}
+use Rattle.std.proofs.Common.{rules, arith, ◌≡◌, Some, suc, ◌+◌, ◌*◌, ◌<◌, ◌≤◌, IfSome, length, drop, map, sym, ap, subst, ◌∙◌}
 use Rattle.std.specs.Option.{option_map}
 use Rattle.std.proofs.lemmas.Result.{err_from_is_err_and}
 use Rattle.alphabet.specs.Channels.{events}
@@ -7,24 +7,26 @@ use Rattle.syntax.specs.View.{shape, shapes}
 use Rattle.term.specs.Proc.{proc}
 use Rattle.values.specs.Tables.{input}
 use Rattle.values.specs.View.{Gives, Fails}
+use Rattle.event_phrases.specs.Leading.{led_fits}
 use Rattle.event_phrases.specs.Scopes.{within}
 use Rattle.event_phrases.specs.Forms.{tall}
 use Rattle.denotation.specs.Forms.{inner_tall}
+use Rattle.denotation.specs.Branches.{make_fits}
 use Rattle.denotation.specs.Making.{AllMade, make, make_branches, make_phrase}
 use Rattle.denotation.specs.Shapes.{plain}
 use Rattle.denotation.specs.Places.{from_scope, innermost_first}
 use Rattle.denotation.specs.Walks.{make_visits, visits_after}
-use Rattle.event_phrases.specs.View.{listed, row}
+use Rattle.event_phrases.specs.View.{listed}
 use Rattle.denotation.specs.View.{count}
 use Rattle.denotation.proofs.FormLaws.{made_so, not_made}
 use Rattle.event_phrases.proofs.Scopes.{fails_none}
-use Rattle.denotation.proofs.Prefixes.{none_if, no_prefix, branches_fail, branches_made, some_fit, fitting_fails, no_fit, behind_fails, event_fails, event_made}
+use Rattle.event_phrases.proofs.FirstValues.{none_if}
+use Rattle.denotation.proofs.Prefixes.{no_prefix, branches_fail, branches_made}
 use Rattle.denotation.proofs.Steps.{joined_first, joined_second, joined_so, sharing_first, sharing_set, sharing_second, sharing_so, alphabetised_first, alphabetised_sets, alphabetised_second, alphabetised_so, hiding_first, hiding_set, hiding_so, renaming_first, renaming_on, conditional_fails, conditional_first, conditional_second, guarded_fails, guarded_met, guarded_not, replicated_fails, replicated_so}
 use Rattle.denotation.proofs.Replications.{put_behind}
 use Rattle.denotation.proofs.Walks.{no_first, from_first, none_before, walk_end, stands_fails, no_next, next_found, no_process, one_process, not_more}
-use Rattle.denotation.proofs.Turns.{all_from, first_turn, next_turn, last_turn, turn_fails, pushed, kept}
+use Rattle.denotation.proofs.Turns.{some_fit, some_found, none_behind, fit_fails, none_fits, body_fails, event_fails, event_made, next_turn, last_turn, turn_fails, led_branches}
 use Rattle.denotation.proofs.making.+making.Goals as goal
-use Rattle.denotation.proofs.making.+making.Goals.{branches-in-Some+in_ok-push, branches-in_default}
 
 pub joined_phrases-process-requires : goal.joined_phrases-process-requires
 joined_phrases-process-requires g t c κs within =
@@ -294,105 +296,139 @@ pub prefixed-returns-in_err-terms : goal.prefixed-returns-in_err-terms
 prefixed-returns-in_err-terms g t c =
     let s = within (g.G.GlobalScope.scope c.args.scope.now.global.now) (map input c.args.scope.now.inputs.items) in
     let q = c.in_ok-prefix.prefix in
+    let k = c.in_err-terms.field-0.0.kind in
     let p = err_from_is_err_and c.from_residual-in_err-terms.result c.from_residual-in_err-terms.ensures.1 in
+    let sets = map (λ v. listed v.items) q.sets.now in
     let same : make (shape q.then.now) ≡ make (shape c.args.then.now) = ap (λ t. make (shape t)) c.in_ok-prefix.ensures.then in
-    rw (p.1, p.2) (branches_fail s (make (shape c.args.then.now)) (count c.args.work) (shape c.args.event.now) q.channel.now (syntaxes (shapes q.fields.now)) (map (λ v. listed v.items) q.sets.now) c.in_ok-prefix.ensures.parts c.in_err-terms.field-0.0.kind
-    (subst (λ next. Fails c.in_err-terms.field-0.0.kind (make_branches next q.channel.now (syntaxes (shapes q.fields.now)) (map (λ v. listed v.items) q.sets.now) s 0 (events s.channels) (count c.args.work))) same c.in_err-terms.ensures))
+    let all = led_branches (make (shape q.then.now)) q.channel.now (shapes q.fields.now) sets s (listed q.leading.items) 0 (events s.channels) (count c.args.work) c.in_ok-prefix.ensures.leading in
+    rw (p.1, p.2) (branches_fail s (make (shape c.args.then.now)) (count c.args.work) (shape c.args.event.now) q.channel.now (syntaxes (shapes q.fields.now)) sets c.in_ok-prefix.ensures.parts k
+    (subst (λ next. Fails k (make_branches next q.channel.now (syntaxes (shapes q.fields.now)) sets s 0 (events s.channels) (count c.args.work))) same (subst (λ o. Fails k o) all c.in_err-terms.ensures)))
 
 pub prefixed-returns : goal.prefixed-returns
 prefixed-returns g t c =
     let s = within (g.G.GlobalScope.scope c.args.scope.now.global.now) (map input c.args.scope.now.inputs.items) in
     let q = c.in_ok-prefix.prefix in
+    let sets = map (λ v. listed v.items) q.sets.now in
     let same : make (shape q.then.now) ≡ make (shape c.args.then.now) = ap (λ t. make (shape t)) c.in_ok-prefix.ensures.then in
+    let all = led_branches (make (shape q.then.now)) q.channel.now (shapes q.fields.now) sets s (listed q.leading.items) 0 (events s.channels) (count c.args.work) c.in_ok-prefix.ensures.leading in
     let x : AllMade = (map proc c.in_ok-terms.terms.items, count c.in_ok-terms.work) in
     subst (λ o. Gives (λ x. (proc x.0, count x.1)) c.chosen.result o)
-    (sym (branches_made s (make (shape c.args.then.now)) (count c.args.work) (shape c.args.event.now) q.channel.now (syntaxes (shapes q.fields.now)) (map (λ v. listed v.items) q.sets.now) c.in_ok-prefix.ensures.parts x
-    (subst (λ next. make_branches next q.channel.now (syntaxes (shapes q.fields.now)) (map (λ v. listed v.items) q.sets.now) s 0 (events s.channels) (count c.args.work) ≡ Some x) same c.in_ok-terms.ensures))) c.chosen.ensures
+    (sym (branches_made s (make (shape c.args.then.now)) (count c.args.work) (shape c.args.event.now) q.channel.now (syntaxes (shapes q.fields.now)) sets c.in_ok-prefix.ensures.parts x
+    (subst (λ next. make_branches next q.channel.now (syntaxes (shapes q.fields.now)) sets s 0 (events s.channels) (count c.args.work) ≡ Some x) same (sym all ∙ c.in_ok-terms.ensures)))) c.chosen.ensures
 
-pub branch-returns-in_err-found : goal.branch-returns-in_err-found
-branch-returns-in_err-found g t c =
+pub next_branch-returns-in_err-found-clause-branch : goal.next_branch-returns-in_err-found-clause-branch
+next_branch-returns-in_err-found-clause-branch g t c =
     let s = within (g.G.GlobalScope.scope c.args.scope.now.global.now) (map input c.args.scope.now.inputs.items) in
+    let es = events (g.G.GlobalScope.scope c.args.scope.now.global.now).channels in
+    let q = c.args.prefix.now in
+    let test = led_fits q.channel.now (listed q.leading.items) (shapes q.fields.now) (map (λ v. listed v.items) q.sets.now) s in
+    let next = make (shape q.then.now) in
     let p = err_from_is_err_and c.from_residual.result c.from_residual.ensures.1 in
-    rw (p.1, p.2) (fitting_fails (make (shape c.args.prefix.now.then.now)) c.args.prefix.now.channel.now (syntaxes (shapes c.args.prefix.now.fields.now)) (map (λ v. listed v.items) c.args.prefix.now.sets.now) s c.args.number (row c.args.event.now) (count c.args.work) c.in_err-found.field-0.0.kind c.in_err-found.ensures)
+    rw (p.1, p.2) (fit_fails test next c.args.from (drop c.args.from es) (count c.args.work) c.in_err-found.field-0.0.kind c.in_err-found.ensures.first)
 
-pub branch-returns-in-None : goal.branch-returns-in-None
-branch-returns-in-None g t c =
+pub next_branch-returns-in-None-clause-branch : goal.next_branch-returns-in-None-clause-branch
+next_branch-returns-in-None-clause-branch g t c =
     let s = within (g.G.GlobalScope.scope c.args.scope.now.global.now) (map input c.args.scope.now.inputs.items) in
-    no_fit (make (shape c.args.prefix.now.then.now)) c.args.prefix.now.channel.now (syntaxes (shapes c.args.prefix.now.fields.now)) (map (λ v. listed v.items) c.args.prefix.now.sets.now) s c.args.number (row c.args.event.now) (count c.args.work) (c.in_ok-found.ensures ∙ ap (λ o. some_fit (option_map (λ v. within (g.G.GlobalScope.scope c.args.scope.now.global.now) (map input v.items)) o)) c.in-None.is)
+    let es = events (g.G.GlobalScope.scope c.args.scope.now.global.now).channels in
+    let q = c.args.prefix.now in
+    let test = led_fits q.channel.now (listed q.leading.items) (shapes q.fields.now) (map (λ v. listed v.items) q.sets.now) s in
+    let next = make (shape q.then.now) in
+    none_fits test next c.args.from (drop c.args.from es) (count c.args.work) (c.in_ok-found.ensures.first ∙ ap (λ o. some_fit (option_map (λ x. (x.0, within (g.G.GlobalScope.scope c.args.scope.now.global.now) (map input x.1.items), drop (suc x.0) es)) o)) c.in-None.is)
 
-pub branch-process-requires : goal.branch-process-requires
-branch-process-requires g t c κs within =
+pub next_branch-process-requires : goal.next_branch-process-requires
+next_branch-process-requires g t c κs within =
     let m : 6 * tall (shape c.args.prefix.now.then.now) < 6 * tall (shape c.args.prefix.now.then.now) + 2 = omega arith in
     search (rules, m)
 
-pub branch-returns-in_err-term-in-Some : goal.branch-returns-in_err-term-in-Some
-branch-returns-in_err-term-in-Some g t c =
+pub next_branch-returns-in_err-term-in-Some-clause-branch : goal.next_branch-returns-in_err-term-in-Some-clause-branch
+next_branch-returns-in_err-term-in-Some-clause-branch g t c =
     let s = within (g.G.GlobalScope.scope c.args.scope.now.global.now) (map input c.args.scope.now.inputs.items) in
+    let es = events (g.G.GlobalScope.scope c.args.scope.now.global.now).channels in
+    let q = c.args.prefix.now in
+    let test = led_fits q.channel.now (listed q.leading.items) (shapes q.fields.now) (map (λ v. listed v.items) q.sets.now) s in
+    let next = make (shape q.then.now) in
+    let number = c.in-Some.number in
+    let inner = within (g.G.GlobalScope.scope c.args.scope.now.global.now) (map input c.in-Some.inputs.items) in
+    let found = c.in_ok-found.ensures.first ∙ ap (λ o. some_fit (option_map (λ x. (x.0, within (g.G.GlobalScope.scope c.args.scope.now.global.now) (map input x.1.items), drop (suc x.0) es)) o)) c.in-Some.is in
     let p = err_from_is_err_and c.from_residual-in_err-term-in-Some.result c.from_residual-in_err-term-in-Some.ensures.1 in
-    rw (p.1, p.2) (behind_fails (make (shape c.args.prefix.now.then.now)) c.args.prefix.now.channel.now (syntaxes (shapes c.args.prefix.now.fields.now)) (map (λ v. listed v.items) c.args.prefix.now.sets.now) s c.args.number (row c.args.event.now) (count c.args.work) (within (g.G.GlobalScope.scope c.args.scope.now.global.now) (map input c.in-Some.inputs.items)) (c.in_ok-found.ensures ∙ ap (λ o. some_fit (option_map (λ v. within (g.G.GlobalScope.scope c.args.scope.now.global.now) (map input v.items)) o)) c.in-Some.is) c.in_err-term-in-Some.field-0.0.kind c.in_err-term-in-Some.ensures)
+    rw (p.1, p.2) (body_fails test next c.args.from (drop c.args.from es) (count c.args.work) number inner (drop (suc number) es) found c.in_err-term-in-Some.field-0.0.kind c.in_err-term-in-Some.ensures)
 
-pub branch-returns-in_err-term-in-Some-2 : goal.branch-returns-in_err-term-in-Some-2
-branch-returns-in_err-term-in-Some-2 g t c =
+pub next_branch-behind_event-requires : goal.next_branch-behind_event-requires
+next_branch-behind_event-requires g t c =
+    let facts = subst (λ o. IfSome o (λ x. (c.args.from ≤ x.0) × (x.0 < 256))) c.in-Some.is c.in_ok-found.ensures.number in
+    facts.1
+
+pub next_branch-returns-in_err-term-in-Some-2-clause-branch : goal.next_branch-returns-in_err-term-in-Some-2-clause-branch
+next_branch-returns-in_err-term-in-Some-2-clause-branch g t c =
     let s = within (g.G.GlobalScope.scope c.args.scope.now.global.now) (map input c.args.scope.now.inputs.items) in
+    let es = events (g.G.GlobalScope.scope c.args.scope.now.global.now).channels in
+    let q = c.args.prefix.now in
+    let test = led_fits q.channel.now (listed q.leading.items) (shapes q.fields.now) (map (λ v. listed v.items) q.sets.now) s in
+    let next = make (shape q.then.now) in
+    let number = c.in-Some.number in
+    let inner = within (g.G.GlobalScope.scope c.args.scope.now.global.now) (map input c.in-Some.inputs.items) in
+    let found = c.in_ok-found.ensures.first ∙ ap (λ o. some_fit (option_map (λ x. (x.0, within (g.G.GlobalScope.scope c.args.scope.now.global.now) (map input x.1.items), drop (suc x.0) es)) o)) c.in-Some.is in
     let p = err_from_is_err_and c.from_residual-in_err-term-in-Some-2.result c.from_residual-in_err-term-in-Some-2.ensures.1 in
-    rw (p.1, p.2) (event_fails (make (shape c.args.prefix.now.then.now)) c.args.prefix.now.channel.now (syntaxes (shapes c.args.prefix.now.fields.now)) (map (λ v. listed v.items) c.args.prefix.now.sets.now) s c.args.number (row c.args.event.now) (count c.args.work) (within (g.G.GlobalScope.scope c.args.scope.now.global.now) (map input c.in-Some.inputs.items)) (c.in_ok-found.ensures ∙ ap (λ o. some_fit (option_map (λ v. within (g.G.GlobalScope.scope c.args.scope.now.global.now) (map input v.items)) o)) c.in-Some.is) (proc c.in_ok-term-in-Some.term, count c.in_ok-term-in-Some.work) c.in_ok-term-in-Some.ensures c.in_err-term-in-Some-2.field-0.0.kind c.in_err-term-in-Some-2.ensures)
+    rw (p.1, p.2) (event_fails test next c.args.from (drop c.args.from es) (count c.args.work) number inner (drop (suc number) es) found (proc c.in_ok-term-in-Some.term, count c.in_ok-term-in-Some.work) c.in_ok-term-in-Some.ensures c.in_err-term-in-Some-2.field-0.0.kind c.in_err-term-in-Some-2.ensures)
 
-pub branch-behind_event-requires : goal.branch-behind_event-requires
-branch-behind_event-requires g t c =
-    c.requires
-
-pub branch-returns-in_ok-term-in-Some-2 : goal.branch-returns-in_ok-term-in-Some-2
-branch-returns-in_ok-term-in-Some-2 g t c =
+pub next_branch-returns-in_ok-term-in-Some-2-clause-branch : goal.next_branch-returns-in_ok-term-in-Some-2-clause-branch
+next_branch-returns-in_ok-term-in-Some-2-clause-branch g t c =
     let s = within (g.G.GlobalScope.scope c.args.scope.now.global.now) (map input c.args.scope.now.inputs.items) in
-    event_made (make (shape c.args.prefix.now.then.now)) c.args.prefix.now.channel.now (syntaxes (shapes c.args.prefix.now.fields.now)) (map (λ v. listed v.items) c.args.prefix.now.sets.now) s c.args.number (row c.args.event.now) (count c.args.work) (within (g.G.GlobalScope.scope c.args.scope.now.global.now) (map input c.in-Some.inputs.items)) (c.in_ok-found.ensures ∙ ap (λ o. some_fit (option_map (λ v. within (g.G.GlobalScope.scope c.args.scope.now.global.now) (map input v.items)) o)) c.in-Some.is) (proc c.in_ok-term-in-Some.term, count c.in_ok-term-in-Some.work) c.in_ok-term-in-Some.ensures (proc c.in_ok-term-in-Some-2.term, count c.in_ok-term-in-Some-2.work) c.in_ok-term-in-Some-2.ensures
+    let es = events (g.G.GlobalScope.scope c.args.scope.now.global.now).channels in
+    let q = c.args.prefix.now in
+    let test = led_fits q.channel.now (listed q.leading.items) (shapes q.fields.now) (map (λ v. listed v.items) q.sets.now) s in
+    let next = make (shape q.then.now) in
+    let number = c.in-Some.number in
+    let inner = within (g.G.GlobalScope.scope c.args.scope.now.global.now) (map input c.in-Some.inputs.items) in
+    let found = c.in_ok-found.ensures.first ∙ ap (λ o. some_fit (option_map (λ x. (x.0, within (g.G.GlobalScope.scope c.args.scope.now.global.now) (map input x.1.items), drop (suc x.0) es)) o)) c.in-Some.is in
+    event_made test next c.args.from (drop c.args.from es) (count c.args.work) number inner (drop (suc number) es) found (proc c.in_ok-term-in-Some.term, count c.in_ok-term-in-Some.work) c.in_ok-term-in-Some.ensures (proc c.in_ok-term-in-Some-2.term, count c.in_ok-term-in-Some-2.work) c.in_ok-term-in-Some-2.ensures
 
-pub branches-loop-number-init : goal.branches-loop-number-init
-branches-loop-number-init g t c =
+pub branches-loop-terms-init : goal.branches-loop-terms-init
+branches-loop-terms-init g t c =
     let s = within (g.G.GlobalScope.scope c.args.scope.now.global.now) (map input c.args.scope.now.inputs.items) in
-    first_turn (make (shape c.args.prefix.now.then.now)) c.args.prefix.now.channel.now (syntaxes (shapes c.args.prefix.now.fields.now)) (map (λ v. listed v.items) c.args.prefix.now.sets.now) s row c.events-events.result.now (events (g.G.GlobalScope.scope c.args.scope.now.global.now).channels) (count c.args.work) (map proc c.new-terms.result.items) c.events-events.ensures.rows (ap (map proc) c.new-terms.ensures.items)
+    let es = events (g.G.GlobalScope.scope c.args.scope.now.global.now).channels in
+    let q = c.args.prefix.now in
+    let test = led_fits q.channel.now (listed q.leading.items) (shapes q.fields.now) (map (λ v. listed v.items) q.sets.now) s in
+    let next = make (shape q.then.now) in
+    none_behind (map proc c.new-terms.result.items) (make_fits test next 0 es (count c.args.work)) (ap (map proc) c.new-terms.ensures.items)
 
-pub branches-offset_bounds-events-number : goal.branches-offset_bounds-events-number
-branches-offset_bounds-events-number g t c =
-    omega arith
-
-pub branches-bounds-events-number : goal.branches-bounds-events-number
-branches-bounds-events-number g t c =
-    omega arith
-
-pub branches-branch-alloc-requires : goal.branches-branch-alloc-requires
-branches-branch-alloc-requires g t c κs within =
-    let lt : c.loop-number.number < 256 = omega (arith, c.events-events.ensures.few) in
+pub branches-next_branch-requires : goal.branches-next_branch-requires
+branches-next_branch-requires g t c κs within =
     let m : 6 * tall (shape c.args.prefix.now.then.now) + 2 < 6 * tall (shape c.args.prefix.now.then.now) + 3 = omega arith in
-    search (rules, m, lt)
+    search (rules, m)
 
-pub branches-returns-in_err-term : goal.branches-returns-in_err-term
-branches-returns-in_err-term g t c =
+pub branches-returns-in_err-found : goal.branches-returns-in_err-found
+branches-returns-in_err-found g t c =
     let s = within (g.G.GlobalScope.scope c.args.scope.now.global.now) (map input c.args.scope.now.inputs.items) in
+    let es = events (g.G.GlobalScope.scope c.args.scope.now.global.now).channels in
+    let q = c.args.prefix.now in
+    let test = led_fits q.channel.now (listed q.leading.items) (shapes q.fields.now) (map (λ v. listed v.items) q.sets.now) s in
+    let next = make (shape q.then.now) in
     let p = err_from_is_err_and c.from_residual.result c.from_residual.ensures.1 in
-    rw (p.1, p.2) (turn_fails (make (shape c.args.prefix.now.then.now)) c.args.prefix.now.channel.now (syntaxes (shapes c.args.prefix.now.fields.now)) (map (λ v. listed v.items) c.args.prefix.now.sets.now) s row c.events-events.result.now c.in_err-term.field-0.0.kind c.loop-number.number c.index-events-number.result (count c.loop-number.work) (map proc c.loop-number.terms.items) (all_from (make (shape c.args.prefix.now.then.now)) c.args.prefix.now.channel.now (syntaxes (shapes c.args.prefix.now.fields.now)) (map (λ v. listed v.items) c.args.prefix.now.sets.now) s 0 (events (g.G.GlobalScope.scope c.args.scope.now.global.now).channels) (count c.args.work)) c.loop-number.invariant (omega arith) c.index-events-number.is c.in_err-term.ensures)
+    rw (p.1, p.2) (turn_fails test next c.loop-terms.from (drop c.loop-terms.from es) (count c.loop-terms.work) (map proc c.loop-terms.terms.items) (make_fits test next 0 es (count c.args.work)) c.loop-terms.invariant c.in_err-found.field-0.0.kind c.in_err-found.ensures.branch)
 
-pub branches-returns-in_err-push : goal.branches-returns-in_err-push
-branches-returns-in_err-push g t c =
-    let p = err_from_is_err_and c.from_residual-in_err-push.result c.from_residual-in_err-push.ensures.1 in
-    rw (p.1, p.2) tt
-
-pub branches-loop-number-smaller : goal.branches-loop-number-smaller
-branches-loop-number-smaller g t c =
-    omega arith
-
-pub branches-loop-number-preserved : goal.branches-loop-number-preserved
-branches-loop-number-preserved g t c =
+pub branches-returns-in-None : goal.branches-returns-in-None
+branches-returns-in-None g t c =
     let s = within (g.G.GlobalScope.scope c.args.scope.now.global.now) (map input c.args.scope.now.inputs.items) in
-    next_turn (make (shape c.args.prefix.now.then.now)) c.args.prefix.now.channel.now (syntaxes (shapes c.args.prefix.now.fields.now)) (map (λ v. listed v.items) c.args.prefix.now.sets.now) s row c.events-events.result.now c.loop-number.number c.index-events-number.result (count c.loop-number.work) (option_map proc c.in_ok-term.term, count c.in_ok-term.next) (map proc c.loop-number.terms.items) (map proc c.match-term.terms.items) (all_from (make (shape c.args.prefix.now.then.now)) c.args.prefix.now.channel.now (syntaxes (shapes c.args.prefix.now.fields.now)) (map (λ v. listed v.items) c.args.prefix.now.sets.now) s 0 (events (g.G.GlobalScope.scope c.args.scope.now.global.now).channels) (count c.args.work)) c.loop-number.invariant (omega arith) c.index-events-number.is c.in_ok-term.ensures
-    (elim c.match-term.branch [
-      | branches-in-Some+in_ok-push w ↦ pushed proc c.loop-number.terms.items c.match-term.terms.items c.in_ok-term.term w.in-Some.term w.in-Some.is (ap (λ v. v.items) w.terms-is ∙ w.in_ok-push.ensures.items)
-      | branches-in_default w ↦ kept proc c.loop-number.terms.items c.match-term.terms.items c.in_ok-term.term (none_if c.in_ok-term.term w.in_default.not-Some) (ap (λ v. v.items) w.terms-is)
-    ])
+    let es = events (g.G.GlobalScope.scope c.args.scope.now.global.now).channels in
+    let q = c.args.prefix.now in
+    let test = led_fits q.channel.now (listed q.leading.items) (shapes q.fields.now) (map (λ v. listed v.items) q.sets.now) s in
+    let next = make (shape q.then.now) in
+    last_turn test next c.loop-terms.from (drop c.loop-terms.from es) (count c.loop-terms.work) (map proc c.loop-terms.terms.items) (make_fits test next 0 es (count c.args.work)) c.loop-terms.invariant (count c.in_ok-found.left) (c.in_ok-found.ensures.branch ∙ ap (λ o. some_found (option_map (λ p. (p.0, proc p.1, drop (suc p.0) es)) o, count c.in_ok-found.left)) c.in-None.is)
 
-pub branches-returns : goal.branches-returns
-branches-returns g t c =
+pub branches-loop-terms-smaller : goal.branches-loop-terms-smaller
+branches-loop-terms-smaller g t c =
+    let facts = subst (λ o. IfSome o (λ x. (c.loop-terms.from ≤ x.0) × (x.0 < 256))) c.in-Some.is c.in_ok-found.ensures.number in
+    omega (arith, facts.0, facts.1)
+
+pub branches-loop-terms-preserved : goal.branches-loop-terms-preserved
+branches-loop-terms-preserved g t c =
     let s = within (g.G.GlobalScope.scope c.args.scope.now.global.now) (map input c.args.scope.now.inputs.items) in
-    last_turn (make (shape c.args.prefix.now.then.now)) c.args.prefix.now.channel.now (syntaxes (shapes c.args.prefix.now.fields.now)) (map (λ v. listed v.items) c.args.prefix.now.sets.now) s row c.events-events.result.now c.loop-number.number (count c.loop-number.work) (map proc c.loop-number.terms.items) (all_from (make (shape c.args.prefix.now.then.now)) c.args.prefix.now.channel.now (syntaxes (shapes c.args.prefix.now.fields.now)) (map (λ v. listed v.items) c.args.prefix.now.sets.now) s 0 (events (g.G.GlobalScope.scope c.args.scope.now.global.now).channels) (count c.args.work)) c.loop-number.invariant (omega arith)
+    let es = events (g.G.GlobalScope.scope c.args.scope.now.global.now).channels in
+    let q = c.args.prefix.now in
+    let test = led_fits q.channel.now (listed q.leading.items) (shapes q.fields.now) (map (λ v. listed v.items) q.sets.now) s in
+    let next = make (shape q.then.now) in
+    next_turn test next c.loop-terms.from (drop c.loop-terms.from es) (count c.loop-terms.work) (map proc c.loop-terms.terms.items) (make_fits test next 0 es (count c.args.work)) c.loop-terms.invariant c.in-Some.number (proc c.in-Some.term) es (count c.in_ok-found.left) (map proc c.push.new.self.items) (c.in_ok-found.ensures.branch ∙ ap (λ o. some_found (option_map (λ p. (p.0, proc p.1, drop (suc p.0) es)) o, count c.in_ok-found.left)) c.in-Some.is) (put_behind proc c.loop-terms.terms.items c.push.new.self.items c.in-Some.term c.in_ok-push-in-Some.ensures.items)
 
 pub conditional_phrase-process-requires : goal.conditional_phrase-process-requires
 conditional_phrase-process-requires g t c κs within =

@@ -1,19 +1,19 @@
-use Rattle.std.proofs.Common.{◌≡◌, ◌+◌, ◌*◌, map, drop, length}
+use Rattle.std.proofs.Common.{◌≡◌, ◌+◌, ◌-◌, ◌*◌, map, drop, length}
 use Rattle.alphabet.specs.Channels.{events}
-use Rattle.syntax.specs.Parsing.{syntaxes}
 use Rattle.syntax.specs.View.{shape, shapes}
 use Rattle.term.specs.Proc.{proc}
 use Rattle.values.specs.Tables.{input}
+use Rattle.event_phrases.specs.Leading.{led_fits}
 use Rattle.event_phrases.specs.Scopes.{within}
 use Rattle.event_phrases.specs.Forms.{tall}
 use Rattle.denotation.specs.Forms.{inner_tall}
+use Rattle.denotation.specs.Branches.{make_fits}
 use Rattle.denotation.specs.Making.{make, branches_behind}
 use Rattle.denotation.specs.Shapes.{plain}
-use Rattle.event_phrases.specs.View.{listed, row}
+use Rattle.event_phrases.specs.View.{listed}
 use Rattle.denotation.specs.View.{count}
 use Rattle.denotation.specs.Places.{from_scope}
 use Rattle.denotation.specs.Walks.{make_visits}
-use Rattle.denotation.proofs.Turns.{all_from}
 use Rattle.denotation.proofs.making.+making.Given as goal
 
 abbrev pub decreases-process : goal.decreases-process
@@ -28,8 +28,8 @@ decreases-prefixed g l = 6 * tall (shape l.then.now) + 4
 abbrev pub decreases-branches : goal.decreases-branches
 decreases-branches g l = 6 * tall (shape l.prefix.now.then.now) + 3
 
-abbrev pub decreases-branch : goal.decreases-branch
-decreases-branch g l = 6 * tall (shape l.prefix.now.then.now) + 2
+abbrev pub decreases-next_branch : goal.decreases-next_branch
+decreases-next_branch g l = 6 * tall (shape l.prefix.now.then.now) + 2
 
 abbrev pub decreases-joined_phrases : goal.decreases-joined_phrases
 decreases-joined_phrases g l = 6 * (tall (shape l.first.now) + tall (shape l.second.now)) + 4
@@ -70,11 +70,13 @@ invariant-over-loop-at g l =
     let next = make (shape l.then) in
     branches_behind (map proc l.terms.items) (make_visits next (from_scope s l.at) (count l.work)) ≡ make_visits next (from_scope s l.fn.first) (count l.fn.work)
 
-abbrev pub invariant-branches-loop-number : goal.invariant-branches-loop-number
-invariant-branches-loop-number g l =
+abbrev pub decreases-branches-loop-terms : goal.decreases-branches-loop-terms
+decreases-branches-loop-terms g l = 256 - l.from
+
+abbrev pub invariant-branches-loop-terms : goal.invariant-branches-loop-terms
+invariant-branches-loop-terms g l =
     let s = within (g.G.GlobalScope.scope l.scope.global.now) (map input l.scope.inputs.items) in
+    let es = events (g.G.GlobalScope.scope l.scope.global.now).channels in
+    let test = led_fits l.prefix.channel.now (listed l.prefix.leading.items) (shapes l.prefix.fields.now) (map (λ v. listed v.items) l.prefix.sets.now) s in
     let next = make (shape l.prefix.then.now) in
-    let sets = map (λ v. listed v.items) l.prefix.sets.now in
-    let fields = syntaxes (shapes l.prefix.fields.now) in
-    branches_behind (map proc l.terms.items) (all_from next l.prefix.channel.now fields sets s l.number (map row (drop l.number l.events)) (count l.work))
-    ≡ all_from next l.prefix.channel.now fields sets s 0 (events (g.G.GlobalScope.scope l.scope.global.now).channels) (count l.fn.work)
+    branches_behind (map proc l.terms.items) (make_fits test next l.from (drop l.from es) (count l.work)) ≡ make_fits test next 0 es (count l.fn.work)

@@ -31,7 +31,7 @@ returns-in_err-at_no_fault-in-Some-fields-clause-parts g c =
     let p = err_from_is_err_and c.from_residual.result c.from_residual.ensures.1 in
     rw (p.1, p.2) (field_fails s (shape c.args.event.now) c.in-Some.channel.now (shapes c.in-Some.fields.now) c.in-Some.ensures (map (λ v. listed v.items) c.in-Some-fields.sets.now) c.in-Some-fields.ensures (length-map c.in-Some.fields.now shape ∙ c.if-fields-sets.false ∙ sym (length-map c.in-Some-fields.sets.now (λ v. listed v.items))) c.in_err-at_no_fault-in-Some-fields.field-0.0.kind c.in_err-at_no_fault-in-Some-fields.ensures)
 
-pub returns-in_ok-at_no_fault-in-Some-fields-clause-parts : goal.returns-in_ok-at_no_fault-in-Some-fields-clause-parts
-returns-in_ok-at_no_fault-in-Some-fields-clause-parts g c =
+pub returns-in_ok-leading-in-Some-fields-clause-parts : goal.returns-in_ok-leading-in-Some-fields-clause-parts
+returns-in_ok-leading-in-Some-fields-clause-parts g c =
     let s = within (g.G.GlobalScope.scope c.args.scope.now.global.now) (map input c.args.scope.now.inputs.items) in
     parts_found s (shape c.args.event.now) c.in-Some.channel.now (shapes c.in-Some.fields.now) c.in-Some.ensures (map (λ v. listed v.items) c.in-Some-fields.sets.now) c.in-Some-fields.ensures (length-map c.in-Some.fields.now shape ∙ c.if-fields-sets.false ∙ sym (length-map c.in-Some-fields.sets.now (λ v. listed v.items))) c.in_ok-at_no_fault-in-Some-fields.ensures

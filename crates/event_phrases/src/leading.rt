@@ -1,0 +1,170 @@
+//! The first values of a prefix, and the events that fit it.
+ghost use Rattle.std.specs.Prelude.{◌≡◌, ℕ, suc, ◌≤◌, ◌<◌, ◌++◌, IfOk, IfSome, Some, drop, map};
+ghost use Rattle.std.specs.Option.{option_map};
+ghost use Rattle.alphabet.specs.Channels.{events as events_of};
+ghost use Rattle.syntax.specs.View.{shape, shapes};
+ghost use Rattle.values.specs.Tables.{input};
+ghost use Rattle.values.specs.View.{Gives, value as value_of};
+ghost use Rattle.event_phrases.specs.Events.{field_value};
+ghost use Rattle.event_phrases.specs.Leading.{first_fit, leading, led_fits, led_fitting as led_fitting_of, value_within};
+ghost use Rattle.event_phrases.specs.Scopes.{within};
+ghost use Rattle.event_phrases.specs.View.{listed, row};
+
+use crate::beginning::{given, is_one_of};
+use crate::global_scope::{GlobalScope, Set};
+use crate::prefix::{Prefix, fitting};
+use crate::row::{Row, is_equal};
+use crate::scope::{Scope, copies, fault};
+use std::alloc::Allocator;
+use syntax::Tree;
+use tokens::{ScriptError, ScriptErrorKind};
+use values::{Input, Value};
+
+/// The value that a field gives, if it is one of the field's set. A fault isn't reported here.
+#[tactic(auto, unfolding(crate::specs::Leading::value_within))]
+fn leading_value<A: Allocator + Copy, G: GlobalScope<A>>(
+    alloc: A,
+    scope: &Scope<'_, A, G>,
+    field: &Tree<A>,
+    set: &Set<A>,
+) -> Result<Option<Value<A>>, ScriptError>
+    ensures { Gives (option_map value_of) result (Some (value_within (field_value (within (G.scope scope.now.global.now) (map input scope.now.inputs.items)).known (shape field.now)) (listed set.now.items))) }
+{
+    match given(alloc, scope, field) {
+        Ok(value) => {
+            if is_one_of(&value, set) {
+                Ok(Some(value))
+            } else {
+                Ok(None)
+            }
+        }
+        Err(error) => match error.kind {
+            ScriptErrorKind::Memory => Err(error),
+            _ => Ok(None),
+        },
+    }
+}
+
+/// The values before, and after them those of the first fields, as far as they give one of their set.
+#[tactic(auto, unfolding(crate::specs::Leading::leading, crate::specs::Leading::before_more))]
+fn more_leading<A: Allocator + Copy, G: GlobalScope<A>>(
+    alloc: A,
+    scope: &Scope<'_, A, G>,
+    fields: &[Tree<A>],
+    sets: &[Set<A>],
+    before: Vec<Value<A>, A>,
+) -> Result<Vec<Value<A>, A>, ScriptError>
+    ensures { Gives (λ v. listed v.items) result (Some (listed before.items ++ leading (within (G.scope scope.now.global.now) (map input scope.now.inputs.items)).known (shapes fields.now) (map (λ v. listed v.items) sets.now))) }
+{
+    match fields {
+        [] => Ok(before),
+        [field, fields @ ..] => match sets {
+            [] => Ok(before),
+            [set, sets @ ..] => match leading_value(alloc, scope, field, set)? {
+                None => Ok(before),
+                Some(value) => {
+                    let mut values = before;
+                    values.push(value)?;
+                    more_leading(alloc, scope, fields, sets, values)
+                }
+            },
+        },
+    }
+}
+
+/// The values of the first fields, as far as they give one of their set. A field that is at fault is left to the events.
+pub(crate) fn leading_values<A: Allocator + Copy, G: GlobalScope<A>>(
+    alloc: A,
+    scope: &Scope<'_, A, G>,
+    fields: &[Tree<A>],
+    sets: &[Set<A>],
+) -> Result<Vec<Value<A>, A>, ScriptError>
+    ensures { Gives (λ v. listed v.items) result (Some (leading (within (G.scope scope.now.global.now) (map input scope.now.inputs.items)).known (shapes fields.now) (map (λ v. listed v.items) sets.now))) }
+{
+    more_leading(alloc, scope, fields, sets, Vec::new(alloc))
+}
+
+/// The inputs after the fields, if the event's values fit them; the first fields have these values.
+#[tactic(auto, unfolding(crate::specs::Leading::led_fitting))]
+fn led_fitting<A: Allocator + Copy, G: GlobalScope<A>>(
+    alloc: A,
+    scope: &Scope<'_, A, G>,
+    leading: &[Value<A>],
+    fields: &[Tree<A>],
+    sets: &[Set<A>],
+    values: &[Value<A>],
+    line: u32,
+) -> Result<Option<Vec<Input<A>, A>>, ScriptError>
+    ensures { Gives (option_map (λ v. within (G.scope scope.now.global.now) (map input v.items))) result (led_fitting_of (listed leading.now) (shapes fields.now) (map (λ v. listed v.items) sets.now) (listed values.now) (within (G.scope scope.now.global.now) (map input scope.now.inputs.items))) }
+{
+    match leading {
+        [] => {
+            let inputs = copies(alloc, &scope.inputs)?;
+            fitting(alloc, scope.global, inputs, fields, sets, values, line)
+        }
+        [first, leading @ ..] => match fields {
+            [] => Err(fault(line, ScriptErrorKind::WrongFields)),
+            [_field, fields @ ..] => match sets {
+                [] => Err(fault(line, ScriptErrorKind::WrongFields)),
+                [_set, sets @ ..] => match values {
+                    [] => Err(fault(line, ScriptErrorKind::WrongFields)),
+                    [value, values @ ..] => {
+                        if is_equal(first, value) {
+                            led_fitting(alloc, scope, leading, fields, sets, values, line)
+                        } else {
+                            Ok(None)
+                        }
+                    }
+                },
+            },
+        },
+    }
+}
+
+/// The inputs after a prefix, where the event fits it, and `None` where it doesn't. A fault has the line of the phrase that is
+/// at fault: a field without a value, a value outside its field's set (`OutOfRange`), an input by a constant's name
+/// (`Unsupported`).
+#[tactic(auto, unfolding(crate::specs::Leading::led_fits))]
+fn inputs_behind<A: Allocator + Copy, G: GlobalScope<A>>(
+    alloc: A,
+    scope: &Scope<'_, A, G>,
+    prefix: &Prefix<'_, A>,
+    event: &Row<A>,
+) -> Result<Option<Vec<Input<A>, A>>, ScriptError>
+    ensures { Gives (option_map (λ v. within (G.scope scope.now.global.now) (map input v.items))) result (led_fits prefix.now.channel.now (listed prefix.now.leading.items) (shapes prefix.now.fields.now) (map (λ v. listed v.items) prefix.now.sets.now) (within (G.scope scope.now.global.now) (map input scope.now.inputs.items)) (row event.now)) }
+{
+    if prefix.channel != event.channel.as_slice() {
+        return Ok(None);
+    }
+    led_fitting(
+        alloc,
+        scope,
+        &prefix.leading,
+        prefix.fields,
+        prefix.sets,
+        &event.values,
+        prefix.line,
+    )
+}
+
+/// The first event from this number on that fits the prefix, by its number, with the inputs after the prefix; `None` where no
+/// more fits.
+pub fn next_fitting<A: Allocator + Copy, G: GlobalScope<A>>(
+    alloc: A,
+    scope: &Scope<'_, A, G>,
+    prefix: &Prefix<'_, A>,
+    from: usize,
+) -> Result<Option<(usize, Vec<Input<A>, A>)>, ScriptError>
+    ensures first { Gives (option_map (λ x. (x.0, within (G.scope scope.now.global.now) (map input x.1.items), drop (suc x.0) (events_of (G.scope scope.now.global.now).channels)))) result (first_fit (led_fits prefix.now.channel.now (listed prefix.now.leading.items) (shapes prefix.now.fields.now) (map (λ v. listed v.items) prefix.now.sets.now) (within (G.scope scope.now.global.now) (map input scope.now.inputs.items))) from (drop from (events_of (G.scope scope.now.global.now).channels))) }
+    ensures number { IfOk result (λ o. IfSome o (λ x. (from ≤ x.0) × (x.0 < 256))) }
+{
+    let events = scope.global.events();
+    let mut number = from;
+    while number < events.len() {
+        if let Some(inputs) = inputs_behind(alloc, scope, prefix, &events[number])? {
+            return Ok(Some((number, inputs)));
+        }
+        number += 1;
+    }
+    Ok(None)
+}
