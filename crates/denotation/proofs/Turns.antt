@@ -14,11 +14,7 @@ use Rattle.event_phrases.specs.Scopes.{Scope}
 use Rattle.event_phrases.proofs.FirstValues.{led_fits_is}
 use Rattle.event_phrases.proofs.Options.{bind_same, fails_at, fails_on, step}
 use Rattle.denotation.specs.Branches.{FoundFit, make_fit, make_first_fit, make_fits}
-<<<<<<< HEAD
-use Rattle.denotation.specs.Making.{Count, Made, AllMade, make_behind, make_branches, make_one, branches_behind, put, spend}
-=======
 use Rattle.denotation.specs.Making.{Count, Made, AllMade, FoundBranch, make_behind, make_branches, make_one, branches_behind, put, spend}
->>>>>>> 7d15c2c59216dece3f64e8edb668cc539e7dec93
 use Rattle.denotation.proofs.Prefixes.{branch_is}
 
 abbrev some_all : AllMade → Option AllMade
@@ -30,15 +26,12 @@ some_fit o = Some o
 abbrev pub some_found : FoundFit → Option FoundFit
 some_found x = Some x
 
-<<<<<<< HEAD
-=======
 abbrev some_branch : FoundBranch → Option FoundBranch
 some_branch x = Some x
 
 abbrev some_made : Made → Option Made
 some_made x = Some x
 
->>>>>>> 7d15c2c59216dece3f64e8edb668cc539e7dec93
 abbrev put_before : Option Proc → AllMade → Option AllMade
 put_before p y = Some (put p y.0, y.1)
 
@@ -64,19 +57,11 @@ module _ (test : Parts → Fitting) (next : Scope → Count → Option Made) whe
   fits_are a [] w = refl
   fits_are a (p ∷ ps) w = by (test p) (λ w. fits_are (suc a) ps w)
     where
-<<<<<<< HEAD
-      spent : (p : Made) (o : Option Count) → ((o >>= λ u. Some (Some (prefix a p.0), u)) >>= λ x. make_fits test next (suc a) ps x.1 >>= put_before x.0) ≡ ((o >>= λ u. Some (Some (a, prefix a p.0, ps), u)) >>= more_fits)
-      spent p None = refl
-      spent p (Some u) = refl
-
-      made : (o : Option Made) → ((o >>= λ p. spend 1 p.1 >>= λ u. Some (Some (prefix a p.0), u)) >>= λ x. make_fits test next (suc a) ps x.1 >>= put_before x.0) ≡ ((o >>= λ p. spend 1 p.1 >>= λ u. Some (Some (a, prefix a p.0, ps), u)) >>= more_fits)
-=======
       spent : (p : Made) (o : Option Count) → ((o >>= λ u. some_branch (Some (prefix a p.0), u)) >>= λ x. make_fits test next (suc a) ps x.1 >>= put_before x.0) ≡ ((o >>= λ u. some_found (Some (a, prefix a p.0, ps), u)) >>= more_fits)
       spent p None = refl
       spent p (Some u) = refl
 
       made : (o : Option Made) → ((o >>= λ p. spend 1 p.1 >>= λ u. some_branch (Some (prefix a p.0), u)) >>= λ x. make_fits test next (suc a) ps x.1 >>= put_before x.0) ≡ ((o >>= λ p. spend 1 p.1 >>= λ u. some_found (Some (a, prefix a p.0, ps), u)) >>= more_fits)
->>>>>>> 7d15c2c59216dece3f64e8edb668cc539e7dec93
       made None = refl
       made (Some p) = spent p (spend 1 p.1)
 
@@ -122,19 +107,11 @@ module _ (test : Parts → Fitting) (next : Scope → Count → Option Made) (i 
     unfolding make_fit
     fits = step (first_fit test i ps) (make_fit next w) (Some (b, inner, rest)) h ∙ by (next inner w)
       where
-<<<<<<< HEAD
-        spent : (p : Made) (o : Option Count) → (o >>= λ u. Some (Some (b, prefix b p.0, rest), u)) ≡ ((o >>= λ u. Some (prefix b p.0, u)) >>= with_event)
-        spent p None = refl
-        spent p (Some u) = refl
-
-        by : (o : Option Made) → (o >>= λ p. spend 1 p.1 >>= λ u. Some (Some (b, prefix b p.0, rest), u)) ≡ (o >>= λ p. make_one (prefix b) p >>= with_event)
-=======
         spent : (p : Made) (o : Option Count) → (o >>= λ u. some_found (Some (b, prefix b p.0, rest), u)) ≡ ((o >>= λ u. some_made (prefix b p.0, u)) >>= with_event)
         spent p None = refl
         spent p (Some u) = refl
 
         by : (o : Option Made) → (o >>= λ p. spend 1 p.1 >>= λ u. some_found (Some (b, prefix b p.0, rest), u)) ≡ (o >>= λ p. make_one (prefix b) p >>= with_event)
->>>>>>> 7d15c2c59216dece3f64e8edb668cc539e7dec93
         by None = refl
         by (Some p) = spent p (spend 1 p.1)
 

@@ -383,13 +383,8 @@ next_branch-returns-in_ok-term-in-Some-2-clause-branch g t c =
     let found = c.in_ok-found.ensures.first ∙ ap (λ o. some_fit (option_map (λ x. (x.0, within (g.G.GlobalScope.scope c.args.scope.now.global.now) (map input x.1.items), drop (suc x.0) es)) o)) c.in-Some.is in
     event_made test next c.args.from (drop c.args.from es) (count c.args.work) number inner (drop (suc number) es) found (proc c.in_ok-term-in-Some.term, count c.in_ok-term-in-Some.work) c.in_ok-term-in-Some.ensures (proc c.in_ok-term-in-Some-2.term, count c.in_ok-term-in-Some-2.work) c.in_ok-term-in-Some-2.ensures
 
-<<<<<<< HEAD
-pub branches-loop-found-init : goal.branches-loop-found-init
-branches-loop-found-init g t c =
-=======
 pub branches-loop-terms-init : goal.branches-loop-terms-init
 branches-loop-terms-init g t c =
->>>>>>> 7d15c2c59216dece3f64e8edb668cc539e7dec93
     let s = within (g.G.GlobalScope.scope c.args.scope.now.global.now) (map input c.args.scope.now.inputs.items) in
     let es = events (g.G.GlobalScope.scope c.args.scope.now.global.now).channels in
     let q = c.args.prefix.now in
@@ -410,11 +405,7 @@ branches-returns-in_err-found g t c =
     let test = led_fits q.channel.now (listed q.leading.items) (shapes q.fields.now) (map (λ v. listed v.items) q.sets.now) s in
     let next = make (shape q.then.now) in
     let p = err_from_is_err_and c.from_residual.result c.from_residual.ensures.1 in
-<<<<<<< HEAD
-    rw (p.1, p.2) (turn_fails test next c.loop-found.from (drop c.loop-found.from es) (count c.loop-found.work) (map proc c.loop-found.terms.items) (make_fits test next 0 es (count c.args.work)) c.loop-found.invariant c.in_err-found.field-0.0.kind c.in_err-found.ensures.branch)
-=======
     rw (p.1, p.2) (turn_fails test next c.loop-terms.from (drop c.loop-terms.from es) (count c.loop-terms.work) (map proc c.loop-terms.terms.items) (make_fits test next 0 es (count c.args.work)) c.loop-terms.invariant c.in_err-found.field-0.0.kind c.in_err-found.ensures.branch)
->>>>>>> 7d15c2c59216dece3f64e8edb668cc539e7dec93
 
 pub branches-returns-in-None : goal.branches-returns-in-None
 branches-returns-in-None g t c =
@@ -423,17 +414,6 @@ branches-returns-in-None g t c =
     let q = c.args.prefix.now in
     let test = led_fits q.channel.now (listed q.leading.items) (shapes q.fields.now) (map (λ v. listed v.items) q.sets.now) s in
     let next = make (shape q.then.now) in
-<<<<<<< HEAD
-    last_turn test next c.loop-found.from (drop c.loop-found.from es) (count c.loop-found.work) (map proc c.loop-found.terms.items) (make_fits test next 0 es (count c.args.work)) c.loop-found.invariant (count c.in_ok-found.left) (c.in_ok-found.ensures.branch ∙ ap (λ o. some_found (option_map (λ p. (p.0, proc p.1, drop (suc p.0) es)) o, count c.in_ok-found.left)) c.in-None.is)
-
-pub branches-loop-found-smaller : goal.branches-loop-found-smaller
-branches-loop-found-smaller g t c =
-    let facts = subst (λ o. IfSome o (λ x. (c.loop-found.from ≤ x.0) × (x.0 < 256))) c.in-Some.is c.in_ok-found.ensures.number in
-    omega (arith, facts.0, facts.1)
-
-pub branches-loop-found-preserved : goal.branches-loop-found-preserved
-branches-loop-found-preserved g t c =
-=======
     last_turn test next c.loop-terms.from (drop c.loop-terms.from es) (count c.loop-terms.work) (map proc c.loop-terms.terms.items) (make_fits test next 0 es (count c.args.work)) c.loop-terms.invariant (count c.in_ok-found.left) (c.in_ok-found.ensures.branch ∙ ap (λ o. some_found (option_map (λ p. (p.0, proc p.1, drop (suc p.0) es)) o, count c.in_ok-found.left)) c.in-None.is)
 
 pub branches-loop-terms-smaller : goal.branches-loop-terms-smaller
@@ -443,17 +423,12 @@ branches-loop-terms-smaller g t c =
 
 pub branches-loop-terms-preserved : goal.branches-loop-terms-preserved
 branches-loop-terms-preserved g t c =
->>>>>>> 7d15c2c59216dece3f64e8edb668cc539e7dec93
     let s = within (g.G.GlobalScope.scope c.args.scope.now.global.now) (map input c.args.scope.now.inputs.items) in
     let es = events (g.G.GlobalScope.scope c.args.scope.now.global.now).channels in
     let q = c.args.prefix.now in
     let test = led_fits q.channel.now (listed q.leading.items) (shapes q.fields.now) (map (λ v. listed v.items) q.sets.now) s in
     let next = make (shape q.then.now) in
-<<<<<<< HEAD
-    next_turn test next c.loop-found.from (drop c.loop-found.from es) (count c.loop-found.work) (map proc c.loop-found.terms.items) (make_fits test next 0 es (count c.args.work)) c.loop-found.invariant c.in-Some.number (proc c.in-Some.term) es (count c.in_ok-found.left) (map proc c.push.new.self.items) (c.in_ok-found.ensures.branch ∙ ap (λ o. some_found (option_map (λ p. (p.0, proc p.1, drop (suc p.0) es)) o, count c.in_ok-found.left)) c.in-Some.is) (put_behind proc c.loop-found.terms.items c.push.new.self.items c.in-Some.term c.in_ok-push.ensures.items)
-=======
     next_turn test next c.loop-terms.from (drop c.loop-terms.from es) (count c.loop-terms.work) (map proc c.loop-terms.terms.items) (make_fits test next 0 es (count c.args.work)) c.loop-terms.invariant c.in-Some.number (proc c.in-Some.term) es (count c.in_ok-found.left) (map proc c.push.new.self.items) (c.in_ok-found.ensures.branch ∙ ap (λ o. some_found (option_map (λ p. (p.0, proc p.1, drop (suc p.0) es)) o, count c.in_ok-found.left)) c.in-Some.is) (put_behind proc c.loop-terms.terms.items c.push.new.self.items c.in-Some.term c.in_ok-push-in-Some.ensures.items)
->>>>>>> 7d15c2c59216dece3f64e8edb668cc539e7dec93
 
 pub conditional_phrase-process-requires : goal.conditional_phrase-process-requires
 conditional_phrase-process-requires g t c κs within =

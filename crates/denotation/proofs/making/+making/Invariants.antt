@@ -70,19 +70,11 @@ invariant-over-loop-at g l =
     let next = make (shape l.then) in
     branches_behind (map proc l.terms.items) (make_visits next (from_scope s l.at) (count l.work)) ≡ make_visits next (from_scope s l.fn.first) (count l.fn.work)
 
-<<<<<<< HEAD
-abbrev pub decreases-branches-loop-found : goal.decreases-branches-loop-found
-decreases-branches-loop-found g l = 256 - l.from
-
-abbrev pub invariant-branches-loop-found : goal.invariant-branches-loop-found
-invariant-branches-loop-found g l =
-=======
 abbrev pub decreases-branches-loop-terms : goal.decreases-branches-loop-terms
 decreases-branches-loop-terms g l = 256 - l.from
 
 abbrev pub invariant-branches-loop-terms : goal.invariant-branches-loop-terms
 invariant-branches-loop-terms g l =
->>>>>>> 7d15c2c59216dece3f64e8edb668cc539e7dec93
     let s = within (g.G.GlobalScope.scope l.scope.global.now) (map input l.scope.inputs.items) in
     let es = events (g.G.GlobalScope.scope l.scope.global.now).channels in
     let test = led_fits l.prefix.channel.now (listed l.prefix.leading.items) (shapes l.prefix.fields.now) (map (λ v. listed v.items) l.prefix.sets.now) s in

@@ -1,8 +1,4 @@
-<<<<<<< HEAD
-use Rattle.std.proofs.Common.{Some, arith, drop, map, suc, ap, ◌∙◌}
-=======
 use Rattle.std.proofs.Common.{arith, drop, map, ap, ◌∙◌}
->>>>>>> 7d15c2c59216dece3f64e8edb668cc539e7dec93
 use Rattle.std.specs.Option.{option_map}
 use Rattle.std.proofs.lemmas.Result.{err_from_is_err_and}
 use Rattle.alphabet.specs.Channels.{events}
