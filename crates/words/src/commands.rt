@@ -10,7 +10,7 @@ use std::convert::AsStr;
 use std::net::SocketAddrV4;
 
 /// The version of the program, as `--version` prints it.
-const VERSION: &str = "0.5.0";
+const VERSION: &str = "0.5.1";
 
 // How a fault of the address is reported.
 const BAD_ADDRESS: &str = "ADDR is 127.x.y.z:port, in decimals without leading zeros";
