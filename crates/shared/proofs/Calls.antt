@@ -1,7 +1,8 @@
 -- A seat's own calls in what it has seen.
 use Rattle.std.proofs.Common.{◌≡◌, ℕ, ◌+◌, ◌<◌, ◌≤◌, ◌==◌, List, [], ◌∷◌, ◌++◌, length, Bool, true, false, cond, refl, sym, ap, ◌∙◌, subst, arith, append_assoc, length-append}
-use Rattle.std.specs.Prelude.{IsTrue, MatchBool}
-use Rattle.std.proofs.lemmas.List.{append-nil}
+use Rattle.std.specs.Prelude.{IsTrue, MatchBool, take, drop}
+use Rattle.std.proofs.lemmas.List.{append-nil, take-append-le, take-append-drop, length-take-le}
+use Rattle.std.proofs.Math.Seq.{take-length}
 use Rattle.std.proofs.lemmas.List.Elements.{filter-append}
 use Rattle.std.proofs.lemmas.Bool.Decides.{nat_tests}
 use Rattle.term.specs.Proc.{Proc}
@@ -54,31 +55,51 @@ answered B k n whole mine e had is seat number fits =
     let same : length (calls whole k) ≡ length mine = omega (arith, fits.number, number, is, ap (λ j. length (calls whole j)) seat) in
     calls-push k whole e seat ∙ ap (λ l. l ++ e ∷ []) (calls_all (calls whole k) mine had same)
 
+-- ---- a seat's own answered reports are the first so many of its calls
+own_begins : (n k : ℕ) (seen : List Entry) → StartsWith (calls seen k) (take n (calls seen k))
+own_begins n k seen = (drop n (calls seen k), sym (take-append-drop n (calls seen k)))
+
+-- they stay where more is seen
+pub own_stays : (n k : ℕ) (whole part : List Entry) → StartsWith whole part → n ≤ length (calls part k) → take n (calls whole k) ≡ take n (calls part k)
+own_stays n k whole part p few = ap (λ l. take n (calls l k)) p.1 ∙ ap (take n) (calls-append k part p.0) ∙ take-append-le n (calls part k) (calls p.0 k) few
+
+pub own_enough : (n k : ℕ) (whole part : List Entry) → StartsWith whole part → n ≤ length (calls part k) → n ≤ length (calls whole k)
+own_enough n k whole part p few = omega (arith, few, ap (λ l. length (calls l k)) p.1, ap length (calls-append k part p.0), length-append (calls part k) (calls p.0 k))
+
+pub own_within : (n k : ℕ) (whole part : List Entry) → StartsWith whole part → StartsWith (calls whole k) (take n (calls part k))
+own_within n k whole part p = calls-longer k whole part (take n (calls part k)) p (own_begins n k part)
+
 -- what a catch up leaves
-pub caught_up : (k : ℕ) (o front old locked mine : List Entry) (s t : Summary) (b : Bool)
+pub caught_up : (n k : ℕ) (o front old locked : List Entry) (s t : Summary) (b : Bool)
     → MatchBool b ((front ≡ locked) × StartsWith front old × (s ≡ summary_of (o ++ front))) ((front ≡ old) × (s ≡ t))
-    → t ≡ summary_of (o ++ old) → StartsWith (calls (o ++ old) k) mine
-    → (s ≡ summary_of (o ++ front)) × StartsWith (calls (o ++ front) k) mine
-caught_up k o front old locked mine s t true h is m = (h.2, calls-longer k (o ++ front) (o ++ old) mine (begins_after o old front h.1) m)
-caught_up k o front old locked mine s t false h is m =
-    (h.1 ∙ is ∙ ap (λ (f : List Entry). summary_of (o ++ f)) (sym h.0), subst (λ (f : List Entry). StartsWith (calls (o ++ f) k) mine) (sym h.0) m)
+    → t ≡ summary_of (o ++ old) → n ≤ length (calls (o ++ old) k)
+    → (s ≡ summary_of (o ++ front)) × (n ≤ length (calls (o ++ front) k)) × (take n (calls (o ++ front) k) ≡ take n (calls (o ++ old) k))
+caught_up n k o front old locked s t true h is m =
+    let longer = begins_after o old front h.1 in
+    (h.2, own_enough n k (o ++ front) (o ++ old) longer m, own_stays n k (o ++ front) (o ++ old) longer m)
+caught_up n k o front old locked s t false h is m =
+    (
+      h.1 ∙ is ∙ ap (λ (f : List Entry). summary_of (o ++ f)) (sym h.0),
+      subst (λ (f : List Entry). n ≤ length (calls (o ++ f) k)) (sym h.0) m,
+      ap (λ (f : List Entry). take n (calls (o ++ f) k)) h.0,
+    )
 
 -- a seat's own entry after all that it has seen is its next call
-pub own_call : (B : ℕ → Proc) (k : ℕ) (o front now mine : List Entry) (e : Entry) → now ≡ front ++ e ∷ [] → StartsWith (calls (o ++ front) k) mine → e.seat ≡ k → e.number ≡ length mine + 1 → Fits B (o ++ front) e
+own_call : (B : ℕ → Proc) (k : ℕ) (o front now mine : List Entry) (e : Entry) → now ≡ front ++ e ∷ [] → StartsWith (calls (o ++ front) k) mine → e.seat ≡ k → e.number ≡ length mine + 1 → Fits B (o ++ front) e
     → calls (o ++ now) k ≡ mine ++ e ∷ []
 own_call B k o front now mine e is m seat number fits =
     ap (λ (f : List Entry). calls (o ++ f) k) is ∙ ap (λ l. calls l k) (sym (append_assoc o front (e ∷ [])))
     ∙ answered B k (length mine + 1) (o ++ front) mine e m refl seat number fits
 
 -- what a report leaves of a seat's calls
-pub after_report : (B : ℕ → Proc) (k : ℕ) (o front now mine items : List Entry) (e : Entry) → now ≡ front ++ e ∷ [] → StartsWith (calls (o ++ front) k) mine → e.seat ≡ k → e.number ≡ length mine + 1 → Fits B (o ++ front) e
-    → length (o ++ front) < 1000000 → items ≡ mine ++ e ∷ []
-    → (calls (o ++ now) k ≡ items) × StartsWith (calls (o ++ now) k) items × (length items ≤ 1000000)
-after_report B k o front now mine items e is m seat number fits within got =
-    let own = own_call B k o front now mine e is m seat number fits in
-    let all : calls (o ++ now) k ≡ items = own ∙ sym got in
-    let long : length (o ++ now) ≡ length (o ++ front) + 1 = omega (arith, length-append o now, length-append o front, ap length is, length-append front (e ∷ [])) in (
-      all,
-      subst (λ (l : List Entry). StartsWith (calls (o ++ now) k) l) all (begins_self (calls (o ++ now) k)),
-      omega (arith, ap length all, calls-le (o ++ now) k, long, within),
-    )
+pub after_report : (B : ℕ → Proc) (n k : ℕ) (o front now : List Entry) (e : Entry) → now ≡ front ++ e ∷ [] → n ≤ length (calls (o ++ front) k) → e.seat ≡ k → e.number ≡ n + 1 → Fits B (o ++ front) e
+    → length (o ++ front) < 1000000
+    → (calls (o ++ now) k ≡ take n (calls (o ++ front) k) ++ e ∷ []) × (take (n + 1) (calls (o ++ now) k) ≡ take n (calls (o ++ front) k) ++ e ∷ []) × (n + 1 ≤ length (calls (o ++ now) k)) × (n + 1 ≤ 1000000)
+after_report B n k o front now e is few seat number fits within =
+    let mine = take n (calls (o ++ front) k) in
+    let count : length mine ≡ n = length-take-le n (calls (o ++ front) k) few in
+    let own : calls (o ++ now) k ≡ mine ++ e ∷ [] = own_call B k o front now mine e is (own_begins n k (o ++ front)) seat (omega (arith, number, count)) fits in
+    let all : length (calls (o ++ now) k) ≡ n + 1 = omega (arith, ap length own, length-append mine (e ∷ []), count) in
+    let whole : take (n + 1) (calls (o ++ now) k) ≡ calls (o ++ now) k = ap (λ (i : ℕ). take i (calls (o ++ now) k)) (sym all) ∙ take-length (calls (o ++ now) k) in
+    let long : length (o ++ now) ≡ length (o ++ front) + 1 = omega (arith, length-append o now, length-append o front, ap length is, length-append front (e ∷ [])) in
+    (own, whole ∙ own, omega (arith, all), omega (arith, all, calls-le (o ++ now) k, long, within))

@@ -9,7 +9,6 @@ use Rattle.session.specs.Legal.{Legal}
 use Rattle.session.specs.Beginnings.{StartsWith}
 use Rattle.session.proofs.Beginnings.{begins_self, begins_trans, begins_push}
 use Rattle.session.specs.declared.fault.Fault.{Fault}
-use Rattle.session.specs.declared.fault.Fault.TheVariants.{Memory}
 use Rattle.shared.specs.Told.{SeatTold}
 use Rattle.shared.specs.Faults.{Answers, closes}
 use Rattle.shared.specs.Seats.{IsEntryOf, Answered, Refused}
@@ -64,17 +63,6 @@ refused_later B old now new r f later a = record {
   why = subst (λ (k : ℕ). Answers B new.seen k old.mine r f) later.seat (subst (λ (l : List Entry). Answers B new.seen now.seat l r f) later.mine a.why);
   seat = a.seat ∙ later.seat;
   closed = a.closed ∙ ap (λ (b : Bool). closes f || b) later.closed;
-}
-
--- memory was refused before the lock was taken
-pub refused_early : (B : ℕ → Proc) (old now : SeatTold) (r : Report) → IsLater old now → Legal B now.seen → Refused B old now r Memory
-refused_early B old now r later legal = record {
-  legal = legal;
-  begins = later.seen;
-  same = later.mine;
-  why = tt;
-  seat = later.seat;
-  closed = later.closed;
 }
 
 -- a history with an entry more begins with what the history before it begins with

@@ -2,12 +2,11 @@
 use Rattle.std.specs.Prelude.{ℕ, List, Bool}
 use Rattle.session.specs.Entry.{Entry}
 
--- The seat's number; what it has seen of the list after the opening, and of the whole history; its own answered reports; whether a report
--- of it was answered by a fault that closes; and for how many reports of its own there is room.
+-- The seat's number; what it has seen of the list after the opening, and of the whole history; its own answered reports; and whether a
+-- report of it was answered by a fault that closes.
 pub record SeatTold : Type 0 where
   pub seat : ℕ
   pub front : List Entry
   pub seen : List Entry
   pub mine : List Entry
   pub closed : Bool
-  pub room : ℕ

@@ -68,10 +68,10 @@ impl<D: Disk + Drop, A: Allocator + Copy, N: Naming> Shared<D, A, N> {
 }
 
 impl<D: Disk, A: Allocator + Copy, N: Naming> Shared<D, A, N> {
-    /// Gives a seat, which has seen the history as it stands.
+    /// Gives a seat, which has seen the history as it stands. A seat takes no memory of the allocator.
     ///
     /// The faults are asked for in this order: `Closed`, `Seats`, `Reader`. After `Reader` a seat number is used up.
-    pub fn seat<R: Wait>(&self, rt: &R, alloc: A) -> Result<Seat<'_, D, A, N>, SeatFault>
+    pub fn seat<R: Wait>(&self, rt: &R, _alloc: A) -> Result<Seat<'_, D, A, N>, SeatFault>
         ensures seat { IfOk result (λ s. (s.share.mine ≡ []) × (s.share.closed ≡ false) × StartsWith s.share.seen N.opening) }
     {
         let mut locked = self.locked.lock(rt);
@@ -80,7 +80,7 @@ impl<D: Disk, A: Allocator + Copy, N: Naming> Shared<D, A, N> {
         let (number, front, summary, part, looker) = given?;
         Ok(Seat {
             shared: self,
-            share: Share::new(alloc, number, front, summary, part, looker),
+            share: Share::new(number, front, summary, part, looker),
         })
     }
 
@@ -106,10 +106,6 @@ impl<D: Disk, A: Allocator + Copy, N: Naming> Seat<'_, D, A, N> {
         ensures answered { IfOk result (λ r. Answered (bodies_of N.spec.bodies) self.old.share self.new.share report r.verdict r.place) }
         ensures refused { IfErr result (λ f. Refused (bodies_of N.spec.bodies) self.old.share self.new.share report f) }
     {
-        if self.share.make_room().is_err() {
-            let _ = self.share.known();
-            return Err(Fault::Memory);
-        }
         let shared = self.shared;
         report_at(rt, shared, &mut self.share, &report)
     }
@@ -188,7 +184,6 @@ fn report_at<D: Disk, A: Allocator + Copy, N: Naming, R: Wait>(
     share: &mut Share<N, A>,
     report: &Report,
 ) -> Result<Receipt, Fault>
-    requires room { length share.old.mine < share.old.room }
     requires report { IsReport N.spec.alphabet report.now }
     ensures answered { IfOk result (λ r. Answered (bodies_of N.spec.bodies) share.old share.new report.now r.verdict r.place) }
     ensures refused { IfErr result (λ f. Refused (bodies_of N.spec.bodies) share.old share.new report.now f) }

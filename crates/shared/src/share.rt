@@ -17,8 +17,8 @@ use alphabet::Report;
 use board::{Counts, Front, Looker, Naming, look};
 use core::mem::replace_with;
 use disk::Disk;
-use session::{Entry, Fault, SeatNumber, Summary};
-use std::alloc::{AllocError, Allocator};
+use session::{Fault, SeatNumber, Summary};
+use std::alloc::Allocator;
 use std::marker::Model;
 use std::sync::{Wait, ledger};
 
@@ -39,14 +39,15 @@ pub struct Status {
     pub closed: bool,
 }
 
-/// What a seat knows and has done: the history that it has seen, its own answered reports, and its reader of the board.
+/// What a seat knows and has done: the history that it has seen, how many of its own reports were answered, and its reader of the board.
+/// Contracts see the answered reports themselves: the first so many of the seat's entries in that history.
 #[derive(Drop)]
 pub struct Share<N: Naming, A: Allocator> {
     number: SeatNumber,
     front: Front<N>,
     summary: Summary,
     closed: bool,
-    mine: Vec<Entry, A>,
+    answered: u32,
     part: ledger::Share<N>,
     looker: Looker<N, A>,
 }
@@ -56,25 +57,23 @@ impl<N: Naming, A: Allocator> Model for Share<N, A> {
 
     ghost Value = { SeatTold };
 
-    ghost use Rattle.std.specs.Prelude.{◌≡◌, ◌≤◌, ◌++◌, length, [], vec_capacity};
+    ghost use Rattle.std.specs.Prelude.{◌≡◌, ◌≤◌, ◌++◌, length, [], take};
     ghost use Rattle.session.specs.Entries.{calls, summary_of};
-    ghost use Rattle.session.specs.Beginnings.{StartsWith};
 
     ghost view = { λ s. record {
       seat = s.number;
       front = s.front;
       seen = N.opening ++ s.front;
-      mine = s.mine.items;
+      mine = take s.answered (calls (N.opening ++ s.front) s.number);
       closed = s.closed;
-      room = vec_capacity s.mine;
     } };
 
     ghost invariant = { λ s. (s.summary ≡ summary_of (N.opening ++ s.front))
-        × StartsWith (calls (N.opening ++ s.front) s.number) s.mine.items
+        × (s.answered ≤ length (calls (N.opening ++ s.front) s.number))
         × (calls N.opening s.number ≡ [])
         × (s.part.parts ≡ 1)
-        × (s.part.amount ≡ length s.mine.items)
-        × (length s.mine.items ≤ 1000000) };
+        × (s.part.amount ≡ s.answered)
+        × (s.answered ≤ 1000000) };
 }
 
 // Whether the fault says that the session is closed.
@@ -87,7 +86,6 @@ fn is_closing(fault: &Fault) -> bool
 impl<N: Naming, A: Allocator> Share<N, A> {
     /// What a new seat knows.
     pub(crate) fn new(
-        alloc: A,
         number: SeatNumber,
         front: Front<N>,
         summary: Summary,
@@ -104,20 +102,9 @@ impl<N: Naming, A: Allocator> Share<N, A> {
             front,
             summary,
             closed: false,
-            mine: Vec::new(alloc),
+            answered: 0,
             part,
             looker,
-        }
-    }
-
-    /// Makes room for one more report of its own.
-    pub(crate) fn make_room(&mut self) -> Result<(), AllocError>
-        ensures room { OnOk result (length self.new.mine < self.new.room) }
-        ensures same { (self.new.seat ≡ self.old.seat) × (self.new.seen ≡ self.old.seen) × (self.new.mine ≡ self.old.mine) × (self.new.closed ≡ self.old.closed) }
-    {
-        match self.mine.reserve(1) {
-            Ok(()) => Ok(()),
-            Err(_) => Err(AllocError),
         }
     }
 
@@ -197,7 +184,7 @@ impl<N: Naming, A: Allocator + Copy> Share<N, A> {
     pub(crate) fn catch_up<D: Disk>(&mut self, locked: &Locked<D, A, N>) -> bool
         ensures whole { self.new.seen ≡ N.opening ++ self.new.front }
         ensures seen { MatchBool result ((self.new.front ≡ locked.now) × StartsWith self.new.seen self.old.seen) (self.new ≡ self.old) }
-        ensures same { (self.new.seat ≡ self.old.seat) × (self.new.mine ≡ self.old.mine) × (self.new.closed ≡ self.old.closed) × (self.new.room ≡ self.old.room) }
+        ensures same { (self.new.seat ≡ self.old.seat) × (self.new.mine ≡ self.old.mine) × (self.new.closed ≡ self.old.closed) }
     {
         locked.catch_up(&mut self.front, &mut self.summary)
     }
@@ -210,14 +197,12 @@ impl<N: Naming, A: Allocator + Copy> Share<N, A> {
         report: &Report,
     ) -> Result<Receipt, Fault>
         requires caught_up { self.old.front ≡ locked.old }
-        requires room { length self.old.mine < self.old.room }
         requires report { IsReport N.spec.alphabet report.now }
         ensures answered { IfOk result (λ r. Answered (bodies_of N.spec.bodies) self.old self.new report.now r.verdict r.place) }
         ensures refused { IfErr result (λ f. Refused (bodies_of N.spec.bodies) self.old self.new report.now f) }
         ensures same { self.new.seat ≡ self.old.seat }
     {
-        let answered = self.mine.len();
-        let number = answered as u32 + 1;
+        let number = self.answered + 1;
         let result = locked.report(
             rt,
             self.number,
@@ -230,10 +215,11 @@ impl<N: Naming, A: Allocator + Copy> Share<N, A> {
         let _legal = self.front.len();
         match result {
             Ok(entry) => {
-                let verdict = entry.verdict;
-                let place = self.summary.judged;
-                self.mine.push_reserved(entry);
-                Ok(Receipt { verdict, place })
+                self.answered = number;
+                Ok(Receipt {
+                    verdict: entry.verdict,
+                    place: self.summary.judged,
+                })
             }
             Err(fault) => {
                 self.closed = is_closing(&fault) | self.closed;

@@ -1,10 +1,11 @@
-use Rattle.std.proofs.Common.{◌≡◌, ℕ, ◌+◌, ◌++◌, ◌∷◌, [], List, length, refl, sym, ap, ◌∙◌, subst, arith, append_assoc, length-append}
-use Rattle.std.specs.Prelude.{vec_capacity, ◌||◌}
-use Rattle.std.proofs.lemmas.List.{append-nil}
+use Rattle.std.proofs.Common.{◌≡◌, ℕ, ◌+◌, ◌++◌, ◌∷◌, [], List, length, refl, sym, ap, ◌∙◌, subst, arith, append_assoc}
+use Rattle.std.specs.Prelude.{take, ◌||◌}
+use Rattle.std.proofs.lemmas.List.{append-nil, length-take-le}
 use Rattle.session.specs.Beginnings.{StartsWith}
 use Rattle.session.proofs.Beginnings.{begins_self}
 use Rattle.term.specs.Proc.{bodies_of}
 use Rattle.session.specs.Entry.{Entry}
+use Rattle.session.specs.Entries.{calls}
 use Rattle.shared.specs.Told.{SeatTold}
 use Rattle.shared.specs.Faults.{Explained, Answers}
 use Rattle.shared.specs.Seats.{Answered}
@@ -15,12 +16,9 @@ use Rattle.shared.proofs.share.Share.report.Goals as goal
 pub invariant_of-self : goal.invariant_of-self
 invariant_of-self g c =
     let i = c.self.invariant in
-    let e = c.in-Ok.entry in
     let r = c.in-Ok.ensures in
-    let items : c.push_reserved.new.self.items ≡ c.self.inside.mine.items ++ e ∷ [] = c.push_reserved.ensures.items in
-    let number : e.number ≡ length c.self.inside.mine.items + 1 = omega (arith, r.entry.number_is, c.len-answered.ensures) in
-    let t = after_report (bodies_of g.N.Naming.spec.bodies) c.self.inside.number g.N.Naming.opening c.self.inside.front c.report-result.new.front c.self.inside.mine.items c.push_reserved.new.self.items e r.seen.0 i.1 r.entry.seat_is number r.fits r.within items in
-    (r.seen.2, t.1, i.2, r.parts ∙ i.3, omega (arith, r.seen.3, i.4, ap length items, length-append c.self.inside.mine.items (e ∷ [])), t.2)
+    let t = after_report (bodies_of g.N.Naming.spec.bodies) c.self.inside.answered c.self.inside.number g.N.Naming.opening c.self.inside.front c.report-result.new.front c.in-Ok.entry r.seen.0 i.1 r.entry.seat_is r.entry.number_is r.fits r.within in
+    (r.seen.2, t.2, i.2, r.parts ∙ i.3, omega (arith, r.seen.3, i.4), t.3)
 
 pub returns-in-Ok-clause-answered : goal.returns-in-Ok-clause-answered
 returns-in-Ok-clause-answered g c =
@@ -30,17 +28,16 @@ returns-in-Ok-clause-answered g c =
     let e : Entry = c.in-Ok.entry in
     let r = c.in-Ok.ensures in
     let front : List Entry = c.self.inside.front in
-    let items : c.push_reserved.new.self.items ≡ c.self.inside.mine.items ++ e ∷ [] = c.push_reserved.ensures.items in
-    let number : e.number ≡ length c.self.inside.mine.items + 1 = omega (arith, r.entry.number_is, c.len-answered.ensures) in
-    let t = after_report B c.self.inside.number o front c.report-result.new.front c.self.inside.mine.items c.push_reserved.new.self.items e r.seen.0 i.1 r.entry.seat_is number r.fits r.within items in
+    let n = c.self.inside.answered in
+    let k = c.self.inside.number in
+    let t = after_report B n k o front c.report-result.new.front e r.seen.0 i.1 r.entry.seat_is r.entry.number_is r.fits r.within in
     let ends = ap (λ (f : List Entry). o ++ f) r.seen.0 ∙ sym (append_assoc o front (e ∷ [])) in
     let now : SeatTold = record {
-      seat = c.self.inside.number;
+      seat = k;
       front = c.report-result.new.front;
       seen = o ++ c.report-result.new.front;
-      mine = c.push_reserved.new.self.items;
+      mine = take (n + 1) (calls (o ++ c.report-result.new.front) k);
       closed = c.self.inside.closed;
-      room = vec_capacity c.push_reserved.new.self;
     } in
     subst (λ (old : SeatTold). Answered B old now c.args.report.now e.verdict c.report-result.new.summary.judged) c.self.view_is (record {
       legal = c.len-legal.ensures.legal;
@@ -50,8 +47,8 @@ returns-in-Ok-clause-answered g c =
       is_of = record { seat_is = r.entry.seat_is; report_is = r.entry.report_is; verdict_is = refl };
       ends = ends;
       stands = ap (λ s. s.judged) r.seen.2;
-      mine = items;
-      own = t.0;
+      mine = t.1;
+      own = t.0 ∙ sym t.1;
       seat = refl;
       closed = refl;
     })
@@ -60,20 +57,25 @@ pub returns-in-Err-clause-refused : goal.returns-in-Err-clause-refused
 returns-in-Err-clause-refused g c =
     let B = bodies_of g.N.Naming.spec.bodies in
     let o = g.N.Naming.opening in
+    let i = c.self.invariant in
     let f = c.in-Err.fault in
     let r = c.in-Err.ensures in
     let front : List Entry = c.self.inside.front in
     let now : List Entry = c.report-result.new.front in
-    let mine : List Entry = c.self.inside.mine.items in
-    let number : ℕ = c.len-answered.result + 1 in
+    let n : ℕ = c.self.inside.answered in
+    let k : ℕ = c.self.inside.number in
+    let mine : List Entry = take n (calls (o ++ front) k) in
+    let count : length mine ≡ n = length-take-le n (calls (o ++ front) k) i.1 in
+    let number : ℕ = n + 1 in
     let same : now ≡ front = r.err.0 in
-    let why : Explained B (o ++ now) c.self.inside.number number c.args.report.now f = subst (λ (l : List Entry). Explained B (o ++ l) c.self.inside.number number c.args.report.now f) (sym same) r.why in
-    let told : Answers B (o ++ now) c.self.inside.number mine c.args.report.now f = answers B (o ++ now) c.self.inside.number number mine c.args.report.now f (omega (arith, c.len-answered.ensures)) why in
+    let stays : take n (calls (o ++ now) k) ≡ mine = ap (λ (l : List Entry). take n (calls (o ++ l) k)) same in
+    let why : Explained B (o ++ now) k number c.args.report.now f = subst (λ (l : List Entry). Explained B (o ++ l) k number c.args.report.now f) (sym same) r.why in
+    let told : Answers B (o ++ now) k mine c.args.report.now f = answers B (o ++ now) k number mine c.args.report.now f (omega (arith, count)) why in
     let from : StartsWith (o ++ now) (o ++ front) = ([], ap (λ (l : List Entry). o ++ l) same ∙ sym (append-nil (o ++ front))) in
     record {
       legal = c.len-legal.ensures.legal;
       begins = subst (λ (l : List Entry). StartsWith (o ++ now) l) (ap (λ (t : SeatTold). t.seen) c.self.view_is) from;
-      same = ap (λ (t : SeatTold). t.mine) c.self.view_is;
+      same = stays ∙ ap (λ (t : SeatTold). t.mine) c.self.view_is;
       why = subst (λ (t : SeatTold). Answers B (o ++ now) t.seat t.mine c.args.report.now f) c.self.view_is told;
       seat = ap (λ (t : SeatTold). t.seat) c.self.view_is;
       closed = λ i. c.is_closing.ensures i || ap (λ (t : SeatTold). t.closed) c.self.view_is i;
