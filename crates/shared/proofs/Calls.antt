@@ -12,7 +12,7 @@ use Rattle.session.specs.Entries.{calls, summary_of}
 use Rattle.session.specs.Legal.{Fits}
 use Rattle.session.proofs.Histories.{calls-le}
 use Rattle.session.specs.Beginnings.{StartsWith}
-use Rattle.session.proofs.Beginnings.{begins_after, begins_self}
+use Rattle.session.proofs.Beginnings.{begins_after}
 
 off : IsTrue false → ⊥
 off e = cc
@@ -77,12 +77,11 @@ pub caught_up : (n k : ℕ) (o front old locked : List Entry) (s t : Summary) (b
 caught_up n k o front old locked s t true h is m =
     let longer = begins_after o old front h.1 in
     (h.2, own_enough n k (o ++ front) (o ++ old) longer m, own_stays n k (o ++ front) (o ++ old) longer m)
-caught_up n k o front old locked s t false h is m =
-    (
-      h.1 ∙ is ∙ ap (λ (f : List Entry). summary_of (o ++ f)) (sym h.0),
-      subst (λ (f : List Entry). n ≤ length (calls (o ++ f) k)) (sym h.0) m,
-      ap (λ (f : List Entry). take n (calls (o ++ f) k)) h.0,
-    )
+caught_up n k o front old locked s t false h is m = (
+  h.1 ∙ is ∙ ap (λ (f : List Entry). summary_of (o ++ f)) (sym h.0),
+  subst (λ (f : List Entry). n ≤ length (calls (o ++ f) k)) (sym h.0) m,
+  ap (λ (f : List Entry). take n (calls (o ++ f) k)) h.0,
+)
 
 -- a seat's own entry after all that it has seen is its next call
 own_call : (B : ℕ → Proc) (k : ℕ) (o front now mine : List Entry) (e : Entry) → now ≡ front ++ e ∷ [] → StartsWith (calls (o ++ front) k) mine → e.seat ≡ k → e.number ≡ length mine + 1 → Fits B (o ++ front) e

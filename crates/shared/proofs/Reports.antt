@@ -5,7 +5,6 @@ use Rattle.alphabet.specs.declared.events.Report.{Report}
 use Rattle.term.specs.Proc.{Proc}
 use Rattle.session.specs.Entry.{Entry}
 use Rattle.session.specs.Entries.{calls}
-use Rattle.session.specs.Legal.{Legal}
 use Rattle.session.specs.Beginnings.{StartsWith}
 use Rattle.session.proofs.Beginnings.{begins_self, begins_trans, begins_push}
 use Rattle.session.specs.declared.fault.Fault.{Fault}

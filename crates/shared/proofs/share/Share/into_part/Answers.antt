@@ -1,4 +1,4 @@
-use Rattle.std.proofs.Common.{List, ◌≡◌, length, ◌∙◌, sym, ap, ◌++◌}
+use Rattle.std.proofs.Common.{length, ◌∙◌, sym, ap, ◌++◌}
 use Rattle.std.proofs.lemmas.List.{length-take-le}
 use Rattle.session.specs.Entries.{calls}
 use Rattle.shared.specs.Told.{SeatTold}
