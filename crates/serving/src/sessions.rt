@@ -16,7 +16,7 @@ use crate::shared_gate::SharedGate;
 use alphabet::Alphabet;
 use connections::{Accept, Account, Connections, Ending, part, serve_all};
 use disk::Disk;
-use journal::Journal;
+use journal::{Journal, Prepared};
 use seats::copy_of;
 use shared::{
     Failed, Front, Naming, Opened, Publisher, Session, Share, Shared, Source, Spine, crosses,
@@ -102,6 +102,7 @@ fn serve_at<D: Disk + Send, N: Naming + Send + Sync, T: Threads + Wait + Sync, L
     crosses::<Source<N, Global>>();
     crosses::<ledger::Book<N>>();
     crosses::<ledger::Share<N>>();
+    crosses::<Prepared<Global>>();
     let gate = SharedGate::new(shared, alphabet);
     let served = serve_all(rt, alloc, accept, &gate, count);
     gate.end();

@@ -3,7 +3,7 @@
 use crate::held::Gate;
 use alphabet::{Event, Report};
 use disk::Disk;
-use journal::Journal;
+use journal::{Journal, Prepared};
 use shared::{
     Entry, Failed, Front, Naming, Publisher, Receipt, SeatNumber, Share, Shared, Source, Spine,
     crosses, legal_crosses,
@@ -140,6 +140,7 @@ pub(crate) fn run_all<D: Disk + Send, N: Naming + Send + Sync, R: Threads + Wait
     crosses::<Source<N, Global>>();
     crosses::<ledger::Book<N>>();
     crosses::<ledger::Share<N>>();
+    crosses::<Prepared<Global>>();
     let each = |caller: Caller<N>| run(rt, alloc, gate, shared, caller);
     map_vec(rt, callers, &each)
 }

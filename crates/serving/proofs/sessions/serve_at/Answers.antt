@@ -19,7 +19,10 @@ serve_all-served-requires-sync-G g c κs within =
             search sendable,
             (
               record { owned = c.crosses-2.ensures.owned; leaving = λ k x w. search sendable },
-              tt,
+              (
+                record { owned = c.crosses-9.ensures.owned; leaving = λ k x w. search sendable },
+                tt,
+              ),
             ),
           ),
         ),

@@ -18,7 +18,10 @@ map_vec-requires-sync-F g c κs within =
             search sendable,
             (
               record { owned = c.crosses-2.ensures.owned; leaving = λ k x w. search sendable },
-              tt,
+              (
+                record { owned = c.crosses-9.ensures.owned; leaving = λ k x w. search sendable },
+                tt,
+              ),
             ),
           ),
         ),
