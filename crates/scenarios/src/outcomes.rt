@@ -169,12 +169,13 @@ fn is_reported_once(alloc: Global, full: &str, came: &str) -> Result<bool, Alloc
     Ok(without.as_str() == full)
 }
 
-/// Whether this answers that something was done.
+/// Whether this answers that something was done that takes memory: a seat was given, or a report accepted. One that is rejected takes none, once
+/// the session has the memory of a line.
 fn is_done(answer: &str) -> bool {
-    is_verdict(answer) || matches!(answer.split_once(' '), Some(("J" | "true" | "false", _)))
+    answer.starts_with("OK ") || matches!(answer.split_once(' '), Some(("J" | "true", _)))
 }
 
-/// Whether these are the full answers up to a refusal, and nothing is done after it.
+/// Whether these are the full answers up to a refusal, and nothing that takes memory is done after it.
 fn is_begun(full: &str, came: &str) -> bool {
     let mut refused = false;
     let mut answers = full.split("; ");
