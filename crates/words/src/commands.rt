@@ -259,10 +259,7 @@ fn wish_in<'a>(alloc: Global, matches: &ArgMatches<'a>) -> Result<Option<Wish<'a
 
 /// Reads the words, the first of which is the program's name. What `clap` takes has the words of its command, but no
 /// clause here says so: `Ok(None)` is the answer where one is missing.
-pub fn read_words<'a, S: AsStr>(
-    alloc: Global,
-    words: &'a [S],
-) -> Result<Option<Wish<'a>>, Error> {
+pub fn read_words<'a, S: AsStr>(alloc: Global, words: &'a [S]) -> Result<Option<Wish<'a>>, Error> {
     let matches = command(alloc)?.try_get_matches_from(words)?;
     wish_in(alloc, &matches)
 }
