@@ -6,7 +6,7 @@
 It needs a C compiler (`cc`), glibc and x86-64: `tests/failing_calls.c` is loaded into the program, counts its calls of the C library, and
 makes the k-th fail, for each k of a run in which none does.
 
-- `device`: `serve` with two connections, one after the other, on a new journal and on one with records, and `replay`. The k-th call on the
+- `device`: `serve` with two connections, one after the other, on a new journal and on one with records, `replay` and `show`. The k-th call on the
   journal's file (open, length, read, write, cut, sync) answers EIO, ENOSPC or EINTR, having done nothing, a part or all; or takes one byte,
   or none. A call of the opening ends the program with `j: 30 journal`, or `j: cannot read` or `j: cannot write` where the file couldn't be
   opened, and status 5. A call of a report gives `ERR 30 journal`; later reports get `ERR 31 closed`, and so does the second connection;
@@ -20,7 +20,7 @@ makes the k-th fail, for each k of a run in which none does.
   has every report that was judged, and the status is that of the reports. Reads and writes of one byte change no answer. A read that is
   interrupted counts as one that failed (none is, where a program handles no signal). The k-th accept fails: `ADDR: cannot accept` and
   status 5, after the connections that were taken before.
-- `memory`: `check` on five conversations, `print` and `replay`: the k-th request for memory is refused, alone, with the four after it, and
+- `memory`: `check` on five conversations, `print`, `replay` and `show`: the k-th request for memory is refused, alone, with the four after it, and
   with all after it. A run then tells 40 before the first reply, or its replies are those of the run without the lines that were answered
   `ERR 40 memory`, or `ERR 30 journal` and then `ERR 31 closed`. And `serve` with two connections, one after the other, on a new journal
   and on one with records: a run tells 40 before it listens, or each reply is that of the run without the lines that were answered
@@ -54,6 +54,8 @@ OPENED = [b"E c.2", b"R a", b"E a"]
 ERRORS = ("nothing", "part", "all")
 # What a call is called that opens the file.
 OPEN = "open"
+# The commands that read a journal.
+READERS = [["replay", "j"], ["show", "--coverage", "j"], ["show", "--format", "json", "j"]]
 
 
 def failing(library, first, last, how="nothing", fault=errno.EIO, **more):
@@ -282,31 +284,32 @@ class Device:
                 self.attempt("stops", call, call, how, errno.EIO)
 
 
-def replay_device(options, library, book):
-    """`replay`, whose k-th call on the journal's file fails."""
-    data = journal_bytes(prepared_entries())
+def reader_device(options, library, book, words):
+    """A command that reads a journal, whose k-th call on the journal's file fails: it prints nothing."""
+    name, data = words[0], journal_bytes(prepared_entries())
     with tempfile.TemporaryDirectory(prefix="failing-", dir=options.folder) as folder:
         path, calls_file = os.path.join(folder, "j"), os.path.join(folder, "calls")
 
-        def replayed(first, last, how, fault):
+        def done_with(first, last, how, fault):
             write_file(path, data + b"junk")
             write_file(calls_file, b"")
             environment = failing(library, first, last, how, fault, FAILING_FILE="j", FAILING_CALLS=calls_file)
-            return run([options.program, "replay", "j"], folder, environment=environment)
+            return run([options.program] + words, folder, environment=environment)
 
-        full = replayed(0, 0, "nothing", errno.EIO)
+        full = done_with(0, 0, "nothing", errno.EIO)
         calls = [line.split(b" ")[0].decode() for line in read_file(calls_file).splitlines()]
-        print("replay: calls on the file: %s" % " ".join(calls), flush=True)
+        print("%s: calls on the file: %s" % (name, " ".join(calls)), flush=True)
+        book.note("device", [] if calls and full.out and not full.err else ["%s without a failing call: %s" % (name, full)], {"j": data})
         for call in range(1, len(calls) + 1):
             for how in ERRORS + ("short",):
                 for last in (call, ALWAYS):
-                    done = replayed(call, last, how, errno.EIO)
+                    done = done_with(call, last, how, errno.EIO)
                     text = b"j: cannot read\n" if calls[call - 1] == OPEN else b"j: 30 journal\n"
                     wanted = full if how == "short" else Run(b"", text, 5)
-                    problems = [] if done == wanted else ["replay, call %d (%s) %s: %s, wanted %s" % (call, calls[call - 1], how, done, wanted)]
+                    problems = [] if done == wanted else ["%s, call %d (%s) %s: %s, wanted %s" % (name, call, calls[call - 1], how, done, wanted)]
                     if read_file(path) not in (data, data + b"junk"):
-                        problems.append("replay, call %d: the file is %s" % (call, shown(read_file(path))))
-                    book.count("device", "replays")
+                        problems.append("%s, call %d: the file is %s" % (name, call, shown(read_file(path))))
+                    book.count("device", name)
                     book.note("device", problems, {"j": data})
 
 
@@ -674,8 +677,10 @@ def try_memory(options, library, book):
         for name, script, _, _ in CONVERSATIONS[3:]:
             whole_or_40(memory, "print, " + name, ["print", "p.csp", "P"], {"p.csp": script.encode()})
             book.tell("memory print, " + name)
-        whole_or_40(memory, "replay", ["replay", "j"], {"j": JOURNAL})
-        book.tell("memory replay")
+        for words in READERS:
+            name = " ".join(words[:-1])
+            whole_or_40(memory, name, words, {"j": JOURNAL})
+            book.tell("memory " + name)
         os.remove(os.path.join(folder, "j"))
         serve_memory(memory, "a new journal", False)
         serve_memory(memory, "a journal with records", True)
@@ -708,7 +713,8 @@ def main():
             for opened in (False, True):
                 Device(options, library, book, opened).all(options.only)
         if "device" in options.only:
-            replay_device(options, library, book)
+            for words in READERS:
+                reader_device(options, library, book, words)
             book.tell("device")
         if "stops" in options.only:
             book.tell("stops")

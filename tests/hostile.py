@@ -509,6 +509,7 @@ def script_limits():
         ("65,538 nodes by a parameter", "channel a\nQ(n) = if n < 32768 then a -> Q(n+1) else STOP\nP = Q(0)\n", fault("2: 10 large")),
         ("a parameter without an end", "channel a\nQ(n) = a -> Q(n+1)\nP = Q(0)\n", fault("2: 10 large")),
         ("65,535 nodes by a replicated choice", "channel a\nP = [] x:{0..32767} @ STOP\n", READS),
+        ("9,000 generators", "channel a\nP = [] " + ", ".join(["x:{0}"] * 9_000) + " @ STOP\n", READS),
         ("65,537 nodes by a replicated choice", "channel a\nP = [] x:{0..32768} @ STOP\n", fault("2: 10 large")),
         ("a condition in a tree of height 250", "channel a\nP = if " + " and ".join(["0 == 0"] * 248) + " then STOP else STOP\n", READS),
         ("a condition in a tree of height 251", "channel a\nP = if " + " and ".join(["0 == 0"] * 249) + " then STOP else STOP\n", fault("2: 9 depth")),
