@@ -1,20 +1,27 @@
 """The sweeps among the rows over the libraries, played by the programs that the gate has built: `tests/run_cases.py` calls `play`.
 
 A group of rows begins with a line `# NAME: ..`, and ends with an empty line. Of the programs `crates/PROGRAM/out/PROGRAM` the groups with
-the names below are played, each row's line is compared with that of `stdout`, and how many points each sweep tried is printed: those that
-the program writes on standard error, the reads and writes that a row names, and each row that plays one point.
+the names below are played, each row's line is compared with that of `stdout`, the outcomes of rows `memory` are held against the rules
+(`refused_rows.py`), and how many points each sweep tried is printed: those that the program writes on standard error, the reads and
+writes that a row names, and each row that plays one point.
 """
+import functools
 import os
 import re
 import subprocess
+import sys
 import tempfile
+
+sys.dont_write_bytecode = True
+
+import refused_rows  # noqa: E402
 
 HERE = os.path.dirname(os.path.abspath(__file__))
 CRATES = os.path.join(os.path.dirname(HERE), "crates")
 PROGRAMS = ["part_scenarios", "scenarios", "shared_rows"]
 SWEEPS = ["fault_rows", "crash_rows", "refused_memory", "no_request"]
 SECONDS = 120
-POINTS = re.compile(r"# ([^:]*).*: ([0-9]+) points")
+POINTS = re.compile(r"^(.*): ([0-9]+) points$", re.MULTILINE)
 ENDS = re.compile(r"([0-9]+) reads, ([0-9]+) writes$")
 # Rows that play one point each, of which the program counts none.
 SINGLE = ("talk_fault ", "refusing ", "pieces ")
@@ -43,12 +50,40 @@ def is_built(program):
     return os.access(path, os.X_OK) and os.path.getmtime(path) >= newest
 
 
+def run(program, words, given):
+    """What the program writes, what it writes on standard error, and its status."""
+    with tempfile.TemporaryDirectory(prefix="rows-") as folder:
+        path = os.path.join(CRATES, program, "out", program)
+        done = subprocess.run([path, *words], cwd=folder, input=given.encode(), capture_output=True, timeout=SECONDS)
+    return done.stdout.decode(), done.stderr.decode(), done.returncode
+
+
 def played(program, groups):
     """The lines that the program writes to these groups, group by group, and what it writes on standard error."""
-    given = "".join("\n".join(rows) + "\n\n" for _, rows, _ in groups)
-    with tempfile.TemporaryDirectory(prefix="rows-") as folder:
-        done = subprocess.run([os.path.join(CRATES, program, "out", program)], cwd=folder, input=given.encode(), capture_output=True, timeout=SECONDS)
-    return [lines.strip("\n").split("\n") for lines in done.stdout.decode().split("\n\n")], done.stderr.decode()
+    out, errors, _ = run(program, [], "".join("\n".join(rows) + "\n\n" for _, rows, _ in groups))
+    return [lines.strip("\n").split("\n") for lines in out.split("\n\n")], errors
+
+
+@functools.lru_cache(maxsize=None)
+def checked(begin, lines):
+    """The replies of the built program to these lines, and its status."""
+    root, _, script = begin.partition(" ")
+    with tempfile.NamedTemporaryFile("w", suffix=".csp", encoding="utf-8") as file:
+        file.write(script.replace("$", "\n"))
+        file.flush()
+        out, _, status = run("cspwatch", ["check", file.name, root], "".join(line + "\n" for line in lines))
+    return out.splitlines(), status
+
+
+@functools.lru_cache(maxsize=None)
+def talked(begin, inputs):
+    """What comes of these conversations."""
+    return run("shared_rows", [], "talk %s # %s\n" % (begin, " # ".join(inputs)))[0].rstrip("\n")
+
+
+def refused_problems(row, line):
+    """What is wrong with the line of a row that refuses requests for memory."""
+    return refused_rows.problems(row, line, lambda begin, lines: checked(begin, tuple(lines)), lambda begin, inputs: talked(begin, tuple(inputs)))
 
 
 def points_of(rows, came):
@@ -64,16 +99,17 @@ def play_program(program, counts):
     """What is wrong with the program's rows. For each sweep the counts get its rows and its points."""
     groups = groups_of(program)
     came, errors = played(program, groups)
-    problems = []
+    problems, name_of = [], {row: name for name, rows, _ in groups for row in rows}
     for (name, rows, wanted), got in zip(groups, came + [[]] * len(groups)):
         count = counts.setdefault(name, [0, 0])
         count[0] += len(rows) - 1
         count[1] += points_of(rows, got)
         problems += ["%s: %s: `%s` gives `%s`, wanted `%s`" % (program, name, row, line, want) for row, line, want in zip(rows, got, wanted) if line != want]
+        problems += [problem for row, line in zip(rows, got) if row.startswith("memory ") for problem in refused_problems(row, line)]
         if len(got) != len(wanted):
             problems.append("%s: %s: %d lines, wanted %d" % (program, name, len(got), len(wanted)))
-    for name, points in POINTS.findall(errors):
-        counts[name][1] += int(points)
+    for row, points in POINTS.findall(errors):
+        counts[name_of[row]][1] += int(points)
     return problems
 
 
