@@ -272,15 +272,15 @@ pub(crate) fn answer_all<D: Disk, A: Allocator + Copy + Drop>(
     memory: Memory,
     out: &mut Output,
 ) {
-    let mut mark = "";
+    let mut has_begun = false;
     for ask in asks.split("; ") {
-        out.put(mark);
+        out.put(if has_begun { "; " } else { "" });
         answer(session, ask, memory, out);
         if out.text().ends_with("ERR 40 memory") {
             memory.answered();
             out.put("; ");
             answer(session, ask, memory, out);
         }
-        mark = "; ";
+        has_begun = true;
     }
 }
