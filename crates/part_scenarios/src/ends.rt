@@ -3,51 +3,20 @@
 ghost use Rattle.std.specs.Prelude.{◌≡◌};
 ghost use Rattle.alphabet.specs.Channels.{event_count};
 
-use crate::devices::{Narrow, Pieces};
-use crate::lines::put;
-use crate::turns::{Outcome, talk};
+use crate::lines::{Ends, came, put};
 use alphabet::Alphabet;
-use count::Count;
-use std::alloc::{AllocError, Global};
+use rows::Output;
+use std::alloc::Global;
 use std::sync::Wait;
 use wire::{End, WireError};
 
-/// Room for all replies of a row.
-const ROOM: usize = 1_000_000;
-
-/// What comes of a connection that gives and takes a byte at a time: its reader ends after these bytes, or fails then, and its writer
-/// fails once it has taken so many.
-fn came<T: Wait>(
-    rt: &T,
-    alphabet: &Alphabet<Global>,
-    alloc: Global,
-    bytes: &[u8],
-    fails: bool,
-    room: usize,
-) -> (Outcome, Vec<u8>)
-    requires { event_count alphabet.now ≡ 2 }
-{
-    let mut reader = Pieces {
-        bytes,
-        size: 1,
-        fails,
-        failures: Count::new(),
-    };
-    let mut writer = Narrow {
-        taken: Vec::new(alloc),
-        room,
-        most: 1,
-        failures: Count::new(),
-    };
-    let outcome = talk(rt, alloc, &mut reader, &mut writer, alphabet);
-    let Narrow {
-        taken,
-        room: _,
-        most: _,
-        failures: _,
-    } = writer;
-    (outcome, taken)
-}
+/// A byte at a time, and to the end.
+const BYTES: Ends = Ends {
+    size: 1,
+    fails: false,
+    room: 1_000_000,
+    most: 1,
+};
 
 /// Whether the connection ends as stated where the read after these bytes fails: it has the replies to the lines before, and tells the
 /// failure where it hadn't ended before.
@@ -59,8 +28,13 @@ fn is_told_by_read<T: Wait>(
 ) -> bool
     requires { event_count alphabet.now ≡ 2 }
 {
-    let (whole, replies) = came(rt, alphabet, alloc, bytes, false, ROOM);
-    let (failed, written) = came(rt, alphabet, alloc, bytes, true, ROOM);
+    let (mut replies, mut written) = (Vec::new(alloc), Vec::new(alloc));
+    let fails = Ends {
+        fails: true,
+        ..BYTES
+    };
+    let (whole, _) = came(rt, alphabet, alloc, bytes, BYTES, &mut replies);
+    let (failed, _) = came(rt, alphabet, alloc, bytes, fails, &mut written);
     let end = match whole.end {
         Ok(End::Input) => Err(WireError::Read),
         end => end,
@@ -101,7 +75,12 @@ fn is_told_by_write<T: Wait>(
 ) -> bool
     requires { event_count alphabet.now ≡ 2 }
 {
-    let (failed, written) = came(rt, alphabet, alloc, bytes, false, count);
+    let mut written = Vec::new(alloc);
+    let ends = Ends {
+        room: count,
+        ..BYTES
+    };
+    let (failed, _) = came(rt, alphabet, alloc, bytes, ends, &mut written);
     failed.end == Err(WireError::Write)
         && failed.judged == judged_by(replies, count)
         && replies.get(..count) == Some(written.as_slice())
@@ -113,17 +92,20 @@ fn put_reads<T: Wait>(
     alphabet: &Alphabet<Global>,
     alloc: Global,
     bytes: &[u8],
-    out: &mut String,
-) -> Result<(), AllocError>
+    out: &mut Output,
+)
     requires { event_count alphabet.now ≡ 2 }
 {
     for count in 0..=bytes.len() {
         let before = bytes.get(..count).unwrap_or(bytes);
         if !is_told_by_read(rt, alphabet, alloc, before) {
-            write!(out, ", not the read after {count}")?;
+            out.put(", not the read after");
+            out.put_word(&count);
         }
     }
-    write!(out, ", {} reads", bytes.len())
+    out.put(",");
+    out.put_word(&bytes.len());
+    out.put(" reads");
 }
 
 /// Appends the writes that aren't told as stated, and how many there are.
@@ -133,16 +115,19 @@ fn put_writes<T: Wait>(
     alloc: Global,
     bytes: &[u8],
     replies: &[u8],
-    out: &mut String,
-) -> Result<(), AllocError>
+    out: &mut Output,
+)
     requires { event_count alphabet.now ≡ 2 }
 {
     for count in 0..replies.len() {
         if !is_told_by_write(rt, alphabet, alloc, bytes, replies, count) {
-            write!(out, ", not the write after {count}")?;
+            out.put(", not the write after");
+            out.put_word(&count);
         }
     }
-    write!(out, ", {} writes", replies.len())
+    out.put(",");
+    out.put_word(&replies.len());
+    out.put(" writes");
 }
 
 /// Appends what comes of a connection over the bytes, and of each read and each write that fails.
@@ -151,12 +136,13 @@ pub(crate) fn put_each_end<T: Wait>(
     alphabet: &Alphabet<Global>,
     alloc: Global,
     bytes: &[u8],
-    out: &mut String,
-) -> Result<(), AllocError>
+    out: &mut Output,
+)
     requires { event_count alphabet.now ≡ 2 }
 {
-    let (whole, replies) = came(rt, alphabet, alloc, bytes, false, ROOM);
-    put(out, whole, &replies)?;
-    put_reads(rt, alphabet, alloc, bytes, out)?;
-    put_writes(rt, alphabet, alloc, bytes, &replies, out)
+    let mut replies = Vec::new(alloc);
+    let (whole, _) = came(rt, alphabet, alloc, bytes, BYTES, &mut replies);
+    put(whole, &replies, out);
+    put_reads(rt, alphabet, alloc, bytes, out);
+    put_writes(rt, alphabet, alloc, bytes, &replies, out);
 }

@@ -1,19 +1,22 @@
 //! The numbers, words and texts of faults.
 
-use crate::rows::first_word;
 use after::AfterFault;
 use alphabet::AlphabetError;
-use std::alloc::AllocError;
+use rows::{Output, first_word};
 use std::fmt::Display;
 use step::StepFault;
 
 /// Appends a fault's number, word and text.
-fn put<E: Display>(into: &mut String, code: u32, word: &str, fault: &E) -> Result<(), AllocError> {
-    write!(into, "{code} {word} | {fault}")
+fn put<E: Display>(code: u32, word: &str, fault: &E, out: &mut Output) {
+    out.put_shown(&code);
+    out.put_word(&word);
+    out.put(" | ");
+    out.put_shown(fault);
 }
 
-fn of_wire(into: &mut String, name: &str) -> Result<(), AllocError> {
-    let fault = match name {
+/// The fault of `wire` with this name.
+fn wire_fault(name: &str) -> wire::Fault {
+    match name {
         "Depth" => wire::Fault::Depth,
         "States" => wire::Fault::States,
         "Seats" => wire::Fault::Seats,
@@ -24,52 +27,48 @@ fn of_wire(into: &mut String, name: &str) -> Result<(), AllocError> {
         "Journal" => wire::Fault::Journal,
         "Closed" => wire::Fault::Closed,
         _ => wire::Fault::Memory,
-    };
-    put(into, u32::from(fault.code()), fault.word(), &fault)
+    }
 }
 
-fn of_after(into: &mut String, name: &str) -> Result<(), AllocError> {
-    let fault = match name {
-        "Depth" => AfterFault::Depth,
-        "States" => AfterFault::States,
-        _ => AfterFault::Memory,
-    };
-    put(into, u32::from(fault.code()), fault.word(), &fault)
-}
-
-fn of_step(into: &mut String, name: &str) -> Result<(), AllocError> {
-    let fault = match name {
-        "Depth" => StepFault::Depth,
-        _ => StepFault::Memory,
-    };
-    put(into, u32::from(fault.code()), fault.word(), &fault)
-}
-
-fn of_alphabet(into: &mut String, name: &str) -> Result<(), AllocError> {
-    let fault = match name {
-        "Redeclared" => AlphabetError::Redeclared,
-        "TooManyEvents" => AlphabetError::TooManyEvents,
-        _ => AlphabetError::Memory,
-    };
-    put(into, u32::from(fault.code()), fault.word(), &fault)
-}
-
-/// Appends what a fault of a crate is told as.
-fn put_of(into: &mut String, library: &str, name: &str) -> Result<(), AllocError> {
+/// Appends the number, the word and the text of the fault of a library with this name.
+fn put_fault(library: &str, name: &str, out: &mut Output) {
     match library {
-        "wire" => of_wire(into, name),
-        "after" => of_after(into, name),
-        "step" => of_step(into, name),
-        _ => of_alphabet(into, name),
+        "wire" => {
+            let fault = wire_fault(name);
+            put(u32::from(fault.code()), fault.word(), &fault, out);
+        }
+        "after" => {
+            let fault = match name {
+                "Depth" => AfterFault::Depth,
+                "States" => AfterFault::States,
+                _ => AfterFault::Memory,
+            };
+            put(u32::from(fault.code()), fault.word(), &fault, out);
+        }
+        "step" => {
+            let fault = match name {
+                "Depth" => StepFault::Depth,
+                _ => StepFault::Memory,
+            };
+            put(u32::from(fault.code()), fault.word(), &fault, out);
+        }
+        _ => {
+            let fault = match name {
+                "Redeclared" => AlphabetError::Redeclared,
+                "TooManyEvents" => AlphabetError::TooManyEvents,
+                _ => AlphabetError::Memory,
+            };
+            put(u32::from(fault.code()), fault.word(), &fault, out);
+        }
     }
 }
 
 /// Appends what a fault of a crate is told as, where the row is of this kind.
-pub(crate) fn play(kind: &str, rest: &str, out: &mut String) -> Result<bool, AllocError> {
-    if kind != "fault_text" {
-        return Ok(false);
-    }
+pub(crate) fn play(row: &str, out: &mut Output) -> bool {
+    let (kind, rest) = first_word(row);
     let (library, name) = first_word(rest);
-    put_of(out, library, name)?;
-    Ok(true)
+    if kind == "fault_text" {
+        put_fault(library, name, out);
+    }
+    kind == "fault_text"
 }

@@ -33,47 +33,65 @@
 //! | `same TIMES in SCRIPT` | whether the first two bodies are the same in so many hidings of no event |
 //! | `bodies in SCRIPT` | how deep and how large each body is, and how many it equals; `?` where a copy differs |
 //! | `remembered NAME NAME .. in SCRIPT` | how many answers a space remembers after these events from the root on, each from the set before it, and after the same events once more |
-//! | `no_request NAME NAME .. in SCRIPT` | where every request for memory is refused: how many events a new alphabet has, and the places of these events, `yes` where they lead back, and what `channels` tells; how many bodies there are, the root's depth and size, whether it equals itself, and what `looks` tells; of the set of states of the opening the next events, which of the events it refuses, and how many answers are remembered; of a monitor the verdict on the first event, the length of the trace, the number of bodies and the next events; and whether there was a request |
+//! | `no_request NAME NAME .. in SCRIPT` | where every request for memory is refused: how many events a new alphabet has, and the places of these events, `yes` where they lead back, and what `channels` tells; how many bodies there are, the root's depth and size, whether it equals itself, and what `looks` tells; of the set of states of the opening the next events, which of the events it refuses, and how many answers are remembered; of a monitor the verdict on the first event, the length of the trace, the number of bodies and the next events; how many bodies a new specification of one body has; and whether there was a request |
 //! | `each_end TEXT` | what comes of a connection over the text, and whether it is as stated where each read fails, of one byte each, and where each write does, of one byte each: the replies are those to the lines before, or a beginning of them; how many reads and writes there were |
 //! | `fault_text CRATE NAME` | a fault's number and word, and its text |
 //! | `requests K` | which of three requests for memory are granted where the K-th is refused, and whether one was refused |
 #![tactic(auto)]
 
 mod alphabets;
+mod bytes;
 mod devices;
 mod ends;
 mod faults;
 mod lines;
 mod numbers;
-mod playing;
 mod quiet;
 mod remembering;
 mod requests;
-mod rows;
 mod scripts;
 mod sets;
 mod steps;
 mod texts;
 mod turns;
 
-use playing::told;
+use rows::Output;
 use std::alloc::Global;
 use std::io;
 use std::sync::Wait;
 
+/// Appends what comes of a row. A line that is empty or begins with `#` is written as it is.
+fn play<T: Wait>(rt: &T, alloc: Global, row: &str, out: &mut Output) {
+    if row.is_empty() || row.starts_with('#') {
+        out.put(row);
+    } else if !lines::play(rt, alloc, row, out)
+        && !texts::play(alloc, row, out)
+        && !sets::play(row, out)
+        && !alphabets::play(row, out)
+        && !faults::play(row, out)
+        && !requests::play(alloc, row, out)
+        && !scripts::play(alloc, row, out)
+    {
+        out.put("no such kind of row");
+    }
+}
+
 /// Writes what comes of a row.
 fn tell<R: Print + Wait>(rt: &R, alloc: Global, row: &str) -> io::Result<()> {
-    match told(rt, alloc, row) {
-        Ok(text) => rt.println(text),
-        Err(_) => rt.println("no memory for the row"),
+    let mut out = Output::new(alloc);
+    play(rt, alloc, row, &mut out);
+    if out.is_cut {
+        rt.println("no memory for the row")
+    } else {
+        rt.println(out.text())
     }
 }
 
 fn main(rt: HostRuntime) -> io::Result<()> {
     let alloc = rt.alloc();
     for line in rt.lines(alloc) {
-        let row = line?;
-        tell(&rt, alloc, row.as_str())?;
+        let line = line?;
+        tell(&rt, alloc, line.as_str())?;
     }
     Ok(())
 }

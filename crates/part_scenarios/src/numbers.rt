@@ -8,7 +8,7 @@ ghost use Rattle.term.specs.Sizes.{depth};
 ghost use Rattle.term.specs.Specs.{IsProcessOf};
 ghost use Rattle.transitions.specs.Numbered.{HidesEvents, KeepsNumbers};
 
-use crate::rows::{put_answer, put_word};
+use rows::Output;
 use std::alloc::{AllocError, Global};
 use step::{DEEPEST_STATE, Label};
 use term::{Spec, Term};
@@ -16,48 +16,40 @@ use transitions::Transitions;
 
 /// Appends how many targets the steps of the number's process have, as far as one more than a set of states may have.
 fn put_found(
-    into: &mut String,
     alloc: Global,
     all: &mut Transitions<Global>,
     number: u32,
     label: Label,
-) -> Result<(), AllocError>
+    out: &mut Output,
+)
     requires number { number < length all.old.table.processes }
     requires hides { HidesEvents all.old number }
     ensures { KeepsNumbers all.old all.new }
 {
     let mut found = Vec::new(alloc);
-    all.put_targets(number, label, &mut found)?;
-    put_word(into, &found.len())
+    match all.put_targets(number, label, &mut found) {
+        Ok(()) => out.put_word(&found.len()),
+        Err(_) => out.is_cut = true,
+    }
 }
 
 /// Appends how many targets the steps of the process have: found, and remembered.
 fn put_both(
-    into: &mut String,
     alloc: Global,
     all: &mut Transitions<Global>,
     term: &Term<Global>,
     label: Label,
-) -> Result<(), AllocError>
+    out: &mut Output,
+)
     requires { SetsBelow 256 (proc term.now) }
 {
-    let number = all.number_of_term(term)?;
-    put_found(into, alloc, all, number, label)?;
-    put_found(into, alloc, all, number, label)
-}
-
-/// Appends how many targets the steps of the process have, asked twice.
-fn put_twice(
-    into: &mut String,
-    alloc: Global,
-    spec: &Spec<Global>,
-    term: &Term<Global>,
-    label: Label,
-) -> Result<(), AllocError>
-    requires { SetsBelow 256 (proc term.now) }
-{
-    let mut all = Transitions::new(alloc, spec)?;
-    put_both(into, alloc, &mut all, term, label)
+    match all.number_of_term(term) {
+        Ok(number) => {
+            put_found(alloc, all, number, label, out);
+            put_found(alloc, all, number, label, out);
+        }
+        Err(_) => out.is_cut = true,
+    }
 }
 
 /// Whether a hidden step of the process, which isn't too deep, leads to one that is.
@@ -68,42 +60,33 @@ fn leads_too_deep(all: &mut Transitions<Global>, term: &Term<Global>) -> Result<
     all.has_deep_target(number)
 }
 
-/// Whether a hidden step of the process, which isn't too deep, leads to one that is.
-fn has_deep_target(
-    alloc: Global,
-    spec: &Spec<Global>,
-    term: &Term<Global>,
-) -> Result<bool, AllocError>
-    requires { depth (proc term.now) ≤ deepest_state }
-{
-    let mut all = Transitions::new(alloc, spec)?;
-    leads_too_deep(&mut all, term)
-}
-
 /// Appends whether a hidden step leads to a process that is too deep.
-fn put_depth(
-    into: &mut String,
-    alloc: Global,
-    spec: &Spec<Global>,
-    term: &Term<Global>,
-) -> Result<(), AllocError> {
+fn put_depth(all: &mut Transitions<Global>, term: &Term<Global>, out: &mut Output) {
     if term.depth() > DEEPEST_STATE {
-        return into.push_str(" too deep");
+        return out.put(" too deep");
     }
-    put_answer(into, has_deep_target(alloc, spec, term)?)
+    match leads_too_deep(all, term) {
+        Ok(leads) => out.put_answer(leads),
+        Err(_) => out.is_cut = true,
+    }
 }
 
 /// Appends how many targets the steps of the process have, asked twice, and whether a hidden one is too deep.
 pub(crate) fn put_numbered(
-    into: &mut String,
     alloc: Global,
     spec: &Spec<Global>,
     term: &Term<Global>,
     label: Label,
-) -> Result<(), AllocError>
+    out: &mut Output,
+)
     requires { IsProcessOf spec.now (proc term.now) }
 {
     let _events = spec.alphabet().len();
-    put_twice(into, alloc, spec, term, label)?;
-    put_depth(into, alloc, spec, term)
+    match Transitions::new(alloc, spec) {
+        Ok(mut all) => {
+            put_both(alloc, &mut all, term, label, out);
+            put_depth(&mut all, term, out);
+        }
+        Err(_) => out.is_cut = true,
+    }
 }

@@ -2,9 +2,9 @@
 
 ghost use Rattle.spaces.specs.Spaces.{IsSetOf};
 
-use crate::rows::put_word;
+use rows::Output;
 use spaces::{Space, StateSet};
-use std::alloc::{AllocError, Global};
+use std::alloc::Global;
 use term::Spec;
 
 /// The set after the event with this name; the same set where there is none.
@@ -34,24 +34,23 @@ fn after_all(space: &mut Space<Global>, set: StateSet, names: &str) -> StateSet
 }
 
 /// Appends how many answers the space remembers after these events, and after the same events once more.
-fn put_counts(into: &mut String, space: &mut Space<Global>, names: &str) -> Result<(), AllocError> {
-    let Ok(start) = StateSet::start(space) else {
-        return into.push_str(" no set");
-    };
-    let set = after_all(space, start, names);
-    put_word(into, &space.remembered())?;
-    let _ = after_all(space, set, names);
-    put_word(into, &space.remembered())
+fn put_counts(space: &mut Space<Global>, names: &str, out: &mut Output) {
+    match StateSet::start(space) {
+        Ok(start) => {
+            let set = after_all(space, start, names);
+            out.put_word(&space.remembered());
+            let _ = after_all(space, set, names);
+            out.put_word(&space.remembered());
+        }
+        Err(_) => out.put(" no set"),
+    }
 }
 
 /// Appends how many answers a space of this specification remembers after these events from the root on, and after the same events once
 /// more.
-pub(crate) fn put_remembered(
-    into: &mut String,
-    alloc: Global,
-    spec: Spec<Global>,
-    names: &str,
-) -> Result<(), AllocError> {
-    let mut space = Space::new(alloc, spec)?;
-    put_counts(into, &mut space, names)
+pub(crate) fn put_remembered(alloc: Global, spec: Spec<Global>, names: &str, out: &mut Output) {
+    match Space::new(alloc, spec) {
+        Ok(mut space) => put_counts(&mut space, names, out),
+        Err(_) => out.is_cut = true,
+    }
 }

@@ -1,8 +1,7 @@
 //! Sets of events.
 
-use crate::rows::{put_answer, put_word};
 use alphabet::{Event, EventSet, Report};
-use std::alloc::AllocError;
+use rows::{Output, first_word};
 
 /// The event with this number, or tick for `T`.
 fn event(word: &str) -> Option<Event> {
@@ -25,65 +24,51 @@ fn set_of(words: &str) -> EventSet {
 }
 
 /// Appends an event's number, or `T`.
-pub(crate) fn put_event(into: &mut String, event: Event) -> Result<(), AllocError> {
+pub(crate) fn put_event(event: Event, out: &mut Output) {
     match event {
-        Event::Of(number) => put_word(into, &number),
-        Event::Tick => into.push_str(" T"),
+        Event::Of(number) => out.put_word(&number),
+        Event::Tick => out.put(" T"),
     }
 }
 
 /// Appends a set's members in order.
-pub(crate) fn put_set(into: &mut String, set: &EventSet) -> Result<(), AllocError> {
-    into.push_str(if set.is_empty() { " none" } else { "" })?;
+pub(crate) fn put_set(set: &EventSet, out: &mut Output) {
+    out.put(if set.is_empty() { " none" } else { "" });
     for event in set.iter() {
-        put_event(into, event)?;
+        put_event(event, out);
     }
-    Ok(())
 }
 
 /// Appends for each of the words whether its event is a member.
-fn put_membership(into: &mut String, set: &EventSet, words: &str) -> Result<(), AllocError> {
+fn put_membership(set: &EventSet, words: &str, out: &mut Output) {
     for word in words.split_whitespace() {
         let event = event(word).unwrap_or(Event::TICK);
-        put_answer(into, set.contains(event))?;
-    }
-    Ok(())
-}
-
-/// Appends what two sets come to.
-fn put_joined(
-    into: &mut String,
-    kind: &str,
-    one: EventSet,
-    other: EventSet,
-) -> Result<(), AllocError> {
-    match kind {
-        "union" => put_set(into, &one.union(other)),
-        "minus" => put_set(into, &one.minus(other)),
-        _ => put_answer(into, one.is_within(&other)),
-    }
-}
-
-/// Appends what comes of a set and of what is written after the comma.
-fn put(into: &mut String, kind: &str, one: EventSet, right: &str) -> Result<(), AllocError> {
-    match kind {
-        "set" => put_set(into, &one),
-        "has" => put_membership(into, &one, right),
-        "report" => write!(into, " {:?}", Report::Refusal(one)),
-        _ => put_joined(into, kind, one, set_of(right)),
+        out.put_answer(set.contains(event));
     }
 }
 
 /// Appends what comes of sets, where the row is of this kind.
-pub(crate) fn play(kind: &str, rest: &str, out: &mut String) -> Result<bool, AllocError> {
+pub(crate) fn play(row: &str, out: &mut Output) -> bool {
+    let (kind, rest) = first_word(row);
     if !matches!(
         kind,
         "set" | "has" | "report" | "union" | "minus" | "within"
     ) {
-        return Ok(false);
+        return false;
     }
     let (left, right) = rest.split_once(',').unwrap_or((rest, ""));
-    out.push_str(kind)?;
-    put(out, kind, set_of(left), right)?;
-    Ok(true)
+    let (one, other) = (set_of(left), set_of(right));
+    out.put(kind);
+    match kind {
+        "set" => put_set(&one, out),
+        "has" => put_membership(&one, right, out),
+        "report" => {
+            out.put(" ");
+            out.put_debug(&Report::Refusal(one));
+        }
+        "union" => put_set(&one.union(other), out),
+        "minus" => put_set(&one.minus(other), out),
+        _ => out.put_answer(one.is_within(&other)),
+    }
+    true
 }

@@ -5,9 +5,9 @@ ghost use Rattle.term.specs.Proc.{proc};
 ghost use Rattle.term.specs.Specs.{IsProcessOf};
 
 use crate::numbers::put_numbered;
-use crate::rows::{first_word, number, put_answer, put_word};
 use crate::sets::put_set;
 use alphabet::{Alphabet, EventSet};
+use rows::{Output, first_word, number_of};
 use std::alloc::{AllocError, Allocator, Global};
 use std::hash::{DefaultHasher, Hash, Hasher};
 use step::{Label, can_tick, is_stable, offers, steps};
@@ -30,11 +30,11 @@ fn label(alphabet: &Alphabet<Global>, word: &str) -> Option<Label> {
 }
 
 /// Appends whether the root's body can terminate and whether it is stable, and what it offers.
-pub(crate) fn put_looks<A: Allocator>(into: &mut String, spec: &Spec<A>) -> Result<(), AllocError> {
+pub(crate) fn put_looks<A: Allocator>(spec: &Spec<A>, out: &mut Output) {
     let body = root(spec);
-    put_answer(into, can_tick(body))?;
-    put_answer(into, is_stable(body))?;
-    put_set(into, &offers(body))
+    out.put_answer(can_tick(body));
+    out.put_answer(is_stable(body));
+    put_set(&offers(body), out);
 }
 
 /// Whether each of these is the process that is wanted.
@@ -48,34 +48,24 @@ fn are_all(found: &[Term<Global>], wanted: &Term<Global>) -> bool {
 }
 
 /// Appends whether the first process has steps with this label, and whether each leads to the second.
-fn put_led_to(
-    into: &mut String,
-    alloc: Global,
-    spec: &Spec<Global>,
-    label: Label,
-) -> Result<(), AllocError>
+fn put_led_to(alloc: Global, spec: &Spec<Global>, label: Label, out: &mut Output)
     requires { 2 < length spec.now.bodies }
 {
     let mut found = Vec::new(alloc);
     match steps(spec, spec.body(1), label, &alloc, &mut found) {
         Ok(()) => {
-            put_answer(into, !found.is_empty())?;
-            put_answer(into, are_all(&found, spec.body(2)))
+            out.put_answer(!found.is_empty());
+            out.put_answer(are_all(&found, spec.body(2)));
         }
-        Err(fault) => put_word(into, &fault),
+        Err(fault) => out.put_word(&fault),
     }
 }
 
 /// Appends whether the body with number 1 has steps with a label, and whether each leads to the body with number 2.
-pub(crate) fn put_steps(
-    into: &mut String,
-    alloc: Global,
-    spec: &Spec<Global>,
-    word: &str,
-) -> Result<(), AllocError> {
+fn put_steps(alloc: Global, spec: &Spec<Global>, word: &str, out: &mut Output) {
     match label(spec.alphabet(), word) {
-        Some(label) if spec.bodies() > 2 => put_led_to(into, alloc, spec, label),
-        _ => into.push_str(" no such event or process"),
+        Some(label) if spec.bodies() > 2 => put_led_to(alloc, spec, label, out),
+        _ => out.put(" no such event or process"),
     }
 }
 
@@ -84,7 +74,7 @@ fn hidden(
     alloc: Global,
     spec: &Spec<Global>,
     inner: &Term<Global>,
-    times: usize,
+    times: u64,
 ) -> Result<Term<Global>, AllocError>
     requires { IsProcessOf spec.now (proc inner.now) }
     ensures { IfOk result (λ term. IsProcessOf spec.now (proc term)) }
@@ -98,113 +88,57 @@ fn hidden(
     Ok(term)
 }
 
-/// Appends what is told by number of the steps with this label of the root's body in so many hidings of no event.
-fn put_numbered_in(
-    into: &mut String,
-    alloc: Global,
-    spec: &Spec<Global>,
-    times: usize,
-    label: Label,
-) -> Result<(), AllocError> {
-    let term = hidden(alloc, spec, root(spec), times)?;
-    put_numbered(into, alloc, spec, &term, label)
-}
-
 /// Appends what is told by number of the steps of the root's body in hidings of no event.
-pub(crate) fn put_by_number(
-    into: &mut String,
-    alloc: Global,
-    spec: &Spec<Global>,
-    words: &str,
-) -> Result<(), AllocError> {
+fn put_by_number(alloc: Global, spec: &Spec<Global>, words: &str, out: &mut Output) {
     let (times, word) = first_word(words);
-    match label(spec.alphabet(), word) {
-        Some(label) => put_numbered_in(into, alloc, spec, number(times), label),
-        None => into.push_str(" no such event"),
+    let Some(label) = label(spec.alphabet(), word) else {
+        return out.put(" no such event");
+    };
+    match hidden(alloc, spec, root(spec), number_of(times)) {
+        Ok(term) => put_numbered(alloc, spec, &term, label, out),
+        Err(_) => out.is_cut = true,
     }
 }
 
-/// Appends the depths of processes.
-fn put_depths(into: &mut String, terms: &[Term<Global>]) -> Result<(), AllocError> {
-    for term in terms {
-        put_word(into, &term.depth())?;
-    }
-    Ok(())
-}
-
-/// Appends a fault of the process's hidden steps, and the depths of their targets after `SKIP`, which stood in the list
+/// Appends a fault of the process's hidden steps, and the depths of their targets after `SKIP`, which was in the list
 /// before.
-fn put_hidden_targets(
-    into: &mut String,
-    alloc: Global,
-    spec: &Spec<Global>,
-    term: &Term<Global>,
-) -> Result<(), AllocError>
+fn put_hidden_targets(alloc: Global, spec: &Spec<Global>, term: &Term<Global>, out: &mut Output)
     requires { IsProcessOf spec.now (proc term.now) }
 {
-    let mut found = vec![in alloc; Term::Skip]?;
-    if let Err(fault) = steps(spec, term, Label::Tau, &alloc, &mut found) {
-        put_word(into, &fault)?;
+    let mut found = Vec::new(alloc);
+    if found.push(Term::Skip).is_err() {
+        out.is_cut = true;
     }
-    put_depths(into, &found)
+    if let Err(fault) = steps(spec, term, Label::Tau, &alloc, &mut found) {
+        out.put_word(&fault);
+    }
+    for target in &found {
+        out.put_word(&target.depth());
+    }
 }
 
-/// Appends how deep and how large the process is, and what `put_hidden_targets` tells.
-fn put_deep(
-    into: &mut String,
-    alloc: Global,
-    spec: &Spec<Global>,
-    term: &Term<Global>,
-) -> Result<(), AllocError>
-    requires { IsProcessOf spec.now (proc term.now) }
-{
-    put_form(into, alloc, term)?;
-    put_hidden_targets(into, alloc, spec, term)
-}
-
-/// Appends what is told of the root's body in so many hidings of no event.
-pub(crate) fn put_hidden(
-    into: &mut String,
-    alloc: Global,
-    spec: &Spec<Global>,
-    times: &str,
-) -> Result<(), AllocError> {
-    let term = hidden(alloc, spec, root(spec), number(times))?;
-    put_deep(into, alloc, spec, &term)
-}
-
-/// Whether the process is that of the body with number 1 in so many hidings of no event.
-fn is_second(
-    alloc: Global,
-    spec: &Spec<Global>,
-    term: &Term<Global>,
-    times: usize,
-) -> Result<bool, AllocError>
-    requires { 1 < length spec.now.bodies }
-{
-    let second = hidden(alloc, spec, spec.body(1), times)?;
-    Ok(second.equal(term))
-}
-
-/// Whether the bodies with the numbers 0 and 1 are the same in so many hidings of no event.
-fn is_same(alloc: Global, spec: &Spec<Global>, times: usize) -> Result<bool, AllocError>
-    requires { 1 < length spec.now.bodies }
-{
-    let first = hidden(alloc, spec, root(spec), times)?;
-    is_second(alloc, spec, &first, times)
+/// Appends how deep and how large the root's body is in so many hidings of no event, and what `put_hidden_targets` tells.
+fn put_hidden(alloc: Global, spec: &Spec<Global>, times: &str, out: &mut Output) {
+    match hidden(alloc, spec, root(spec), number_of(times)) {
+        Ok(term) => {
+            put_form(alloc, &term, out);
+            put_hidden_targets(alloc, spec, &term, out);
+        }
+        Err(_) => out.is_cut = true,
+    }
 }
 
 /// Appends whether the bodies with the numbers 0 and 1 are the same in so many hidings of no event.
-pub(crate) fn put_same(
-    into: &mut String,
-    alloc: Global,
-    spec: &Spec<Global>,
-    times: &str,
-) -> Result<(), AllocError> {
-    if spec.bodies() > 1 {
-        put_answer(into, is_same(alloc, spec, number(times))?)
-    } else {
-        into.push_str(" one body")
+fn put_same(alloc: Global, spec: &Spec<Global>, times: &str, out: &mut Output) {
+    if spec.bodies() < 2 {
+        return out.put(" one body");
+    }
+    let times = number_of(times);
+    let first = hidden(alloc, spec, root(spec), times);
+    let second = hidden(alloc, spec, spec.body(1), times);
+    match (&first, &second) {
+        (Ok(first), Ok(second)) => out.put_answer(second.equal(first)),
+        _ => out.is_cut = true,
     }
 }
 
@@ -214,18 +148,17 @@ fn hash_of<T: Hash>(value: &T) -> u64 {
     state.finish()
 }
 
-/// Whether the copy of a process equals it.
-fn is_copied(alloc: Global, term: &Term<Global>) -> Result<bool, AllocError> {
-    let copy = term.try_clone(&alloc)?;
-    Ok(copy.equal(term) && hash_of(&copy) == hash_of(term))
-}
-
 /// Appends how deep and how large the process is, and `?` where its copy isn't the same.
-fn put_form(into: &mut String, alloc: Global, term: &Term<Global>) -> Result<(), AllocError> {
-    let is_copied = is_copied(alloc, term)?;
-    put_word(into, &term.depth())?;
-    put_word(into, &term.size())?;
-    into.push_str(if is_copied { "" } else { "?" })
+fn put_form(alloc: Global, term: &Term<Global>, out: &mut Output) {
+    out.put_word(&term.depth());
+    out.put_word(&term.size());
+    match term.try_clone(&alloc) {
+        Ok(copy) => {
+            let is_copied = copy.equal(term) && hash_of(&copy) == hash_of(term);
+            out.put(if is_copied { "" } else { "?" });
+        }
+        Err(_) => out.is_cut = true,
+    }
 }
 
 /// How many of the bodies this process equals.
@@ -240,16 +173,31 @@ fn equals(spec: &Spec<Global>, term: &Term<Global>) -> usize {
 }
 
 /// Appends how deep and how large each body is, and how many of them it equals.
-pub(crate) fn put_bodies(
-    into: &mut String,
-    alloc: Global,
-    spec: &Spec<Global>,
-) -> Result<(), AllocError> {
+fn put_bodies(alloc: Global, spec: &Spec<Global>, out: &mut Output) {
     for number in 0..spec.bodies() {
         let body = spec.body(number);
-        put_form(into, alloc, body)?;
-        put_word(into, &equals(spec, body))?;
-        into.push(';')?;
+        put_form(alloc, body, out);
+        out.put_word(&equals(spec, body));
+        out.put(";");
     }
-    Ok(())
+}
+
+/// Appends what comes of the script's processes. Whether the row is of one of these kinds is answered.
+pub(crate) fn put(
+    alloc: Global,
+    kind: &str,
+    words: &str,
+    spec: &Spec<Global>,
+    out: &mut Output,
+) -> bool {
+    match kind {
+        "looks" => put_looks(spec, out),
+        "steps" => put_steps(alloc, spec, words, out),
+        "numbered" => put_by_number(alloc, spec, words, out),
+        "hidden" => put_hidden(alloc, spec, words, out),
+        "same" => put_same(alloc, spec, words, out),
+        "bodies" => put_bodies(alloc, spec, out),
+        _ => return false,
+    }
+    true
 }

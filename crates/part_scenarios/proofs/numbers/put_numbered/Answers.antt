@@ -4,8 +4,8 @@ use Rattle.term.specs.Proc.{proc}
 use Rattle.step.proofs.Lying.{lies-small}
 use Rattle.part_scenarios.proofs.numbers.put_numbered.Goals as goal
 
-pub put_twice-requires : goal.put_twice-requires
-put_twice-requires c =
+pub put_both-requires : goal.put_both-requires
+put_both-requires c =
     let spec = c.args.spec.now in
     let small : event_count spec.alphabet ≤ 256 = rw (c.len-events.ensures.count, c.alphabet.ensures) at c.len-events.ensures.limit in
     lies-small (event_count spec.alphabet) (length spec.bodies) small (proc c.args.term.now) c.requires

@@ -1,0 +1,8 @@
+//! How the rows of the programs that play rows of text are read, and how what came of one is written.
+#![tactic(auto)]
+
+mod output;
+mod words;
+
+pub use output::Output;
+pub use words::{first_word, number_of, parts};
