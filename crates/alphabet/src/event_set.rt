@@ -9,6 +9,7 @@ ghost use Rattle.alphabet.specs.Channels.{event_count};
 ghost use Rattle.alphabet.specs.EventSets.{member, members, IsFirst};
 
 use crate::events::Event;
+use crate::half::Half;
 use crate::table::Alphabet;
 use std::alloc::Allocator;
 use std::fmt;
@@ -18,9 +19,9 @@ use std::marker::Model;
 #[derive(Clone, Copy)]
 pub struct EventSet {
     /// The events with numbers from 0 to 127, a bit for each.
-    low: u128,
+    low: Half,
     /// The events with numbers from 128 to 255.
-    high: u128,
+    high: Half,
     tick: bool,
 }
 
@@ -31,7 +32,7 @@ impl Model for EventSet {
 
     ghost view = { λ s. (s.high * 2 ^ 128 + s.low) * 2 ^ 1 + cond s.tick 1 0 };
 
-    ghost invariant = { λ s. s.low < 2 ^ 128 };
+    ghost invariant = { λ s. (s.low < 2 ^ 128) × (s.high < 2 ^ 128) };
 
     ghost inverse = { λ n. record { low = n / 2 % 2 ^ 128; high = n / 2 / 2 ^ 128; tick = nat_eq (n % 2) 1 } };
 }
@@ -42,8 +43,8 @@ impl EventSet {
         ensures { (x : Event) → member result x ≡ false }
     {
         EventSet {
-            low: 0,
-            high: 0,
+            low: Half::of(0),
+            high: Half::of(0),
             tick: false,
         }
     }
@@ -67,9 +68,9 @@ impl EventSet {
             Event::Tick => self.tick,
             Event::Of(number) => {
                 if number < 128 {
-                    (self.low >> number) & 1 == 1
+                    (self.low.bits() >> number) & 1 == 1
                 } else {
-                    (self.high >> (number - 128)) & 1 == 1
+                    (self.high.bits() >> (number - 128)) & 1 == 1
                 }
             }
         }
@@ -95,14 +96,14 @@ impl EventSet {
     {
         if number < 128 {
             return EventSet {
-                low: self.low | (1 << number),
+                low: Half::of(self.low.bits() | (1 << number)),
                 high: self.high,
                 tick: self.tick,
             };
         }
         EventSet {
             low: self.low,
-            high: self.high | (1 << (number - 128)),
+            high: Half::of(self.high.bits() | (1 << (number - 128))),
             tick: self.tick,
         }
     }
@@ -112,8 +113,8 @@ impl EventSet {
         ensures { (x : Event) → member result x ≡ (member self x || member other x) }
     {
         EventSet {
-            low: self.low | other.low,
-            high: self.high | other.high,
+            low: Half::of(self.low.bits() | other.low.bits()),
+            high: Half::of(self.high.bits() | other.high.bits()),
             tick: self.tick | other.tick,
         }
     }
@@ -123,8 +124,8 @@ impl EventSet {
         ensures { (x : Event) → member result x ≡ (member self x && not (member other x)) }
     {
         EventSet {
-            low: self.low & !other.low,
-            high: self.high & !other.high,
+            low: Half::of(self.low.bits() & !other.low.bits()),
+            high: Half::of(self.high.bits() & !other.high.bits()),
             tick: self.tick & !other.tick,
         }
     }
@@ -154,11 +155,12 @@ impl EventSet {
     fn first(&self) -> Option<Event>
         ensures { MatchOption result ((x : Event) → member self.now x ≡ false) (IsFirst self.now) }
     {
-        if self.low != 0 {
-            return Some(Event::Of(self.low.trailing_zeros() as u8));
+        let (low, high) = (self.low.bits(), self.high.bits());
+        if low != 0 {
+            return Some(Event::Of(low.trailing_zeros() as u8));
         }
-        if self.high != 0 {
-            return Some(Event::Of((128 + self.high.trailing_zeros()) as u8));
+        if high != 0 {
+            return Some(Event::Of((128 + high.trailing_zeros()) as u8));
         }
         self.tick.then_some(Event::Tick)
     }
@@ -170,7 +172,9 @@ impl PartialEq for EventSet {
     ghost laws = { Prim.search (comparing, rules) };
 
     fn eq(&self, other: &EventSet) -> bool {
-        self.low == other.low && self.high == other.high && self.tick == other.tick
+        self.low.bits() == other.low.bits()
+            && self.high.bits() == other.high.bits()
+            && self.tick == other.tick
     }
 }
 

@@ -5,6 +5,7 @@ mod alphabet_error;
 mod event_set;
 mod events;
 mod field_value;
+mod half;
 mod names;
 mod naming;
 mod table;
