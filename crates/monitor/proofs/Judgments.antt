@@ -1,5 +1,5 @@
 -- What is judged of a report after a trace.
-use Rattle.std.proofs.Common.{◌≡◌, ℕ, ◌<◌, Bool, Option, Some, None, is_some, IfSome, IfNone, List, [], ◌∷◌, ◌++◌, refl, sym, subst, ◌↔◌, IsTrue, IfOk, IsOk, is_ok, if◌then◌else◌, Result, Ok, Err}
+use Rattle.std.proofs.Common.{◌≡◌, ℕ, ◌<◌, Bool, Option, Some, None, is_some, IfSome, IfNone, List, [], ◌∷◌, ◌++◌, refl, sym, subst, ◌↔◌, IsTrue, IfOk, Result, Ok, Err}
 use Rattle.alphabet.specs.declared.events.Event.{Event}
 use Rattle.alphabet.specs.declared.events.Report.{Report}
 use Rattle.alphabet.specs.declared.events.Report.TheVariants as report
@@ -10,6 +10,7 @@ use Rattle.term.specs.Verdict.{Verdict}
 use Rattle.spaces.specs.AfterFault.TheVariants.{Memory}
 use Rattle.spaces.specs.Spaces.{Spaced, Belongs, GrewFrom}
 use Rattle.monitor.specs.Monitors.{Monitoring, Judgment, Follows, IsJudgment, IsOf, Stops, space_of}
+use Rattle.monitor.specs.TraceAfter.{trace_after}
 
 -- an event is accepted where there are states after it
 pub judged-event : (s t : Spaced) (u : List Event) (x : Event) (v : Bool) (next : Option ℕ) → GrewFrom s t → v ≡ is_some next
@@ -54,7 +55,13 @@ pub stops-memory : (B : ℕ → Proc) (u : List Event) (r : Report) → Stops B 
 stops-memory B u (report.Event x) = tt
 stops-memory B u (report.Refusal X) = refl
 
--- what a push that succeeded leaves
-pub pushed : {A E X : Type 0} (o : Result A E) (new more old : List X) → IsOk o → new ≡ (if is_ok o then more else old) → new ≡ more
-pushed (Ok a) new more old h e = e
-pushed (Err x) new more old h e = absurd (cc h)
+-- an event with states after it makes the trace longer
+pub trace-longer : (s : Spaced) (u : List Event) (r : Report) (v : Bool) (next : Option ℕ) (x : Event) (set : ℕ) → Follows s u r v next → r ≡ report.Event x → next ≡ Some set → trace_after u r v ≡ u ++ x ∷ []
+trace-longer s u r v next x set f e n =
+    let k : Follows s u (report.Event x) v (Some set) = subst (λ w. Follows s u (report.Event x) v w) n (subst (λ w. Follows s u w v next) e f) in
+    subst (λ w. trace_after u w v ≡ u ++ x ∷ []) (sym e) (subst (λ b. trace_after u (report.Event x) b ≡ u ++ x ∷ []) (sym k.0) refl)
+
+-- a refusal leaves the trace
+pub trace-refused : (u : List Event) (r : Report) (v : Bool) (event : Option Event) → ((x : Event) → (r ≡ report.Event x) ↔ (event ≡ Some x)) → ((x : Event) → event ≡ Some x → ⊥) → trace_after u r v ≡ u
+trace-refused u (report.Event x) v event is none = absurd (none x ((is x).0 refl))
+trace-refused u (report.Refusal X) v event is none = refl

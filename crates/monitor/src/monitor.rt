@@ -17,6 +17,7 @@ use alphabet::{Event, EventSet, Report};
 use spaces::{AfterFault, Space, StateSet};
 use std::alloc::{AllocError, Allocator};
 use std::marker::Model;
+use std::snapshot::Snapshot;
 use term::Spec;
 
 /// A monitor: a specification and a trace of it, the events accepted so far.
@@ -48,10 +49,13 @@ impl<A: Allocator> Model for Monitor<A> {
     ghost invariant = { λ m. Belongs m.space m.states m.trace.items };
 }
 
-/// What a monitor found of a report, after the trace that it then had.
+/// What a monitor found of a report, after the trace that it then had. It has no copy of the report.
 #[derive(Drop)]
 pub struct Judged {
-    report: Report,
+    /// The report, which clauses alone read.
+    report: Snapshot<Report>,
+    /// The event, where the report is of one.
+    event: Option<Event>,
     verdict: bool,
     /// What the root may be after the event, where it is accepted.
     next: Option<StateSet>,
@@ -64,7 +68,13 @@ impl Model for Judged {
 
     ghost coded = { judgment_code };
 
-    ghost view = { λ j. record { report = j.report; verdict = j.verdict; next = j.next } };
+    ghost use Rattle.std.specs.Prelude.{◌≡◌, ◌↔◌, Some};
+    ghost use Rattle.alphabet.specs.declared.events.Event.{Event};
+    ghost use Rattle.alphabet.specs.declared.events.Report.TheVariants as reported;
+
+    ghost view = { λ j. record { report = j.report.value; verdict = j.verdict; next = j.next } };
+
+    ghost invariant = { λ j. (x : Event) → (j.report.value ≡ reported.Event x) ↔ (j.event ≡ Some x) };
 }
 
 impl Judged {
@@ -113,7 +123,7 @@ impl<A: Allocator + Copy> Monitor<A> {
         ensures grown { GrewFrom (space_of self.old) (space_of self.new) }
     {
         match self.trace.reserve(1) {
-            Ok(()) => judge_by(self.states, &mut self.space, *report),
+            Ok(()) => judge_by(self.states, &mut self.space, report),
             Err(_) => Err(AfterFault::Memory),
         }
     }
@@ -126,16 +136,19 @@ impl<A: Allocator + Copy> Monitor<A> {
         ensures sets { self.new.sets ≡ self.old.sets }
     {
         let Judged {
-            report,
+            report: _,
+            event,
             verdict: _,
             next,
         } = judged;
-        if let Report::Event(event) = report
-            && let Some(states) = next
-        {
-            let _ = self.trace.push(event);
-            self.states = states;
-        }
+        let Some(event) = event else {
+            return;
+        };
+        let Some(states) = next else {
+            return;
+        };
+        self.trace.push_reserved(event);
+        self.states = states;
     }
 }
 
@@ -176,26 +189,28 @@ impl<A: Allocator> Monitor<A> {
 fn judge_by<A: Allocator + Copy>(
     states: StateSet,
     space: &mut Space<A>,
-    report: Report,
+    report: &Report,
 ) -> Result<Judged, AfterFault>
     requires { IsSetOf space.old states }
-    ensures judged { (u : List Event) → Belongs space.old states u → IfOk result (IsJudgment space.new u report) }
-    ensures within { (u : List Event) → Belongs space.old states u → OnOk result (MeetsNone (bodies_of space.old.spec.bodies) u report) }
-    ensures limit { (u : List Event) → Belongs space.old states u → IfErr result (Stops (bodies_of space.old.spec.bodies) u report) }
+    ensures judged { (u : List Event) → Belongs space.old states u → IfOk result (IsJudgment space.new u report.now) }
+    ensures within { (u : List Event) → Belongs space.old states u → OnOk result (MeetsNone (bodies_of space.old.spec.bodies) u report.now) }
+    ensures limit { (u : List Event) → Belongs space.old states u → IfErr result (Stops (bodies_of space.old.spec.bodies) u report.now) }
     ensures grown { GrewFrom space.old space.new }
 {
     match report {
-        Report::Event(event) => match states.advance(space, event) {
+        Report::Event(event) => match states.advance(space, *event) {
             Ok(next) => Ok(Judged {
-                report,
+                report: Snapshot::of(report),
+                event: Some(*event),
                 verdict: next.is_some(),
                 next,
             }),
             Err(fault) => Err(fault),
         },
         Report::Refusal(set) => Ok(Judged {
-            report,
-            verdict: states.refuses(space, &set),
+            report: Snapshot::of(report),
+            event: None,
+            verdict: states.refuses(space, set),
             next: None,
         }),
     }
