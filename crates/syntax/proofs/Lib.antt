@@ -16,7 +16,9 @@ pub mod CompleteRow
 pub mod CompleteTall
 pub mod Forms
 pub mod Lists
+pub mod NextTokens
 pub mod Noded
+pub mod ReadSteps
 pub mod Sound
 pub mod Spelled
 pub mod Steps

@@ -1,8 +1,10 @@
 //! What the next tokens say.
-ghost use Rattle.std.specs.Prelude.{◌≡◌, List, Option};
+ghost use Rattle.std.specs.Prelude.{◌≡◌, ◌∷◌, [], List, Option, is_some};
 ghost use Rattle.std.specs.Option.{option_map};
-ghost use Rattle.tokens.specs.Lexeme.{lexemes};
-ghost use Rattle.syntax.specs.Parsing.{Gives, after as after_sign, begins_field as begins_field_of, brace_form, declaration_form as declaration_form_of, defined_form, events_form, field_form as field_form_of, form_at as form_at_of, input_form, keyword_form, named_form, operator_at as operator_at_of, phrase_form as phrase_form_of, symbol_form, tight as tight_of, turned as turned_of, value_form as value_form_of, fields_of as fields_of_kind, is_alone as is_alone_of, may_be_number as may_be_number_of};
+ghost use Rattle.tokens.specs.Lexeme.{Kept as kept, Sign as signed, lexeme_of_word, lexemes};
+ghost use Rattle.syntax.specs.declared.form.Form.TheVariants.{Channels as channels_form, Set as set_form};
+ghost use Rattle.syntax.specs.declared.piece.Sign.TheVariants.{Symbol as sign_of};
+ghost use Rattle.syntax.specs.Parsing.{Gives, after as after_sign, begins_field as begins_field_of, brace_form, declaration_form as declaration_form_of, defined_form, events_form, field_form as field_form_of, form_at as form_at_of, input_form, is_sign as is_sign_of, keyword_form, named_form, operator_at as operator_at_of, operator_of as operator_of_lexeme, phrase_form as phrase_form_of, symbol_form, tight as tight_of, turned as turned_of, value_form as value_form_of, fields_of as fields_of_kind, is_alone as is_alone_of, may_be_number as may_be_number_of};
 
 use crate::fault::expected;
 use crate::form::{Form, looseness};
@@ -11,18 +13,42 @@ use crate::piece::{Fields, Kind, Sign};
 use std::alloc::Allocator;
 use tokens::{Keyword, ScriptError, Symbol, Token, Word};
 
+/// Whether a token says this sign.
+#[tactic(auto, unfolding(crate::specs::Parsing::is_sign))]
+fn is_sign<A: Allocator>(word: &Word<A>, sign: Sign) -> bool
+    ensures { result ≡ is_sign_of sign (lexeme_of_word word.now) }
+{
+    match (word, sign) {
+        (Word::Symbol(symbol), Sign::Symbol(wanted)) => *symbol == wanted,
+        (Word::Keyword(keyword), Sign::Keyword(wanted)) => *keyword == wanted,
+        _ => false,
+    }
+}
+
 /// The tokens after a sign, if it stands first.
-#[tactic(auto, unfolding(crate::specs::Parsing::after, crate::specs::Parsing::is_sign))]
+#[tactic(auto, unfolding(crate::specs::Parsing::after))]
 pub(crate) fn past<A: Allocator>(tokens: &[Token<A>], sign: Sign) -> Option<&[Token<A>]>
     ensures { option_map (λ x. lexemes x.now) result ≡ after_sign sign (lexemes tokens.now) }
 {
     match tokens {
-        [first, rest @ ..] => match (&first.word, sign) {
-            (Word::Symbol(symbol), Sign::Symbol(wanted)) if *symbol == wanted => Some(rest),
-            (Word::Keyword(keyword), Sign::Keyword(wanted)) if *keyword == wanted => Some(rest),
-            _ => None,
-        },
+        [first, rest @ ..] => {
+            if is_sign(&first.word, sign) {
+                Some(rest)
+            } else {
+                None
+            }
+        }
         [] => None,
+    }
+}
+
+/// Whether this symbol stands first.
+fn begins_with<A: Allocator>(tokens: &[Token<A>], symbol: Symbol) -> bool
+    ensures { result ≡ is_some (after_sign (sign_of symbol) (lexemes tokens.now)) }
+{
+    match past(tokens, Sign::Symbol(symbol)) {
+        Some(_) => true,
+        None => false,
     }
 }
 
@@ -39,39 +65,54 @@ pub(crate) fn after<A: Allocator>(
     }
 }
 
+/// The operator that begins with this token.
+#[tactic(auto, unfolding(crate::specs::Parsing::operator_of))]
+fn operator_of<A: Allocator>(word: &Word<A>) -> Option<Operator>
+    ensures { result ≡ operator_of_lexeme (lexeme_of_word word.now) }
+{
+    match word {
+        Word::Symbol(symbol) => of_symbol(*symbol),
+        Word::Keyword(keyword) => of_keyword(*keyword),
+        Word::Name(_) | Word::Number(_) => None,
+    }
+}
+
 /// The operator that stands first.
-#[tactic(auto, unfolding(crate::specs::Parsing::operator_at, crate::specs::Parsing::operator_of))]
+#[tactic(auto, unfolding(crate::specs::Parsing::operator_at))]
 pub(crate) fn operator_at<A: Allocator>(tokens: &[Token<A>]) -> Option<(Operator, &[Token<A>])>
     ensures { option_map (λ x. (x.0, lexemes x.1.now)) result ≡ operator_at_of (lexemes tokens.now) }
 {
     match tokens {
-        [first, rest @ ..] => {
-            let operator = match &first.word {
-                Word::Symbol(symbol) => of_symbol(*symbol),
-                Word::Keyword(keyword) => of_keyword(*keyword),
-                _ => None,
-            };
-            match operator {
-                Some(operator) => Some((operator, rest)),
-                None => None,
-            }
-        }
+        [first, rest @ ..] => match operator_of(&first.word) {
+            Some(operator) => Some((operator, rest)),
+            None => None,
+        },
         [] => None,
     }
 }
 
-/// Whether a field of a name begins there.
+/// Whether a field of a name begins with this symbol.
 #[tactic(auto, unfolding(crate::specs::Parsing::begins_field))]
+fn is_field_sign(fields: Fields, symbol: Symbol) -> bool
+    ensures { result ≡ begins_field_of fields (signed symbol ∷ []) }
+{
+    match (fields, symbol) {
+        (Fields::Any, Symbol::Dot) => true,
+        (Fields::Any, Symbol::Exclamation) => true,
+        (Fields::Any, Symbol::Question) => true,
+        (Fields::Undotted, Symbol::Exclamation) => true,
+        (Fields::Undotted, Symbol::Question) => true,
+        _ => false,
+    }
+}
+
+/// Whether a field of a name begins there.
 pub(crate) fn begins_field<A: Allocator>(fields: Fields, tokens: &[Token<A>]) -> bool
     ensures { result ≡ begins_field_of fields (lexemes tokens.now) }
 {
     match tokens {
-        [first, ..] => match (fields, &first.word) {
-            (Fields::Any, Word::Symbol(Symbol::Dot)) => true,
-            (Fields::Any, Word::Symbol(Symbol::Exclamation)) => true,
-            (Fields::Any, Word::Symbol(Symbol::Question)) => true,
-            (Fields::Undotted, Word::Symbol(Symbol::Exclamation)) => true,
-            (Fields::Undotted, Word::Symbol(Symbol::Question)) => true,
+        [first, ..] => match &first.word {
+            Word::Symbol(symbol) => is_field_sign(fields, *symbol),
             _ => false,
         },
         [] => false,
@@ -98,44 +139,35 @@ fn of_word(keyword: Keyword) -> Option<Form>
 }
 
 /// The form that begins with a name, by what stands after the name.
-#[tactic(auto, unfolding(crate::specs::Parsing::named_form))]
 fn of_name<A: Allocator>(tokens: &[Token<A>]) -> Form
     ensures { result ≡ named_form (lexemes tokens.now) }
 {
-    match tokens {
-        [first, ..] => match &first.word {
-            Word::Symbol(Symbol::OpenParenthesis) => Form::Call,
-            _ => Form::Event,
-        },
-        [] => Form::Event,
+    if begins_with(tokens, Symbol::OpenParenthesis) {
+        Form::Call
+    } else {
+        Form::Event
     }
 }
 
 /// The set that begins with a brace, by what stands after the brace.
-#[tactic(auto, unfolding(crate::specs::Parsing::brace_form))]
 fn of_brace<A: Allocator>(tokens: &[Token<A>]) -> Form
     ensures { result ≡ brace_form (lexemes tokens.now) }
 {
-    match tokens {
-        [first, ..] => match &first.word {
-            Word::Symbol(Symbol::CloseBrace) => Form::EmptySet,
-            _ => Form::Set,
-        },
-        [] => Form::Set,
+    if begins_with(tokens, Symbol::CloseBrace) {
+        Form::EmptySet
+    } else {
+        Form::Set
     }
 }
 
 /// The set of events that begins with `{|`, by what stands after it.
-#[tactic(auto, unfolding(crate::specs::Parsing::events_form))]
 fn of_events<A: Allocator>(tokens: &[Token<A>]) -> Form
     ensures { result ≡ events_form (lexemes tokens.now) }
 {
-    match tokens {
-        [first, ..] => match &first.word {
-            Word::Symbol(Symbol::CloseEvents) => Form::NoProductions,
-            _ => Form::Productions,
-        },
-        [] => Form::Productions,
+    if begins_with(tokens, Symbol::CloseEvents) {
+        Form::NoProductions
+    } else {
+        Form::Productions
     }
 }
 
@@ -170,15 +202,25 @@ fn phrase_form<A: Allocator>(tokens: &[Token<A>]) -> Option<Form>
     }
 }
 
+/// The form that begins with this symbol where a field gives a value.
 #[tactic(auto, unfolding(crate::specs::Parsing::value_form))]
+fn value_of_sign(symbol: Symbol) -> Option<Form>
+    ensures { result ≡ value_form_of (signed symbol ∷ []) }
+{
+    match symbol {
+        Symbol::Minus => Some(Form::NegativeNumber),
+        Symbol::OpenParenthesis => Some(Form::Brackets),
+        _ => None,
+    }
+}
+
 fn value_form<A: Allocator>(tokens: &[Token<A>]) -> Option<Form>
     ensures { result ≡ value_form_of (lexemes tokens.now) }
 {
     match tokens {
         [first, ..] => match &first.word {
             Word::Name(_) => Some(Form::Event),
-            Word::Symbol(Symbol::Minus) => Some(Form::NegativeNumber),
-            Word::Symbol(Symbol::OpenParenthesis) => Some(Form::Brackets),
+            Word::Symbol(symbol) => value_of_sign(*symbol),
             _ => None,
         },
         [] => None,
@@ -186,16 +228,34 @@ fn value_form<A: Allocator>(tokens: &[Token<A>]) -> Option<Form>
 }
 
 /// Whether the values of an input are restricted, by what stands after its sign.
-#[tactic(auto, unfolding(crate::specs::Parsing::input_form))]
 fn of_input<A: Allocator>(tokens: &[Token<A>]) -> Form
     ensures { result ≡ input_form (lexemes tokens.now) }
 {
     match tokens {
-        [first, second, ..] => match (&first.word, &second.word) {
-            (Word::Name(_), Word::Symbol(Symbol::Colon)) => Form::RestrictedInput,
+        [first, rest @ ..] => match &first.word {
+            Word::Name(_) => {
+                if begins_with(rest, Symbol::Colon) {
+                    Form::RestrictedInput
+                } else {
+                    Form::Input
+                }
+            }
             _ => Form::Input,
         },
-        _ => Form::Input,
+        [] => Form::Input,
+    }
+}
+
+/// The field that begins with this symbol, by what stands after it.
+#[tactic(auto, unfolding(crate::specs::Parsing::field_form))]
+fn field_of_sign<A: Allocator>(symbol: Symbol, tokens: &[Token<A>]) -> Option<Form>
+    ensures { result ≡ field_form_of (signed symbol ∷ lexemes tokens.now) }
+{
+    match symbol {
+        Symbol::Dot => Some(Form::Dotted),
+        Symbol::Exclamation => Some(Form::Output),
+        Symbol::Question => Some(of_input(tokens)),
+        _ => None,
     }
 }
 
@@ -205,9 +265,7 @@ fn field_form<A: Allocator>(tokens: &[Token<A>]) -> Option<Form>
 {
     match tokens {
         [first, rest @ ..] => match &first.word {
-            Word::Symbol(Symbol::Dot) => Some(Form::Dotted),
-            Word::Symbol(Symbol::Exclamation) => Some(Form::Output),
-            Word::Symbol(Symbol::Question) => Some(of_input(rest)),
+            Word::Symbol(symbol) => field_of_sign(*symbol, rest),
             _ => None,
         },
         [] => None,
@@ -215,27 +273,34 @@ fn field_form<A: Allocator>(tokens: &[Token<A>]) -> Option<Form>
 }
 
 /// The definition that begins with a name, by what stands after the name.
-#[tactic(auto, unfolding(crate::specs::Parsing::defined_form))]
 fn of_defined<A: Allocator>(tokens: &[Token<A>]) -> Form
     ensures { result ≡ defined_form (lexemes tokens.now) }
 {
-    match tokens {
-        [first, ..] => match &first.word {
-            Word::Symbol(Symbol::OpenParenthesis) => Form::DefinitionWithParameters,
-            _ => Form::Definition,
-        },
-        [] => Form::Definition,
+    if begins_with(tokens, Symbol::OpenParenthesis) {
+        Form::DefinitionWithParameters
+    } else {
+        Form::Definition
     }
 }
 
+/// The declaration that begins with this keyword.
 #[tactic(auto, unfolding(crate::specs::Parsing::declaration_form))]
+fn declaration_of_word(keyword: Keyword) -> Option<Form>
+    ensures { result ≡ declaration_form_of (kept keyword ∷ []) }
+{
+    match keyword {
+        Keyword::Channel => Some(Form::Channels),
+        Keyword::Datatype => Some(Form::Datatype),
+        _ => None,
+    }
+}
+
 fn declaration_form<A: Allocator>(tokens: &[Token<A>]) -> Option<Form>
     ensures { result ≡ declaration_form_of (lexemes tokens.now) }
 {
     match tokens {
         [first, rest @ ..] => match &first.word {
-            Word::Keyword(Keyword::Channel) => Some(Form::Channels),
-            Word::Keyword(Keyword::Datatype) => Some(Form::Datatype),
+            Word::Keyword(keyword) => declaration_of_word(*keyword),
             Word::Name(_) => Some(of_defined(rest)),
             _ => None,
         },
@@ -336,20 +401,36 @@ pub(crate) fn is_alone(kind: Kind) -> bool
     matches!(kind, Kind::Called)
 }
 
+/// Which set with members it is, by what follows its first member.
+fn of_members<A: Allocator>(tokens: &[Token<A>]) -> Form
+    ensures { result ≡ turned_of set_form (lexemes tokens.now) }
+{
+    if begins_with(tokens, Symbol::Range) {
+        Form::Range
+    } else {
+        Form::Set
+    }
+}
+
+/// Which declaration of channels it is, by what follows their names.
+fn of_channels<A: Allocator>(tokens: &[Token<A>]) -> Form
+    ensures { result ≡ turned_of channels_form (lexemes tokens.now) }
+{
+    if begins_with(tokens, Symbol::Colon) {
+        Form::ChannelsWithFields
+    } else {
+        Form::Channels
+    }
+}
+
 /// Which set it is, by what follows its first member, and which declaration of channels.
 #[tactic(auto, unfolding(crate::specs::Parsing::turned))]
 pub(crate) fn turned<A: Allocator>(form: Form, tokens: &[Token<A>]) -> Form
     ensures { result ≡ turned_of form (lexemes tokens.now) }
 {
-    match (form, tokens) {
-        (Form::Set, [first, ..]) => match &first.word {
-            Word::Symbol(Symbol::Range) => Form::Range,
-            _ => Form::Set,
-        },
-        (Form::Channels, [first, ..]) => match &first.word {
-            Word::Symbol(Symbol::Colon) => Form::ChannelsWithFields,
-            _ => Form::Channels,
-        },
+    match form {
+        Form::Set => of_members(tokens),
+        Form::Channels => of_channels(tokens),
         _ => form,
     }
 }

@@ -1,12 +1,14 @@
-use Rattle.std.proofs.Common.{arith, ◌≡◌, ◌+◌, ◌-◌, ◌++◌, ◌∷◌, [], ℕ, List, Option, length, ap, sym, ◌∙◌}
+use Rattle.std.proofs.Common.{arith, take, drop, ◌≡◌, ◌+◌, ◌-◌, ◌++◌, ◌∷◌, [], ℕ, List, Option, length, ap, sym, ◌∙◌}
 use Rattle.std.proofs.lemmas.List.{length-map}
 use Rattle.std.proofs.Math.Nat.{max-le}
 use Rattle.std.proofs.lemmas.Result.{err_from_is_err_and}
 use Rattle.tokens.specs.Lexeme.{lexeme, lexemes}
 use Rattle.syntax.specs.Grammar.{Syntax}
-use Rattle.syntax.specs.Parsing.{◌>>=◌, reader, may_open, climb, others, Found}
+use Rattle.syntax.specs.Parsing.{◌>>=◌, reader, may_open, climb, others, row, Found, Row}
 use Rattle.syntax.specs.View.{shape, shapes}
 use Rattle.syntax.proofs.Branches.{fails_deep, fails_by, gives_as, inside_fails, inside_reads, others_stop, others_done, others_next, others_fail, node_is, node_fails, grown_is, grown_fails, climb_ends, climb_high, climb_turn, climb_shut}
+use Rattle.syntax.proofs.ReadSteps.{read_climbs, read_fails, row_ends, row_turn}
+use Rattle.syntax.proofs.Steps.{reads_no_layer, reads_no_room}
 use Rattle.syntax.proofs.reading.+reading.Goals as goal
 
 pub climb-returns-then-turns-eq0-clause-read : goal.climb-returns-then-turns-eq0-clause-read
@@ -111,3 +113,46 @@ others-loop-preserved g t c =
       read = others_next item c.args.start (L - c.loop.counter) (L - (c.loop.counter + 1)) (shapes c.loop.parts.trees.items) (shapes c.in_ok-parts-in-Some.parts.trees.items) (lexemes c.loop.rest.now) (lexemes c.in-Some.begin.now) (lexemes c.in_ok-one-in-Some.behind.now) (shape c.in_ok-one-in-Some.one.tree) c.loop.parts.greedy (omega (arith, c.loop-test.true)) (omega arith) c.loop.parts.is_greedy c.in-Some.ensures c.in_ok-one-in-Some.ensures.read new ∙ c.loop.invariant.read;
       high = omega (arith, c.in_ok-parts-in-Some.ensures.1, max-le c.loop.invariant.high c.in_ok-one-in-Some.ensures.high);
     }
+
+pub row-returns-in-empty-clause-read : goal.row-returns-in-empty-clause-read
+row-returns-in-empty-clause-read g t c =
+    row_ends (reader c.args.limits.brackets c.args.limits.room c.args.limits.layers) (may_open c.args.limits.brackets) c.args.pieces.now (shapes c.args.parts.trees.items) (lexemes c.args.tokens.now) c.in-empty.len_below
+
+pub row-returns-in_err-parts-in-len1-up-clause-read : goal.row-returns-in_err-parts-in-len1-up-clause-read
+row-returns-in_err-parts-in-len1-up-clause-read g t c =
+    let p = err_from_is_err_and c.from_residual.result c.from_residual.ensures.1 in
+    rw (p.1, p.2)
+    (fails_by c.in_err-parts-in-len1-up.field-0.0.kind _ _
+    (λ e. row_turn (reader c.args.limits.brackets c.args.limits.room c.args.limits.layers) (may_open c.args.limits.brackets) c.args.pieces.now _ (shapes c.args.parts.trees.items) (lexemes c.args.tokens.now) c.in-len1-up.len_at_least ∙ ap (λ (o : Option Row). o >>= λ y. row (reader c.args.limits.brackets c.args.limits.room c.args.limits.layers) (may_open c.args.limits.brackets) (take (length c.args.pieces.now - 1) (drop 1 c.args.pieces.now)) y.0 y.1) e)
+    c.in_err-parts-in-len1-up.ensures.read)
+
+pub row-returns-in_ok-parts-in-len1-up-clause-read : goal.row-returns-in_ok-parts-in-len1-up-clause-read
+row-returns-in_ok-parts-in-len1-up-clause-read g t c =
+    gives_as _ c.row.result _ _
+    (row_turn (reader c.args.limits.brackets c.args.limits.room c.args.limits.layers) (may_open c.args.limits.brackets) c.args.pieces.now _ (shapes c.args.parts.trees.items) (lexemes c.args.tokens.now) c.in-len1-up.len_at_least
+    ∙ ap (λ (o : Option Row). o >>= λ y. row (reader c.args.limits.brackets c.args.limits.room c.args.limits.layers) (may_open c.args.limits.brackets) (take (length c.args.pieces.now - 1) (drop 1 c.args.pieces.now)) y.0 y.1) c.in_ok-parts-in-len1-up.ensures.read)
+    c.row.ensures.read
+
+pub read-returns-then-not-may_begin_with-clause-read : goal.read-returns-then-not-may_begin_with-clause-read
+read-returns-then-not-may_begin_with-clause-read g t c =
+    rw c.expected.ensures (reads_no_room c.args.limits.brackets c.args.limits.room c.args.limits.layers c.args.kind (lexemes c.args.tokens.now) c.if-limits-eq0.true)
+
+pub read-returns-then-limits-eq0-clause-read : goal.read-returns-then-limits-eq0-clause-read
+read-returns-then-limits-eq0-clause-read g t c =
+    fails_deep c.too_deep.result.kind _ c.too_deep.ensures (reads_no_room c.args.limits.brackets c.args.limits.room c.args.limits.layers c.args.kind (lexemes c.args.tokens.now) c.if-limits-eq0.true)
+
+pub read-returns-then-limits-eq0-2-clause-read : goal.read-returns-then-limits-eq0-2-clause-read
+read-returns-then-limits-eq0-2-clause-read g t c =
+    fails_deep c.too_deep-then-limits-eq0-2.result.kind _ c.too_deep-then-limits-eq0-2.ensures (reads_no_layer c.args.limits.brackets c.args.limits.room c.args.limits.layers c.args.kind (lexemes c.args.tokens.now) c.if-limits-eq0-2.true)
+
+pub read-returns-in_err-first-clause-read : goal.read-returns-in_err-first-clause-read
+read-returns-in_err-first-clause-read g t c =
+    let p = err_from_is_err_and c.from_residual.result c.from_residual.ensures.1 in
+    rw (p.1, p.2)
+    (fails_by c.in_err-first.field-0.0.kind _ _ (read_fails c.args.limits.brackets c.args.limits.room c.args.limits.layers c.args.kind (lexemes c.args.tokens.now) c.if-limits-eq0.false c.if-limits-eq0-2.false) c.in_err-first.ensures.read)
+
+pub read-returns-in-Phrase-clause-read : goal.read-returns-in-Phrase-clause-read
+read-returns-in-Phrase-clause-read g t c =
+    gives_as _ c.climb.result _ _
+    (read_climbs c.args.limits.brackets c.args.limits.room c.args.limits.layers c.args.kind (lexemes c.args.tokens.now) c.if-limits-eq0.false c.if-limits-eq0-2.false (shape c.in_ok-first.first.tree, lexemes c.in_ok-first.rest.now) c.in-Phrase.limit c.in_ok-first.ensures.read c.in-Phrase.is)
+    c.climb.ensures.read
