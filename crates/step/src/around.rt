@@ -1,15 +1,15 @@
 //! Terms with a place for one of their parts.
 
 ghost use Rattle.std.specs.Prelude.{IfOk, ◌≡◌, ◌++◌, map};
-ghost use Rattle.term.specs.Proc.{proc};
-ghost use Rattle.step.specs.Around.{around};
+ghost use Rattle.term.specs.Proc.{hide, proc, ren};
+ghost use Rattle.step.specs.Around.{around, over};
 
 use alphabet::EventSet;
 use std::alloc::{AllocError, Allocator};
 use term::Term;
 
 /// A term with a place for one of its parts.
-#[derive_where(Clone, Copy)]
+#[derive(Drop)]
 pub enum Around<'a, A: Allocator> {
     ExtLeft(&'a Term<A>),
     ExtRight(&'a Term<A>),
@@ -31,25 +31,44 @@ pub(crate) struct Sides<'a, A: Allocator> {
     pub(crate) rights: Vec<Term<A>, A>,
 }
 
+/// An operator over two parts that a part can have a place in.
+#[derive(Clone, Copy)]
+enum Operator {
+    Ext,
+    Seq,
+    Par(EventSet),
+    Intr,
+}
+
+impl Operator {
+    /// The operator over these parts.
+    fn over<A: Allocator>(self, left: Box<Term<A>, A>, right: Box<Term<A>, A>) -> Term<A>
+        ensures { proc result ≡ over self (proc left.value) (proc right.value) }
+    {
+        match self {
+            Operator::Ext => Term::Ext(left, right),
+            Operator::Seq => Term::Seq(left, right),
+            Operator::Par(set) => Term::Par(set, left, right),
+            Operator::Intr => Term::Intr(left, right),
+        }
+    }
+}
+
 impl<'a, A: Allocator + Clone> Around<'a, A> {
     /// The term with this part in its place.
     pub fn put(&self, alloc: &A, part: Term<A>) -> Result<Term<A>, AllocError>
         ensures { IfOk result (λ whole. proc whole ≡ around self.now (proc part)) }
     {
-        let part = Box::new(alloc.clone()?, part)?;
         match self {
-            Around::ExtLeft(q) => Ok(Term::Ext(part, boxed(q, alloc)?)),
-            Around::ExtRight(p) => Ok(Term::Ext(boxed(p, alloc)?, part)),
-            Around::SeqLeft(q) => Ok(Term::Seq(part, boxed(q, alloc)?)),
-            Around::ParLeft(set, q) => Ok(Term::Par(*set, part, boxed(q, alloc)?)),
-            Around::ParRight(set, p) => Ok(Term::Par(*set, boxed(p, alloc)?, part)),
-            Around::Hide(set) => Ok(Term::Hide(*set, part)),
-            Around::Ren(pairs) => {
-                let pairs = Vec::from_slice(alloc.clone()?, pairs)?;
-                Ok(Term::Ren(pairs, part))
-            }
-            Around::IntrLeft(q) => Ok(Term::Intr(part, boxed(q, alloc)?)),
-            Around::IntrRight(p) => Ok(Term::Intr(boxed(p, alloc)?, part)),
+            Around::ExtLeft(q) => before(Operator::Ext, part, q, alloc),
+            Around::ExtRight(p) => after(Operator::Ext, p, part, alloc),
+            Around::SeqLeft(q) => before(Operator::Seq, part, q, alloc),
+            Around::ParLeft(set, q) => before(Operator::Par(*set), part, q, alloc),
+            Around::ParRight(set, p) => after(Operator::Par(*set), p, part, alloc),
+            Around::Hide(set) => hidden(*set, part, alloc),
+            Around::Ren(pairs) => renamed(pairs, part, alloc),
+            Around::IntrLeft(q) => before(Operator::Intr, part, q, alloc),
+            Around::IntrRight(p) => after(Operator::Intr, p, part, alloc),
         }
     }
 
@@ -84,9 +103,68 @@ impl<'a, A: Allocator + Clone> Around<'a, A> {
     }
 }
 
+/// The operator over the part and a copy of the other one.
+fn before<A: Allocator + Clone>(
+    operator: Operator,
+    part: Term<A>,
+    other: &Term<A>,
+    alloc: &A,
+) -> Result<Term<A>, AllocError>
+    ensures { IfOk result (λ whole. proc whole ≡ over operator (proc part) (proc other.now)) }
+{
+    let part = in_box(part, alloc)?;
+    let other = boxed(other, alloc)?;
+    Ok(operator.over(part, other))
+}
+
+/// The operator over a copy of the other one and the part.
+fn after<A: Allocator + Clone>(
+    operator: Operator,
+    other: &Term<A>,
+    part: Term<A>,
+    alloc: &A,
+) -> Result<Term<A>, AllocError>
+    ensures { IfOk result (λ whole. proc whole ≡ over operator (proc other.now) (proc part)) }
+{
+    let part = in_box(part, alloc)?;
+    let other = boxed(other, alloc)?;
+    Ok(operator.over(other, part))
+}
+
+/// The part with the set hidden.
+fn hidden<A: Allocator + Clone>(
+    set: EventSet,
+    part: Term<A>,
+    alloc: &A,
+) -> Result<Term<A>, AllocError>
+    ensures { IfOk result (λ whole. proc whole ≡ hide set (proc part)) }
+{
+    Ok(Term::Hide(set, in_box(part, alloc)?))
+}
+
+/// The part, renamed by these pairs.
+fn renamed<A: Allocator + Clone>(
+    pairs: &[(u8, u8)],
+    part: Term<A>,
+    alloc: &A,
+) -> Result<Term<A>, AllocError>
+    ensures { IfOk result (λ whole. proc whole ≡ ren pairs.now (proc part)) }
+{
+    let part = in_box(part, alloc)?;
+    let pairs = Vec::from_slice(alloc.clone()?, pairs)?;
+    Ok(Term::Ren(pairs, part))
+}
+
+/// The part, in a box of its own.
+fn in_box<A: Allocator + Clone>(part: Term<A>, alloc: &A) -> Result<Box<Term<A>, A>, AllocError>
+    ensures { IfOk result (λ boxed. boxed.value ≡ part) }
+{
+    Ok(Box::new(alloc.clone()?, part)?)
+}
+
 /// A copy, in a box of its own.
 fn boxed<A: Allocator + Clone>(term: &Term<A>, alloc: &A) -> Result<Box<Term<A>, A>, AllocError>
     ensures { IfOk result (λ copy. proc copy.value ≡ proc term.now) }
 {
-    Ok(Box::new(alloc.clone()?, term.try_clone(alloc)?)?)
+    in_box(term.try_clone(alloc)?, alloc)
 }

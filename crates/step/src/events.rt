@@ -1,11 +1,13 @@
 //! What a term becomes by an event of Sigma.
 
 ghost use Rattle.std.specs.Prelude.{IfOk, ◌≡◌, ◌++◌, map};
-ghost use Rattle.term.specs.Proc.{par, proc};
+ghost use Rattle.term.specs.Proc.{par, proc, ren};
+ghost use Rattle.step.specs.Around.{around};
 ghost use Rattle.term.specs.Traces.{partners};
 ghost use Rattle.step.specs.Targets.{acts, each, is_empty, pairs_of, par_targets, sources};
 
 use crate::around::{Around, Sides};
+use crate::hidden::put_if;
 use alphabet::{Event, EventSet};
 use std::alloc::{AllocError, Allocator};
 use term::Term;
@@ -22,59 +24,23 @@ pub(crate) fn put_acts<A: Allocator + Clone>(
     ensures { IfOk result (λ _. map proc into.new.items ≡ map proc into.old.items ++ acts (proc term.now) event) }
 {
     match term {
-        Term::Prefix(Event::Of(first), p) => {
-            if *first == event {
-                into.push(p.try_clone(alloc)?)?;
-            }
-            Ok(())
-        }
+        Term::Prefix(Event::Of(first), p) => put_if(*first == event, p, alloc, into),
         Term::Ext(p, q) => {
             put_acts(p, event, alloc, into)?;
-            put_acts(q, event, alloc, into)?;
-            Ok(())
+            put_acts(q, event, alloc, into)
         }
-        Term::Seq(p, q) => {
-            let mut parts = Vec::new(alloc.clone()?);
-            put_acts(p, event, alloc, &mut parts)?;
-            Around::SeqLeft(q).put_all(alloc, parts, into)?;
-            Ok(())
-        }
-        Term::Par(set, p, q) => {
-            let mut lefts = Vec::new(alloc.clone()?);
-            put_acts(p, event, alloc, &mut lefts)?;
-            let mut rights = Vec::new(alloc.clone()?);
-            put_acts(q, event, alloc, &mut rights)?;
-            let sides = Sides {
-                p,
-                q,
-                lefts,
-                rights,
-            };
-            put_par(*set, event, sides, alloc, into)?;
-            Ok(())
-        }
+        Term::Seq(p, q) => put_acts_within(&Around::SeqLeft(q), p, event, alloc, into),
+        Term::Par(set, p, q) => put_par_acts(*set, p, q, event, alloc, into),
         Term::Hide(set, p) => {
             if set.contains(Event::Of(event)) {
                 return Ok(());
             }
-            let mut parts = Vec::new(alloc.clone()?);
-            put_acts(p, event, alloc, &mut parts)?;
-            Around::Hide(*set).put_all(alloc, parts, into)?;
-            Ok(())
+            put_acts_within(&Around::Hide(*set), p, event, alloc, into)
         }
-        Term::Ren(pairs, p) => {
-            let events = sources_of(pairs, event, alloc)?;
-            let mut parts = Vec::new(alloc.clone()?);
-            put_each_acts(p, &events, alloc, &mut parts)?;
-            Around::Ren(pairs).put_all(alloc, parts, into)?;
-            Ok(())
-        }
+        Term::Ren(pairs, p) => put_renamed_acts(pairs, p, event, alloc, into),
         Term::Intr(p, q) => {
-            let mut parts = Vec::new(alloc.clone()?);
-            put_acts(p, event, alloc, &mut parts)?;
-            Around::IntrLeft(q).put_all(alloc, parts, into)?;
-            put_acts(q, event, alloc, into)?;
-            Ok(())
+            put_acts_within(&Around::IntrLeft(q), p, event, alloc, into)?;
+            put_acts(q, event, alloc, into)
         }
         _ => Ok(()),
     }
@@ -82,7 +48,7 @@ pub(crate) fn put_acts<A: Allocator + Clone>(
 
 /// The same for each of these events.
 #[cycle(acts)]
-pub(crate) fn put_each_acts<A: Allocator + Clone>(
+fn put_each_acts<A: Allocator + Clone>(
     term: &Term<A>,
     events: &[u8],
     alloc: &A,
@@ -94,6 +60,89 @@ pub(crate) fn put_each_acts<A: Allocator + Clone>(
         put_acts(term, *event, alloc, into)?;
     }
     Ok(())
+}
+
+/// What the term becomes by the event with this number.
+#[cycle(acts)]
+fn acts_of<A: Allocator + Clone>(
+    term: &Term<A>,
+    event: u8,
+    alloc: &A,
+) -> Result<Vec<Term<A>, A>, AllocError>
+    ensures { IfOk result (λ found. map proc found.items ≡ acts (proc term.now) event) }
+{
+    let mut found = Vec::new(alloc.clone()?);
+    put_acts(term, event, alloc, &mut found)?;
+    Ok(found)
+}
+
+/// Appends what the part becomes by the event, put in this place.
+#[cycle(acts)]
+fn put_acts_within<A: Allocator + Clone>(
+    place: &Around<A>,
+    part: &Term<A>,
+    event: u8,
+    alloc: &A,
+    into: &mut Vec<Term<A>, A>,
+) -> Result<(), AllocError>
+    ensures { IfOk result (λ _. map proc into.new.items ≡ map proc into.old.items ++ map (around place.now) (acts (proc part.now) event)) }
+{
+    let parts = acts_of(part, event, alloc)?;
+    place.put_all(alloc, parts, into)
+}
+
+/// Appends what a parallel of these sides becomes by the event.
+#[cycle(acts)]
+fn put_par_acts<A: Allocator + Clone>(
+    set: EventSet,
+    p: &Term<A>,
+    q: &Term<A>,
+    event: u8,
+    alloc: &A,
+    into: &mut Vec<Term<A>, A>,
+) -> Result<(), AllocError>
+    ensures { IfOk result (λ _. map proc into.new.items ≡ map proc into.old.items ++ acts (par set (proc p.now) (proc q.now)) event) }
+{
+    let lefts = acts_of(p, event, alloc)?;
+    let rights = acts_of(q, event, alloc)?;
+    let sides = Sides {
+        p,
+        q,
+        lefts,
+        rights,
+    };
+    put_par(set, event, sides, alloc, into)
+}
+
+/// Appends what the part becomes by each of these events, put in this place.
+#[cycle(acts)]
+pub(crate) fn put_each_acts_within<A: Allocator + Clone>(
+    place: &Around<A>,
+    part: &Term<A>,
+    events: &[u8],
+    alloc: &A,
+    into: &mut Vec<Term<A>, A>,
+) -> Result<(), AllocError>
+    ensures { IfOk result (λ _. map proc into.new.items ≡ map proc into.old.items ++ map (around place.now) (each events.now (acts (proc part.now)))) }
+{
+    let mut parts = Vec::new(alloc.clone()?);
+    put_each_acts(part, events, alloc, &mut parts)?;
+    place.put_all(alloc, parts, into)
+}
+
+/// Appends what a renaming of the part by these pairs becomes by the event.
+#[cycle(acts)]
+fn put_renamed_acts<A: Allocator + Clone>(
+    pairs: &[(u8, u8)],
+    part: &Term<A>,
+    event: u8,
+    alloc: &A,
+    into: &mut Vec<Term<A>, A>,
+) -> Result<(), AllocError>
+    ensures { IfOk result (λ _. map proc into.new.items ≡ map proc into.old.items ++ acts (ren pairs.now (proc part.now)) event) }
+{
+    let events = sources_of(pairs, event, alloc)?;
+    put_each_acts_within(&Around::Ren(pairs), part, &events, alloc, into)
 }
 
 /// The events that a renaming takes to this one.

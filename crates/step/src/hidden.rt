@@ -1,13 +1,13 @@
 //! What a term becomes by itself, without an event.
 
 ghost use Rattle.std.specs.Prelude.{IfOk, ◌≡◌, ◌≤◌, ◌&&◌, not, [], ◌∷◌, ◌++◌, map};
-ghost use Rattle.term.specs.Proc.{bodies_of, proc, skip};
+ghost use Rattle.term.specs.Proc.{bodies_of, hide, par, proc, skip};
 ghost use Rattle.term.specs.Steps.{is_skip};
 ghost use Rattle.step.specs.Around.{around};
-ghost use Rattle.step.specs.Targets.{elements, hide_hids, hids, par_hids, ticks, where_};
+ghost use Rattle.step.specs.Targets.{acts, each, elements, hids, ticks, where_};
 
-use crate::around::{Around, Sides};
-use crate::events::put_each_acts;
+use crate::around::Around;
+use crate::events::put_each_acts_within;
 use crate::looks::{has_tick, is_skip_term};
 use alphabet::{Event, EventSet};
 use std::alloc::{AllocError, Allocator};
@@ -15,6 +15,7 @@ use term::{Spec, Term};
 
 /// Appends what the term becomes by hidden steps. Hidden events are looked for below `sigma`. Where memory is wanting,
 /// some of it may stand at the end of the list.
+#[cycle(hids)]
 pub(crate) fn put_hids<A: Allocator + Clone>(
     spec: &Spec<A>,
     sigma: usize,
@@ -27,79 +28,109 @@ pub(crate) fn put_hids<A: Allocator + Clone>(
 {
     match term {
         Term::Ext(p, q) => {
-            let mut lefts = Vec::new(alloc.clone()?);
-            put_hids(spec, sigma, p, alloc, &mut lefts)?;
-            let mut rights = Vec::new(alloc.clone()?);
-            put_hids(spec, sigma, q, alloc, &mut rights)?;
-            put_both(
-                &Around::ExtLeft(q),
-                lefts,
-                &Around::ExtRight(p),
-                rights,
-                alloc,
-                into,
-            )?;
-            Ok(())
+            put_hids_within(spec, sigma, &Around::ExtLeft(q), p, alloc, into)?;
+            put_hids_within(spec, sigma, &Around::ExtRight(p), q, alloc, into)
         }
         Term::Int(p, q) => {
-            into.push(p.try_clone(alloc)?)?;
-            into.push(q.try_clone(alloc)?)?;
-            Ok(())
+            put_copy(p, alloc, into)?;
+            put_copy(q, alloc, into)
         }
         Term::Seq(p, q) => {
-            let mut parts = Vec::new(alloc.clone()?);
-            put_hids(spec, sigma, p, alloc, &mut parts)?;
-            Around::SeqLeft(q).put_all(alloc, parts, into)?;
-            put_if(has_tick(p), q, alloc, into)?;
-            Ok(())
+            put_hids_within(spec, sigma, &Around::SeqLeft(q), p, alloc, into)?;
+            put_if(has_tick(p), q, alloc, into)
         }
-        Term::Par(set, p, q) => {
-            let mut lefts = Vec::new(alloc.clone()?);
-            put_hids(spec, sigma, p, alloc, &mut lefts)?;
-            let mut rights = Vec::new(alloc.clone()?);
-            put_hids(spec, sigma, q, alloc, &mut rights)?;
-            let sides = Sides {
-                p,
-                q,
-                lefts,
-                rights,
-            };
-            put_ends(*set, sides, alloc, into)?;
-            Ok(())
-        }
-        Term::Hide(set, p) => {
-            let mut parts = Vec::new(alloc.clone()?);
-            put_hids(spec, sigma, p, alloc, &mut parts)?;
-            put_hidden(*set, sigma, p, parts, alloc, into)?;
-            Ok(())
-        }
-        Term::Ren(pairs, p) => {
-            let mut parts = Vec::new(alloc.clone()?);
-            put_hids(spec, sigma, p, alloc, &mut parts)?;
-            Around::Ren(pairs).put_all(alloc, parts, into)?;
-            Ok(())
-        }
+        Term::Par(set, p, q) => put_par_hids(spec, sigma, *set, p, q, alloc, into),
+        Term::Hide(set, p) => put_hide_hids(spec, sigma, *set, p, alloc, into),
+        Term::Ren(pairs, p) => { put_hids_within(spec, sigma, &Around::Ren(pairs), p, alloc, into) }
         Term::Intr(p, q) => {
-            let mut lefts = Vec::new(alloc.clone()?);
-            put_hids(spec, sigma, p, alloc, &mut lefts)?;
-            let mut rights = Vec::new(alloc.clone()?);
-            put_hids(spec, sigma, q, alloc, &mut rights)?;
-            put_both(
-                &Around::IntrLeft(q),
-                lefts,
-                &Around::IntrRight(p),
-                rights,
-                alloc,
-                into,
-            )?;
-            Ok(())
+            put_hids_within(spec, sigma, &Around::IntrLeft(q), p, alloc, into)?;
+            put_hids_within(spec, sigma, &Around::IntrRight(p), q, alloc, into)
         }
-        Term::Name(number) => {
-            into.push(body_of(spec, *number, alloc)?)?;
-            Ok(())
-        }
+        Term::Name(number) => put_body(spec, *number, alloc, into),
         _ => Ok(()),
     }
+}
+
+/// What the term becomes by hidden steps.
+#[cycle(hids)]
+fn hids_of<A: Allocator + Clone>(
+    spec: &Spec<A>,
+    sigma: usize,
+    term: &Term<A>,
+    alloc: &A,
+) -> Result<Vec<Term<A>, A>, AllocError>
+    requires { sigma ≤ 256 }
+    ensures { IfOk result (λ found. map proc found.items ≡ hids sigma (bodies_of spec.now.bodies) (proc term.now)) }
+{
+    let mut found = Vec::new(alloc.clone()?);
+    put_hids(spec, sigma, term, alloc, &mut found)?;
+    Ok(found)
+}
+
+/// Appends what the part becomes by hidden steps, put in this place.
+#[cycle(hids)]
+fn put_hids_within<A: Allocator + Clone>(
+    spec: &Spec<A>,
+    sigma: usize,
+    place: &Around<A>,
+    part: &Term<A>,
+    alloc: &A,
+    into: &mut Vec<Term<A>, A>,
+) -> Result<(), AllocError>
+    requires { sigma ≤ 256 }
+    ensures { IfOk result (λ _. map proc into.new.items ≡ map proc into.old.items ++ map (around place.now) (hids sigma (bodies_of spec.now.bodies) (proc part.now))) }
+{
+    let parts = hids_of(spec, sigma, part, alloc)?;
+    place.put_all(alloc, parts, into)
+}
+
+/// Appends what a parallel of these sides becomes by hidden steps.
+#[cycle(hids)]
+fn put_par_hids<A: Allocator + Clone>(
+    spec: &Spec<A>,
+    sigma: usize,
+    set: EventSet,
+    p: &Term<A>,
+    q: &Term<A>,
+    alloc: &A,
+    into: &mut Vec<Term<A>, A>,
+) -> Result<(), AllocError>
+    requires { sigma ≤ 256 }
+    ensures { IfOk result (λ _. map proc into.new.items ≡ map proc into.old.items ++ hids sigma (bodies_of spec.now.bodies) (par set (proc p.now) (proc q.now))) }
+{
+    put_hids_within(spec, sigma, &Around::ParLeft(set, q), p, alloc, into)?;
+    put_hids_within(spec, sigma, &Around::ParRight(set, p), q, alloc, into)?;
+    put_ends(set, p, q, alloc, into)
+}
+
+/// Appends what the term becomes by hidden steps, where the events of the set are hidden.
+#[cycle(hids)]
+fn put_hide_hids<A: Allocator + Clone>(
+    spec: &Spec<A>,
+    sigma: usize,
+    set: EventSet,
+    p: &Term<A>,
+    alloc: &A,
+    into: &mut Vec<Term<A>, A>,
+) -> Result<(), AllocError>
+    requires { sigma ≤ 256 }
+    ensures { IfOk result (λ _. map proc into.new.items ≡ map proc into.old.items ++ hids sigma (bodies_of spec.now.bodies) (hide set (proc p.now))) }
+{
+    put_hids_within(spec, sigma, &Around::Hide(set), p, alloc, into)?;
+    put_hidden_acts(set, sigma, p, alloc, into)
+}
+
+/// Appends a copy of the body with this number.
+fn put_body<A: Allocator + Clone>(
+    spec: &Spec<A>,
+    number: usize,
+    alloc: &A,
+    into: &mut Vec<Term<A>, A>,
+) -> Result<(), AllocError>
+    ensures { IfOk result (λ _. map proc into.new.items ≡ map proc into.old.items ++ bodies_of spec.now.bodies number ∷ []) }
+{
+    into.push(body_of(spec, number, alloc)?)?;
+    Ok(())
 }
 
 /// A copy of the body with this number; `STOP`, where there is none.
@@ -116,23 +147,16 @@ pub fn body_of<A: Allocator + Clone>(
     Ok(Term::Stop)
 }
 
-/// What a parallel becomes by itself, from its sides.
+/// Appends a parallel of these sides for each of them that can terminate, with `SKIP` in its place.
 fn put_ends<A: Allocator + Clone>(
     set: EventSet,
-    sides: Sides<A>,
+    p: &Term<A>,
+    q: &Term<A>,
     alloc: &A,
     into: &mut Vec<Term<A>, A>,
 ) -> Result<(), AllocError>
-    ensures { IfOk result (λ _. map proc into.new.items ≡ map proc into.old.items ++ par_hids set (proc sides.entry.p.now) (proc sides.entry.q.now) (map proc sides.entry.lefts.items) (map proc sides.entry.rights.items)) }
+    ensures { IfOk result (λ _. map proc into.new.items ≡ map proc into.old.items ++ (where_ (ticks (proc p.now) && not (is_skip (proc p.now))) (par set skip (proc q.now) ∷ []) ++ where_ (ticks (proc q.now) && not (is_skip (proc q.now))) (par set (proc p.now) skip ∷ []))) }
 {
-    let Sides {
-        p,
-        q,
-        lefts,
-        rights,
-    } = sides;
-    Around::ParLeft(set, q).put_all(alloc, lefts, into)?;
-    Around::ParRight(set, p).put_all(alloc, rights, into)?;
     put_end(&Around::ParLeft(set, q), p, alloc, into)?;
     put_end(&Around::ParRight(set, p), q, alloc, into)?;
     Ok(())
@@ -154,7 +178,7 @@ fn put_end<A: Allocator + Clone>(
 }
 
 /// Appends a copy of the term where the test holds.
-fn put_if<A: Allocator + Clone>(
+pub(crate) fn put_if<A: Allocator + Clone>(
     test: bool,
     term: &Term<A>,
     alloc: &A,
@@ -163,35 +187,36 @@ fn put_if<A: Allocator + Clone>(
     ensures { IfOk result (λ _. map proc into.new.items ≡ map proc into.old.items ++ where_ test (proc term.now ∷ [])) }
 {
     if test {
-        into.push(term.try_clone(alloc)?)?;
+        put_copy(term, alloc, into)?;
     }
     Ok(())
 }
 
-/// What a term with hidden events becomes by itself, from its part and what that becomes by itself.
-fn put_hidden<A: Allocator + Clone>(
+/// Appends a copy of the term.
+fn put_copy<A: Allocator + Clone>(
+    term: &Term<A>,
+    alloc: &A,
+    into: &mut Vec<Term<A>, A>,
+) -> Result<(), AllocError>
+    ensures { IfOk result (λ _. map proc into.new.items ≡ map proc into.old.items ++ proc term.now ∷ []) }
+{
+    into.push(term.try_clone(alloc)?)?;
+    Ok(())
+}
+
+/// Appends what the term becomes by the events of the set with numbers below `sigma`, with the set hidden.
+fn put_hidden_acts<A: Allocator + Clone>(
     set: EventSet,
     sigma: usize,
     p: &Term<A>,
-    parts: Vec<Term<A>, A>,
     alloc: &A,
     into: &mut Vec<Term<A>, A>,
 ) -> Result<(), AllocError>
     requires { sigma ≤ 256 }
-    ensures { IfOk result (λ _. map proc into.new.items ≡ map proc into.old.items ++ hide_hids sigma set (proc p.now) (map proc parts.items)) }
+    ensures { IfOk result (λ _. map proc into.new.items ≡ map proc into.old.items ++ map (hide set) (each (elements set sigma) (acts (proc p.now)))) }
 {
     let events = elements_of(set, sigma, alloc)?;
-    let mut hidden = Vec::new(alloc.clone()?);
-    put_each_acts(p, &events, alloc, &mut hidden)?;
-    put_both(
-        &Around::Hide(set),
-        parts,
-        &Around::Hide(set),
-        hidden,
-        alloc,
-        into,
-    )?;
-    Ok(())
+    put_each_acts_within(&Around::Hide(set), p, &events, alloc, into)
 }
 
 /// The events of the set with numbers below `sigma`, in their order.
@@ -211,20 +236,4 @@ fn elements_of<A: Allocator + Clone>(
         }
     }
     Ok(events)
-}
-
-/// The parts of two lists, each put in its place.
-fn put_both<A: Allocator + Clone>(
-    left: &Around<A>,
-    lefts: Vec<Term<A>, A>,
-    right: &Around<A>,
-    rights: Vec<Term<A>, A>,
-    alloc: &A,
-    into: &mut Vec<Term<A>, A>,
-) -> Result<(), AllocError>
-    ensures { IfOk result (λ _. map proc into.new.items ≡ map proc into.old.items ++ (map (around left.now) (map proc lefts.items) ++ map (around right.now) (map proc rights.items))) }
-{
-    left.put_all(alloc, lefts, into)?;
-    right.put_all(alloc, rights, into)?;
-    Ok(())
 }

@@ -1,8 +1,9 @@
 use Rattle.std.proofs.Common.{◌≡◌, ◌++◌, map, ap, ◌∙◌, take, length, arith, ◌<◌, ◌≤◌, get_or}
-use Rattle.std.proofs.lemmas.List.{append_assoc, take_all}
+use Rattle.std.proofs.lemmas.List.{take_all}
 use Rattle.term.specs.Proc.{proc, par}
 use Rattle.step.specs.Targets.{pairs_of}
 use Rattle.step.proofs.Lists.{pairs_of_more}
+use Rattle.step.proofs.Parts.{then_more}
 use Rattle.step.proofs.events.put_pairs.Goals as goal
 
 pub loop-left-preserved : goal.loop-left-preserved
@@ -15,7 +16,8 @@ loop-left-preserved g c =
     let done = pairs_of (par c.args.set) (map proc (take i xs)) (map proc c.args.rights.now) in
     let new = map (par c.args.set (proc (get_or xs i c.left-item.result))) (map proc c.args.rights.now) in
     rw (pairs_of_more (par c.args.set) proc xs i c.left-item.result (map proc c.args.rights.now) h)
-    (c.in_ok-put_copies.ensures ∙ ap (λ t. map proc c.loop-left.into.items ++ map (par c.args.set (proc t)) (map proc c.args.rights.now)) same ∙ (ap (λ v. v ++ new) c.loop-left.invariant ∙ append_assoc old done new))
+    (then_more old (map proc c.loop-left.into.items) (map proc c.put_copies.new.into.items) done new c.loop-left.invariant
+    (c.in_ok-put_copies.ensures ∙ ap (λ t. map proc c.loop-left.into.items ++ map (par c.args.set (proc t)) (map proc c.args.rights.now)) same))
 
 pub returns : goal.returns
 returns g c =
