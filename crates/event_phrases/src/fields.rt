@@ -21,7 +21,8 @@ use crate::forms::{FieldPhrase, event_parts, field};
 use crate::global_scope::{GlobalScope, Set, Wanted};
 use crate::leading::leading_values;
 use crate::prefix::{Prefix, has_value};
-use crate::scope::{Scope, copies, fault, wanted_worth, with_input};
+use crate::row::extended;
+use crate::scope::{Scope, copies, fault, push_input, wanted_worth};
 use crate::uses::mentions;
 use std::alloc::{AllocError, Allocator};
 use syntax::Tree;
@@ -42,17 +43,6 @@ fn is_used<A: Allocator>(name: &[u8], fields: &[Tree<A>], sets: &[Set<A>]) -> bo
             }
         },
     }
-}
-
-/// Copies of these values.
-fn copied<A: Allocator + Copy>(alloc: A, all: &[Value<A>]) -> Result<Vec<Value<A>, A>, AllocError>
-    ensures { IfOk result (λ v. listed v.items ≡ listed all.now) }
-{
-    let mut copied = Vec::new(alloc);
-    for value in all {
-        copied.push(value.clone()?)?;
-    }
-    Ok(copied)
 }
 
 /// Copies of those of the values that are also in the set.
@@ -85,7 +75,7 @@ fn looked_at<'a, A: Allocator + Copy>(
         [] => Ok(Some((name, Vec::new(alloc)))),
         [_, ..] => {
             if is_used(name, rest.0, rest.1) {
-                Ok(Some((name, copied(alloc, values)?)))
+                Ok(Some((name, extended(Vec::new(alloc), values)?)))
             } else {
                 Ok(None)
             }
@@ -178,8 +168,8 @@ fn all_pass<A: Allocator + Copy, G: GlobalScope<A>>(
     ensures { Gives (λ u. u) result (all_pass_in (λ v. fields_pass_in (syntaxes (shapes rest.entry.0.now)) (map (λ v. listed v.items) rest.entry.1.now) (with_input_of (within (G.scope global.now) (map input inputs.now)) name.now v)) (listed values.now)) }
 {
     for value in values {
-        let before = copies(alloc, inputs)?;
-        let inner = with_input(alloc, before, name, value)?;
+        let mut inner = copies(alloc, inputs)?;
+        push_input(alloc, &mut inner, name, value)?;
         fields_pass(alloc, global, &inner, rest.0, rest.1)?;
     }
     Ok(())

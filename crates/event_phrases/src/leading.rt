@@ -99,8 +99,12 @@ fn led_fitting<A: Allocator + Copy, G: GlobalScope<A>>(
 {
     match leading {
         [] => {
-            let inputs = copies(alloc, &scope.inputs)?;
-            fitting(alloc, scope.global, inputs, fields, sets, values, line)
+            let mut inputs = copies(alloc, &scope.inputs)?;
+            if fitting(alloc, scope.global, &mut inputs, fields, sets, values, line)? {
+                Ok(Some(inputs))
+            } else {
+                Ok(None)
+            }
         }
         [first, leading @ ..] => match fields {
             [] => Err(fault(line, ScriptErrorKind::WrongFields)),

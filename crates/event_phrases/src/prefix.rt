@@ -1,5 +1,5 @@
 //! Events held against the fields of a prefix.
-ghost use Rattle.std.specs.Prelude.{◌≡◌, Some, map};
+ghost use Rattle.std.specs.Prelude.{◌≡◌, Some, None, if◌then◌else◌, map};
 ghost use Rattle.std.specs.Option.{option_map};
 ghost use Rattle.syntax.specs.Parsing.{syntaxes};
 ghost use Rattle.syntax.specs.View.{shape, shapes};
@@ -7,8 +7,8 @@ ghost use Rattle.values.specs.Tables.{input};
 ghost use Rattle.values.specs.Values.{is_among};
 ghost use Rattle.values.specs.View.{Gives, value as value_of, values};
 ghost use Rattle.event_phrases.specs.EventForms.{fits_by};
-ghost use Rattle.event_phrases.specs.Scopes.{within};
-ghost use Rattle.event_phrases.specs.Fitting.{fits_field, fitting as fitting_of};
+ghost use Rattle.event_phrases.specs.Scopes.{value_by, values_by, within};
+ghost use Rattle.event_phrases.specs.Fitting.{against, fits_field, fitting as fitting_of};
 ghost use Rattle.event_phrases.specs.Shapes.{plain_field};
 ghost use Rattle.event_phrases.specs.View.{listed};
 
@@ -16,7 +16,7 @@ use crate::beginning::is_one_of;
 use crate::forms::{FieldPhrase, field};
 use crate::global_scope::{GlobalScope, Set, Wanted};
 use crate::row::is_equal;
-use crate::scope::{fault, wanted_worth, with_input};
+use crate::scope::{fault, push_input, wanted_worth};
 use std::alloc::Allocator;
 use syntax::Tree;
 use tokens::{ScriptError, ScriptErrorKind};
@@ -46,49 +46,73 @@ pub(crate) fn has_value<A: Allocator>(set: &Values<A>, value: &Value<A>) -> bool
     set.contains(value)
 }
 
-/// The inputs after a field, if the event's value fits it; the field's values are this set.
-#[tactic(auto, unfolding(crate::specs::EventForms::fits_by, crate::specs::Fitting::against, crate::specs::Fitting::against_input, crate::specs::Fitting::against_part), using(crate::proofs::Scopes::behind_input))]
+/// Whether the value is the one that a field gives, which has to be one of the field's set.
+#[tactic(auto, unfolding(crate::specs::Fitting::against))]
+fn is_given<A: Allocator + Copy, G: GlobalScope<A>>(
+    alloc: A,
+    global: &G,
+    inputs: &[Input<A>],
+    tree: &Tree<A>,
+    set: &Set<A>,
+    value: &Value<A>,
+) -> Result<bool, ScriptError>
+    ensures { Gives (λ fits. if fits then Some (within (G.scope global.now) (map input inputs.now)) else None) result (against (listed set.now.items) (value_of value.now) (within (G.scope global.now) (map input inputs.now)) (value_by (within (G.scope global.now) (map input inputs.now)) (shape tree.now))) }
+{
+    let found = wanted_worth(alloc, global, inputs, tree, Wanted::Value)?;
+    let wanted = the_value(found, tree.line())?;
+    if is_one_of(&wanted, set) {
+        Ok(is_equal(&wanted, value))
+    } else {
+        Err(fault(tree.line(), ScriptErrorKind::OutOfRange))
+    }
+}
+
+/// Whether the value is one of the set that a phrase means.
+fn is_in_part<A: Allocator + Copy, G: GlobalScope<A>>(
+    alloc: A,
+    global: &G,
+    inputs: &[Input<A>],
+    tree: &Tree<A>,
+    value: &Value<A>,
+) -> Result<bool, ScriptError>
+    ensures { Gives (λ b. b) result (option_map (is_among (value_of value.now)) (values_by (within (G.scope global.now) (map input inputs.now)) (shape tree.now))) }
+{
+    let found = wanted_worth(alloc, global, inputs, tree, Wanted::Values)?;
+    let part = the_set(found, tree.line())?;
+    Ok(has_value(&part, value))
+}
+
+/// Whether the event's value fits a field, whose values are this set. What the field puts in is appended to the inputs.
+#[tactic(auto, unfolding(crate::specs::EventForms::fits_by, crate::specs::Fitting::against_input, crate::specs::Fitting::against_part), using(crate::proofs::Scopes::behind_input))]
 fn fits_phrase<A: Allocator + Copy, G: GlobalScope<A>>(
     alloc: A,
     global: &G,
-    inputs: Vec<Input<A>, A>,
+    inputs: &mut Vec<Input<A>, A>,
     phrase: FieldPhrase<'_, A>,
     set: &Set<A>,
     value: &Value<A>,
     line: u32,
-) -> Result<Option<Vec<Input<A>, A>>, ScriptError>
-    ensures { Gives (option_map (λ v. within (G.scope global.now) (map input v.items))) result (fits_by (plain_field phrase.entry) (listed set.now.items) (value_of value.now) (within (G.scope global.now) (map input inputs.items))) }
+) -> Result<bool, ScriptError>
+    ensures { Gives (λ fits. if fits then Some (within (G.scope global.now) (map input inputs.new.items)) else None) result (fits_by (plain_field phrase.entry) (listed set.now.items) (value_of value.now) (within (G.scope global.now) (map input inputs.old.items))) }
 {
     match phrase {
-        FieldPhrase::Given(phrase) => {
-            let found = wanted_worth(alloc, global, &inputs, phrase, Wanted::Value)?;
-            let wanted = the_value(found, phrase.line())?;
-            if !is_one_of(&wanted, set) {
-                return Err(fault(phrase.line(), ScriptErrorKind::OutOfRange));
-            }
-            if is_equal(&wanted, value) {
-                Ok(Some(inputs))
-            } else {
-                Ok(None)
-            }
-        }
+        FieldPhrase::Given(tree) => is_given(alloc, global, inputs, tree, set, value),
         FieldPhrase::Input(name) => {
             if global.is_constant(name) {
                 return Err(fault(line, ScriptErrorKind::Unsupported));
             }
-            Ok(Some(with_input(alloc, inputs, name, value)?))
+            push_input(alloc, inputs, name, value)?;
+            Ok(true)
         }
-        FieldPhrase::InputFrom(name, phrase) => {
+        FieldPhrase::InputFrom(name, tree) => {
             if global.is_constant(name) {
                 return Err(fault(line, ScriptErrorKind::Unsupported));
             }
-            let found = wanted_worth(alloc, global, &inputs, phrase, Wanted::Values)?;
-            let part = the_set(found, phrase.line())?;
-            if has_value(&part, value) {
-                Ok(Some(with_input(alloc, inputs, name, value)?))
-            } else {
-                Ok(None)
+            if !is_in_part(alloc, global, inputs, tree, value)? {
+                return Ok(false);
             }
+            push_input(alloc, inputs, name, value)?;
+            Ok(true)
         }
     }
 }
@@ -98,12 +122,12 @@ fn fits_phrase<A: Allocator + Copy, G: GlobalScope<A>>(
 fn fits<A: Allocator + Copy, G: GlobalScope<A>>(
     alloc: A,
     global: &G,
-    inputs: Vec<Input<A>, A>,
+    inputs: &mut Vec<Input<A>, A>,
     tree: &Tree<A>,
     set: &Set<A>,
     value: &Value<A>,
-) -> Result<Option<Vec<Input<A>, A>>, ScriptError>
-    ensures { Gives (option_map (λ v. within (G.scope global.now) (map input v.items))) result (fits_field (shape tree.now) (listed set.now.items) (value_of value.now) (within (G.scope global.now) (map input inputs.items))) }
+) -> Result<bool, ScriptError>
+    ensures { Gives (λ fits. if fits then Some (within (G.scope global.now) (map input inputs.new.items)) else None) result (fits_field (shape tree.now) (listed set.now.items) (value_of value.now) (within (G.scope global.now) (map input inputs.old.items))) }
 {
     match field(tree) {
         Some(phrase) => fits_phrase(alloc, global, inputs, phrase, set, value, tree.line()),
@@ -111,23 +135,23 @@ fn fits<A: Allocator + Copy, G: GlobalScope<A>>(
     }
 }
 
-/// The inputs after the fields, if the event's values fit them, from left to right.
+/// Whether the event's values fit the fields, from left to right. What the fields put in is appended to the inputs.
 #[tactic(auto, unfolding(crate::specs::Fitting::fitting))]
 pub(crate) fn fitting<A: Allocator + Copy, G: GlobalScope<A>>(
     alloc: A,
     global: &G,
-    inputs: Vec<Input<A>, A>,
+    inputs: &mut Vec<Input<A>, A>,
     fields: &[Tree<A>],
     sets: &[Set<A>],
     values: &[Value<A>],
     line: u32,
-) -> Result<Option<Vec<Input<A>, A>>, ScriptError>
-    ensures { Gives (option_map (λ v. within (G.scope global.now) (map input v.items))) result (fitting_of (syntaxes (shapes fields.now)) (map (λ v. listed v.items) sets.now) (listed values.now) (within (G.scope global.now) (map input inputs.items))) }
+) -> Result<bool, ScriptError>
+    ensures { Gives (λ fits. if fits then Some (within (G.scope global.now) (map input inputs.new.items)) else None) result (fitting_of (syntaxes (shapes fields.now)) (map (λ v. listed v.items) sets.now) (listed values.now) (within (G.scope global.now) (map input inputs.old.items))) }
 {
     match fields {
         [] => match sets {
             [] => match values {
-                [] => Ok(Some(inputs)),
+                [] => Ok(true),
                 [_, ..] => Err(fault(line, ScriptErrorKind::WrongFields)),
             },
             [_, ..] => Err(fault(line, ScriptErrorKind::WrongFields)),
@@ -136,10 +160,12 @@ pub(crate) fn fitting<A: Allocator + Copy, G: GlobalScope<A>>(
             [] => Err(fault(line, ScriptErrorKind::WrongFields)),
             [set, sets @ ..] => match values {
                 [] => Err(fault(line, ScriptErrorKind::WrongFields)),
-                [value, values @ ..] => match fits(alloc, global, inputs, field, set, value)? {
-                    Some(inputs) => fitting(alloc, global, inputs, fields, sets, values, line),
-                    None => Ok(None),
-                },
+                [value, values @ ..] => {
+                    if !fits(alloc, global, inputs, field, set, value)? {
+                        return Ok(false);
+                    }
+                    fitting(alloc, global, inputs, fields, sets, values, line)
+                }
             },
         },
     }

@@ -14,26 +14,12 @@ use crate::beginning::wanted_beginning;
 use crate::events::number_of;
 use crate::forms::sides;
 use crate::global_scope::GlobalScope;
-use crate::row::{Row, begins_so};
+use crate::row::{Row, begins_so, extended};
 use crate::scope::{Scope, fault};
 use std::alloc::{AllocError, Allocator};
 use syntax::Tree;
 use tokens::{ScriptError, ScriptErrorKind};
 use values::Value;
-
-/// The values, and after them copies of these.
-fn extended<A: Allocator + Clone>(
-    values: Vec<Value<A>, A>,
-    more: &[Value<A>],
-) -> Result<Vec<Value<A>, A>, AllocError>
-    ensures { IfOk result (λ v. listed v.items ≡ listed values.items ++ listed more.now) }
-{
-    let mut values = values;
-    for value in more {
-        values.push(value.clone()?)?;
-    }
-    Ok(values)
-}
 
 /// The values after so many.
 fn behind<A: Allocator>(values: &[Value<A>], count: usize) -> &[Value<A>]

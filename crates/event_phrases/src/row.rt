@@ -1,5 +1,5 @@
 //! Events by their channels and values.
-ghost use Rattle.std.specs.Prelude.{◌≡◌, map};
+ghost use Rattle.std.specs.Prelude.{◌≡◌, ◌++◌, IfOk, map};
 ghost use Rattle.std.specs.Cmp.Lexicographic.{pointwise};
 ghost use Rattle.values.specs.Values.{is_same};
 ghost use Rattle.values.specs.View.{value};
@@ -7,7 +7,7 @@ ghost use Rattle.event_phrases.specs.Events.{begins as begins_with, begins_so as
 ghost use Rattle.event_phrases.specs.EventForms.{is_event_of};
 ghost use Rattle.event_phrases.specs.View.{beginning, listed, row};
 
-use std::alloc::Allocator;
+use std::alloc::{AllocError, Allocator};
 use values::Value;
 
 /// A channel and values of its first fields: an event, if there is a value for each field.
@@ -17,6 +17,20 @@ pub struct Row<A: Allocator> {
     pub channel: Vec<u8, A>,
     /// The values of its fields, from left to right.
     pub values: Vec<Value<A>, A>,
+}
+
+/// The values, and after them copies of these.
+pub(crate) fn extended<A: Allocator + Clone>(
+    values: Vec<Value<A>, A>,
+    more: &[Value<A>],
+) -> Result<Vec<Value<A>, A>, AllocError>
+    ensures { IfOk result (λ v. listed v.items ≡ listed values.items ++ listed more.now) }
+{
+    let mut values = values;
+    for value in more {
+        values.push(value.clone()?)?;
+    }
+    Ok(values)
 }
 
 /// Whether these are one value.

@@ -1,5 +1,5 @@
 //! Scopes: where phrases stand.
-ghost use Rattle.std.specs.Prelude.{◌≡◌, ◌++◌, ◌∷◌, [], IfOk, map};
+ghost use Rattle.std.specs.Prelude.{◌≡◌, ◌++◌, ◌∷◌, [], IfOk, OnOk, map};
 ghost use Rattle.std.specs.Option.{option_map};
 ghost use Rattle.syntax.specs.View.{shape};
 ghost use Rattle.tokens.specs.declared.error.ScriptErrorKind.TheVariants.{Memory};
@@ -148,21 +148,20 @@ pub fn wanted_values<A: Allocator + Copy, G: GlobalScope<A>>(
     the_set(worth, tree.line())
 }
 
-/// The inputs, and one more after them.
-pub(crate) fn with_input<A: Allocator + Copy>(
+/// Appends an input with this name and a copy of this value.
+pub(crate) fn push_input<A: Allocator + Copy>(
     alloc: A,
-    inputs: Vec<Input<A>, A>,
+    inputs: &mut Vec<Input<A>, A>,
     name: &[u8],
     value: &Value<A>,
-) -> Result<Vec<Input<A>, A>, AllocError>
-    ensures { IfOk result (λ v. map input v.items ≡ map input inputs.items ++ (name.now, value_of value.now) ∷ []) }
+) -> Result<(), AllocError>
+    ensures { OnOk result (map input inputs.new.items ≡ map input inputs.old.items ++ (name.now, value_of value.now) ∷ []) }
 {
-    let mut inputs = inputs;
     inputs.push(Input {
         name: Vec::from_slice(alloc, name)?,
         value: value.clone()?,
     })?;
-    Ok(inputs)
+    Ok(())
 }
 
 /// The scope after an input with this name and this value.
@@ -175,8 +174,8 @@ pub fn behind_input<'a, A: Allocator + Copy, G: GlobalScope<A>>(
 ) -> Result<Scope<'a, A, G>, AllocError>
     ensures { IfOk result (λ inner. within (G.scope inner.global.now) (map input inner.inputs.items) ≡ with_input_of (within (G.scope scope.now.global.now) (map input scope.now.inputs.items)) name.now (value_of value.now)) }
 {
-    let inputs = copies(alloc, &scope.inputs)?;
-    let inputs = with_input(alloc, inputs, name, value)?;
+    let mut inputs = copies(alloc, &scope.inputs)?;
+    push_input(alloc, &mut inputs, name, value)?;
     Ok(Scope {
         global: scope.global,
         inputs,

@@ -26,7 +26,7 @@ all_pass-loop-value-preserved g t c =
     let x = c.args.name.now in
     let test = λ (v : FieldValue). fields_pass ts sets (with_input s x v) in
     let v = value c.value-item.result in
-    let e = behind_input scope (map input c.args.inputs.now) (map input c.in_ok-inner.inner.items) x v (c.in_ok-inner.ensures ∙ ap (λ is. is ++ (x, v) ∷ []) c.in_ok-before.ensures) in
+    let e = behind_input scope (map input c.args.inputs.now) (map input c.push_input.new.inputs.items) x v (c.in_ok-push_input.ensures ∙ ap (λ is. is ++ (x, v) ∷ []) c.in_ok-inner.ensures) in
     let here : test v ≡ fields_pass ts sets (within scope (map input c.deref.result.now)) = ap (fields_pass ts sets) (sym e) ∙ ap (λ is. fields_pass ts sets (within scope (map input is))) (sym c.deref.ensures.value) in
     turn_passes value test c.args.values.now c.loop-value.value-index c.value-item.result (omega arith) c.value-item.is (here ∙ c.in_ok-fields_pass.ensures) ∙ c.loop-value.invariant
 
@@ -39,7 +39,7 @@ all_pass-returns-in_err-fields_pass g t c =
     let x = c.args.name.now in
     let test = λ (v : FieldValue). fields_pass ts sets (with_input s x v) in
     let v = value c.value-item.result in
-    let e = behind_input scope (map input c.args.inputs.now) (map input c.in_ok-inner.inner.items) x v (c.in_ok-inner.ensures ∙ ap (λ is. is ++ (x, v) ∷ []) c.in_ok-before.ensures) in
+    let e = behind_input scope (map input c.args.inputs.now) (map input c.push_input.new.inputs.items) x v (c.in_ok-push_input.ensures ∙ ap (λ is. is ++ (x, v) ∷ []) c.in_ok-inner.ensures) in
     let here : test v ≡ fields_pass ts sets (within scope (map input c.deref.result.now)) = ap (fields_pass ts sets) (sym e) ∙ ap (λ is. fields_pass ts sets (within scope (map input is))) (sym c.deref.ensures.value) in
     let k = c.in_err-fields_pass.field-0.0.kind in
     let p = err_from_is_err_and c.from_residual-in_err-fields_pass.result c.from_residual-in_err-fields_pass.ensures.1 in

@@ -1,4 +1,4 @@
-use Rattle.std.proofs.Common.{map, sym, ap, ◌∙◌, ◌≤◌, length, arith}
+use Rattle.std.proofs.Common.{◌++◌, map, sym, ap, ◌∙◌, ◌≤◌, length, arith}
 use Rattle.std.proofs.lemmas.List.{length-map}
 use Rattle.syntax.specs.Parsing.{syntaxes}
 use Rattle.syntax.specs.View.{shapes}
@@ -18,11 +18,11 @@ returns-in-empty g c = λ s.
     each_of test s c.args.name.now (listed c.args.values.now)
     ∙ ap (λ vs. all_pass (λ v. test (with_input s c.args.name.now v)) (listed vs)) (no_items c.args.values.now c.in-empty.len_below ∙ sym c.new.ensures.items)
 
-pub returns-in_ok-copied-in-len1-up : goal.returns-in_ok-copied-in-len1-up
+pub returns-in_ok-extended-in-len1-up : goal.returns-in_ok-extended-in-len1-up
 unfolding passes_after
-returns-in_ok-copied-in-len1-up g c = λ s.
+returns-in_ok-extended-in-len1-up g c = λ s.
     let test = fields_pass (syntaxes (shapes c.args.rest.0.now)) (map (λ v. listed v.items) c.args.rest.1.now) in
-    each_of test s c.args.name.now (listed c.args.values.now) ∙ ap (all_pass (λ v. test (with_input s c.args.name.now v))) (sym c.in_ok-copied-in-len1-up.ensures)
+    each_of test s c.args.name.now (listed c.args.values.now) ∙ ap (all_pass (λ v. test (with_input s c.args.name.now v))) (sym (c.in_ok-extended-in-len1-up.ensures ∙ ap (λ vs. listed vs ++ listed c.args.values.now) c.new-then-is_used.ensures.items))
 
 pub returns-else-is_used : goal.returns-else-is_used
 unfolding passes_after

@@ -1,5 +1,4 @@
-use Rattle.std.proofs.Common.{map, subst, sym}
-use Rattle.std.specs.Option.{option_map}
+use Rattle.std.proofs.Common.{Some, None, cond, map, subst, sym}
 use Rattle.syntax.specs.View.{shape}
 use Rattle.values.specs.Tables.{input}
 use Rattle.values.specs.View.{Gives, value}
@@ -12,5 +11,5 @@ use Rattle.event_phrases.proofs.prefix.fits.Goals as goal
 pub returns-in-Some : goal.returns-in-Some
 returns-in-Some g c =
     let s = g.G.GlobalScope.scope c.args.global.now in
-    subst (λ o. Gives (option_map (λ v. within s (map input v.items))) c.fits_phrase.result o)
-    (sym (field_fits (shape c.args.tree.now) (plain_field c.in-Some.phrase) (listed c.args.set.now.items) (value c.args.value.now) (within s (map input c.args.inputs.items)) (sym c.in-Some.ensures))) c.fits_phrase.ensures
+    subst (λ o. Gives (λ fits. cond fits (Some (within s (map input c.fits_phrase.new.inputs.items))) None) c.fits_phrase.result o)
+    (sym (field_fits (shape c.args.tree.now) (plain_field c.in-Some.phrase) (listed c.args.set.now.items) (value c.args.value.now) (within s (map input c.args.inputs.now.items)) (sym c.in-Some.ensures))) c.fits_phrase.ensures

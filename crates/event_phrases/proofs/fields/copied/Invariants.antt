@@ -1,6 +1,0 @@
-use Rattle.std.proofs.Common.{◌≡◌, take}
-use Rattle.event_phrases.specs.View.{listed}
-use Rattle.event_phrases.proofs.fields.copied.Given as goal
-
-abbrev pub invariant-loop-value : goal.invariant-loop-value
-invariant-loop-value g l = listed l.copied.items ≡ listed (take l.value-index l.all)
