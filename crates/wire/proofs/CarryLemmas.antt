@@ -1,6 +1,6 @@
 -- A talk with one judge is one with another whose state follows from the first one's. What holds of each state from the beginning on,
 -- and what holds of each because it holds at the end, may be used.
-use Rattle.std.proofs.Common.{◌≡◌, ◌⊎◌, inl, inr, ℕ, List, [], ◌∷◌, Option, Result, Ok, Err, sym, ap, subst}
+use Rattle.std.proofs.Common.{inl, inr, ℕ, List, [], ◌∷◌, Option, Result, Ok, Err, sym, ap, subst}
 use Rattle.alphabet.specs.Channels.{Channel}
 use Rattle.alphabet.specs.EventSets.{Set}
 use Rattle.alphabet.specs.declared.events.Report.{Report}

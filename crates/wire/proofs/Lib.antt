@@ -4,3 +4,4 @@ pub mod OfferLemmas
 pub mod PartLemmas
 pub mod RefusalLemmas
 pub mod TalkLemmas
+pub mod TextLemmas

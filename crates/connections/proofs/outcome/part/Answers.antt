@@ -1,6 +1,6 @@
 use Rattle.std.proofs.Common.{◌≡◌, ◌∷◌, [], ◌++◌, length, sym, ap, ◌∙◌, append_assoc, arith}
 use Rattle.std.specs.Prelude.{map}
-use Rattle.std.proofs.lemmas.List.{map-append}
+use Rattle.std.proofs.lemmas.List.{append-nil, map-append, nil_from_length}
 use Rattle.std.specs.Vec.Iter.{into_iter_items}
 use Rattle.connections.specs.Outcomes.{ending_of, places_of}
 use Rattle.connections.proofs.Turns.{places-append}
@@ -29,3 +29,12 @@ loop-outcome-preserved g c =
       omega (arith, gone, first, one, kept),
       omega (arith, gone, second, len, capacity),
     )
+
+pub returns-clause-places : goal.returns-clause-places
+returns-clause-places g c =
+    let at = c.loop-outcome in
+    let left = into_iter_items at.outcome-iterator in
+    let none : left ≡ [] = nil_from_length left (sym at.invariant.1 ∙ c.in-None.ensures.steps.0) in
+    let all : at.yielded ≡ c.args.outcomes.items =
+    sym (append-nil at.yielded) ∙ ap (λ l. at.yielded ++ l) (sym none) ∙ at.invariant.0 ∙ c.into_iter-outcome-iterator.ensures.into_iter_gives.0 in
+    at.invariant.2 ∙ ap (λ l. c.args.places.now.items ++ places_of l) all

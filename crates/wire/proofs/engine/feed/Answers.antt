@@ -1,10 +1,10 @@
 -- A block is heard line by line, and its rest stays begun.
-use Rattle.std.proofs.Common.{◌≢◌, ◌∙◌, ◌<◌, ◌++◌, [], ◌∷◌, length, subst, append_assoc, Ok, Err, Some, None}
+use Rattle.std.proofs.Common.{◌≡◌, ◌≢◌, sym, ap, List, ℕ, ◌∙◌, ◌<◌, ◌++◌, [], ◌∷◌, length, subst, append_assoc, Ok, Err, Some, None}
 use Rattle.std.proofs.lemmas.List.{append-nil, length-append}
 use Rattle.wire.specs.Requests.{Lacks}
-use Rattle.wire.specs.Talks.{Open, Hears}
+use Rattle.wire.specs.Talks.{Open, Hears, IsShort, joined}
 use Rattle.wire.specs.Replies.{LineReplies, noted}
-use Rattle.wire.proofs.TalkLemmas.{all_append, open_then, hears_then, hears_out, hears_long, block_goes, block_whole, block_ends}
+use Rattle.wire.proofs.TalkLemmas.{all_append, all_short, open_then, hears_then, hears_out, hears_long, block_goes, block_whole, block_ends}
 use Rattle.wire.proofs.engine.feed.Goals as goal
 
 pub loop-line-preserved : goal.loop-line-preserved
@@ -98,3 +98,17 @@ returns-else-keep-clause-hears g c =
     (hears_long Says i mid new (begun ++ rest) [] d r long plain c.cut_off.ensures.ok c.cut_off.ensures.cut c.cut_off.ensures.end) in
     subst (λ v. Hears Says j i old new v d r) (block_ends first block so_far.front rest so_far.block)
     (hears_then Says j i i old mid new (first ++ so_far.front) begun rest d r so_far.talk heard)
+
+pub returns-then-keep-clause-hears : goal.returns-then-keep-clause-hears
+returns-then-keep-clause-hears g c =
+    let first = c.args.desk.now.begun.items in
+    let block = c.args.bytes.now in
+    let so_far = c.loop-line.invariant in
+    let begun = c.loop-line.desk.begun.items in
+    let rest = c.loop-line.rest.now in
+    let talk = so_far.talk in
+    let kept = c.keep.ensures.kept c.if-keep.true in
+    let heard : first ++ block ≡ joined talk.0 ++ c.keep.new.desk.begun.items =
+    sym (block_ends first block so_far.front rest so_far.block) ∙ ap (λ (l : List ℕ). l ++ rest) talk.4 ∙ append_assoc (joined talk.0) begun rest ∙ ap (λ (l : List ℕ). joined talk.0 ++ l) (sym kept) in
+    let short = all_short begun rest so_far.begun c.in_default.ensures (c.keep.ensures.fits c.if-keep.true) in
+    (talk.0, talk.1, talk.2, talk.3, heard, subst IsShort (sym kept) short, talk.6)

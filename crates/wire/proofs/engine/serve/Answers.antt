@@ -1,7 +1,7 @@
 use Rattle.std.proofs.Common.{◌∙◌, ◌++◌, take, Ok, Err, Some, None}
 use Rattle.wire.specs.Talks.{Hears}
 use Rattle.wire.specs.Replies.{LineReplies, noted}
-use Rattle.wire.proofs.KnownLemmas.{consumes_more}
+use Rattle.wire.proofs.KnownLemmas.{consumes_more, consumes_kept}
 use Rattle.wire.proofs.TalkLemmas.{open_then, hears_then, serves_end, serves_err}
 use Rattle.wire.proofs.engine.serve.Goals as goal
 
@@ -78,3 +78,9 @@ returns-in-Err-clause-serves g c =
     let fault = c.in-Err.fault in
     serves_err Says j k left rest old new (talk.0 ++ piece) d fault took
     (hears_then Says j i k old mid new talk.0 b piece d (Err fault) talk.2 c.in-Err.ensures.hears)
+
+pub returns-in_default-read-clause-serves : goal.returns-in_default-read-clause-serves
+returns-in_default-read-clause-serves g c =
+    let talk = c.pieces.invariant.talk in
+    let took = consumes_kept (g.R.Source.left c.args.reader.now) (g.R.Source.left c.pieces.reader) (g.R.Source.left c.read.new.self) talk.0 talk.1 c.in_default-read.ensures.bytes in
+    (talk.0, c.pieces.desk.begun.items, took, talk.2)
