@@ -14,19 +14,20 @@ ghost use Rattle.std.specs.Prelude.{◌≡◌, IfSome};
 ghost use Rattle.journal.specs.Reports.{AreEvents, IsReport};
 ghost use Rattle.session.specs.Told.{IsReadyFor};
 
+use crate::memory::Memory;
 use alphabet::{Alphabet, EventSet, Report};
 use disk::Disk;
-use refusing::Refusing;
+use rows::{Output, first_word, number_of};
 use session::{Entry, Fault, Ready, SeatNumber, Session};
-use std::alloc::{AllocError, Allocator, Global};
+use std::alloc::Allocator;
 
 /// A report as a row asks for it.
-#[derive(Clone, Copy, Drop)]
-pub(crate) struct Wanted {
-    pub(crate) seat: SeatNumber,
-    pub(crate) number: u32,
-    pub(crate) floor: usize,
-    pub(crate) report: Report,
+#[derive(Clone, Copy)]
+struct Wanted {
+    seat: SeatNumber,
+    number: u32,
+    floor: usize,
+    report: Report,
 }
 
 /// The set of the events with these names, where each is one's.
@@ -44,7 +45,7 @@ fn set_of<A: Allocator>(alphabet: &Alphabet<A>, names: &str) -> Option<EventSet>
 fn report_of<A: Allocator>(alphabet: &Alphabet<A>, words: &str) -> Option<Report>
     ensures { IfSome result (IsReport alphabet.now) }
 {
-    match words.split_once(' ').unwrap_or((words, "")) {
+    match first_word(words) {
         ("E", name) => Some(Report::Event(alphabet.event(name.as_bytes())?)),
         ("R", "") => Some(Report::Refusal(EventSet::empty())),
         ("R", names) => Some(Report::Refusal(set_of(alphabet, names)?)),
@@ -52,94 +53,92 @@ fn report_of<A: Allocator>(alphabet: &Alphabet<A>, words: &str) -> Option<Report
     }
 }
 
-/// The number that the word is, or 0.
-pub(crate) fn number_of(word: &str) -> u64 {
-    word.parse().unwrap_or(0)
-}
-
-/// The seat with this number.
-fn seat_of(word: &str) -> Option<SeatNumber> {
-    SeatNumber::new(word.parse().unwrap_or(0))
-}
-
 /// What the words `SEAT NUMBER FLOOR REPORT` ask for.
-pub(crate) fn wanted_by<A: Allocator>(alphabet: &Alphabet<A>, words: &str) -> Option<Wanted>
+fn wanted_by<A: Allocator>(alphabet: &Alphabet<A>, words: &str) -> Option<Wanted>
     ensures { IfSome result (λ wanted. IsReport alphabet.now wanted.report) }
 {
-    let (seat, words) = words.split_once(' ').unwrap_or((words, ""));
-    let (number, words) = words.split_once(' ').unwrap_or((words, ""));
-    let (floor, words) = words.split_once(' ').unwrap_or((words, ""));
-    match (seat_of(seat), report_of(alphabet, words)) {
-        (Some(seat), Some(report)) => Some(Wanted {
-            seat,
-            number: number.parse().unwrap_or(0),
-            floor: floor.parse().unwrap_or(0),
-            report,
-        }),
-        _ => None,
+    let (seat, words) = first_word(words);
+    let (number, words) = first_word(words);
+    let (floor, words) = first_word(words);
+    let report = report_of(alphabet, words)?;
+    Some(Wanted {
+        seat: SeatNumber::new(seat.parse().unwrap_or(0))?,
+        number: number.parse().unwrap_or(0),
+        floor: floor.parse().unwrap_or(0),
+        report,
+    })
+}
+
+/// Appends how a report was answered, as the line protocol writes it.
+fn put_answer(answer: Result<Entry, Fault>, place: usize, out: &mut Output) {
+    match answer {
+        Ok(entry) => {
+            out.put(if entry.verdict { "OK " } else { "NO " });
+            out.put_shown(&place);
+        }
+        Err(fault) => put_fault(fault, out),
     }
 }
 
-/// How a report was answered, as the line protocol writes it.
-fn put_answer(
-    answer: Result<Entry, Fault>,
-    place: usize,
-    out: &mut String,
-) -> Result<(), AllocError> {
-    match answer {
-        Ok(entry) if entry.verdict => write!(out, "OK {place}"),
-        Ok(_) => write!(out, "NO {place}"),
-        Err(fault) => write!(out, "ERR {fault}"),
-    }
+/// Appends a fault, as the line protocol writes it.
+fn put_fault(fault: Fault, out: &mut Output) {
+    out.put("ERR ");
+    out.put_shown(&fault);
 }
 
 /// Reports what the words ask for.
 fn report<D: Disk, A: Allocator + Copy>(
     session: &mut Session<D, A>,
     words: &str,
-    out: &mut String,
-) -> Result<(), AllocError> {
+    out: &mut Output,
+) {
     match wanted_by(session.spec().alphabet(), words) {
         Some(wanted) => {
             let answer = session.report(wanted.seat, wanted.number, wanted.floor, &wanted.report);
-            put_answer(answer, session.history().len(), out)
+            put_answer(answer, session.history().len(), out);
         }
-        None => out.push_str("no such report"),
+        None => out.put("no such report"),
     }
 }
 
-/// Writes what is ready: its verdict, how long the history is before, and the answer.
-pub(crate) fn write_ready<D: Disk, A: Allocator + Copy>(
+/// Writes what is ready, which takes no memory: its verdict, how long the history is before, and the answer.
+fn write_ready<D: Disk, A: Allocator + Copy>(
     session: &mut Session<D, A>,
     ready: Ready<A>,
-    out: &mut String,
-) -> Result<(), AllocError>
+    memory: Memory,
+    out: &mut Output,
+)
     requires { IsReadyFor session.old ready }
 {
+    memory.begin_quiet();
     let (entry, length) = (ready.entry(), session.history().len());
     let answer = session.write(ready);
-    let word = match answer {
-        Ok(written) if written == entry => "same",
-        Ok(_) => "other",
-        Err(_) => "none",
-    };
-    write!(out, "{} {length} {word}", entry.verdict)
+    let asked = memory.end_quiet();
+    out.put(if entry.verdict { "true " } else { "false " });
+    out.put_shown(&length);
+    out.put(match answer {
+        Ok(written) if written == entry => " same",
+        Ok(_) => " other",
+        Err(_) => " none",
+    });
+    out.put(asked);
 }
 
 /// Makes ready what the words ask for, and writes it then.
 fn ready<D: Disk, A: Allocator + Copy + Drop>(
     session: &mut Session<D, A>,
     words: &str,
-    out: &mut String,
-) -> Result<(), AllocError> {
+    memory: Memory,
+    out: &mut Output,
+) {
     match wanted_by(session.spec().alphabet(), words) {
         Some(wanted) => {
             match session.ready(wanted.seat, wanted.number, wanted.floor, &wanted.report) {
-                Ok(ready) => write_ready(session, ready, out),
-                Err(fault) => write!(out, "ERR {fault}"),
+                Ok(ready) => write_ready(session, ready, memory, out),
+                Err(fault) => put_fault(fault, out),
             }
         }
-        None => out.push_str("no such report"),
+        None => out.put("no such report"),
     }
 }
 
@@ -165,186 +164,123 @@ fn accepted<D: Disk, A: Allocator + Copy>(
 }
 
 /// Reports so many times what the words `COUNT SEAT REPORT` ask for.
-fn times<D: Disk, A: Allocator + Copy>(
-    session: &mut Session<D, A>,
-    words: &str,
-    out: &mut String,
-) -> Result<(), AllocError> {
-    let (count, words) = words.split_once(' ').unwrap_or((words, ""));
-    let (seat, words) = words.split_once(' ').unwrap_or((words, ""));
-    match (seat_of(seat), report_of(session.spec().alphabet(), words)) {
+fn times<D: Disk, A: Allocator + Copy>(session: &mut Session<D, A>, words: &str, out: &mut Output) {
+    let (count, words) = first_word(words);
+    let (seat, words) = first_word(words);
+    let seat = SeatNumber::new(seat.parse().unwrap_or(0));
+    match (seat, report_of(session.spec().alphabet(), words)) {
         (Some(seat), Some(report)) => {
             let accepted = accepted(session, number_of(count), seat, &report);
-            write!(out, "{accepted} accepted")
+            out.put_shown(&accepted);
+            out.put(" accepted");
         }
-        _ => out.push_str("no such report"),
+        _ => out.put("no such report"),
     }
 }
 
 /// A seat joins.
-fn join<D: Disk, A: Allocator>(
-    session: &mut Session<D, A>,
-    out: &mut String,
-) -> Result<(), AllocError> {
+fn join<D: Disk, A: Allocator>(session: &mut Session<D, A>, out: &mut Output) {
     match session.join() {
-        Ok(seat) => write!(out, "J {}", seat.get()),
-        Err(fault) => write!(out, "ERR {fault}"),
+        Ok(seat) => {
+            out.put("J ");
+            out.put_shown(&seat.get());
+        }
+        Err(fault) => put_fault(fault, out),
     }
 }
 
-/// The events of the set, each after a space.
-fn put_names<A: Allocator>(
-    alphabet: &Alphabet<A>,
-    set: &EventSet,
-    names: &mut Vec<u8>,
-) -> Result<(), AllocError> {
+/// Appends the events of the set, each after a space.
+fn put_names<A: Allocator>(alphabet: &Alphabet<A>, set: &EventSet, out: &mut Output) {
     for place in 1..alphabet.len() + 2 {
         if let Some(event) = alphabet.at(place)
             && set.contains(event)
         {
-            names.push(b' ')?;
-            alphabet.name_into(event, names)?;
+            let mut name = out.copy_of(b" ");
+            if alphabet.name_into(event, &mut name).is_err() {
+                out.is_cut = true;
+            }
+            out.put_bytes(&name);
         }
     }
-    Ok(())
 }
 
-/// These bytes, each as a character, with `$` for a line feed.
-pub(crate) fn put_bytes(bytes: &[u8], out: &mut String) -> Result<(), AllocError> {
-    for byte in bytes {
-        out.push(if *byte == b'\n' {
-            '$'
-        } else {
-            char::from(*byte)
-        })?;
-    }
-    Ok(())
-}
-
-/// These bytes in brackets.
-pub(crate) fn put_file(file: &[u8], out: &mut String) -> Result<(), AllocError> {
-    out.push('[')?;
-    put_bytes(file, out)?;
-    out.push(']')
-}
-
-/// The next events.
-fn next<D: Disk, A: Allocator>(
-    session: &Session<D, A>,
-    out: &mut String,
-) -> Result<(), AllocError> {
-    let mut names = Vec::from_slice(*out.allocator(), b"N")?;
-    put_names(session.spec().alphabet(), &session.next(), &mut names)?;
-    put_bytes(&names, out)
-}
-
-/// The counts of the entries, and whether the session is open.
-pub(crate) fn status<D: Disk, A: Allocator>(
-    session: &Session<D, A>,
-    out: &mut String,
-) -> Result<(), AllocError> {
+/// Appends the counts of the entries, and whether the session is open.
+fn put_status<D: Disk, A: Allocator>(session: &Session<D, A>, out: &mut Output) {
     let summary = session.summary();
-    let end = if session.is_closed() {
-        "closed"
+    out.put("S");
+    for count in [
+        summary.judged,
+        summary.events,
+        summary.refusals,
+        summary.rejected,
+    ] {
+        out.put(" ");
+        out.put_shown(&count);
+    }
+    out.put(if session.is_closed() {
+        " closed"
     } else {
-        "open"
-    };
-    write!(
-        out,
-        "S {} {} {} {} {end}",
-        summary.judged, summary.events, summary.refusals, summary.rejected
-    )
+        " open"
+    });
 }
 
-/// The number of the seat's next report.
-fn number<D: Disk, A: Allocator>(
-    session: &Session<D, A>,
-    word: &str,
-    out: &mut String,
-) -> Result<(), AllocError> {
-    match seat_of(word) {
-        Some(seat) => write!(out, "{}", session.next_number(seat)),
-        None => out.push_str("no such seat"),
-    }
-}
-
-/// The answer to one thing that changes nothing.
-pub(crate) fn look<D: Disk, A: Allocator>(
-    session: &Session<D, A>,
-    kind: &str,
-    words: &str,
-    out: &mut String,
-) -> Result<(), AllocError> {
+/// Appends the answer to one thing that changes nothing.
+fn look<D: Disk, A: Allocator>(session: &Session<D, A>, kind: &str, words: &str, out: &mut Output) {
     match kind {
-        "L" => write!(out, "L {}", session.history().len()),
-        "N" => next(session, out),
-        "S" => status(session, out),
-        "number" => number(session, words, out),
-        _ => out.push_str("no such ask"),
+        "L" => {
+            out.put("L ");
+            out.put_shown(&session.history().len());
+        }
+        "N" => {
+            out.put("N");
+            put_names(session.spec().alphabet(), &session.next(), out);
+        }
+        "S" => put_status(session, out),
+        "number" => match SeatNumber::new(words.parse().unwrap_or(0)) {
+            Some(seat) => out.put_shown(&session.next_number(seat)),
+            None => out.put("no such seat"),
+        },
+        _ => out.put("no such ask"),
     }
 }
 
-/// The answer to one thing.
-pub(crate) fn answer<D: Disk, A: Allocator + Copy + Drop>(
+/// Appends the answer to one thing.
+fn answer<D: Disk, A: Allocator + Copy + Drop>(
     session: &mut Session<D, A>,
     ask: &str,
-    out: &mut String,
-) -> Result<(), AllocError> {
-    let (kind, words) = ask.split_once(' ').unwrap_or((ask, ""));
+    memory: Memory,
+    out: &mut Output,
+) {
+    let (kind, words) = first_word(ask);
     match kind {
         "J" => join(session, out),
         "report" => report(session, words, out),
-        "ready" => ready(session, words, out),
+        "ready" => ready(session, words, memory, out),
         "times" => times(session, words, out),
-        _ => look(session, kind, words, out),
+        _ => {
+            memory.begin_quiet();
+            look(session, kind, words, out);
+            out.put(memory.end_quiet());
+        }
     }
 }
 
-/// The answer to the same thing again.
-fn answer_again<D: Disk, A: Allocator + Copy + Drop>(
-    session: &mut Session<D, A>,
-    ask: &str,
-    out: &mut String,
-) -> Result<(), AllocError> {
-    out.push_str("; ")?;
-    answer(session, ask, out)
-}
-
-/// No request is refused from now on, if these are told.
-pub(crate) fn release(refused: Option<&Refusing<Global>>) {
-    if let Some(refusing) = refused {
-        refusing.release();
-    }
-}
-
-/// The answer to the thing at this place, and to the same again where that was `ERR 40 memory`.
-fn answer_at<D: Disk, A: Allocator + Copy + Drop>(
-    session: &mut Session<D, A>,
-    place: usize,
-    ask: &str,
-    refused: Option<&Refusing<Global>>,
-    out: &mut String,
-) -> Result<(), AllocError> {
-    out.push_str(if place > 0 { "; " } else { "" })?;
-    answer(session, ask, out)?;
-    if out.ends_with("ERR 40 memory") {
-        release(refused);
-        answer_again(session, ask, out)
-    } else {
-        Ok(())
-    }
-}
-
-/// The answers to all, parted by `; `. What is answered by `ERR 40 memory` is asked once more, after the release of the requests
-/// that were refused, if they are told.
-pub(crate) fn ask_all<D: Disk, A: Allocator + Copy + Drop>(
+/// Appends the answers to all, parted by `; `. What is answered by `ERR 40 memory` is asked once more.
+pub(crate) fn answer_all<D: Disk, A: Allocator + Copy + Drop>(
     session: &mut Session<D, A>,
     asks: &str,
-    refused: Option<&Refusing<Global>>,
-    out: &mut String,
-) -> Result<(), AllocError> {
-    for (place, ask) in asks.split("; ").enumerate() {
-        answer_at(session, place, ask, refused, out)?;
+    memory: Memory,
+    out: &mut Output,
+) {
+    let mut has_begun = false;
+    for ask in asks.split("; ") {
+        out.put(if has_begun { "; " } else { "" });
+        answer(session, ask, memory, out);
+        if out.text().ends_with("ERR 40 memory") {
+            memory.answered();
+            out.put("; ");
+            answer(session, ask, memory, out);
+        }
+        has_begun = true;
     }
-    Ok(())
 }

@@ -1,173 +1,141 @@
-//! What `check`, `replay` and `print` come to in memory of an allocator that refuses requests.
+//! What `check`, `replay`, `show` and `print` come to in memory of an allocator that refuses requests.
 
-use crate::asks::put_bytes;
 use crate::clients::Client;
-use memory_disks::MemoryDisk;
-use program::{Exit, PrintError, check, print, replay};
-use refusing::Refusing;
-use session::SessionError;
-use std::alloc::{AllocError, Global};
+use crate::memory::Memory;
+use disk::Disk;
+use memory_disks::{Afterwards, FaultDisk};
+use program::{
+    Exit, Format, Options, PrintError, Selection, SessionError, check, print, replay, show,
+};
+use rows::{Output, first_word, parts};
+use std::alloc::Allocator;
 use std::sync::Wait;
-use wire::{Plain, WireError};
+use wire::Plain;
 
-/// A script, the root, and the lines that `check` answers.
-#[derive(Clone, Copy, Drop)]
-pub(crate) struct Talk<'a> {
-    root: &'a str,
-    script: &'a str,
-    pub lines: &'a str,
+/// Appends the exit status.
+fn put_exit(exit: Exit, out: &mut Output) {
+    out.put(" status ");
+    out.put_shown(&exit.code());
 }
 
-impl<'a> Talk<'a> {
-    /// The parts of `ROOT SCRIPT # LINES`.
-    pub(crate) fn read(text: &'a str) -> Talk<'a> {
-        let (begin, lines) = text.split_once(" # ").unwrap_or((text, ""));
-        let (root, script) = begin.split_once(' ').unwrap_or((begin, ""));
-        Talk {
-            root,
-            script,
-            lines,
-        }
-    }
-
-    /// The same with other lines.
-    fn with_lines<'b>(&self, lines: &'b str) -> Talk<'b>
-    where
-        'a: 'b,
-    {
-        Talk {
-            root: self.root,
-            script: self.script,
-            lines,
-        }
-    }
-
-    /// What comes of other lines where no request is refused.
-    pub(crate) fn in_full<T: Wait>(
-        &self,
-        rt: &T,
-        alloc: Global,
-        lines: &str,
-    ) -> Result<String, AllocError> {
-        let mut out = String::new(alloc);
-        let refusing = Refusing::new(alloc, 0);
-        put_checked(
-            rt,
-            alloc,
-            &refusing,
-            None,
-            &self.with_lines(lines),
-            &mut out,
-        )?;
-        Ok(out)
-    }
-}
-
-/// What was written, and the exit status.
-fn put_run(written: &[u8], exit: Exit, out: &mut String) -> Result<(), AllocError> {
-    put_bytes(written, out)?;
-    write!(out, " status {}", exit.code())
-}
-
-/// What was written, and why there was no more, with the exit status.
-fn put_failed(
-    written: &[u8],
-    error: SessionError,
-    exit: Exit,
-    out: &mut String,
-) -> Result<(), AllocError> {
-    put_bytes(written, out)?;
+/// Appends why there is no session, and the exit status.
+fn put_unopened(error: SessionError, exit: Exit, out: &mut Output) {
     match error {
-        SessionError::Script(fault) => write!(out, "{fault} status {}", exit.code()),
-        error => write!(out, "{error} status {}", exit.code()),
+        SessionError::Script(fault) => out.put_shown(&fault),
+        error => out.put_shown(&error),
     }
+    put_exit(exit, out);
 }
 
-/// Answers the lines by a new session on a disk in memory of this allocator. Such a disk fails only out of memory.
-fn checked<T: Wait>(
+/// Appends the replies to the lines of a session on this disk, or why there is none, and the exit status.
+fn put_checked<T: Wait, D: Disk + Drop, A: Allocator + Copy + Drop>(
     rt: &T,
-    refusing: &Refusing<Global>,
-    refused: Option<&Refusing<Global>>,
-    talk: &Talk,
-    writer: &mut Plain<Vec<u8>>,
-) -> Result<Exit, SessionError> {
-    let (root, script) = (talk.root.as_bytes(), talk.script.as_bytes());
-    let disk = MemoryDisk::new(Vec::new(refusing));
-    let mut reader = Client::new(talk.lines.as_bytes(), refused);
-    match check(rt, refusing, disk, script, root, &mut reader, writer) {
-        Ok(checked) => match checked.end {
-            Err(WireError::Memory) => Err(SessionError::Memory),
-            _ => Ok(checked.exit),
-        },
-        Err(SessionError::Device) => Err(SessionError::Memory),
-        Err(error) => Err(error),
-    }
-}
-
-/// The replies to the lines, or why there is no session, and the exit status.
-fn put_checked<T: Wait>(
-    rt: &T,
-    alloc: Global,
-    refusing: &Refusing<Global>,
-    refused: Option<&Refusing<Global>>,
-    talk: &Talk,
-    out: &mut String,
-) -> Result<(), AllocError> {
-    let mut writer = Plain::new(Vec::new(alloc));
-    let came = checked(rt, refusing, refused, talk, &mut writer);
-    let written = writer.into_inner();
-    match came {
-        Ok(exit) => put_run(&written, exit, out),
-        Err(error) => put_failed(&written, error, Exit::of_opening(&error), out),
-    }
-}
-
-/// The counts of the journal in the file, or why it gives no session, and the exit status.
-fn put_replayed(
-    alloc: Global,
-    refusing: &Refusing<Global>,
-    file: &str,
-    out: &mut String,
-) -> Result<(), AllocError> {
-    let disk = MemoryDisk::new(Vec::from_slice(alloc, file.as_bytes())?);
-    match replay(refusing, disk) {
-        Ok(replayed) => put_run(&replayed.line, replayed.exit, out),
-        Err(error) => put_failed(b"", error, Exit::of_journal(&error), out),
-    }
-}
-
-/// The printed form of what the script denotes, or why there is none, and the exit status.
-fn put_printed(
-    refusing: &Refusing<Global>,
+    alloc: A,
+    disk: D,
+    memory: Memory,
     text: &str,
-    out: &mut String,
-) -> Result<(), AllocError> {
-    let (root, script) = text.split_once(' ').unwrap_or((text, ""));
-    match print(refusing, script.as_bytes(), root.as_bytes()) {
-        Ok(printed) => put_run(&printed, Exit::Done, out),
-        Err(PrintError::Script(fault)) => {
-            write!(out, "{fault} status {}", Exit::of_script(&fault).code())
+    out: &mut Output,
+) {
+    let (begin, lines) = parts(text);
+    let (root, script) = first_word(begin);
+    let mut reader = Client::new(lines.as_bytes(), memory);
+    let mut writer = Plain::new(out.copy_of(b""));
+    let (root, script) = (root.as_bytes(), script.as_bytes());
+    let came = check(rt, alloc, disk, script, root, &mut reader, &mut writer);
+    out.put_bytes(&writer.into_inner());
+    match came {
+        Ok(checked) => {
+            put_exit(checked.exit, out);
+            drop(checked);
         }
-        Err(PrintError::Memory) => put_failed(b"", SessionError::Memory, Exit::Limit, out),
+        Err(error) => put_unopened(error, Exit::of_opening(&error), out),
     }
 }
 
-/// What comes of a row of these kinds in memory of this allocator. What it refuses is released once an answer says so, if it is told
-/// again. Whether it is such a row is answered.
-pub(crate) fn put<T: Wait>(
-    rt: &T,
-    alloc: Global,
-    refusing: &Refusing<Global>,
-    refused: Option<&Refusing<Global>>,
-    row: (&str, &str),
-    out: &mut String,
-) -> Result<bool, AllocError> {
-    let done = match row {
-        ("check", text) => put_checked(rt, alloc, refusing, refused, &Talk::read(text), out),
-        ("replay", file) => put_replayed(alloc, refusing, file, out),
-        ("print", text) => put_printed(refusing, text, out),
-        _ => return Ok(false),
+/// Appends the counts of the journal on the disk, or why it gives no session, and the exit status.
+fn put_replayed<D: Disk + Drop, A: Allocator + Copy + Drop>(alloc: A, disk: D, out: &mut Output) {
+    match replay(alloc, disk) {
+        Ok(replayed) => {
+            out.put_bytes(&replayed.line);
+            put_exit(replayed.exit, out);
+            drop(replayed);
+        }
+        Err(error) => put_unopened(error, Exit::of_journal(&error), out),
+    }
+}
+
+/// Appends what `show` prints of the journal on the disk, or why it gives no session, and the exit status.
+fn put_displayed<D: Disk + Drop, A: Allocator + Copy + Drop>(
+    alloc: A,
+    disk: D,
+    format: Format,
+    out: &mut Output,
+) {
+    let options = Options {
+        entries: Selection::All,
+        coverage: true,
+        format,
     };
-    done?;
-    Ok(true)
+    match show(alloc, disk, options) {
+        Ok(displayed) => {
+            out.put_bytes(&displayed.text);
+            put_exit(displayed.exit, out);
+            drop(displayed);
+        }
+        Err(error) => put_unopened(error, Exit::of_journal(&error), out),
+    }
+}
+
+/// Appends the printed form of what the script denotes, or why there is none, and the exit status.
+fn put_printed(memory: Memory, text: &str, out: &mut Output) {
+    let (root, script) = first_word(text);
+    let exit = match print(memory.refusing, script.as_bytes(), root.as_bytes()) {
+        Ok(printed) => {
+            out.put_bytes(&printed);
+            Exit::Done
+        }
+        Err(PrintError::Script(fault)) => {
+            out.put_shown(&fault);
+            Exit::of_script(&fault)
+        }
+        Err(PrintError::Memory) => {
+            out.put("40 memory");
+            Exit::Limit
+        }
+    };
+    put_exit(exit, out);
+}
+
+/// Appends what comes of a row of these kinds on this disk.
+fn put_on<T: Wait, D: Disk + Drop, A: Allocator + Copy + Drop>(
+    rt: &T,
+    alloc: A,
+    disk: D,
+    memory: Memory,
+    row: (&str, &str),
+    out: &mut Output,
+) {
+    match row {
+        ("check", text) => put_checked(rt, alloc, disk, memory, text, out),
+        ("replay", _) => put_replayed(alloc, disk, out),
+        ("json", _) => put_displayed(alloc, disk, Format::Json, out),
+        ("show", _) => put_displayed(alloc, disk, Format::Text, out),
+        _ => out.put("no such row"),
+    }
+}
+
+/// Appends what comes of a row of these kinds in this memory. But for `check` the disk has the bytes that are written in the row.
+pub(crate) fn put<T: Wait>(rt: &T, memory: Memory, row: &str, out: &mut Output) {
+    let (kind, text) = first_word(row);
+    if kind == "print" {
+        return put_printed(memory, text, out);
+    }
+    let file = if kind == "check" { "" } else { text };
+    match Vec::from_slice(memory.refusing, file.as_bytes()) {
+        Ok(file) => {
+            let disk = FaultDisk::new(file, 0, Afterwards::GoOn);
+            put_on(rt, memory.refusing, disk, memory, (kind, text), out);
+        }
+        Err(_) => out.put("40 memory"),
+    }
 }

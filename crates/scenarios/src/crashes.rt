@@ -1,29 +1,15 @@
 //! What a crash leaves after each call, what comes where each call fails, and what there is in a file cut to each length.
 
+use crate::memory::{Memory, Way};
 use crate::scenes::{Scene, after_failing, at_fault, in_memory, played, put_left};
 use crate::stops::stops;
-use crate::tried::Tried;
 use memory_disks::{Afterwards, CrashDisk, Part};
-use std::alloc::{AllocError, Global};
+use refusing::Refusing;
+use rows::{Output, first_word};
+use std::alloc::Global;
 
 /// More calls than a row's disk has.
 const MOST_CALLS: usize = 1_000;
-
-/// Adds the outcome at this place where it isn't the last one.
-pub(crate) fn put_outcome(
-    place: usize,
-    came: String,
-    last: &mut String,
-    out: &mut String,
-) -> Result<(), AllocError> {
-    if came == *last {
-        return Ok(());
-    }
-    let mark = if last.is_empty() { "" } else { " | " };
-    write!(out, "{mark}{place}: {came}")?;
-    *last = came;
-    Ok(())
-}
 
 /// The part with this name.
 fn part_of(word: &str) -> Part {
@@ -35,181 +21,100 @@ fn part_of(word: &str) -> Part {
     }
 }
 
-/// Plays the scene on a disk that keeps its calls, and gives back the disk.
-fn kept(alloc: Global, scene: &Scene) -> Result<CrashDisk<Global>, AllocError> {
-    let mut out = String::new(alloc);
-    let disk = CrashDisk::new(alloc, Vec::from_slice(alloc, scene.file)?)?;
-    match played(alloc, disk, scene, &mut out) {
-        (Ok(()), disk) => Ok(disk),
-        (Err(_), _) => Err(AllocError),
-    }
-}
-
-/// The file that a crash after so many calls leaves, and what a session of it answers and leaves.
-fn after_crash(
-    alloc: Global,
-    disk: &CrashDisk<Global>,
-    count: usize,
-    part: Part,
-) -> Result<String, AllocError> {
-    let mut out = String::new(alloc);
+/// Appends the file that a crash after so many calls leaves, and what a session of it answers and leaves.
+fn put_crash(alloc: Global, disk: &CrashDisk<Global>, count: usize, part: Part, out: &mut Output) {
     if count <= disk.calls() {
-        let file = disk.left_after(count, part)?;
-        put_left(alloc, &file, &mut out)?;
+        match disk.left_after(count, part) {
+            Ok(file) => put_left(alloc, &file, out),
+            Err(_) => out.is_cut = true,
+        }
     }
-    Ok(out)
 }
 
 /// What a crash after each number of calls leaves.
-fn crashes(
-    alloc: Global,
-    disk: &CrashDisk<Global>,
-    part: Part,
-    tried: &Tried,
-    out: &mut String,
-) -> Result<(), AllocError> {
-    let mut last = String::new(alloc);
+fn crashes(alloc: Global, disk: &CrashDisk<Global>, part: Part, out: &mut Output) {
     let calls = disk.calls();
-    write!(out, "{calls} calls, ")?;
+    out.put_shown(&calls);
+    out.put(" calls, ");
     for count in 0..=calls {
-        put_outcome(
-            count,
-            after_crash(alloc, disk, count, part)?,
-            &mut last,
-            out,
-        )?;
-        tried.add(1);
+        let mut came = Output::new(alloc);
+        put_crash(alloc, disk, count, part, &mut came);
+        out.put_outcome(count, &came);
     }
-    Ok(())
 }
 
-/// What a session of the file with this length answers, and whether it leaves the file as it was.
-fn at_length(alloc: Global, scene: &Scene) -> Result<String, AllocError> {
-    let mut out = String::new(alloc);
-    let disk = in_memory(alloc, scene, &mut out)?;
-    let kept = disk.bytes() == scene.file;
-    out.push_str(if kept { ", kept" } else { ", changed" })?;
-    Ok(out)
+/// Plays the scene on the disk, which keeps its calls, and then what it leaves: after a crash, or after a stop where the word is none of
+/// a part.
+fn play_kept(alloc: Global, disk: CrashDisk<Global>, scene: &Scene, word: &str, out: &mut Output) {
+    let refusing = Refusing::new(alloc, 0);
+    let memory = Memory {
+        refusing: &refusing,
+        way: Way::Made,
+    };
+    let mut answers = Output::new(alloc);
+    let disk = played(alloc, disk, scene, memory, &mut answers);
+    if word == "stops" {
+        stops(alloc, &disk, out);
+    } else {
+        crashes(alloc, &disk, part_of(word), out);
+    }
 }
 
-/// What sessions of the file, cut to each length, answer.
-fn lengths(
-    alloc: Global,
-    scene: &Scene,
-    tried: &Tried,
-    out: &mut String,
-) -> Result<(), AllocError> {
-    let mut last = String::new(alloc);
+/// Plays the scene on a disk that keeps its calls.
+fn play_crash(alloc: Global, scene: &Scene, word: &str, out: &mut Output) {
+    match CrashDisk::new(alloc, out.copy_of(scene.file)) {
+        Ok(disk) => play_kept(alloc, disk, scene, word, out),
+        Err(_) => out.is_cut = true,
+    }
+}
+
+/// What sessions of the file, cut to each length, answer, and whether they leave the file as it was.
+fn lengths(alloc: Global, scene: &Scene, out: &mut Output) {
     for length in 0..=scene.file.len() {
-        let came = at_length(alloc, &scene.cut_to(length))?;
-        put_outcome(length, came, &mut last, out)?;
-        tried.add(1);
+        let mut came = Output::new(alloc);
+        let file = in_memory(alloc, &scene.cut_to(length), &mut came);
+        let is_kept = scene.file.get(..length) == Some(file.as_slice());
+        came.put(if is_kept { ", kept" } else { ", changed" });
+        out.put_outcome(length, &came);
     }
-    Ok(())
 }
 
 /// What comes where this call of the disk fails; with 0 none does.
-fn failure(
-    alloc: Global,
-    call: usize,
-    afterwards: Afterwards,
-    scene: &Scene,
-) -> Result<String, AllocError> {
-    let mut out = String::new(alloc);
-    at_fault(alloc, call as u64, afterwards, scene, &mut out)?;
-    Ok(out)
-}
-
-/// Adds what comes where this call fails. Whether it is the full outcome is answered.
-fn put_failure(
-    call: usize,
-    came: String,
-    full: &str,
-    last: &mut String,
-    out: &mut String,
-) -> Result<bool, AllocError> {
-    let is_full = came.as_str() == full;
-    put_outcome(call, came, last, out)?;
-    Ok(is_full)
+fn failure(alloc: Global, call: usize, afterwards: Afterwards, scene: &Scene) -> Output {
+    let mut out = Output::new(alloc);
+    let file = at_fault(alloc, call as u64, afterwards, scene, &mut out);
+    out.put(" ");
+    put_left(alloc, &file, &mut out);
+    out
 }
 
 /// What comes where each call of the disk fails, as far as the first that isn't made: then the full outcome comes.
-fn failures(
-    alloc: Global,
-    afterwards: Afterwards,
-    scene: &Scene,
-    tried: &Tried,
-    out: &mut String,
-) -> Result<(), AllocError> {
-    let full = failure(alloc, 0, afterwards, scene)?;
-    let mut last = String::new(alloc);
+fn failures(alloc: Global, afterwards: Afterwards, scene: &Scene, out: &mut Output) {
+    let full = failure(alloc, 0, afterwards, scene);
     for call in 1..MOST_CALLS {
-        let came = failure(alloc, call, afterwards, scene)?;
-        tried.add(1);
-        if put_failure(call, came, &full, &mut last, out)? {
-            return Ok(());
+        let came = failure(alloc, call, afterwards, scene);
+        out.put_outcome(call, &came);
+        if came.text() == full.text() {
+            return;
         }
     }
-    out.push_str(" too many calls")
-}
-
-/// Plays `once ROW` or `always ROW`.
-fn play_failures(
-    alloc: Global,
-    text: &str,
-    tried: &Tried,
-    out: &mut String,
-) -> Result<(), AllocError> {
-    let (afterwards, row) = after_failing(text);
-    match Scene::read(row) {
-        Some(scene) => failures(alloc, afterwards, &scene, tried, out),
-        None => out.push_str("no such row"),
-    }
-}
-
-/// Plays the row with a stop after each call.
-fn play_stops(alloc: Global, row: &str, tried: &Tried, out: &mut String) -> Result<(), AllocError> {
-    match Scene::read(row) {
-        Some(scene) => {
-            let disk = kept(alloc, &scene)?;
-            stops(alloc, &disk, tried, out)
-        }
-        None => out.push_str("no such row"),
-    }
-}
-
-/// Plays `PART ROW`.
-fn play_crashes(
-    alloc: Global,
-    text: &str,
-    tried: &Tried,
-    out: &mut String,
-) -> Result<(), AllocError> {
-    let (part, row) = text.split_once(' ').unwrap_or((text, ""));
-    match Scene::read(row) {
-        Some(scene) => {
-            let disk = kept(alloc, &scene)?;
-            crashes(alloc, &disk, part_of(part), tried, out)
-        }
-        None => out.push_str("no such row"),
-    }
+    out.put(" too many calls");
 }
 
 /// Plays a row of these kinds. Whether it is one is answered.
-pub(crate) fn play(
-    alloc: Global,
-    kind: &str,
-    text: &str,
-    tried: &Tried,
-    out: &mut String,
-) -> Result<bool, AllocError> {
-    let done = match kind {
-        "crashes" => play_crashes(alloc, text, tried, out),
-        "failures" => play_failures(alloc, text, tried, out),
-        "stops" => play_stops(alloc, text, tried, out),
-        "lengths" => lengths(alloc, &Scene::of_file(text), tried, out),
-        _ => return Ok(false),
+pub(crate) fn play(alloc: Global, row: &str, out: &mut Output) -> bool {
+    let (kind, text) = first_word(row);
+    let (word, scene) = match kind {
+        "crashes" => first_word(text),
+        "stops" | "lengths" => (kind, text),
+        "failures" => first_word(text),
+        _ => return false,
     };
-    done?;
-    Ok(true)
+    match Scene::read(scene) {
+        Some(scene) if kind == "failures" => failures(alloc, after_failing(text).0, &scene, out),
+        Some(scene) if kind == "lengths" => lengths(alloc, &scene, out),
+        Some(scene) => play_crash(alloc, &scene, word, out),
+        None => out.put("no such row"),
+    }
+    true
 }

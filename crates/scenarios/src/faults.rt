@@ -1,8 +1,18 @@
 //! The numbers, words and texts of faults.
 
 use journal::JournalError;
+use rows::{Output, first_word};
 use session::SessionError;
-use std::alloc::AllocError;
+use std::fmt::Display;
+
+/// Appends a fault's number, word and text.
+fn put<E: Display>(code: u32, word: &str, fault: &E, out: &mut Output) {
+    out.put_shown(&code);
+    out.put(" ");
+    out.put(word);
+    out.put(" | ");
+    out.put_shown(fault);
+}
 
 /// The session's fault with this name.
 fn session_error(name: &str) -> SessionError {
@@ -30,20 +40,19 @@ fn journal_error(name: &str) -> JournalError {
     }
 }
 
-/// Appends the number, the word and the text of a fault of the session or the journal, where the row is of this kind.
-pub(crate) fn play(kind: &str, rest: &str, out: &mut String) -> Result<bool, AllocError> {
+/// Plays a row of this kind. Whether it is one is answered.
+pub(crate) fn play(row: &str, out: &mut Output) -> bool {
+    let (kind, text) = first_word(row);
+    let (library, name) = first_word(text);
     if kind != "fault_text" {
-        return Ok(false);
+        return false;
     }
-    match rest.split_once(' ').unwrap_or((rest, "")) {
-        ("session", name) => {
-            let fault = session_error(name);
-            write!(out, "{} {} | {fault}", fault.code(), fault.word())?;
-        }
-        (_, name) => {
-            let fault = journal_error(name);
-            write!(out, "{} {} | {fault}", fault.code(), fault.word())?;
-        }
+    if library == "session" {
+        let fault = session_error(name);
+        put(u32::from(fault.code()), fault.word(), &fault, out);
+    } else {
+        let fault = journal_error(name);
+        put(fault.code(), fault.word(), &fault, out);
     }
-    Ok(true)
+    true
 }

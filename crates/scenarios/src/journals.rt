@@ -3,149 +3,103 @@
 ghost use Rattle.std.specs.Prelude.{◌≡◌, All};
 ghost use Rattle.journal.specs.Format.{IsFormed, IsRecordable};
 
-use crate::asks::{put_bytes, put_file};
 use disk::Disk;
 use journal::{Header, Journal, Kind, Record, prepare_record};
 use memory_disks::MemoryDisk;
+use rows::{Output, first_word};
 use session::SeatNumber;
-use std::alloc::{AllocError, Global};
+use std::alloc::Global;
 
-/// A record, as `SEAT NUMBER KIND MARK..`.
-fn put_record(record: &Record<Global>, out: &mut String) -> Result<(), AllocError> {
-    let kind = match record.kind {
-        Kind::Event => 'E',
-        Kind::Refusal => 'R',
-    };
-    let sign = if record.verdict { '+' } else { '-' };
-    write!(out, " {} {} {kind}{sign}", record.seat, record.number)?;
+/// Appends a record, as `SEAT NUMBER KIND MARK..`.
+fn put_record(record: &Record<Global>, out: &mut Output) {
+    out.put(" ");
+    out.put_shown(&record.seat);
+    out.put(" ");
+    out.put_shown(&record.number);
+    out.put(match record.kind {
+        Kind::Event => " E",
+        Kind::Refusal => " R",
+    });
+    out.put(if record.verdict { "+" } else { "-" });
     for mark in &record.marks {
-        out.push(' ')?;
-        put_bytes(mark, out)?;
+        out.put(" ");
+        out.put_bytes(mark);
     }
-    out.push(';')
+    out.put(";");
 }
 
-/// The header, and the records.
-fn put_read(
-    header: &Header<Global>,
-    records: &Vec<Record<Global>>,
-    out: &mut String,
-) -> Result<(), AllocError> {
-    put_bytes(&header.root, out)?;
-    out.push(' ')?;
-    put_file(&header.script, out)?;
+/// Appends the header, and the records.
+fn put_read(header: &Header<Global>, records: &[Record<Global>], out: &mut Output) {
+    out.put_bytes(&header.root);
+    out.put(" ");
+    out.put_file(&header.script);
     for record in records {
-        put_record(record, out)?;
+        put_record(record, out);
     }
-    Ok(())
+    out.put(" ");
 }
 
 /// Puts the records into the journal, and notes each that it doesn't take.
 fn put_all<D: Disk>(
     alloc: Global,
     journal: &mut Journal<D>,
-    records: &Vec<Record<Global>>,
-    out: &mut String,
-) -> Result<(), AllocError>
-    requires { All IsRecordable records.now.items }
+    records: &[Record<Global>],
+    out: &mut Output,
+)
+    requires { All IsRecordable records.now }
 {
     for record in records {
-        let line = prepare_record(alloc, record)?;
-        if journal.put(&line).is_err() {
-            out.push_str(" no put")?;
+        match prepare_record(alloc, record) {
+            Ok(line) if journal.put(&line).is_ok() => {}
+            _ => out.put("no put "),
         }
-    }
-    Ok(())
-}
-
-/// The file of a new journal of these records.
-fn rewritten<D: Disk + Drop>(
-    alloc: Global,
-    disk: D,
-    header: &Header<Global>,
-    records: &Vec<Record<Global>>,
-    out: &mut String,
-) -> (Result<(), AllocError>, D)
-    requires { IsFormed header.now.script.items header.now.root.items records.now.items }
-{
-    match Journal::create(alloc, disk, &header.script, &header.root) {
-        Ok(mut journal) => {
-            let done = put_all(alloc, &mut journal, records, out);
-            (done, journal.into_disk())
-        }
-        Err((error, disk)) => (write!(out, "{error}"), disk),
     }
 }
 
-/// The file of a new journal of these records.
-fn put_copy(
-    alloc: Global,
-    header: &Header<Global>,
-    records: &Vec<Record<Global>>,
-    out: &mut String,
-) -> Result<(), AllocError>
-    requires { IsFormed header.now.script.items header.now.root.items records.now.items }
+/// Appends what was read, and the file of a new journal of the same.
+fn put_copy(alloc: Global, header: &Header<Global>, records: &[Record<Global>], out: &mut Output)
+    requires { IsFormed header.now.script.items header.now.root.items records.now }
 {
     let disk = MemoryDisk::new(Vec::new(alloc));
-    match rewritten(alloc, disk, header, records, out) {
-        (Ok(()), disk) => put_file(disk.bytes(), out),
-        (Err(_), _) => Err(AllocError),
+    put_read(header, records, out);
+    match Journal::create(alloc, disk, &header.script, &header.root) {
+        Ok(mut journal) => {
+            put_all(alloc, &mut journal, records, out);
+            out.put_file(journal.into_disk().bytes());
+        }
+        Err((error, _)) => out.put_shown(&error),
     }
 }
 
-/// What was read, and the file of a new journal of the same.
-fn put_both(
-    alloc: Global,
-    header: &Header<Global>,
-    records: &Vec<Record<Global>>,
-    out: &mut String,
-) -> Result<(), AllocError>
-    requires { IsFormed header.now.script.items header.now.root.items records.now.items }
-{
-    put_read(header, records, out)?;
-    out.push(' ')?;
-    put_copy(alloc, header, records, out)
-}
-
-/// What the journal on the disk holds, and the file of a new one that holds the same.
-fn copied<D: Disk + Drop>(alloc: Global, disk: D, out: &mut String) -> Result<(), AllocError> {
+/// Appends what the journal in the file holds, and the file of a new one that holds the same.
+fn put_copied(alloc: Global, text: &str, out: &mut Output) {
+    let disk = MemoryDisk::new(out.copy_of(text.as_bytes()));
     match Journal::open(alloc, disk) {
-        Ok((_journal, header, records)) => put_both(alloc, &header, &records, out),
-        Err((error, _disk)) => write!(out, "{error}"),
+        Ok((_journal, header, records)) => put_copy(alloc, &header, &records, out),
+        Err((error, _)) => out.put_shown(&error),
     }
 }
 
-/// A seat's number, or `none`.
-fn put_seat(seat: Option<SeatNumber>, out: &mut String) -> Result<(), AllocError> {
+/// Appends a seat's number, or `none`.
+fn put_seat(seat: Option<SeatNumber>, out: &mut Output) {
     match seat {
-        Some(seat) => write!(out, "{}", seat.get()),
-        None => out.push_str("none"),
+        Some(seat) => out.put_shown(&seat.get()),
+        None => out.put("none"),
     }
-}
-
-/// The seat with this number, and the one after it.
-fn seats(word: &str, out: &mut String) -> Result<(), AllocError> {
-    let number = word.parse().unwrap_or(0);
-    put_seat(SeatNumber::new(number), out)?;
-    out.push(' ')?;
-    put_seat(SeatNumber::after(number), out)
 }
 
 /// Plays a row of these kinds. Whether it is one is answered.
-pub(crate) fn play(
-    alloc: Global,
-    kind: &str,
-    text: &str,
-    out: &mut String,
-) -> Result<bool, AllocError> {
-    let done = match kind {
-        "copied" => {
-            let file = Vec::from_slice(alloc, text.as_bytes())?;
-            copied(alloc, MemoryDisk::new(file), out)
+pub(crate) fn play(alloc: Global, row: &str, out: &mut Output) -> bool {
+    let (kind, text) = first_word(row);
+    match kind {
+        "copied" => put_copied(alloc, text, out),
+        "seat" => {
+            let number = text.parse().unwrap_or(0);
+            put_seat(SeatNumber::new(number), out);
+            out.put(" ");
+            put_seat(SeatNumber::after(number), out);
         }
-        "seat" => seats(text, out),
-        _ => return Ok(false),
-    };
-    done?;
-    Ok(true)
+        _ => return false,
+    }
+    true
 }

@@ -1,27 +1,26 @@
 //! Plays rows of text over the libraries: each line of standard input is a row, and for each a line is written that says what
 //! came of it. In both `$` is a line feed. A line that begins with `#` names the rows that follow; it is written as it is, and so is an
-//! empty one. After each group of rows that try points one after the other (a request that is refused, a call that fails, a place at which
-//! the disk stops, a length), standard error has how many there were.
+//! empty one. After each row that tries points one after the other (a request that is refused, a call that fails, a place at which the
+//! disk stops, a length), standard error has the row, and how many there were.
 //!
 //! | Row | What is played |
 //! |---|---|
-//! | `session ROOT SCRIPT # ASKS` | a new session of the script, on a disk in memory: the answers |
+//! | `session ROOT SCRIPT # ASKS`, `written ..` | a new session of the script, on a disk in memory: the answers, and by `written` the journal's file |
 //! | `over FILE # ROOT SCRIPT # ASKS` | the same on a disk that holds this file before: the answers, and the journal's file |
-//! | `written ROOT SCRIPT # ASKS` | the same: the answers, and the journal's file |
-//! | `journal FILE # ASKS` | a session of what the file holds: the answers, and the file as it is then |
-//! | `records VERSION ROOT SCRIPT # RECORDS # ASKS` | a session of a file with a header of this version, root and script, and these records |
-//! | `fault K once ROW` | a `session`, `over` or `journal` on a disk whose K-th call fails: the answers, the file, and what a session of that file answers to `S` and leaves |
+//! | `opened FILE # ASKS`, `journal ..` | a session of what the file holds: the answers, and by `journal` the file as it is then |
+//! | `fault K once ROW` | one of these rows on a disk whose K-th call fails: the answers, the file, and what a session of that file answers to `S` and leaves |
 //! | `fault K always ROW` | the same where all calls from the K-th on fail |
 //! | `failures once ROW`, `failures always ROW` | the same with each call of the disk, as far as the first that isn't made; each outcome with the first call that has it |
 //! | `crashes PART ROW` | the file that a crash after each number of calls leaves, of which this part of what no sync has followed is done (`nothing`, `everything`, `first`, `plus`), and what a session of that file answers to `S` and leaves; each with the first number that has it |
 //! | `stops ROW` | what sessions answer to `S` of every file that a stop after each number of calls may leave: each beginning and each end of what no sync has followed is done, the rest is as before, or `+`; each list of answers with the first number that has it |
-//! | `lengths FILE # ASKS` | sessions of the file cut to each length, each outcome with the first length that has it |
+//! | `lengths ROW` | sessions of the file cut to each length, each outcome with the first length that has it |
+//! | `memory once ROW` | each outcome of one of these rows with what a session of its file answers to `S` in the end, or of `check ROOT SCRIPT # LINES`, `print ROOT SCRIPT`, `replay FILE`, `show FILE` or `json FILE` with its exit status, where one request for memory is refused, each in turn, up to the one that isn't made |
+//! | `memory until ROW`, `memory always ROW` | the same where the request and all after it are refused: until an answer says so; or all |
+//! | `no_request ROW` | one of these rows, where every request is refused during the calls that take no memory: the answers, after which a call is named that made a request, and the file |
 //! | `copied FILE` | the journal in the file: its header and its records, and the file of a journal of the same |
 //! | `seat NUMBER` | the seat with this number, and the one after it |
 //! | `fault_text session NAME`, `fault_text journal NAME` | a fault's number and word, and its text |
-//! | `file TEXT # CALLS` | a disk on a real file of this text, and one in memory: what each call answers, where the two differ in an answer or in their bytes, and the bytes at the end |
-//! | `memory ROW` | a `session`, a `journal`, `read ROOT SCRIPT`, `check ROOT SCRIPT # LINES`, `replay FILE` or `print ROOT SCRIPT` with each request for memory refused in turn: once; with all after it until an answer says so; and with all after it. The full answers, of sessions with what a session of the file answers to `S` in the end, and what came in their place that may not |
-//! | `no_request ROOT SCRIPT # ASKS` | a session on a disk in memory, after these asks: whether each call that takes no memory asks for none where every request would be refused, and answers what it answers with memory |
+//! | `file TEXT # CALLS`, `disk TEXT # CALLS` | a disk on a real file of this text, or in memory: what each call answers, and the bytes at the end |
 #![tactic(auto)]
 
 mod asks;
@@ -31,37 +30,61 @@ mod crashes;
 mod faults;
 mod files;
 mod journals;
-mod outcomes;
+mod memory;
 mod playing;
-mod quiet;
 mod scenes;
-mod sessions;
 mod shortage;
 mod stops;
-mod tried;
 
-use playing::told;
+use playing::play;
+use rows::Output;
+use std::alloc::{AllocError, Global};
 use std::io;
-use tried::Tried;
+use std::os::unix::fs::FileExt;
+use std::rt::Files;
+use std::sync::Wait;
+
+/// What comes of a row, in which `$` is a line feed.
+fn played<T: Wait + Files + AllocGlobal>(
+    rt: &T,
+    alloc: Global,
+    row: &str,
+) -> Result<Output, AllocError>
+where
+    T::File: FileExt,
+{
+    let row = row.replace(alloc, '$', "\n")?;
+    let mut out = Output::new(alloc);
+    play(rt, alloc, &row, &mut out);
+    Ok(out)
+}
+
+/// Writes what comes of a row, and how many points it tried.
+fn tell<T: Print + Eprint + Wait + Files + AllocGlobal>(
+    rt: &T,
+    alloc: Global,
+    row: &str,
+) -> io::Result<()>
+where
+    T::File: FileExt,
+{
+    match played(rt, alloc, row) {
+        Ok(out) if !out.is_cut => {
+            println!(rt; "{}", out.text())?;
+            if out.points > 0 {
+                eprintln!(rt; "{row}: {} points", out.points)?;
+            }
+            Ok(())
+        }
+        _ => println!(rt; "no memory for the row"),
+    }
+}
 
 fn main(rt: HostRuntime) -> io::Result<()> {
     let alloc = rt.alloc();
-    let tried = Tried::new();
-    let mut group = String::new(alloc);
     for line in rt.lines(alloc) {
         let line = line?;
-        match told(&rt, alloc, line.as_str(), &tried) {
-            Ok(text) => println!(rt; "{text}")?,
-            Err(_) => println!(rt; "no memory for the row")?,
-        }
-        if line.starts_with('#') {
-            group = line;
-        } else if line.is_empty() {
-            let points = tried.take();
-            if points > 0 {
-                eprintln!(rt; "{group}: {points} points")?;
-            }
-        }
+        tell(&rt, alloc, line.as_str())?;
     }
     Ok(())
 }

@@ -1,13 +1,12 @@
 //! A stop after each call of a disk, with every file that the disk may then have: what a session of it answers to `S`.
 
-use crate::crashes::put_outcome;
 use crate::scenes::{Scene, in_memory};
-use crate::tried::Tried;
 use memory_disks::{CrashDisk, Part};
-use std::alloc::{AllocError, Global};
+use rows::Output;
+use std::alloc::Global;
 
 /// How much of what no sync has followed is done, as far as a place in the file.
-#[derive(Clone, Copy, Drop)]
+#[derive(Clone, Copy)]
 enum Done {
     /// All before the place, and nothing from it on.
     Before,
@@ -31,49 +30,29 @@ fn byte_at(old: &[u8], written: &[u8], place: usize, done: Done, index: usize) -
 }
 
 /// A file that may be left.
-fn left(
-    alloc: Global,
-    old: &[u8],
-    written: &[u8],
-    place: usize,
-    done: Done,
-) -> Result<Vec<u8>, AllocError> {
-    let mut file = Vec::new(alloc);
+fn left(old: &[u8], written: &[u8], place: usize, done: Done, out: &mut Output) -> Vec<u8> {
+    let mut file = out.copy_of(b"");
     for index in 0..old.len().max(written.len()) {
         match byte_at(old, written, place, done, index) {
-            Some(byte) => file.push(byte)?,
+            Some(byte) => {
+                if file.push(byte).is_err() {
+                    out.is_cut = true;
+                }
+            }
             None => break,
         }
     }
-    Ok(file)
-}
-
-/// Adds what a session of the file answers, where none of the others is so.
-fn put_opening(alloc: Global, file: &[u8], answers: &mut String) -> Result<(), AllocError> {
-    let mut came = String::new(alloc);
-    let _disk = in_memory(alloc, &Scene::opening(file), &mut came)?;
-    if answers.split(", ").any(|answer| answer == came.as_str()) {
-        return Ok(());
-    }
-    answers.push_str(if answers.is_empty() { "" } else { ", " })?;
-    answers.push_str(&came)
+    file
 }
 
 /// Adds what sessions of the files answer in which all, or nothing, is done as far as a place.
-fn put_place(
-    alloc: Global,
-    old: &[u8],
-    written: &[u8],
-    place: usize,
-    tried: &Tried,
-    answers: &mut String,
-) -> Result<(), AllocError> {
+fn put_place(alloc: Global, old: &[u8], written: &[u8], place: usize, answers: &mut Output) {
     for done in [Done::Before, Done::Plus, Done::From] {
-        let file = left(alloc, old, written, place, done)?;
-        put_opening(alloc, &file, answers)?;
-        tried.add(1);
+        let mut came = Output::new(alloc);
+        let file = left(old, written, place, done, &mut came);
+        let _ = in_memory(alloc, &Scene::opening(&file), &mut came);
+        answers.put_other(&came);
     }
-    Ok(())
 }
 
 /// How many bytes are the same in both files from their beginning on.
@@ -88,40 +67,31 @@ fn common(old: &[u8], written: &[u8]) -> usize {
     count
 }
 
-/// What sessions of all files that may be left answer, each answer once.
-fn answers(alloc: Global, old: &[u8], written: &[u8], tried: &Tried) -> Result<String, AllocError> {
-    let mut answers = String::new(alloc);
+/// Adds what sessions of all files that may be left answer, each answer once.
+fn put_places(alloc: Global, old: &[u8], written: &[u8], answers: &mut Output) {
     for place in common(old, written)..=old.len().max(written.len()) {
-        put_place(alloc, old, written, place, tried, &mut answers)?;
+        put_place(alloc, old, written, place, answers);
     }
-    Ok(answers)
 }
 
-/// What sessions answer of all files that may be left after so many calls.
-fn after(
-    alloc: Global,
-    disk: &CrashDisk<Global>,
-    count: usize,
-    tried: &Tried,
-) -> Result<String, AllocError> {
+/// Adds what sessions answer of all files that may be left after so many calls.
+fn put_answers(alloc: Global, disk: &CrashDisk<Global>, count: usize, answers: &mut Output) {
     if count > disk.calls() {
-        return Ok(String::new(alloc));
+        return;
     }
-    let old = disk.left_after(count, Part::Nothing)?;
-    let written = disk.left_after(count, Part::Everything)?;
-    answers(alloc, &old, &written, tried)
+    let old = disk.left_after(count, Part::Nothing);
+    let written = disk.left_after(count, Part::Everything);
+    match (old, written) {
+        (Ok(old), Ok(written)) => put_places(alloc, &old, &written, answers),
+        _ => answers.is_cut = true,
+    }
 }
 
 /// What sessions answer of all files that may be left after each number of calls, each with the first number that has it.
-pub(crate) fn stops(
-    alloc: Global,
-    disk: &CrashDisk<Global>,
-    tried: &Tried,
-    out: &mut String,
-) -> Result<(), AllocError> {
-    let mut last = String::new(alloc);
+pub(crate) fn stops(alloc: Global, disk: &CrashDisk<Global>, out: &mut Output) {
     for count in 0..=disk.calls() {
-        put_outcome(count, after(alloc, disk, count, tried)?, &mut last, out)?;
+        let mut answers = Output::new(alloc);
+        put_answers(alloc, disk, count, &mut answers);
+        out.put_outcome(count, &answers);
     }
-    Ok(())
 }

@@ -1,33 +1,74 @@
 //! Plays rows of text over shared sessions: each line of standard input is a row, and for each a line is written that says what came
 //! of it. In both `$` is a line feed. A line that begins with `#` names the rows that follow; it is written as it is, and so is an
-//! empty one.
+//! empty one. After each row that refuses requests for memory, standard error has the row, and how many runs there were.
 //!
 //! | Row | What is played |
 //! |---|---|
-//! | `talk PLACES ROOT SCRIPT # SEAT INPUT # SEAT INPUT ..` | conversations with the seats of a session with so many places, on a disk in memory, one after the other: how each ended, whether rejected reports (`rejected`), lines that asked for nothing or named no event (`misuse`) and faults (`limit`) were among its answers, and what was written; then why there is no further seat, how many reports were answered with a receipt, the length of the history, and its counts |
+//! | `talk PLACES ROOT SCRIPT # SEAT INPUT # SEAT INPUT ..` | conversations with the seats of a session with so many places, on a disk in memory, one after the other: how each ended, whether rejected reports (`rejected`), lines that asked for nothing or named no event (`misuse`) and faults (`limit`) were among its answers, and what was written; then why there is no further seat, how many reports were answered with a receipt, the length of the history, and its counts; and what a session of its file has |
 //! | `talk_fault K once PLACES ROOT SCRIPT # SEAT INPUT ..` | the same on a disk whose K-th call fails (`always`: all from that on) |
 //! | `threads SHARES TASK TASK ..` | a session of `P = SKIP` with a seat for each task, on a thread of its own, which reports tick so many times: how many reports were answered with a receipt, where so many of the shares are handed in; how many were judged and rejected; whether the history has each seat's answers, in their order |
 //! | `held SHARES TASK TASK ..` | the same, where the first sync after the opening is held until a seat whose task is `look` has looked at its status; and how many reports that had |
+//! | `memory once PLACES ROOT SCRIPT # SEAT INPUT ..` | each outcome of a `talk` where one request for memory of the session, its seats and conversations is refused, each in turn, up to the one that isn't made |
+//! | `memory until ..`, `memory always ..` | the same where the request and all after it are refused: until the conversation is over; or all |
+//! | `no_request PLACES ROOT SCRIPT # SEAT INPUT ..` | a `talk` after which every request is refused: what the status and the next events of each seat are then, the last one first, the same end as that of `talk`, and whether there was a request |
 #![tactic(auto)]
 
 mod callers;
+mod ends;
 mod held;
+mod memory;
 mod playing;
-mod rows;
 mod talks;
 mod threads;
 
-use playing::told;
+use rows::Output;
+use std::alloc::{AllocError, Global};
 use std::io;
+use std::sync::Wait;
+use std::thread::Threads;
+use std::time::Clock;
+
+/// What comes of a row, in which `$` is a line feed. A line that is empty or begins with `#` is written as it is.
+fn played<T: Threads + Wait + Clock + Sync>(
+    rt: &T,
+    alloc: Global,
+    row: &str,
+) -> Result<Output, AllocError> {
+    let row = row.replace(alloc, '$', "\n")?;
+    let mut out = Output::new(alloc);
+    if row.is_empty() || row.starts_with('#') {
+        out.put(&row);
+    } else if !playing::play(rt, alloc, &row, &mut out)
+        && !threads::play(rt, alloc, &row, &mut out)
+    {
+        out.put("no such kind of row");
+    }
+    Ok(out)
+}
+
+/// Writes what comes of a row, and how many runs there were.
+fn tell<T: Print + Eprint + Threads + Wait + Clock + Sync>(
+    rt: &T,
+    alloc: Global,
+    row: &str,
+) -> io::Result<()> {
+    match played(rt, alloc, row) {
+        Ok(out) if !out.is_cut => {
+            println!(rt; "{}", out.text())?;
+            if out.points > 0 {
+                eprintln!(rt; "{row}: {} points", out.points)?;
+            }
+            Ok(())
+        }
+        _ => println!(rt; "no memory for the row"),
+    }
+}
 
 fn main(rt: HostRuntime) -> io::Result<()> {
     let alloc = rt.alloc();
     for line in rt.lines(alloc) {
         let line = line?;
-        match told(&rt, alloc, line.as_str()) {
-            Ok(text) => println!(rt; "{text}")?,
-            Err(_) => println!(rt; "no memory for the row")?,
-        }
+        tell(&rt, alloc, line.as_str())?;
     }
     Ok(())
 }

@@ -4,11 +4,12 @@
 ghost use Rattle.std.specs.Prelude.{◌≡◌};
 
 use crate::callers::{Answers, Caller, Task, run_all};
+use crate::ends::put_receipts;
 use crate::held::{Gate, HeldDisk};
-use crate::rows::{first_word, number_of, put_receipts};
 use disk::Disk;
 use memory_disks::MemoryDisk;
-use shared::{Naming, Opened, Session, Share, Shared};
+use rows::{Output, first_word, number_of};
+use shared::{Entry, Naming, Opened, Session, Share, Shared};
 use std::alloc::{AllocError, Global};
 use std::marker::Brand;
 use std::sync::Wait;
@@ -104,35 +105,42 @@ fn run_plan<D: Disk + Send, N: Naming + Send + Sync, T: Threads + Wait + Clock +
     part(done, plan.shares, shares, all)
 }
 
-/// Appends how many reports were answered with a receipt, judged and rejected, and whether the history explains all answers.
+/// Appends how many reports were answered with a receipt, judged and rejected, whether the history explains all answers, and how many
+/// reports the status had that was looked at.
 fn put_end<D: Disk>(
     count: Option<u64>,
     session: &Session<D, Global>,
     all: &[Answers],
-    out: &mut String,
-) -> Result<(), AllocError> {
-    let history = session.history();
+    out: &mut Output,
+) {
     let summary = session.summary();
-    let is_explained = all.iter().all(|answers| answers.are_in(history));
-    put_receipts(count, out)?;
-    write!(
-        out,
-        ", {} judged, {} rejected, ",
-        summary.judged, summary.rejected
-    )?;
-    out.push_str(if is_explained {
+    put_receipts(count, out);
+    out.put(",");
+    out.put_word(&summary.judged);
+    out.put(" judged,");
+    out.put_word(&summary.rejected);
+    out.put(" rejected, ");
+    out.put(if are_explained(all, session.history()) {
         "explained"
     } else {
         "not explained"
-    })
+    });
+    for answers in all {
+        if let Some(seen) = answers.seen {
+            out.put(", a look at");
+            out.put_word(&seen);
+        }
+    }
 }
 
-/// Appends how many reports the status had that was looked at.
-fn put_seen(all: &[Answers], out: &mut String) -> Result<(), AllocError> {
-    match all.iter().find_map(|answers| answers.seen) {
-        Some(seen) => write!(out, ", a look at {seen}"),
-        None => Ok(()),
+/// Whether the history has the answers of all callers.
+fn are_explained(all: &[Answers], history: &[Entry]) -> bool {
+    for answers in all {
+        if !answers.are_in(history) {
+            return false;
+        }
     }
+    true
 }
 
 /// Appends what comes of the tasks at the seats of this session. The caller picks the names.
@@ -144,20 +152,22 @@ fn share<D: Disk + Drop + Send, N: Naming + Send + Sync, T: Threads + Wait + Clo
     blank: Blank,
     gate: &Gate,
     plan: &Plan,
-    out: &mut String,
-) -> Result<(), AllocError>
+    out: &mut Output,
+)
     requires story { (session.spec ≡ N.spec) × (session.history ≡ N.opening) }
     requires book { opened.seen.book ≡ N.book }
     requires ledger { (blank.name ≡ N.name) × (blank.parts ≡ N.parts) × (N.all ≡ N.parts) × (N.all ≡ 65) }
 {
-    let Ok(shared) = Shared::<D, Global, N>::new(alloc, session, opened, blank, 4) else {
-        return Err(AllocError);
-    };
     let (mut shares, mut all) = (Vec::new(alloc), Vec::new(alloc));
-    let done = run_plan(rt, alloc, gate, &shared, plan, &mut shares, &mut all);
-    let (session, count) = shared.finish(rt, shares);
-    done.and(put_end(count, &session, &all, out))
-        .and(put_seen(&all, out))
+    match Shared::<D, Global, N>::new(alloc, session, opened, blank, 4) {
+        Ok(shared) => {
+            let done = run_plan(rt, alloc, gate, &shared, plan, &mut shares, &mut all);
+            let (session, count) = shared.finish(rt, shares);
+            out.is_cut = out.is_cut || done.is_err();
+            put_end(count, &session, &all, out);
+        }
+        Err(_) => out.is_cut = true,
+    }
 }
 
 /// Appends what comes of the tasks at the seats of a new session on this disk.
@@ -167,8 +177,8 @@ fn on_disk<D: Disk + Drop + Send, T: Threads + Wait + Clock + Sync>(
     disk: D,
     gate: &Gate,
     plan: &Plan,
-    out: &mut String,
-) -> Result<(), AllocError> {
+    out: &mut Output,
+) {
     match Session::create(alloc, disk, b"P = SKIP\n", b"P") {
         Ok(session) => {
             share::<_, Brand, _>(
@@ -180,9 +190,26 @@ fn on_disk<D: Disk + Drop + Send, T: Threads + Wait + Clock + Sync>(
                 gate,
                 plan,
                 out,
-            )
+            );
         }
-        Err((error, _)) => write!(out, "{error}"),
+        Err((error, _)) => out.put_shown(&error),
+    }
+}
+
+/// Appends what comes of the plan on a disk in memory; where it is `held`, with a gate before each sync.
+fn put_plan<T: Threads + Wait + Clock + Sync>(
+    rt: &T,
+    alloc: Global,
+    kind: &str,
+    plan: &Plan,
+    out: &mut Output,
+) {
+    let gate = Gate::new();
+    let disk = MemoryDisk::new(Vec::new(alloc));
+    if kind == "held" {
+        on_disk(rt, alloc, HeldDisk::new(disk, &gate, rt), &gate, plan, out);
+    } else {
+        on_disk(rt, alloc, disk, &gate, plan, out);
     }
 }
 
@@ -190,21 +217,16 @@ fn on_disk<D: Disk + Drop + Send, T: Threads + Wait + Clock + Sync>(
 pub(crate) fn play<T: Threads + Wait + Clock + Sync>(
     rt: &T,
     alloc: Global,
-    kind: &str,
     row: &str,
-    out: &mut String,
-) -> Result<bool, AllocError> {
+    out: &mut Output,
+) -> bool {
+    let (kind, row) = first_word(row);
     if !matches!(kind, "threads" | "held") {
-        return Ok(false);
+        return false;
     }
-    let plan = Plan::read(alloc, row)?;
-    let gate = Gate::new();
-    let disk = MemoryDisk::new(Vec::new(alloc));
-    let done = if kind == "held" {
-        on_disk(rt, alloc, HeldDisk::new(disk, &gate, rt), &gate, &plan, out)
-    } else {
-        on_disk(rt, alloc, disk, &gate, &plan, out)
-    };
-    done?;
-    Ok(true)
+    match Plan::read(alloc, row) {
+        Ok(plan) => put_plan(rt, alloc, kind, &plan, out),
+        Err(_) => out.is_cut = true,
+    }
+    true
 }
