@@ -1,11 +1,12 @@
 #!/usr/bin/env python3
 """Tries the wrong bodies of crates/*/wrong: the prover has to refuse each at the function that its edit names.
 
-    tests/wrong_bodies.py [--rules] [--must-fail] [--jobs N] [NAME ..]
+    tests/wrong_bodies.py [--rules] [--must-fail] [--jobs N] [--beside FILE] [NAME ..]
 
 A NAME is a crate, or one edit as `tokens/lines_from_zero`; without one, all are tried. With --rules, only those are that break
 a rule of the project, which they name: the gate tries these. With --must-fail, so are the edits of must-fail/ that name a
-function. The libraries below have to be built, which `rt ci`, `rt check` and `rt lib` do.
+function. The libraries below have to be built, which `rt ci`, `rt check` and `rt lib` do. With --beside, an `rt ci` runs at the
+same time, which writes what it says to this file: the edits of a crate wait until that has built the libraries below the crate.
 tests/README.md has the form of an edit. The last line is `N passed, M failed`; the status is 0 where none failed.
 """
 import argparse
@@ -18,6 +19,7 @@ import shutil
 import subprocess
 import sys
 import tempfile
+import threading
 import time
 
 ROOT = os.path.dirname(os.path.dirname(os.path.abspath(__file__)))
@@ -63,6 +65,30 @@ def check(crate, crates, functions, folder):
     words += [word for function in functions for word in ("--only", function)]
     how = {"stdin": subprocess.DEVNULL, "stdout": subprocess.PIPE, "stderr": subprocess.STDOUT, "errors": "replace"}
     return subprocess.run(words, cwd=folder, **how)
+
+
+class Gate:
+    """What an `rt ci` that runs at the same time has built, by what it says."""
+
+    def __init__(self, path):
+        self.path = path
+
+    def built(self):
+        """The crates that it has built, or None once it is over."""
+        with open(self.path, encoding="utf-8", errors="replace") as file:
+            said = file.read()
+        if re.search(r"^\d+ passed, \d+ failed$", said, re.MULTILINE):
+            return None
+        return set(re.findall(r"^rt: (\w+) (?:proved|is kept)", said, re.MULTILINE))
+
+    def wait(self, groups, crates):
+        """Takes the first group of edits of a crate over libraries that are built, or any where the gate is over. It waits for one."""
+        while True:
+            built = self.built()
+            for group in groups:
+                if built is None or below(group[0].crate, crates) <= built:
+                    return group
+            time.sleep(2)
 
 
 class Edit:
@@ -185,11 +211,39 @@ def attempt(crate, crates, edits):
     return passed
 
 
+def missing_below(edits, crates):
+    """The crates below those of the edits that are not built."""
+    return [it for it in sorted({it for edit in edits for it in below(edit.crate, crates)}) if not os.path.isdir(rlib(it))]
+
+
+def attempt_all(groups, crates, jobs, gate):
+    """Tries groups of edits of a crate each, some side by side. The result is how many were refused."""
+    lock = threading.Lock()
+
+    def work(_):
+        passed = 0
+        while True:
+            with lock:
+                if not groups:
+                    return passed
+                edits = gate.wait(groups, crates) if gate else groups[0]
+                groups.remove(edits)
+            missing = missing_below(edits, crates)
+            if missing:
+                print("%s: not tried, since these are not built: %s" % (edits[0].crate, " ".join(missing)), flush=True)
+            else:
+                passed += attempt(edits[0].crate, crates, edits)
+
+    with concurrent.futures.ThreadPoolExecutor(jobs) as pool:
+        return sum(pool.map(work, range(jobs)))
+
+
 def main():
     parser = argparse.ArgumentParser(description=__doc__.split("\n")[0])
     parser.add_argument("--rules", action="store_true", help="only those that break a rule of the project")
     parser.add_argument("--must-fail", action="store_true", help="also the edits of must-fail/ that name a function")
     parser.add_argument("--jobs", type=int, default=2, help="how many are tried side by side")
+    parser.add_argument("--beside", help="the file of what an `rt ci` says that runs at the same time")
     parser.add_argument("names", nargs="*", help="crates, or edits as CRATE/EDIT")
     options = parser.parse_args()
     crates = libraries()
@@ -198,19 +252,17 @@ def main():
         edits += [it for it in map(Edit, sorted(glob.glob(ROOT + "/crates/*/must-fail/*.edit"))) if it.function]
     edits = [it for it in edits if it.rule or not options.rules]
     edits = [it for it in edits if not options.names or {it.crate, it.crate + "/" + it.name} & {*options.names}]
-    needed = sorted({it for edit in edits for it in below(edit.crate, crates)})
-    missing = [it for it in needed if not os.path.isdir(rlib(it))]
+    missing = [] if options.beside else missing_below(edits, crates)
     if missing or not edits:
         print("not built (`rt lib` in crates/NAME does it, `rt ci` all): " + " ".join(missing) if missing else "there is no such edit")
         print("0 passed, 1 failed")
         return 1
-    older = [it for it in needed if is_newer(it)]
+    older = [] if options.beside else sorted({it for edit in edits for it in below(edit.crate, crates) if is_newer(it)})
     if older:
         print("note: files of these crates are newer than their libraries, which `rt lib` builds anew: " + " ".join(older))
-    of_crates = [[it for it in edits if it.crate == crate] for crate in sorted({it.crate for it in edits})]
-    of_crates.sort(key=len, reverse=True)
-    with concurrent.futures.ThreadPoolExecutor(options.jobs) as pool:
-        passed = sum(pool.map(lambda these: attempt(these[0].crate, crates, these), of_crates))
+    groups = [[it for it in edits if it.crate == crate] for crate in sorted({it.crate for it in edits})]
+    groups.sort(key=len, reverse=True)
+    passed = attempt_all(groups, crates, options.jobs, Gate(options.beside) if options.beside else None)
     spent = resource.getrusage(resource.RUSAGE_CHILDREN)
     cost = (len(edits), spent.ru_utime + spent.ru_stime, spent.ru_maxrss / 1e6)
     print("%d wrong bodies: %.0f seconds of processor time, at most %.1f GB each" % cost)
