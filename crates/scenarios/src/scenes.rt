@@ -190,7 +190,7 @@ fn play_fault(alloc: Global, text: &str, out: &mut Output) {
     }
 }
 
-/// Plays the calls of a session that take no memory where every request is refused.
+/// Plays the calls of a session that take no memory where every request is refused. The disk has ample memory.
 fn play_quiet(alloc: Global, text: &str, out: &mut Output) {
     let refusing = Refusing::new(alloc, 0);
     let memory = Memory {
@@ -199,9 +199,10 @@ fn play_quiet(alloc: Global, text: &str, out: &mut Output) {
     };
     match Scene::read(text) {
         Some(scene) => {
-            let file = played_on(memory, 0, Afterwards::GoOn, &scene, out);
+            let disk = FaultDisk::new(out.copy_of(scene.file), 0, Afterwards::GoOn);
+            let disk = played(&refusing, disk, &scene, memory, out);
             out.put(" ");
-            out.put_file(&file);
+            out.put_file(disk.bytes());
         }
         None => out.put("no such row"),
     }

@@ -207,15 +207,14 @@ fn talk_in_turn<D: Disk, A: Allocator + Copy + Drop, N: Naming, T: Wait>(
     put_refusal(rt, alloc, shared, out);
 }
 
-/// Appends what comes of the conversations at the seats of this session, what it has then, and what a session of its file has. There is
-/// room for the shares. The caller picks the names.
+/// Appends what comes of the conversations at the seats of this session, what it has then, and what a session of its file has. The caller
+/// picks the names.
 fn share<D: Disk + Drop, A: Allocator + Copy + Drop, N: Naming, T: Wait>(
     rt: &T,
     alloc: A,
     session: Session<D, A>,
     opened: Opened,
     blank: Blank,
-    shares: Vec<Share<N, A>, A>,
     alphabet: &Alphabet<A>,
     talks: &Talks,
     memory: Memory,
@@ -227,19 +226,23 @@ fn share<D: Disk + Drop, A: Allocator + Copy + Drop, N: Naming, T: Wait>(
     requires events { event_count N.spec.alphabet ≡ event_count alphabet.now }
     requires places { (0 < talks.now.places) × (talks.now.places ≤ 64) }
 {
-    let mut shares = shares;
+    let mut shares = Vec::new(alloc);
     match Shared::<D, A, N>::new(alloc, session, opened, blank, talks.places) {
         Ok(shared) => {
-            talk_in_turn(
-                rt,
-                alloc,
-                &shared,
-                &mut shares,
-                alphabet,
-                talks,
-                memory,
-                out,
-            );
+            if shares.reserve(talks.places as usize).is_ok() {
+                talk_in_turn(
+                    rt,
+                    alloc,
+                    &shared,
+                    &mut shares,
+                    alphabet,
+                    talks,
+                    memory,
+                    out,
+                );
+            } else {
+                out.put("40 memory; ");
+            }
             let (session, count) = shared.finish(rt, shares);
             put_session(count, &session, out);
             put_kept(memory.alloc, session.into_disk(), out);
@@ -262,24 +265,19 @@ fn over<D: Disk + Drop, A: Allocator + Copy + Drop, T: Wait>(
 )
     requires places { (0 < talks.now.places) × (talks.now.places ≤ 64) }
 {
-    let alphabet = copy_of(alloc, session.spec().alphabet());
-    let shares = Vec::with_capacity(alloc, talks.places as usize);
-    match (alphabet, shares) {
-        (Ok(alphabet), Ok(shares)) => share::<_, _, Brand, _>(
+    match copy_of(alloc, session.spec().alphabet()) {
+        Ok(alphabet) => share::<_, _, Brand, _>(
             rt,
             alloc,
             session,
             Opened::new(),
             Blank::new(65),
-            shares,
             &alphabet,
             talks,
             memory,
             out,
         ),
-        (alphabet, shares) => {
-            drop(alphabet);
-            drop(shares);
+        Err(_) => {
             drop(session);
             out.put("40 memory");
         }
