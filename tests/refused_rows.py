@@ -42,6 +42,20 @@ def is_begun(full, came):
     return came[:first] == full[:first] and not done
 
 
+def is_judged(answer):
+    """Whether it answers a report that was judged."""
+    return is_verdict(answer) or answer.startswith(("true ", "false "))
+
+
+def counts_all(answers, entries):
+    """Whether each status counts the entries before and the reports that were judged so far."""
+    for answer in answers:
+        entries += is_judged(answer)
+        if answer.startswith("S ") and entries_of(answer) != entries:
+            return False
+    return True
+
+
 def is_session(way, row, full, came):
     """Whether this may come of a row `session` or `journal`."""
     (full, kept_in_full), (answers, kept) = parts(full, " | "), parts(came, " | ")
@@ -51,8 +65,9 @@ def is_session(way, row, full, came):
     answers, full = answers.split("; "), full.split("; ")
     cannot_grow = "ERR 30 journal" in answers
     if way == "always" or cannot_grow:
-        judged = sum(is_verdict(answer) or answer.startswith(("true ", "false ")) for answer in answers)
-        return is_begun(full, answers) and 0 <= entries_of(kept) - len(records) - judged <= cannot_grow
+        judged = sum(map(is_judged, answers))
+        right = is_begun(full, answers) and counts_all(answers, len(records))
+        return right and 0 <= entries_of(kept) - len(records) - judged <= cannot_grow
     answers.remove("ERR 40 memory")
     return answers == full and kept == kept_in_full
 
@@ -97,6 +112,8 @@ def is_talked(text, came, talked):
         kept.append("%s %s" % (seat, "".join(line + "$" for line, reply in zip(lines, replies + [""] * len(lines)) if line and reply not in REFUSALS)))
         ended = end.replace(" limit", "") if refused and not any(reply.startswith("ERR 2") for _, reply in answered) else end
         wanted += "%s [%s]; " % (ended, "".join(reply + "$" for _, reply in answered))
+    if not kept:  # none began: the end is that of a row with a conversation that says nothing
+        kept, wanted = ["1 "], "input []; "
     return wanted + rest == talked(begin, kept)
 
 
