@@ -28,7 +28,7 @@ SECONDS = 120
 POINTS = re.compile(r"^(.*): ([0-9]+) points$", re.MULTILINE)
 ENDS = re.compile(r"([0-9]+) reads, ([0-9]+) writes$")
 # Rows that play one point each, of which the program counts none.
-SINGLE = ("talk_fault ", "refusing ", "pieces ")
+SINGLE = ("talk_fault ", "refusing ", "pieces ", "no_request ")
 
 
 def text_of(*path):
