@@ -14,3 +14,4 @@ pub mod Passing
 pub mod Mentions
 pub mod PrefixParts
 pub mod FirstValues
+mod FieldSteps
