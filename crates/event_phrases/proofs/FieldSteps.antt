@@ -1,14 +1,15 @@
 -- Fields against values, one field after the other, as slices give them.
-use Rattle.std.proofs.Common.{◌≡◌, ◌-◌, ◌<◌, ◌≤◌, List, [], ◌∷◌, ◌++◌, length, map, take, drop, get_or, Bool, true, false, cond, Option, Some, None, refl, sym, ap, ◌∙◌, arith, append-nil, append_assoc}
+use Rattle.std.proofs.Common.{◌≡◌, ◌-◌, ◌<◌, ◌≤◌, List, [], ◌∷◌, ◌++◌, length, map, take, drop, get_or, Bool, true, false, cond, ◌||◌, Option, Some, None, refl, sym, ap, ◌∙◌, arith, append-nil, append_assoc}
 use Rattle.alphabet.specs.Channels.{FieldValue, Values}
 use Rattle.syntax.specs.Grammar.{Syntax}
 use Rattle.syntax.specs.Parsing.{syntaxes}
-use Rattle.values.specs.Values.{is_same}
+use Rattle.values.specs.Values.{Name, is_same}
 use Rattle.values.specs.Worths.{Known}
 use Rattle.event_phrases.specs.Events.{field_value}
 use Rattle.event_phrases.specs.Fitting.{Fitting, fitting}
 use Rattle.event_phrases.specs.Leading.{before_more, leading, led_fitting, value_within}
 use Rattle.event_phrases.specs.Scopes.{Scope}
+use Rattle.event_phrases.specs.Uses.{is_used, mentions}
 use Rattle.event_phrases.proofs.Options.{some_is}
 use Rattle.event_phrases.proofs.Scopes.{rest_is}
 
@@ -146,3 +147,30 @@ module _ {F S : Type 0} (field : F → Syntax) (set : S → Values) (known : Kno
       ∙ ap some_values (sym (append_assoc front (v ∷ []) (leading known (map field (drop 1 fs)) (map set (drop 1 sets)))))
       ∙ ap (λ fs. some_values ((front ++ v ∷ []) ++ leading known (map field fs) (map set (drop 1 sets)))) (sym (rest_is fs))
       ∙ ap (λ sets. some_values ((front ++ v ∷ []) ++ leading known (map field (take (length fs - 1) (drop 1 fs))) (map set sets))) (sym (rest_is sets))
+
+-- ---- names in fields
+
+used_first : (x : Name) (t : Syntax) (ts : List Syntax) (set : Values) (sets : List Values) → mentions x t ≡ true → is_used x (t ∷ ts) (set ∷ sets) ≡ true
+unfolding is_used
+used_first x t ts [] sets h = h
+used_first x t ts (v ∷ vs) sets h = ap (λ b. b || is_used x ts sets) h
+
+module _ {F S : Type 0} (field : F → Syntax) (set : S → Values) (x : Name) where
+  abbrev used : List F → List S → Bool
+  used fs sets = is_used x (map field fs) (map set sets)
+
+  pub used_no_fields : (fs : List F) (sets : List S) → length fs < 1 → false ≡ used fs sets
+  unfolding is_used
+  used_no_fields [] sets h = refl
+  used_no_fields (f ∷ fs) sets h = absurd (omega (arith, h))
+
+  pub used_no_sets : (fs : List F) (sets : List S) → 1 ≤ length fs → length sets < 1 → false ≡ used fs sets
+  unfolding is_used
+  used_no_sets (f ∷ fs) [] h k = refl
+  used_no_sets [] sets h k = absurd (omega (arith, h))
+  used_no_sets (f ∷ fs) (g ∷ sets) h k = absurd (omega (arith, k))
+
+  pub used_here : (fs : List F) (sets : List S) (f : F) → 1 ≤ length fs → 1 ≤ length sets → f ≡ get_or fs 0 f → mentions x (field f) ≡ true → true ≡ used fs sets
+  used_here [] sets f h k ef e = absurd (omega (arith, h))
+  used_here (y ∷ fs) [] f h k ef e = absurd (omega (arith, k))
+  used_here (y ∷ fs) (g ∷ sets) f h k ef e = sym (used_first x (field y) (map field fs) (set g) (map set sets) (ap (λ z. mentions x (field z)) (sym ef) ∙ e))

@@ -15,3 +15,4 @@ pub mod Mentions
 pub mod PrefixParts
 pub mod FirstValues
 mod FieldSteps
+mod RowSteps
