@@ -1,7 +1,9 @@
 // Clients of a server of the line protocol, and how long it takes to answer them.
-// rustc --edition 2024 -O serve_load.rs; serve_load ADDRESS CONNECTIONS LINES ahead|turns
+// rustc --edition 2024 -O serve_load.rs; serve_load ADDRESS CONNECTIONS LINES ahead|polling|turns
 // Each connection has a thread. With `ahead` all its lines are sent while the replies are read, with `turns` each line once the reply to the one
-// before was read. It prints the nanoseconds from the first line to the last reply.
+// before was read. With `polling` all lines of a connection are sent, as many as fit the buffers of both sides, and then the replies are read by a
+// client that doesn't sleep for them, so that no reply has to wake it. It prints the nanoseconds from the first line to the last reply.
+use std::hint;
 use std::io::{self, BufRead, BufReader, Read, Write};
 use std::net::TcpStream;
 use std::sync::Barrier;
@@ -10,29 +12,51 @@ use std::time::Instant;
 
 const LINE: &[u8] = b"E a\n";
 
-fn ahead(mut link: &TcpStream, lines: usize) -> io::Result<()> {
-    thread::scope(|scope| {
-        let sender = scope.spawn(move || {
-            let block = LINE.repeat(1000);
-            let mut left = lines * LINE.len();
-            while left > 0 {
-                let now = left.min(block.len());
-                (&mut &*link).write_all(&block[..now])?;
-                left -= now;
-            }
-            io::Result::Ok(())
-        });
-        let mut bytes = vec![0; 1 << 16];
-        let mut answered = 0;
-        while answered < lines {
-            let got = link.read(&mut bytes)?;
-            if got == 0 {
-                return Err(io::ErrorKind::UnexpectedEof.into());
-            }
-            answered += bytes[..got].iter().filter(|byte| **byte == b'\n').count();
+/// The next replies; a client that doesn't sleep for them asks again and again.
+fn some_of(mut link: &TcpStream, bytes: &mut [u8]) -> io::Result<usize> {
+    loop {
+        match link.read(bytes) {
+            Err(fault) if fault.kind() == io::ErrorKind::WouldBlock => hint::spin_loop(),
+            Ok(0) => return Err(io::ErrorKind::UnexpectedEof.into()),
+            done => return done,
         }
+    }
+}
+
+fn read_all(link: &TcpStream, lines: usize) -> io::Result<()> {
+    let mut bytes = vec![0; 1 << 16];
+    let mut answered = 0;
+    while answered < lines {
+        let got = some_of(link, &mut bytes)?;
+        answered += bytes[..got].iter().filter(|byte| **byte == b'\n').count();
+    }
+    Ok(())
+}
+
+fn send_all(mut link: &TcpStream, lines: usize) -> io::Result<()> {
+    let block = LINE.repeat(1000);
+    let mut left = lines * LINE.len();
+    while left > 0 {
+        let now = left.min(block.len());
+        link.write_all(&block[..now])?;
+        left -= now;
+    }
+    Ok(())
+}
+
+fn ahead(link: &TcpStream, lines: usize) -> io::Result<()> {
+    thread::scope(|scope| {
+        let sender = scope.spawn(move || send_all(link, lines));
+        read_all(link, lines)?;
         sender.join().unwrap()
     })
+}
+
+fn polling(link: &TcpStream, lines: usize) -> io::Result<()> {
+    send_all(link, lines)?;
+    link.set_nonblocking(true)?;
+    read_all(link, lines)?;
+    link.set_nonblocking(false)
 }
 
 fn turns(mut link: &TcpStream, lines: usize) -> io::Result<()> {
@@ -51,7 +75,7 @@ fn turns(mut link: &TcpStream, lines: usize) -> io::Result<()> {
 fn main() -> io::Result<()> {
     let words: Vec<String> = std::env::args().collect();
     let [_, address, connections, lines, how] = &words[..] else {
-        panic!("serve_load ADDRESS CONNECTIONS LINES ahead|turns");
+        panic!("serve_load ADDRESS CONNECTIONS LINES ahead|polling|turns");
     };
     let (connections, lines) = (connections.parse::<usize>().unwrap(), lines.parse::<usize>().unwrap());
     let links = (0..connections).map(|_| TcpStream::connect(address)).collect::<io::Result<Vec<_>>>()?;
@@ -60,11 +84,15 @@ fn main() -> io::Result<()> {
         let all: Vec<_> = links
             .iter()
             .map(|link| {
-                let (barrier, ahead_of) = (&barrier, how == "ahead");
+                let barrier = &barrier;
                 scope.spawn(move || {
                     link.set_nodelay(true)?;
                     barrier.wait();
-                    if ahead_of { ahead(link, lines) } else { turns(link, lines) }
+                    match &how[..] {
+                        "ahead" => ahead(link, lines),
+                        "polling" => polling(link, lines),
+                        _ => turns(link, lines),
+                    }
                 })
             })
             .collect();

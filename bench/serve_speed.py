@@ -5,9 +5,9 @@
 
 The journal is a file in memory (/dev/shm). Each line is the report of an event that is accepted; the process has two states. Program and
 peer run in turn, and which one goes first changes with each turn. A ratio is the peer's time over the program's, of the medians and as the
-median of the pairs; above 1 the program is faster. In the last three measurements the journal is in DIR (the project's folder, if not said),
-with so many records; the peer is the plain server again, then a loop that writes a record, syncs, writes its gate, and syncs, and then the same
-loop with a reply after each record. With --sync the journal is in memory there too, and a sync takes so many nanoseconds (slow_sync.c); nothing
+median of the pairs; above 1 the program is faster. In the last measurements the journal is in DIR (the project's folder, if not said), with so
+many records; the peer is the plain server again, then a loop that writes a record, syncs, writes its gate, and syncs, and then the same loop with
+a reply after each record. With "polling" the client doesn't sleep for replies, so none of them has to wake it. With --sync the journal is in memory there too, and a sync takes so many nanoseconds (slow_sync.c); nothing
 else is measured then.
 """
 import argparse
@@ -107,12 +107,16 @@ def main():
         for load in [] if slow else MEASURED:
             times = in_turn(options.turns, lambda: ours(folder, *load), lambda: theirs(folder, *load))
             row("%d connections, %d lines each, %s:" % load, load[0] * load[1], times, "plain Rust")
-        load, around = (1, options.records, "ahead"), slow_syncs(folder, options.sync) if slow else None
+        around = slow_syncs(folder, options.sync) if slow else None
         bare = lambda *more: looped(made["disk_loop"], disk, options.records, around, *more)
-        peers = [("plain Rust", lambda: theirs(disk, *load, around=around)), ("the bare loop", bare), ("the loop with replies", lambda: bare("answered"))]
-        for peer, run in peers:
-            times = in_turn(4 * options.turns, lambda: ours(disk, *load, around=around), run)
-            row("on a disk, 1 connection, %d lines:" % options.records, options.records, times, peer)
+        for how in ("ahead", "polling"):
+            load = (1, options.records, how)
+            peers = [("plain Rust", lambda: theirs(disk, *load, around=around)), ("the bare loop", bare)]
+            if how == "ahead":
+                peers.append(("the loop with replies", lambda: bare("answered")))
+            for peer, run in peers:
+                times = in_turn(4 * options.turns, lambda: ours(disk, *load, around=around), run)
+                row("on a disk, 1 connection, %d lines, %s:" % (options.records, how), options.records, times, peer)
 
 
 main()

@@ -68,6 +68,8 @@ def is_session(way, row, full, came):
         judged = sum(map(is_judged, answers))
         right = is_begun(full, answers) and counts_all(answers, len(records))
         return right and 0 <= entries_of(kept) - len(records) - judged <= cannot_grow
+    if "ERR 40 memory" not in answers:
+        return False
     answers.remove("ERR 40 memory")
     return answers == full and kept == kept_in_full
 
