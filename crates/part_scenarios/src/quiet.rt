@@ -112,7 +112,10 @@ fn put_monitor<'a>(
 ) {
     let (name, _) = first_word(names);
     match Monitor::new(refusing, spec) {
-        Ok(mut monitor) => put_watched(refusing, &mut monitor, name, out),
+        Ok(mut monitor) => {
+            put_watched(refusing, &mut monitor, name, out);
+            drop(monitor);
+        }
         Err(fault) => out.put_word(&fault),
     }
 }
@@ -125,7 +128,10 @@ fn put_space<'a>(
     out: &mut Output,
 ) {
     match Space::new(refusing, spec) {
-        Ok(mut space) => put_start(refusing, &mut space, names, out),
+        Ok(mut space) => {
+            put_start(refusing, &mut space, names, out);
+            drop(space);
+        }
         Err(_) => out.is_cut = true,
     }
 }
@@ -139,8 +145,30 @@ fn put_made(refusing: &Refusing<Global>, out: &mut Output) {
             let spec = Spec::new(Alphabet::new(refusing), bodies);
             out.put("; ");
             out.put_shown(&spec.bodies());
+            drop(spec);
         }
-        Err(_) => out.is_cut = true,
+        Err(_) => {
+            drop(bodies);
+            out.is_cut = true;
+        }
+    }
+}
+
+/// Appends what this part of the specification tells.
+fn put_told<'a>(
+    refusing: &'a Refusing<Global>,
+    part: &str,
+    spec: Spec<&'a Refusing<Global>>,
+    names: &str,
+    out: &mut Output,
+) {
+    match part {
+        "space" => put_space(refusing, spec, names, out),
+        "monitor" => put_monitor(refusing, spec, names, out),
+        _ => {
+            put_spec(refusing, &spec, names, out);
+            drop(spec);
+        }
     }
 }
 
@@ -148,14 +176,16 @@ fn put_made(refusing: &Refusing<Global>, out: &mut Output) {
 fn put_part(alloc: Global, part: &str, names: &str, text: &[u8], out: &mut Output) -> bool {
     let refusing = Refusing::new(alloc, 0);
     match read(&refusing, text, b"P") {
-        Ok(spec) => match part {
-            "spec" => put_spec(&refusing, &spec, names, out),
-            "space" => put_space(&refusing, spec, names, out),
-            "monitor" => put_monitor(&refusing, spec, names, out),
-            _ => put_made(&refusing, out),
-        },
+        Ok(spec) => put_told(&refusing, part, spec, names, out),
         Err(error) => out.put_word(&error),
     }
+    refusing.has_refused()
+}
+
+/// Appends what a specification that is made tells. Whether there was a request is answered.
+fn put_last(alloc: Global, out: &mut Output) -> bool {
+    let refusing = Refusing::new(alloc, 0);
+    put_made(&refusing, out);
     refusing.has_refused()
 }
 
@@ -163,8 +193,9 @@ fn put_part(alloc: Global, part: &str, names: &str, text: &[u8], out: &mut Outpu
 /// request is refused; and whether there was one.
 pub(crate) fn put_quiet(alloc: Global, names: &str, text: &[u8], out: &mut Output) {
     let mut asked = false;
-    for part in ["spec", "space", "monitor", "made"] {
+    for part in ["spec", "space", "monitor"] {
         asked = put_part(alloc, part, names, text, out) || asked;
     }
+    asked = put_last(alloc, out) || asked;
     out.put(if asked { ", a request" } else { ", no request" });
 }

@@ -50,7 +50,10 @@ fn put_counts(space: &mut Space<Global>, names: &str, out: &mut Output) {
 /// more.
 pub(crate) fn put_remembered(alloc: Global, spec: Spec<Global>, names: &str, out: &mut Output) {
     match Space::new(alloc, spec) {
-        Ok(mut space) => put_counts(&mut space, names, out),
+        Ok(mut space) => {
+            put_counts(&mut space, names, out);
+            drop(space);
+        }
         Err(_) => out.is_cut = true,
     }
 }

@@ -16,6 +16,7 @@ fn put(alloc: Global, kind: &str, words: &str, text: &[u8], out: &mut Output) {
             if !steps::put(alloc, kind, words, &spec, out) {
                 alphabets::put(kind, words, spec.alphabet(), out);
             }
+            drop(spec);
         }
         Err(error) => out.put_word(&error),
     }

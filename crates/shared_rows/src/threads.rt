@@ -143,6 +143,26 @@ fn are_explained(all: &[Answers], history: &[Entry]) -> bool {
     true
 }
 
+/// Appends what comes of the tasks at the seats of this shared session.
+fn put_shared<D: Disk + Drop + Send, N: Naming + Send + Sync, T: Threads + Wait + Clock + Sync>(
+    rt: &T,
+    alloc: Global,
+    shared: Shared<D, Global, N>,
+    gate: &Gate,
+    plan: &Plan,
+    out: &mut Output,
+)
+    requires { N.all ≡ N.parts }
+{
+    let (mut shares, mut all) = (Vec::new(alloc), Vec::new(alloc));
+    let done = run_plan(rt, alloc, gate, &shared, plan, &mut shares, &mut all);
+    out.is_cut = out.is_cut || done.is_err();
+    let (session, count) = shared.finish(rt, shares);
+    put_end(count, &session, &all, out);
+    drop(session);
+    drop(all);
+}
+
 /// Appends what comes of the tasks at the seats of this session. The caller picks the names.
 fn share<D: Disk + Drop + Send, N: Naming + Send + Sync, T: Threads + Wait + Clock + Sync>(
     rt: &T,
@@ -158,14 +178,8 @@ fn share<D: Disk + Drop + Send, N: Naming + Send + Sync, T: Threads + Wait + Clo
     requires book { opened.seen.book ≡ N.book }
     requires ledger { (blank.name ≡ N.name) × (blank.parts ≡ N.parts) × (N.all ≡ N.parts) × (N.all ≡ 65) }
 {
-    let (mut shares, mut all) = (Vec::new(alloc), Vec::new(alloc));
     match Shared::<D, Global, N>::new(alloc, session, opened, blank, 4) {
-        Ok(shared) => {
-            let done = run_plan(rt, alloc, gate, &shared, plan, &mut shares, &mut all);
-            let (session, count) = shared.finish(rt, shares);
-            out.is_cut = out.is_cut || done.is_err();
-            put_end(count, &session, &all, out);
-        }
+        Ok(shared) => put_shared(rt, alloc, shared, gate, plan, out),
         Err(_) => out.is_cut = true,
     }
 }
