@@ -95,7 +95,7 @@ impl<A: Allocator + Copy> Monitor<A> {
         ensures within { OnOk result (NoLimit (bodies_of spec.bodies) Opening) }
         ensures limit { IfErr result (MeetsLimit (bodies_of spec.bodies) Opening) }
     {
-        let mut space = Space::new(alloc, spec)?;
+        let mut space = Space::new(alloc, spec);
         match StateSet::start(&mut space) {
             Ok(states) => Ok(Monitor {
                 space,

@@ -127,13 +127,14 @@ fn put_space<'a>(
     names: &str,
     out: &mut Output,
 ) {
-    match Space::new(refusing, spec) {
-        Ok(mut space) => {
-            put_start(refusing, &mut space, names, out);
-            drop(space);
-        }
-        Err(_) => out.is_cut = true,
+    refusing.refuse();
+    let mut space = Space::new(refusing, spec);
+    if refusing.has_refused() {
+        out.put(" a request for a space");
     }
+    refusing.release();
+    put_start(refusing, &mut space, names, out);
+    drop(space);
 }
 
 /// Appends how many bodies a specification of `STOP` alone has, which is made where every request is refused.

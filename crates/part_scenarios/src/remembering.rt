@@ -49,11 +49,7 @@ fn put_counts(space: &mut Space<Global>, names: &str, out: &mut Output) {
 /// Appends how many answers a space of this specification remembers after these events from the root on, and after the same events once
 /// more.
 pub(crate) fn put_remembered(alloc: Global, spec: Spec<Global>, names: &str, out: &mut Output) {
-    match Space::new(alloc, spec) {
-        Ok(mut space) => {
-            put_counts(&mut space, names, out);
-            drop(space);
-        }
-        Err(_) => out.is_cut = true,
-    }
+    let mut space = Space::new(alloc, spec);
+    put_counts(&mut space, names, out);
+    drop(space);
 }

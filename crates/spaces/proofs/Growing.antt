@@ -111,19 +111,25 @@ module _ {A : Type 0} where
       let tail : map (look u.processes) (lists_of es) ≡ map (look t.processes) (lists_of es) = same-lists t u g es (λ k d h. all (suc k) d (omega arith)) in
       ap (λ (l : List Proc). l ∷ map (look u.processes) (lists_of es)) head ∙ ap (λ (l : List (List Proc)). look t.processes e.0.items ∷ l) tail
 
-  pub table-grew : (spec : Specified) (t u : Tabled) (es : List (Vec ℕ A × SetFacts A)) → All (IsStored t.processes) es → HasGrown t u → GrewFrom (shown (found spec t es)) (shown (found spec u es))
-  table-grew spec t u es all g =
+  pub table-grew : (spec : Specified) (a b : Numbered) (es : List (Vec ℕ A × SetFacts A)) → All (IsStored a.table.processes) es → KeepsNumbers a b → GrewFrom (shown (found spec a es)) (shown (found spec b es))
+  table-grew spec a b es all k =
+      let lists = map (look a.table.processes) (lists_of es) in
       record {
         spec = refl;
-        sets = subst (λ (l : List (List Proc)). Begins (map (look t.processes) (lists_of es)) l) (sym (same-lists t u g es all)) (begins-same [] (map (look t.processes) (lists_of es)));
+        sets = subst (λ (l : List (List Proc)). Begins lists l) (sym (same-lists a.table b.table k.table es all)) (begins-same [] lists);
       }
+
+  -- without sets any table does
+  pub empty-grew : (spec : Specified) (a b : Numbered) (es : List (Vec ℕ A × SetFacts A)) → length es ≡ 0 → GrewFrom (shown (found spec a es)) (shown (found spec b es))
+  empty-grew spec a b [] e = record { spec = refl; sets = ([], refl) }
+  empty-grew spec a b (x ∷ es) e = absurd (omega (arith, e))
 
   module _ (spec : Specified) (es : List (Vec ℕ A × SetFacts A)) where
     pub sound-on : (a b : Numbered) → IsSound spec a es → KeepsNumbers a b → IsSound spec b es
     sound-on a b s k =
         record {
           closed = s.closed;
-          bodies = k.bodies ∙ s.bodies;
+          begun = λ h. k.bodies ∙ s.begun h;
           few = s.few;
           stored = All-weaker (IsStored a.table.processes) (IsStored b.table.processes) (stored-on a.table b.table k.table) es s.stored;
         }

@@ -2,26 +2,33 @@
 use Rattle.std.specs.Prelude.{◌≡◌, ℕ, ◌<◌, List, [], length, get_or, map}
 use Rattle.std.specs.Coded.{Coded, code_by, coded×, coded_list, coded_ℕ}
 use Rattle.std.proofs.Common.{refl}
+use Rattle.term.specs.Codes.{proc_code}
 use Rattle.term.specs.Proc.{Proc}
 use Rattle.term.specs.Specs.{Specified, specified_code}
 use Rattle.closures.specs.Looks.{look}
 use Rattle.closures.specs.Tables.{Tabled, tabled_code}
 use Rattle.spaces.specs.Spaces.{Spaced, states}
 
--- A specification, the table of its processes, and the sets of states: each the numbers of its members, by its place.
+-- A specification, the table of its processes, the bodies that have numbers there, and the sets of states: each the numbers
+-- of its members, by its place.
 pub record Found : Type 0 where
   pub spec : Specified
   pub table : Tabled
+  pub bodies : List Proc
   pub sets : List (List ℕ)
 
 abbrev pub found_code : Coded Found
 found_code =
     code_by
-    ((Specified × Tabled) × List (List ℕ))
-    (coded× (coded× specified_code tabled_code) (coded_list (coded_list coded_ℕ)))
-    (λ s. ((s.spec, s.table), s.sets))
-    (λ p. record { spec = p.0.0; table = p.0.1; sets = p.1 })
+    ((Specified × Tabled) × (List Proc × List (List ℕ)))
+    (coded× (coded× specified_code tabled_code) (coded× (coded_list proc_code) (coded_list (coded_list coded_ℕ))))
+    (λ s. ((s.spec, s.table), (s.bodies, s.sets)))
+    (λ p. record { spec = p.0.0; table = p.0.1; bodies = p.1.0; sets = p.1.1 })
     (λ _. refl)
+
+-- The table has the bodies of the specification.
+abbrev pub HasBegun : Found → Type 0
+HasBegun f = f.bodies ≡ f.spec.bodies
 
 -- The space of these sets.
 abbrev pub shown : Found → Spaced

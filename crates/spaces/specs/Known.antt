@@ -8,7 +8,6 @@ use Rattle.term.specs.Proc.{Proc}
 use Rattle.term.specs.Specs.{Specified, IsClosed}
 use Rattle.term.specs.Traces.{In}
 use Rattle.closures.specs.Looks.{look, AllBelow}
-use Rattle.closures.specs.Tables.{Tabled}
 use Rattle.closures.specs.Numbered.{Numbered}
 use Rattle.closures.specs.Closing.{AllShallow, Takes}
 use Rattle.spaces.specs.declared.facts.SetFacts.{SetFacts}
@@ -30,13 +29,13 @@ pub record IsStored {A : Type 0} (ps : List Proc) (e : Vec ℕ A × SetFacts A) 
 abbrev pub lists_of : {A : Type 0} → List (Vec ℕ A × SetFacts A) → List (List ℕ)
 lists_of {A} es = map (λ (e : Vec ℕ A × SetFacts A). e.0.items) es
 
--- These stored sets, of this specification and with this table.
-abbrev pub found : {A : Type 0} → Specified → Tabled → List (Vec ℕ A × SetFacts A) → Found
-found spec t es = record { spec = spec; table = t; sets = lists_of es }
+-- These stored sets, of this specification and with these processes.
+abbrev pub found : {A : Type 0} → Specified → Numbered → List (Vec ℕ A × SetFacts A) → Found
+found spec all es = record { spec = spec; table = all.table; bodies = all.bodies; sets = lists_of es }
 
--- What always holds: the specification is closed, the bodies are its own, and what is stored is so.
+-- What always holds: the specification is closed, its bodies have numbers where there is a set, and what is stored is so.
 pub record IsSound {A : Type 0} (spec : Specified) (all : Numbered) (es : List (Vec ℕ A × SetFacts A)) : Type 0 where
   pub closed : IsClosed spec
-  pub bodies : all.bodies ≡ spec.bodies
+  pub begun : 0 < length es → all.bodies ≡ spec.bodies
   pub few : length es < 2 ^ 32
   pub stored : All (IsStored all.table.processes) es

@@ -11,7 +11,7 @@ ghost use Rattle.closures.specs.Looks.{look, AllBelow};
 ghost use Rattle.closures.specs.Belonging.{MeetsLimit};
 ghost use Rattle.closures.specs.Closing.{AllShallow, Among, IsClosure, Opens, TargetOf};
 ghost use Rattle.spaces.specs.Answers.{HasMembers, IsAnswer, IsClosedSet};
-ghost use Rattle.spaces.specs.Found.{HasList, members, shown};
+ghost use Rattle.spaces.specs.Found.{HasBegun, HasList, members, shown};
 ghost use Rattle.spaces.specs.Known.{AreFactsOf, lists_of};
 ghost use Rattle.spaces.specs.Spaces.{Belongs, GrewFrom, IsSetOf, states};
 
@@ -50,15 +50,14 @@ impl<A: Allocator> Model for FoundSets<A> {
 
     ghost coded = { found_code };
 
-    ghost view = { λ s. found s.spec s.all.table s.sets.entries };
+    ghost view = { λ s. found s.spec s.all s.sets.entries };
 
     ghost invariant = { λ s. IsSound s.spec s.all s.sets.entries };
 }
 
 impl<A: Allocator + Copy> FoundSets<A> {
-    /// No sets yet, of this specification, whose bodies stand in the table.
-    pub(crate) fn new(alloc: A, spec: Spec<A>, all: Transitions<A>) -> FoundSets<A>
-        requires { all.bodies ≡ spec.bodies }
+    /// No sets yet, of this specification. Takes no memory: the bodies get their numbers at the first opening.
+    pub(crate) fn new(alloc: A, spec: Spec<A>) -> FoundSets<A>
         ensures spec { result.spec ≡ spec }
         ensures empty { result.sets ≡ [] }
     {
@@ -66,7 +65,7 @@ impl<A: Allocator + Copy> FoundSets<A> {
         let _bodies = spec.bodies();
         FoundSets {
             spec,
-            all,
+            all: Transitions::without_bodies(alloc),
             sets: IndexMap::new(alloc),
             alloc,
         }
@@ -78,12 +77,28 @@ impl<A: Allocator + Copy> FoundSets<A> {
         ensures limit { IfErr result (MeetsLimit (bodies_of self.old.spec.bodies) (Among (root ∷ []))) }
         ensures grown { GrewFrom (shown self.old) (shown self.new) }
     {
+        self.begin()?;
         let first = self.root_alone()?;
         self.closed_set(first)
     }
 
+    /// Gives the specification's bodies numbers, unless they have them.
+    fn begin(&mut self) -> Result<(), AllocError>
+        ensures begun { OnOk result (HasBegun self.new) }
+        ensures grown { GrewFrom (shown self.old) (shown self.new) }
+    {
+        if self.sets.len() > 0 {
+            return Ok(());
+        }
+        let all = Transitions::new(self.alloc, &self.spec)?;
+        self.all = all;
+        Ok(())
+    }
+
     /// The number of the root's name, as a list.
     fn root_alone(&mut self) -> Result<Numbers<A>, AllocError>
+        requires { HasBegun self.old }
+        ensures begun { OnOk result (HasBegun self.new) }
         ensures below { IfOk result (λ first. AllBelow (length self.new.table.processes) first) }
         ensures root { IfOk result (λ first. look self.new.table.processes first ≡ root ∷ []) }
         ensures opens { IfOk result (λ first. Opens self.new.spec (look self.new.table.processes first)) }
@@ -122,6 +137,7 @@ impl<A: Allocator + Copy> FoundSets<A> {
     /// The targets of the event from the set's members.
     fn level_after(&mut self, set: StateSet, event: Event) -> Result<Numbers<A>, AfterFault>
         requires { IsSetOf (shown self.old) set }
+        ensures begun { HasBegun self.new }
         ensures below { IfOk result (λ first. AllBelow (length self.new.table.processes) first) }
         ensures opens { IfOk result (λ first. Opens self.new.spec (look self.new.table.processes first)) }
         ensures cut { IfOk result (λ first. CutOf (TargetOf (bodies_of self.old.spec.bodies) (states (shown self.old) set) (label.Event event)) most_states (look self.new.table.processes first)) }
@@ -134,6 +150,7 @@ impl<A: Allocator + Copy> FoundSets<A> {
 
     /// The set of all that hidden steps reach from these processes.
     fn closed_set(&mut self, first: Numbers<A>) -> Result<StateSet, AfterFault>
+        requires begun { HasBegun self.old }
         requires below { AllBelow (length self.old.table.processes) first }
         requires first { Opens self.old.spec (look self.old.table.processes first) }
         ensures set { IfOk result (IsClosedSet (shown self.new) (Among (look self.old.table.processes first))) }
@@ -150,8 +167,10 @@ impl<A: Allocator + Copy> FoundSets<A> {
 
     /// The numbers of all that hidden steps reach from these processes.
     fn closure(&mut self, first: Numbers<A>) -> Result<Vec<u32, A>, AfterFault>
+        requires begun { HasBegun self.old }
         requires below { AllBelow (length self.old.table.processes) first }
         requires first { Opens self.old.spec (look self.old.table.processes first) }
+        ensures begun { HasBegun self.new }
         ensures below { IfOk result (λ all. AllBelow (length self.new.table.processes) all.items) }
         ensures closure { IfOk result (λ all. IsClosure (bodies_of self.old.spec.bodies) (Among (look self.old.table.processes first)) (look self.new.table.processes all.items)) }
         ensures limit { IfErr result (MeetsLimit (bodies_of self.old.spec.bodies) (Among (look self.old.table.processes first))) }
@@ -162,6 +181,7 @@ impl<A: Allocator + Copy> FoundSets<A> {
 
     /// The set with these members.
     fn put(&mut self, numbers: Vec<u32, A>) -> Result<StateSet, AllocError>
+        requires begun { HasBegun self.old }
         requires below { AllBelow (length self.old.table.processes) numbers.items }
         requires shallow { AllShallow (look self.old.table.processes numbers.items) }
         ensures set { IfOk result (HasMembers (shown self.new) (look self.old.table.processes numbers.items)) }
@@ -203,6 +223,7 @@ impl<A: Allocator + Copy> FoundSets<A> {
 
     /// A set that isn't stored yet, of which this is known.
     fn put_new(&mut self, list: Vec<u32, A>, facts: SetFacts<A>) -> Result<StateSet, AllocError>
+        requires begun { HasBegun self.old }
         requires below { AllBelow (length self.old.table.processes) list.items }
         requires shallow { AllShallow (look self.old.table.processes list.items) }
         requires facts { AreFactsOf facts (look self.old.table.processes list.items) }

@@ -16,9 +16,9 @@ use crate::found::{FoundSets, Hashing};
 use crate::keys::key_of;
 use crate::states::StateSet;
 use alphabet::Event;
-use closures::{AfterFault, Transitions};
+use closures::AfterFault;
 use indexmap::IndexMap;
-use std::alloc::{AllocError, Allocator};
+use std::alloc::Allocator;
 use std::marker::Model;
 use term::Spec;
 
@@ -48,16 +48,14 @@ impl<A: Allocator> Model for Space<A> {
 }
 
 impl<A: Allocator + Copy> Space<A> {
-    /// The space of this specification, without sets. It grows in memory of `alloc`.
-    pub fn new(alloc: A, spec: Spec<A>) -> Result<Space<A>, AllocError>
-        ensures { IfOk result (λ space. space.spec ≡ spec) }
+    /// The space of this specification, without sets. Takes no memory; it grows in memory of `alloc`.
+    pub fn new(alloc: A, spec: Spec<A>) -> Space<A>
+        ensures spec { result.spec ≡ spec }
+        ensures empty { result.sets ≡ [] }
     {
-        match Transitions::new(alloc, &spec) {
-            Ok(all) => Ok(Space {
-                found: FoundSets::new(alloc, spec, all),
-                answers: IndexMap::new(alloc),
-            }),
-            Err(refused) => Err(refused),
+        Space {
+            found: FoundSets::new(alloc, spec),
+            answers: IndexMap::new(alloc),
         }
     }
 

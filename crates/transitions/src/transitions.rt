@@ -56,6 +56,19 @@ impl<A: Allocator> Model for Transitions<A> {
 }
 
 impl<A: Allocator + Copy> Transitions<A> {
+    /// No processes, and no bodies among them. Takes no memory.
+    pub fn without_bodies(alloc: A) -> Transitions<A>
+        ensures { result.bodies ≡ [] }
+    {
+        Transitions {
+            table: Table::new(alloc),
+            bodies: Vec::new(alloc),
+            remembered: IndexMap::new(alloc),
+            depths: Vec::new(alloc),
+            alloc,
+        }
+    }
+
     /// The processes of this specification, with its bodies alone. They grow in memory of `alloc`.
     pub fn new<B: Allocator>(alloc: A, spec: &Spec<B>) -> Result<Transitions<A>, AllocError>
         ensures { IfOk result (λ all. all.bodies ≡ spec.now.bodies) }

@@ -24,15 +24,18 @@ use Rattle.spaces.proofs.found.FoundSets.level_after.Goals.{After-numbers_of-num
 pub numbers_of-numbers-requires : goal.numbers_of-numbers-requires
 numbers_of-numbers-requires g c =
     let es = c.self.inside.sets.entries in
-    let h : c.args.set < length (shown (found c.self.inside.spec c.self.inside.all.table es)).sets = subst (λ (f : Found). c.args.set < length (shown f).sets) (sym c.self.view_is) c.requires.1.within in
+    let h : c.args.set < length (shown (found c.self.inside.spec c.self.inside.all es)).sets = subst (λ (f : Found). c.args.set < length (shown f).sets) (sym c.self.view_is) c.requires.1.within in
     omega (arith, h, length-map es (λ (x : Vec ℕ g.row.A.Denot × SetFacts g.row.A.Denot). x.0.items), length-map (lists_of es) (look c.self.inside.all.table.processes))
 
 module _ (g : _) (c : After-numbers_of-numbers g) where
   within : c.args.set < length c.self.inside.sets.entries
   within =
       let es = c.self.inside.sets.entries in
-      let h : c.args.set < length (shown (found c.self.inside.spec c.self.inside.all.table es)).sets = subst (λ (f : Found). c.args.set < length (shown f).sets) (sym c.self.view_is) c.requires.1.within in
+      let h : c.args.set < length (shown (found c.self.inside.spec c.self.inside.all es)).sets = subst (λ (f : Found). c.args.set < length (shown f).sets) (sym c.self.view_is) c.requires.1.within in
       omega (arith, h, length-map es (λ (x : Vec ℕ g.row.A.Denot × SetFacts g.row.A.Denot). x.0.items), length-map (lists_of es) (look c.self.inside.all.table.processes))
+
+  begun : c.self.inside.all.bodies ≡ c.self.inside.spec.bodies
+  begun = c.self.invariant.begun (omega (arith, within))
 
   -- the numbers are those of the set's members
   listed : look c.self.inside.all.table.processes c.numbers_of-numbers.result.now ≡ states (shown c.args.self.now) c.args.set
@@ -40,12 +43,12 @@ module _ (g : _) (c : After-numbers_of-numbers g) where
       let es = c.self.inside.sets.entries in
       let w : c.args.set < length (lists_of es) = omega (arith, within, length-map es (λ (x : Vec ℕ g.row.A.Denot × SetFacts g.row.A.Denot). x.0.items)) in
       ap (look c.self.inside.all.table.processes) c.numbers_of-numbers.ensures
-      ∙ sym (shown-at (found c.self.inside.spec c.self.inside.all.table es) c.args.set w)
+      ∙ sym (shown-at (found c.self.inside.spec c.self.inside.all es) c.args.set w)
       ∙ ap (λ (f : Found). states (shown f) c.args.set) c.self.view_is
 
   lies : AllLie c.self.inside.spec (look c.self.inside.all.table.processes c.numbers_of-numbers.result.now)
   lies =
-      let f = found c.self.inside.spec c.self.inside.all.table c.self.inside.sets.entries in
+      let f = found c.self.inside.spec c.self.inside.all c.self.inside.sets.entries in
       let b : Belongs (shown f) c.args.set c.requires.0 = subst (λ (h : Found). Belongs (shown h) c.args.set c.requires.0) (sym c.self.view_is) c.requires.1 in
       subst (λ (ps : List Proc). AllLie c.self.inside.spec ps) (sym (listed ∙ ap (λ (h : Found). states (shown h) c.args.set) (sym c.self.view_is)))
       (set-lies c.self.inside.spec c.self.invariant.closed (states (shown f) c.args.set) (c.requires.0, b.exact))
@@ -56,7 +59,7 @@ module _ (g : _) (c : After-numbers_of-numbers g) where
       (sound-shallow c.self.inside.spec c.self.inside.sets.entries c.self.inside.all c.self.invariant c.args.set within)
 
 pub first_level-requires-clause-bodies : goal.first_level-requires-clause-bodies
-first_level-requires-clause-bodies g c = c.self.invariant.bodies
+first_level-requires-clause-bodies g c = begun g (goal.at.first_level-requires-clause-bodies g c).After-numbers_of-numbers
 
 pub first_level-requires-clause-here : goal.first_level-requires-clause-here
 first_level-requires-clause-here g c =
@@ -72,6 +75,9 @@ first_level-requires-clause-shallow g c = shallow g (goal.at.first_level-require
 
 pub invariant_of-self : goal.invariant_of-self
 invariant_of-self g c = sound-on c.self.inside.spec c.self.inside.sets.entries c.self.inside.all c.first_level.new.all c.self.invariant c.first_level.ensures.kept
+
+pub returns-clause-begun : goal.returns-clause-begun
+returns-clause-begun g c = c.first_level.ensures.kept.bodies ∙ begun g (goal.at.returns-clause-begun g c).After-numbers_of-numbers
 
 pub returns-clause-opens : goal.returns-clause-opens
 returns-clause-opens g c =
@@ -103,5 +109,5 @@ returns-clause-limit g c =
 
 pub returns-clause-grown : goal.returns-clause-grown
 returns-clause-grown g c =
-    subst (λ (f : Found). GrewFrom (shown f) (shown (found c.self.inside.spec c.first_level.new.all.table c.self.inside.sets.entries))) c.self.view_is
-    (table-grew c.self.inside.spec c.self.inside.all.table c.first_level.new.all.table c.self.inside.sets.entries c.self.invariant.stored c.first_level.ensures.kept.table)
+    subst (λ (f : Found). GrewFrom (shown f) (shown (found c.self.inside.spec c.first_level.new.all c.self.inside.sets.entries))) c.self.view_is
+    (table-grew c.self.inside.spec c.self.inside.all c.first_level.new.all c.self.inside.sets.entries c.self.invariant.stored c.first_level.ensures.kept)
