@@ -1,7 +1,7 @@
 #!/usr/bin/env python3
 """Lists the functions of a crate whose proofs take long in a check, the longest first.
 
-    bench/proof_times.py [--least SECONDS] NAME ..
+    bench/proof_times.py [--least SECONDS] [--files] NAME ..
 
 The checker writes a module as soon as it is checked: the time between two files is what the later module took. So this is
 right only after a check from nothing by one job, in the folder crates/NAME:
@@ -10,8 +10,10 @@ right only after a check from nothing by one job, in the folder crates/NAME:
 
 Seconds are by the clock: leave the machine alone for that time. `Proof` is what the automatic search takes for the goals
 that have no answer, `Answers` what the answers written by hand take, `Lts` the steps (bench/steps.py has their size).
+With --files it lists what all modules of each source file took together.
 """
 import argparse
+import collections
 import os
 import re
 
@@ -37,17 +39,35 @@ def times_of(crate):
         before = written
 
 
+def sums_by_file(found):
+    """The seconds of each source file's functions, the largest first."""
+    sums = collections.Counter()
+    for seconds, function, _ in found:
+        sums[function.split(".")[0]] += seconds
+    return sums.most_common()
+
+
+def print_functions(found, least):
+    """The modules that took more seconds than this."""
+    for seconds, function, part in found:
+        if seconds > least:
+            print("%8.1f  %-8s %s" % (seconds, part, function))
+
+
 def main():
     parser = argparse.ArgumentParser(description=__doc__.split("\n")[0])
     parser.add_argument("--least", type=float, default=LEAST, help="only modules that take more seconds than this")
+    parser.add_argument("--files", action="store_true", help="list source files, not functions")
     parser.add_argument("crates", nargs="+")
     options = parser.parse_args()
     for crate in options.crates:
         found = sorted(times_of(crate), reverse=True)
         print("%s: %d modules, %.0f seconds" % (crate, len(found), sum(seconds for seconds, _, _ in found)))
-        for seconds, function, part in found:
-            if seconds > options.least:
-                print("%8.1f  %-8s %s" % (seconds, part, function))
+        if options.files:
+            for name, seconds in sums_by_file(found):
+                print("%8.1f  %s" % (seconds, name))
+        else:
+            print_functions(found, options.least)
 
 
 if __name__ == "__main__":
