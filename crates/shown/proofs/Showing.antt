@@ -19,7 +19,7 @@ use Rattle.history.specs.Entries.{events}
 use Rattle.history.specs.Legal.{IsJudged}
 use Rattle.shown.specs.declared.options.Options.{Options}
 use Rattle.shown.specs.Findings.{HasNext, ShowsEntry}
-use Rattle.shown.specs.Coverage.{IsCoverage, accepted_count, rejected_count, possible_count, reports}
+use Rattle.shown.specs.Coverage.{IsCoverage, accepted_count, rejected_count, reports}
 use Rattle.shown.specs.Shows.{none, more, Shows, HasCoverageIf}
 use Rattle.shown.specs.Slots.{AreCounts, Adds, CountAll, CountsEntry, HasRoom, count_at, slot}
 use Rattle.shown.specs.Tallies.{tallied}

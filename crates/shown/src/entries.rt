@@ -8,9 +8,11 @@ ghost use Rattle.history.specs.Entries.{events};
 ghost use Rattle.monitor.specs.Monitors.{MeetsNone};
 ghost use Rattle.shown.specs.Lines.{Finding, finding_text};
 ghost use Rattle.shown.specs.Findings.{Finds, HasLine, ShowsEntry};
+ghost use Rattle.shown.specs.Steps.{IsSaid};
 
-use crate::lines::{put_accepted, put_expected, put_head, put_offered, put_report};
+use crate::lines::{put_accepted, put_head, put_offered, put_report};
 use crate::options::{Format, Options};
+use crate::said::{Said, put_said};
 use alphabet::Report;
 use history::{AfterFault, Entry};
 use monitor::Monitor;
@@ -19,12 +21,15 @@ use std::alloc::{AllocError, Allocator};
 /// Appends what is found of the entry after the monitor's trace.
 fn put_finding<A: Allocator + Copy>(
     text: &mut Vec<u8, A>,
+    said: &mut Said<A>,
     monitor: &Monitor<A>,
     alloc: A,
     entry: &Entry,
     format: Format,
 ) -> Result<(), AllocError>
-    ensures { (before : List entry_type) → monitor.now.trace ≡ events before →
+    requires { IsSaid format monitor.now.spec.alphabet said.old.set said.old.text.items }
+    ensures said { OnOk result (IsSaid format monitor.now.spec.alphabet said.new.set said.new.text.items) }
+    ensures finding { (before : List entry_type) → monitor.now.trace ≡ events before →
         OnOk result ((finding : Finding) × Finds (bodies_of monitor.now.spec.bodies) before entry.now.verdict entry.now.report finding
         × (text.new.items ≡ text.old.items ++ finding_text format monitor.now.spec.alphabet finding)) }
 {
@@ -33,7 +38,7 @@ fn put_finding<A: Allocator + Copy>(
         return put_accepted(text, format);
     }
     if let Report::Event(_) = entry.report {
-        return put_expected(text, alphabet, monitor.next(), format);
+        return put_said(text, said, alphabet, monitor.next(), format);
     }
     let sets = monitor.acceptances(alloc)?;
     let put = put_offered(text, alphabet, &sets, format);
@@ -44,35 +49,41 @@ fn put_finding<A: Allocator + Copy>(
 /// Appends the line of the entry at this place, which comes after the monitor's trace.
 fn put_entry<A: Allocator + Copy>(
     text: &mut Vec<u8, A>,
+    said: &mut Said<A>,
     monitor: &Monitor<A>,
     alloc: A,
     place: u64,
     entry: &Entry,
     format: Format,
 ) -> Result<(), AllocError>
-    ensures { (before : List entry_type) → monitor.now.trace ≡ events before → place ≡ suc (length before) →
+    requires { IsSaid format monitor.now.spec.alphabet said.old.set said.old.text.items }
+    ensures said { OnOk result (IsSaid format monitor.now.spec.alphabet said.new.set said.new.text.items) }
+    ensures line { (before : List entry_type) → monitor.now.trace ≡ events before → place ≡ suc (length before) →
         OnOk result ((line : List ℕ) × HasLine format monitor.now.spec before entry.now line × (text.new.items ≡ text.old.items ++ line)) }
 {
     put_head(text, place, entry.seat.get(), entry.number, format)?;
     put_report(text, monitor.spec().alphabet(), &entry.report, format)?;
-    put_finding(text, monitor, alloc, entry, format)?;
+    put_finding(text, said, monitor, alloc, entry, format)?;
     text.extend_from_slice(format.ending())
 }
 
 /// Appends the line of the entry, if it gets one.
 pub(crate) fn put_part<A: Allocator + Copy>(
     text: &mut Vec<u8, A>,
+    said: &mut Said<A>,
     monitor: &Monitor<A>,
     alloc: A,
     place: u64,
     entry: &Entry,
     options: Options,
 ) -> Result<(), AllocError>
-    ensures { (before : List entry_type) → monitor.now.trace ≡ events before → place ≡ suc (length before) →
+    requires { IsSaid options.format monitor.now.spec.alphabet said.old.set said.old.text.items }
+    ensures said { OnOk result (IsSaid options.format monitor.now.spec.alphabet said.new.set said.new.text.items) }
+    ensures part { (before : List entry_type) → monitor.now.trace ≡ events before → place ≡ suc (length before) →
         OnOk result ((part : List ℕ) × ShowsEntry options monitor.now.spec before entry.now part × (text.new.items ≡ text.old.items ++ part)) }
 {
     if options.entries.has(entry.verdict) {
-        put_entry(text, monitor, alloc, place, entry, options.format)
+        put_entry(text, said, monitor, alloc, place, entry, options.format)
     } else {
         Ok(())
     }

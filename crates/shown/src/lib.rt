@@ -8,6 +8,7 @@ mod laws;
 mod lines;
 mod names;
 mod options;
+mod said;
 mod tally;
 mod whole;
 

@@ -5,11 +5,12 @@ ghost use Rattle.term.specs.Limits.{NoLimit, Opening};
 ghost use Rattle.term.specs.Proc.{bodies_of};
 ghost use Rattle.history.specs.Legal.{IsJudged};
 ghost use Rattle.shown.specs.Shows.{Shows};
-ghost use Rattle.shown.specs.Steps.{IsShown};
+ghost use Rattle.shown.specs.Steps.{IsSaid, IsShown};
 
 use crate::coverage::{Counts, count_entry, put_coverage};
 use crate::entries::{follow, put_part, refused};
 use crate::options::Options;
+use crate::said::Said;
 use history::Entry;
 use monitor::Monitor;
 use std::alloc::{AllocError, Allocator};
@@ -30,6 +31,7 @@ fn begin<A: Allocator + Copy>(alloc: A, spec: Spec<A>) -> Result<Monitor<A>, All
 /// Appends what is shown of the entry with this index, counts it, and goes on by it.
 fn show_entry<A: Allocator + Copy>(
     text: &mut Vec<u8, A>,
+    said: &mut Said<A>,
     counts: &mut Counts<A>,
     monitor: &mut Monitor<A>,
     alloc: A,
@@ -39,15 +41,25 @@ fn show_entry<A: Allocator + Copy>(
 ) -> Result<(), AllocError>
     requires within { index < length history.now }
     requires judged { IsJudged (bodies_of monitor.old.spec.bodies) history.now }
+    requires said { IsSaid options.format monitor.old.spec.alphabet said.old.set said.old.text.items }
     requires shown { IsShown options monitor.old.spec (take index history.now) text.old.items monitor.old.trace
         counts.old.accepted.items counts.old.rejected.items counts.old.possible }
     ensures spec { monitor.new.spec ≡ monitor.old.spec }
+    ensures said { OnOk result (IsSaid options.format monitor.old.spec.alphabet said.new.set said.new.text.items) }
     ensures shown { OnOk result (IsShown options monitor.old.spec (take (index + 1) history.now) text.new.items monitor.new.trace
         counts.new.accepted.items counts.new.rejected.items counts.new.possible) }
 {
     let entry = history[index];
     let next = monitor.next();
-    put_part(text, monitor, alloc, index as u64 + 1, &entry, options)?;
+    put_part(
+        text,
+        said,
+        monitor,
+        alloc,
+        index as u64 + 1,
+        &entry,
+        options,
+    )?;
     count_entry(counts, &entry, next, options.coverage);
     follow(monitor, &entry)
 }
@@ -55,6 +67,7 @@ fn show_entry<A: Allocator + Copy>(
 /// Appends what is shown of each entry, and counts all.
 fn show_entries<A: Allocator + Copy>(
     text: &mut Vec<u8, A>,
+    said: &mut Said<A>,
     counts: &mut Counts<A>,
     monitor: &mut Monitor<A>,
     alloc: A,
@@ -62,14 +75,16 @@ fn show_entries<A: Allocator + Copy>(
     options: Options,
 ) -> Result<(), AllocError>
     requires judged { IsJudged (bodies_of monitor.old.spec.bodies) history.now }
+    requires said { IsSaid options.format monitor.old.spec.alphabet said.old.set said.old.text.items }
     requires shown { IsShown options monitor.old.spec [] text.old.items monitor.old.trace
         counts.old.accepted.items counts.old.rejected.items counts.old.possible }
     ensures spec { monitor.new.spec ≡ monitor.old.spec }
+    ensures said { OnOk result (IsSaid options.format monitor.old.spec.alphabet said.new.set said.new.text.items) }
     ensures shown { OnOk result (IsShown options monitor.old.spec history.now text.new.items monitor.new.trace
         counts.new.accepted.items counts.new.rejected.items counts.new.possible) }
 {
     for index in 0..history.len() {
-        show_entry(text, counts, monitor, alloc, history, index, options)?;
+        show_entry(text, said, counts, monitor, alloc, history, index, options)?;
     }
     Ok(())
 }
@@ -77,6 +92,7 @@ fn show_entries<A: Allocator + Copy>(
 /// Appends the whole text.
 fn put_whole<A: Allocator + Copy>(
     text: &mut Vec<u8, A>,
+    said: &mut Said<A>,
     counts: &mut Counts<A>,
     monitor: &mut Monitor<A>,
     alloc: A,
@@ -84,15 +100,52 @@ fn put_whole<A: Allocator + Copy>(
     options: Options,
 ) -> Result<(), AllocError>
     requires judged { IsJudged (bodies_of monitor.old.spec.bodies) history.now }
+    requires said { IsSaid options.format monitor.old.spec.alphabet said.old.set said.old.text.items }
     requires shown { IsShown options monitor.old.spec [] text.old.items monitor.old.trace
         counts.old.accepted.items counts.old.rejected.items counts.old.possible }
     ensures { OnOk result (Shows options monitor.old.spec history.now text.new.items) }
 {
-    show_entries(text, counts, monitor, alloc, history, options)?;
+    show_entries(text, said, counts, monitor, alloc, history, options)?;
     if options.coverage {
         return put_coverage(text, monitor.spec().alphabet(), counts, options.format);
     }
     Ok(())
+}
+
+/// Appends the whole text by a monitor that has accepted nothing.
+fn fill<A: Allocator + Copy>(
+    alloc: A,
+    text: &mut Vec<u8, A>,
+    monitor: &mut Monitor<A>,
+    history: &[Entry],
+    options: Options,
+) -> Result<(), AllocError>
+    requires judged { IsJudged (bodies_of monitor.old.spec.bodies) history.now }
+    requires begun { monitor.old.trace ≡ [] }
+    requires empty { text.old.items ≡ [] }
+    ensures { OnOk result (Shows options monitor.old.spec history.now text.new.items) }
+{
+    let mut said = Said::new(alloc, monitor.spec().alphabet(), options.format)?;
+    match Counts::new(alloc, monitor.spec().alphabet().len()) {
+        Ok(mut counts) => {
+            let put = put_whole(
+                text,
+                &mut said,
+                &mut counts,
+                monitor,
+                alloc,
+                history,
+                options,
+            );
+            drop(counts);
+            drop(said);
+            put
+        }
+        Err(refused) => {
+            drop(said);
+            Err(refused)
+        }
+    }
 }
 
 /// Makes the whole text by a monitor that has accepted nothing.
@@ -106,11 +159,8 @@ fn make_text<A: Allocator + Copy>(
     requires begun { monitor.old.trace ≡ [] }
     ensures { IfOk result (λ text. Shows options monitor.old.spec history.now text.items) }
 {
-    let mut counts = Counts::new(alloc, monitor.spec().alphabet().len())?;
     let mut text = Vec::new(alloc);
-    let put = put_whole(&mut text, &mut counts, monitor, alloc, history, options);
-    drop(counts);
-    match put {
+    match fill(alloc, &mut text, monitor, history, options) {
         Ok(()) => Ok(text),
         Err(refused) => {
             drop(text);
@@ -124,7 +174,7 @@ fn make_text<A: Allocator + Copy>(
 ///
 /// Costs what judging the history costs; with coverage, a step more for each binary digit that an entry changes of the counts of
 /// what could come, for all events together; and for each rejected refusal its acceptances. The text is one growing list; beside
-/// it, only acceptances take memory for an entry.
+/// it there are what was said of the last rejected event, and the acceptances of an entry.
 pub fn show<A: Allocator + Copy>(
     alloc: A,
     spec: Spec<A>,

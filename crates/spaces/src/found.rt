@@ -23,6 +23,7 @@ use indexmap::IndexMap;
 use std::alloc::{AllocError, Allocator};
 use std::hash::{BuildHasherDefault, FoldHasher};
 use std::marker::Model;
+use std::mem::replace;
 use term::Spec;
 
 pub(crate) type Hashing = BuildHasherDefault<FoldHasher>;
@@ -91,7 +92,7 @@ impl<A: Allocator + Copy> FoundSets<A> {
             return Ok(());
         }
         let all = Transitions::new(self.alloc, &self.spec)?;
-        self.all = all;
+        drop(replace(&mut self.all, all));
         Ok(())
     }
 

@@ -28,5 +28,5 @@ returns-clause-shown g c =
     c.next-next.result c.args.text.now.items c.put_part.new.text.items c.args.monitor.now.trace c.follow.new.monitor.trace
     c.args.counts.now.accepted.items c.args.counts.now.rejected.items c.args.counts.now.possible
     c.count_entry.new.counts.accepted.items c.count_entry.new.counts.rejected.items c.count_entry.new.counts.possible
-    c.requires.shown c.next-next.ensures (c.in_ok-put_part.ensures before c.requires.shown.trace_is place) c.count_entry.ensures moved)
+    c.requires.shown c.next-next.ensures (c.in_ok-put_part.ensures.part before c.requires.shown.trace_is place) c.count_entry.ensures moved)
     (c.follow.ensures.trace before c.requires.shown.trace_is)
