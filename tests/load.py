@@ -5,7 +5,7 @@
 
 Every reply is compared. It prints what a run took: elapsed time, processor time, and the greatest memory (VmHWM of /proc) at the full
 history; for `serve` also how long `replay` and a further run take to open the journal, which has 1,000,000 records then. The last line is
-`N passed, M failed`.
+`N passed, M failed`. In the end `show` writes the 1,000,000 entries, and each line is compared.
 """
 import argparse
 import os
@@ -117,7 +117,25 @@ def reopened_problems(options, folder, summary):
     print("replay of 1,000,000 records: %.1f s; serve listens after %.1f s, with %.0f MB" % (replayed, time.monotonic() - start, used(server.process)[0]), flush=True)
     problems += full_problems(server.port)
     end = server.end()
-    return problems + ([] if end == Run(summary, b"", 6) else ["serve ended with %s" % (end,)])
+    problems += [] if end == Run(summary, b"", 6) else ["serve ended with %s" % (end,)]
+    return problems + shown_problems(options, folder, summary)
+
+
+def shown_problems(options, folder, summary):
+    """What is wrong with what `show` writes of the full journal, line by line as it comes."""
+    process = subprocess.Popen([options.program, "show", "j"], cwd=folder, stdout=subprocess.PIPE, stderr=subprocess.PIPE)
+    start, numbers, wrong, peak = time.monotonic(), {}, 0, 0
+    for place in range(1, HISTORY + 1):
+        line = process.stdout.readline()
+        seat = line.split(b" ")[1] if line.count(b" ") > 1 else b""
+        numbers[seat] = numbers.get(seat, 0) + 1
+        wrong += line != b"%d %s %d E c.1 OK\n" % (place, seat, numbers[seat])
+        if place == HISTORY // 2:
+            peak = used(process)[0]
+    last, err, status = process.stdout.read(), process.stderr.read(), process.wait(60)
+    print("show of 1,000,000 entries: %.1f s, %.0f MB" % (time.monotonic() - start, peak), flush=True)
+    problems = ["show: %d lines are wrong" % wrong] if wrong else []
+    return problems + ([] if (last, err, status) == (summary, b"", 0) else ["show ended with %s" % ((last, err, status),)])
 
 
 def main():

@@ -1,41 +1,36 @@
 //! `cspwatch show`: the reports of a journal, judged again, and why those that were rejected were.
 
-ghost use Rattle.std.specs.Prelude.{◌≡◌, ◌⊎◌, List, IfOk};
-ghost use Rattle.term.specs.Specs.{Specified};
-ghost use Rattle.program.specs.Entry.{Entry};
-ghost use Rattle.program.specs.Exits.{replay_exit};
-ghost use Rattle.program.specs.Showings.{Displays};
+ghost use Rattle.std.specs.Prelude.{◌≡◌, ◌⊎◌, IfOk};
 ghost use Rattle.program.specs.declared.exit.Exit.TheVariants.{Done, Rejected};
 ghost use Rattle.command_line.specs.Commands.{Shown};
 
-use crate::forms::write;
 use crate::journal_files::journal_there;
-use crate::telling::tell_journal;
+use crate::telling::{tell_fault, tell_journal};
 use disk::Disk;
 use file_disk::FileDisk;
-use program::{Displayed, Exit, Options, SessionError};
+use program::{DisplayError, Displayed, Exit, Options};
 use std::alloc::Global;
 use std::fs::File;
 use std::io::Write;
 use std::rt::Files;
 
-// What is shown of the history that the disk holds, judged again, and the exit status that it asks for.
-fn text_of<D: Disk + Drop>(
+// Writes what is shown of the history that the disk holds, judged again, and answers the exit status that it asks for.
+fn display<D: Disk + Drop, O: Write>(
     alloc: Global,
     disk: D,
     options: Options,
-) -> Result<(Vec<u8>, Exit), SessionError>
-    ensures { IfOk result (λ r. (spec : Specified) × (h : List Entry) × Displays spec h options r.0.items × (r.1 ≡ replay_exit h)) }
+    output: &mut O,
+) -> Result<Exit, DisplayError>
+    ensures { IfOk result (Shown options (O.contents output.old) (O.contents output.new)) }
 {
     let Displayed {
         session,
         header,
-        text,
         exit,
-    } = program::show(alloc, disk, options)?;
+    } = program::show(alloc, disk, options, output)?;
     drop(session);
     drop(header);
-    Ok((text, exit))
+    Ok(exit)
 }
 
 /// Judges the records of the journal in the file again, writes what is asked for of them, and answers the exit status. What stands
@@ -53,8 +48,9 @@ pub fn show<R: Files<File = File> + AllocGlobal, O: Write, E: Write>(
         Ok(file) => file,
         Err(exit) => return exit,
     };
-    match text_of(rt.alloc(), FileDisk::new(file), options) {
-        Ok((text, exit)) => write(&text, exit, output, errors),
-        Err(error) => tell_journal(errors, name, error),
+    match display(rt.alloc(), FileDisk::new(file), options, output) {
+        Ok(exit) => exit,
+        Err(DisplayError::Session(error)) => tell_journal(errors, name, error),
+        Err(DisplayError::Output) => tell_fault(errors, "-", "cannot write", Exit::FileFailed),
     }
 }

@@ -1,3 +1,4 @@
 pub mod Alone
+pub mod Displays
 pub mod Fields
 pub mod Results

@@ -16,6 +16,6 @@ pub use exit::Exit;
 pub use forms::{PrintError, print};
 pub use replaying::{Replayed, replay};
 pub use shared::{Session, SessionError, Summary};
-pub use showing::{Displayed, show};
+pub use showing::{DisplayError, Displayed, show};
 pub use shown::{Format, Options, Selection};
 pub use summaries::summary_line;

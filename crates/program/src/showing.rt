@@ -1,16 +1,18 @@
 //! The history that a journal holds, judged again: a line for each report, why it was rejected, and how often each event came.
 
 ghost use Rattle.std.specs.Prelude.{◌≡◌, ◌⊎◌, ◌++◌, ℕ, List, IsTrue, IfOk, IfErr, OnOk, MatchResult};
+ghost use Rattle.std.specs.Io.KnownBytes.{Appends};
 ghost use Rattle.term.specs.Specs.{Specified};
 ghost use Rattle.journal.specs.Faults.{HasFault};
 ghost use Rattle.journal.specs.declared.error.JournalError.{JournalError};
 ghost use Rattle.script.specs.Reading.{IsRead};
 ghost use Rattle.shared.specs.Entry.{Entry};
 ghost use Rattle.shared.specs.SessionFaults.{journal_error};
-ghost use Rattle.shared.specs.Scripts.{HasNoSession, IsOutside, IsReplayOf};
-ghost use Rattle.shown.specs.Shows.{Shows};
+ghost use Rattle.shared.specs.Scripts.{IsReplayOf};
+ghost use Rattle.shown.specs.Shows.{Writes};
 ghost use Rattle.program.specs.Exits.{replay_exit};
-ghost use Rattle.program.specs.Showings.{Displays, summary_text};
+ghost use Rattle.program.specs.Showings.{HasNoDisplay, IsBeyond, WritesAll, summary_text};
+ghost use Rattle.program.specs.declared.showing.DisplayError.TheVariants.{Session as of_session};
 
 use crate::exit::Exit;
 use crate::replaying::{Replayed, replay};
@@ -19,20 +21,39 @@ use disk::Disk;
 use journal::Header;
 use script::read;
 use shared::{Session, SessionError, Summary};
-use shown::{Format, Options};
+use shown::{Format, Options, ShowError};
 use std::alloc::{AllocError, Allocator};
+use std::io::Write;
 
-/// What a journal shows.
+/// What was displayed of a journal.
 #[derive(Drop)]
 pub struct Displayed<D: Disk, A: Allocator> {
     /// The session that goes on from the journal.
     pub session: Session<D, A>,
     /// The script and the root of the journal.
     pub header: Header<A>,
-    /// The lines that were asked for, and the counts of the history.
-    pub text: Vec<u8, A>,
     /// `Rejected` where the history has a rejected report, else `Done`.
     pub exit: Exit,
+}
+
+/// Why a journal isn't displayed whole.
+#[derive(Clone, Copy, Debug, PartialEq, Eq)]
+pub enum DisplayError {
+    /// The journal has no session, or a request for memory was refused.
+    Session(SessionError),
+    /// The output failed.
+    Output,
+}
+
+impl From<ShowError> for DisplayError {
+    ghost from_gives = { λ _ error. IsBeyond error };
+
+    fn from(error: ShowError) -> DisplayError {
+        match error {
+            ShowError::Memory => DisplayError::Session(SessionError::Memory),
+            ShowError::Output => DisplayError::Output,
+        }
+    }
 }
 
 // Appends the counts of a history that may go on.
@@ -49,62 +70,93 @@ fn add_summary<A: Allocator>(
     }
 }
 
-// The lines of the session's history, for which the script is read again: the session keeps its own specification.
-fn lines_of<D: Disk, A: Allocator + Copy>(
-    alloc: A,
-    session: &Session<D, A>,
-    header: &Header<A>,
-    options: Options,
-) -> Result<Vec<u8, A>, AllocError>
-    requires { IsRead header.now.script.items header.now.root.items session.now.spec }
-    ensures { IfOk result (λ lines. Shows options session.now.spec session.now.history lines.items) }
+// Writes the text, and lets the output flush.
+fn put_out<W: Write>(text: &[u8], output: &mut W) -> Result<(), ShowError>
+    ensures { OnOk result (Appends (W.contents output.old) (W.contents output.new) text.now) }
 {
-    match read(alloc, &header.script, &header.root) {
-        Ok(spec) => shown::show(alloc, spec, session.history(), options),
-        Err(_) => Err(AllocError),
+    if output.write_all(text).is_ok() && output.flush().is_ok() {
+        Ok(())
+    } else {
+        Err(ShowError::Output)
     }
 }
 
-// What is shown of the session's history.
-fn text_of<D: Disk, A: Allocator + Copy>(
+// Writes the lines of the session's history, but for their end, for which the script is read again: the session keeps its own
+// specification.
+fn lines_of<D: Disk, A: Allocator + Copy, W: Write>(
     alloc: A,
     session: &Session<D, A>,
     header: &Header<A>,
     options: Options,
-) -> Result<Vec<u8, A>, AllocError>
+    output: &mut W,
+) -> Result<Vec<u8, A>, ShowError>
     requires { IsRead header.now.script.items header.now.root.items session.now.spec }
-    ensures { IfOk result (λ text. Displays session.now.spec session.now.history options text.items) }
+    ensures { IfOk result (λ left. Writes options session.now.spec session.now.history (W.contents output.old) (W.contents output.new) left.items) }
 {
-    let mut text = lines_of(alloc, session, header, options)?;
-    add_summary(&mut text, options.format, session.summary())?;
-    Ok(text)
+    match read(alloc, &header.script, &header.root) {
+        Ok(spec) => shown::show(alloc, spec, session.history(), options, output),
+        Err(_) => Err(ShowError::Memory),
+    }
 }
 
-/// Judges the records of the journal on the disk again, as `replay` does, and writes what is asked for of its history: the lines, and the
-/// exit status. The errors are those of `replay`.
-pub fn show<D: Disk + Drop, A: Allocator + Copy>(
+// Writes the end of the lines, and the counts after it.
+fn write_end<A: Allocator, W: Write>(
+    left: &mut Vec<u8, A>,
+    format: Format,
+    summary: Summary,
+    output: &mut W,
+) -> Result<(), ShowError>
+    ensures { OnOk result (Appends (W.contents output.old) (W.contents output.new) (left.old.items ++ summary_text format summary)) }
+{
+    add_summary(left, format, summary)?;
+    put_out(left, output)
+}
+
+// Writes what is shown of the session's history.
+fn write_all<D: Disk, A: Allocator + Copy, W: Write>(
+    alloc: A,
+    session: &Session<D, A>,
+    header: &Header<A>,
+    options: Options,
+    output: &mut W,
+) -> Result<(), ShowError>
+    requires { IsRead header.now.script.items header.now.root.items session.now.spec }
+    ensures { OnOk result (WritesAll session.now.spec session.now.history options (W.contents output.old) (W.contents output.new)) }
+{
+    let mut left = lines_of(alloc, session, header, options, output)?;
+    let written = write_end(&mut left, options.format, session.summary(), output);
+    drop(left);
+    written
+}
+
+/// Judges the records of the journal on the disk again, as `replay` does, and writes what is asked for of its history: the lines, and
+/// then the counts. The errors are those of `replay`, and that of the output. Where memory is refused or the output fails, a part
+/// may have been written, but nothing of less than 64 KiB.
+pub fn show<D: Disk + Drop, A: Allocator + Copy, W: Write>(
     alloc: A,
     disk: D,
     options: Options,
-) -> Result<Displayed<D, A>, SessionError>
+    output: &mut W,
+) -> Result<Displayed<D, A>, DisplayError>
     // The file holds the session's history, of which each verdict is that of what its script denotes.
     ensures replayed { IfOk result (λ r. IsTrue (D.state disk).claims_bytes
         → IsReplayOf (D.state disk).bytes r.header.script.items r.header.root.items r.session.spec r.session.history) }
 
-    // What is shown is that history, as asked for, with exactly the events and the acceptances of what the script denotes.
-    ensures text { IfOk result (λ r. Displays r.session.spec r.session.history options r.text.items) }
+    // What was written is that history, as asked for, with exactly the events and the acceptances of what the script denotes.
+    ensures text { IfOk result (λ r. WritesAll r.session.spec r.session.history options (W.contents output.old) (W.contents output.new)) }
     ensures exit { IfOk result (λ r. r.exit ≡ replay_exit r.session.history) }
 
-    // Or the file has no session for this reason.
-    ensures fault { IfErr result (λ error. IsTrue (D.state disk).claims_bytes → HasNoSession (D.state disk).bytes error) }
+    // Or the file has no session for this reason, or the output failed.
+    ensures fault { IfErr result (λ error. IsTrue (D.state disk).claims_bytes → HasNoDisplay (D.state disk).bytes error) }
 
-    // Of a file that holds a history exactly what `Displays` has of it is shown, which is one text (`shown::one_text`); one
-    // that has a fault is refused for it. Device and memory apart.
+    // Of a file that holds a history exactly what `Displays` has of it is written, which is one text (`shown::one_text`); one
+    // that has a fault is refused for it, and nothing is written. Devices and memory apart.
     ensures only { IsTrue (D.state disk).claims_bytes → (script root : List ℕ) (spec : Specified) (h : List Entry)
         → IsReplayOf (D.state disk).bytes script root spec h
-        → MatchResult result (λ r. (r.session.history ≡ h) × Displays spec h options r.text.items × (r.exit ≡ replay_exit h)) IsOutside }
+        → MatchResult result (λ r. (r.session.history ≡ h) × WritesAll spec h options (W.contents output.old) (W.contents output.new) × (r.exit ≡ replay_exit h)) IsBeyond }
     ensures refuses { IsTrue (D.state disk).claims_bytes → (error : JournalError) → HasFault (D.state disk).bytes error
-        → MatchResult result (λ _. ⊥) (λ e. (e ≡ journal_error error) ⊎ IsOutside e) }
+        → MatchResult result (λ _. ⊥) (λ e. (e ≡ of_session (journal_error error)) ⊎ IsBeyond e) }
+    ensures silent { IsTrue (D.state disk).claims_bytes → (error : JournalError) → HasFault (D.state disk).bytes error → output.new ≡ output.old }
 {
     let Replayed {
         session,
@@ -113,20 +165,19 @@ pub fn show<D: Disk + Drop, A: Allocator + Copy>(
         exit,
     } = match replay(alloc, disk) {
         Ok(replayed) => replayed,
-        Err(error) => return Err(error),
+        Err(error) => return Err(DisplayError::Session(error)),
     };
     drop(line);
-    match text_of(alloc, &session, &header, options) {
-        Ok(text) => Ok(Displayed {
+    match write_all(alloc, &session, &header, options, output) {
+        Ok(()) => Ok(Displayed {
             session,
             header,
-            text,
             exit,
         }),
-        Err(_) => {
+        Err(error) => {
             drop(session);
             drop(header);
-            Err(SessionError::Memory)
+            Err(error.into())
         }
     }
 }

@@ -5,7 +5,8 @@ use crate::memory::Memory;
 use disk::Disk;
 use memory_disks::{Afterwards, FaultDisk};
 use program::{
-    Exit, Format, Options, PrintError, Selection, SessionError, check, print, replay, show,
+    DisplayError, Exit, Format, Options, PrintError, Selection, SessionError, check, print, replay,
+    show,
 };
 use rows::{Output, first_word, parts};
 use std::alloc::Allocator;
@@ -76,13 +77,17 @@ fn put_displayed<D: Disk + Drop, A: Allocator + Copy + Drop>(
         coverage: true,
         format,
     };
-    match show(alloc, disk, options) {
+    let mut written = out.copy_of(b"");
+    let came = show(alloc, disk, options, &mut written);
+    out.put_bytes(&written);
+    drop(written);
+    match came {
         Ok(displayed) => {
-            out.put_bytes(&displayed.text);
             put_exit(displayed.exit, out);
             drop(displayed);
         }
-        Err(error) => put_unopened(error, Exit::of_journal(&error), out),
+        Err(DisplayError::Session(error)) => put_unopened(error, Exit::of_journal(&error), out),
+        Err(DisplayError::Output) => put_exit(Exit::FileFailed, out),
     }
 }
 

@@ -1,5 +1,6 @@
 -- The text of a whole history.
-use Rattle.std.specs.Prelude.{◌≡◌, Bool, true, false, ℕ, List, [], ◌∷◌, ◌++◌}
+use Rattle.std.specs.Prelude.{◌≡◌, Bool, true, false, ℕ, Option, List, [], ◌∷◌, ◌++◌}
+use Rattle.std.specs.Io.KnownBytes.{Appends}
 use Rattle.std.specs.List.{flat_map}
 use Rattle.alphabet.specs.EventSets.{Set}
 use Rattle.term.specs.Proc.{bodies_of}
@@ -30,3 +31,7 @@ pub record Shows (options : Options) (spec : Specified) (h : List Entry) (text :
   pub nexts_are : OneForEach (λ before e X. HasNext (bodies_of spec.bodies) before X) h nexts
   pub coverage_is : HasCoverageIf options.coverage options spec h nexts coverage
   pub is : text ≡ flat_map (λ part. part) parts ++ coverage
+
+-- since the writer had the bytes `old`, the text of the history was written but for its end, `left`
+abbrev pub Writes : Options → Specified → List Entry → Option (List ℕ) → Option (List ℕ) → List ℕ → Type 0
+Writes options spec h old new left = (sent : List ℕ) × Shows options spec h (sent ++ left) × Appends old new sent

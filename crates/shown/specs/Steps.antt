@@ -1,5 +1,6 @@
 -- What was made of the first entries of a history.
-use Rattle.std.specs.Prelude.{◌≡◌, ℕ, IsTrue, List, length}
+use Rattle.std.specs.Prelude.{◌≡◌, ◌++◌, ℕ, IsTrue, List, Option, length}
+use Rattle.std.specs.Io.KnownBytes.{Appends}
 use Rattle.std.specs.List.{flat_map}
 use Rattle.alphabet.specs.declared.events.Event.{Event}
 use Rattle.alphabet.specs.EventSets.{Set}
@@ -10,14 +11,15 @@ use Rattle.history.specs.declared.entry.Entry.{Entry}
 use Rattle.history.specs.Entries.{events}
 use Rattle.shown.specs.declared.options.Format.{Format}
 use Rattle.shown.specs.declared.options.Options.{Options}
-use Rattle.shown.specs.Lines.{expected, finding_text}
+use Rattle.shown.specs.Lines.{expected, finding_text, offered}
 use Rattle.shown.specs.Findings.{HasNext, ShowsEntry}
 use Rattle.shown.specs.Shows.{OneForEach}
 use Rattle.shown.specs.Slots.{CountAll}
 
--- what is said of an event that was rejected where these could have come
-abbrev pub IsSaid : Format → List Channel → Set → List ℕ → Type 0
-IsSaid format cs X text = text ≡ finding_text format cs (expected X)
+-- these texts are what is said of an event that was rejected where these could have come, and of a refusal where these are the
+-- acceptances
+abbrev pub IsSaid : Format → List Channel → Set → List ℕ → List Set → List ℕ → Type 0
+IsSaid format cs X text Xs text' = (text ≡ finding_text format cs (expected X)) × (text' ≡ finding_text format cs (offered Xs))
 
 -- the text, the trace and, where coverage is wanted, the counts are those of these entries
 pub record IsShown (options : Options) (spec : Specified) (h : List Entry) (text : List ℕ) (trace : List Event) (accepted rejected : List ℕ) (possible : List Set) : Type 0 where
@@ -29,3 +31,8 @@ pub record IsShown (options : Options) (spec : Specified) (h : List Entry) (text
   pub text_is : text ≡ flat_map (λ part. part) parts
   pub trace_is : trace ≡ events h
   pub counts_are : IsTrue options.coverage → CountAll (event_count spec.alphabet) h nexts accepted rejected possible
+
+-- so are what was written since the writer had the bytes `old` and this text after it, together
+abbrev pub IsSent : Options → Specified → List Entry → Option (List ℕ) → Option (List ℕ) → List ℕ → List Event → List ℕ → List ℕ → List Set → Type 0
+IsSent options spec h old new text trace accepted rejected possible =
+    (sent : List ℕ) × IsShown options spec h (sent ++ text) trace accepted rejected possible × Appends old new sent

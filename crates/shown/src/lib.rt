@@ -14,4 +14,4 @@ mod whole;
 
 pub use laws::{one_list_of_acceptances, one_text};
 pub use options::{Format, Options, Selection};
-pub use whole::show;
+pub use whole::{ShowError, show};

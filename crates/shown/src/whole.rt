@@ -1,11 +1,12 @@
 //! The text of a judged history.
 
-ghost use Rattle.std.specs.Prelude.{◌≡◌, ◌+◌, ◌<◌, [], IfOk, OnOk, length, take};
+ghost use Rattle.std.specs.Prelude.{◌≡◌, ◌+◌, ◌<◌, ◌++◌, ℕ, List, Option, [], IfOk, OnOk, length, take};
+ghost use Rattle.std.specs.Io.KnownBytes.{Appends};
 ghost use Rattle.term.specs.Limits.{NoLimit, Opening};
 ghost use Rattle.term.specs.Proc.{bodies_of};
 ghost use Rattle.history.specs.Legal.{IsJudged};
-ghost use Rattle.shown.specs.Shows.{Shows};
-ghost use Rattle.shown.specs.Steps.{IsSaid, IsShown};
+ghost use Rattle.shown.specs.Shows.{Writes};
+ghost use Rattle.shown.specs.Steps.{IsSaid, IsSent, IsShown};
 
 use crate::coverage::{Counts, count_entry, put_coverage};
 use crate::entries::{follow, put_part, refused};
@@ -14,7 +15,49 @@ use crate::said::Said;
 use history::Entry;
 use monitor::Monitor;
 use std::alloc::{AllocError, Allocator};
+use std::io::Write;
 use term::Spec;
+
+/// How many bytes come together before they are written.
+const ENOUGH: usize = 65_536;
+
+/// Why a history isn't shown whole.
+#[derive(Clone, Copy, Debug, PartialEq, Eq)]
+pub enum ShowError {
+    /// There was no memory for it.
+    Memory,
+    /// The output failed.
+    Output,
+}
+
+impl From<AllocError> for ShowError {
+    ghost use Rattle.shown.specs.declared.whole.ShowError.TheVariants.{Memory};
+
+    ghost from_gives = { λ _ error. error ≡ Memory };
+
+    fn from(_: AllocError) -> ShowError {
+        ShowError::Memory
+    }
+}
+
+/// Writes what has come together, and takes it away, where it is enough.
+fn send_enough<A: Allocator, W: Write>(
+    text: &mut Vec<u8, A>,
+    output: &mut W,
+) -> Result<(), ShowError>
+    ensures { OnOk result ((sent : List ℕ) × Appends (W.contents output.old) (W.contents output.new) sent × (text.old.items ≡ sent ++ text.new.items)) }
+{
+    if text.len() < ENOUGH {
+        return Ok(());
+    }
+    match output.write_all(text) {
+        Ok(()) => {
+            text.clear();
+            Ok(())
+        }
+        Err(_) => Err(ShowError::Output),
+    }
+}
 
 /// A monitor of the specification, before any event. That meets no limit, since it met none when the history was judged.
 fn begin<A: Allocator + Copy>(alloc: A, spec: Spec<A>) -> Result<Monitor<A>, AllocError>
@@ -41,12 +84,14 @@ fn show_entry<A: Allocator + Copy>(
 ) -> Result<(), AllocError>
     requires within { index < length history.now }
     requires judged { IsJudged (bodies_of monitor.old.spec.bodies) history.now }
-    requires said { IsSaid options.format monitor.old.spec.alphabet said.old.set said.old.text.items }
-    requires shown { IsShown options monitor.old.spec (take index history.now) text.old.items monitor.old.trace
+    requires said { IsSaid options.format monitor.old.spec.alphabet said.old.next said.old.expected.items said.old.acceptances.items said.old.offered.items }
+    requires shown { (sent : List ℕ) × IsShown options monitor.old.spec (take index history.now) (sent ++ text.old.items) monitor.old.trace
         counts.old.accepted.items counts.old.rejected.items counts.old.possible }
     ensures spec { monitor.new.spec ≡ monitor.old.spec }
-    ensures said { OnOk result (IsSaid options.format monitor.old.spec.alphabet said.new.set said.new.text.items) }
-    ensures shown { OnOk result (IsShown options monitor.old.spec (take (index + 1) history.now) text.new.items monitor.new.trace
+    ensures said { OnOk result (IsSaid options.format monitor.old.spec.alphabet said.new.next said.new.expected.items said.new.acceptances.items said.new.offered.items) }
+    ensures shown { (sent : List ℕ) → IsShown options monitor.old.spec (take index history.now) (sent ++ text.old.items) monitor.old.trace
+        counts.old.accepted.items counts.old.rejected.items counts.old.possible
+        → OnOk result (IsShown options monitor.old.spec (take (index + 1) history.now) (sent ++ text.new.items) monitor.new.trace
         counts.new.accepted.items counts.new.rejected.items counts.new.possible) }
 {
     let entry = history[index];
@@ -64,8 +109,8 @@ fn show_entry<A: Allocator + Copy>(
     follow(monitor, &entry)
 }
 
-/// Appends what is shown of each entry, and counts all.
-fn show_entries<A: Allocator + Copy>(
+/// Appends what is shown of each entry, and counts all. What comes together is written now and then.
+fn show_entries<A: Allocator + Copy, W: Write>(
     text: &mut Vec<u8, A>,
     said: &mut Said<A>,
     counts: &mut Counts<A>,
@@ -73,24 +118,25 @@ fn show_entries<A: Allocator + Copy>(
     alloc: A,
     history: &[Entry],
     options: Options,
-) -> Result<(), AllocError>
+    output: &mut W,
+) -> Result<(), ShowError>
     requires judged { IsJudged (bodies_of monitor.old.spec.bodies) history.now }
-    requires said { IsSaid options.format monitor.old.spec.alphabet said.old.set said.old.text.items }
+    requires said { IsSaid options.format monitor.old.spec.alphabet said.old.next said.old.expected.items said.old.acceptances.items said.old.offered.items }
     requires shown { IsShown options monitor.old.spec [] text.old.items monitor.old.trace
         counts.old.accepted.items counts.old.rejected.items counts.old.possible }
     ensures spec { monitor.new.spec ≡ monitor.old.spec }
-    ensures said { OnOk result (IsSaid options.format monitor.old.spec.alphabet said.new.set said.new.text.items) }
-    ensures shown { OnOk result (IsShown options monitor.old.spec history.now text.new.items monitor.new.trace
+    ensures shown { OnOk result (IsSent options monitor.old.spec history.now (W.contents output.old) (W.contents output.new) text.new.items monitor.new.trace
         counts.new.accepted.items counts.new.rejected.items counts.new.possible) }
 {
     for index in 0..history.len() {
         show_entry(text, said, counts, monitor, alloc, history, index, options)?;
+        send_enough(text, output)?;
     }
     Ok(())
 }
 
-/// Appends the whole text.
-fn put_whole<A: Allocator + Copy>(
+/// Appends what is shown of each entry, and the coverage.
+fn put_whole<A: Allocator + Copy, W: Write>(
     text: &mut Vec<u8, A>,
     said: &mut Said<A>,
     counts: &mut Counts<A>,
@@ -98,32 +144,34 @@ fn put_whole<A: Allocator + Copy>(
     alloc: A,
     history: &[Entry],
     options: Options,
-) -> Result<(), AllocError>
+    output: &mut W,
+) -> Result<(), ShowError>
     requires judged { IsJudged (bodies_of monitor.old.spec.bodies) history.now }
-    requires said { IsSaid options.format monitor.old.spec.alphabet said.old.set said.old.text.items }
+    requires said { IsSaid options.format monitor.old.spec.alphabet said.old.next said.old.expected.items said.old.acceptances.items said.old.offered.items }
     requires shown { IsShown options monitor.old.spec [] text.old.items monitor.old.trace
         counts.old.accepted.items counts.old.rejected.items counts.old.possible }
-    ensures { OnOk result (Shows options monitor.old.spec history.now text.new.items) }
+    ensures { OnOk result (Writes options monitor.old.spec history.now (W.contents output.old) (W.contents output.new) text.new.items) }
 {
-    show_entries(text, said, counts, monitor, alloc, history, options)?;
+    show_entries(text, said, counts, monitor, alloc, history, options, output)?;
     if options.coverage {
-        return put_coverage(text, monitor.spec().alphabet(), counts, options.format);
+        return Ok(put_coverage(text, monitor.spec().alphabet(), counts, options.format)?);
     }
     Ok(())
 }
 
 /// Appends the whole text by a monitor that has accepted nothing.
-fn fill<A: Allocator + Copy>(
+fn fill<A: Allocator + Copy, W: Write>(
     alloc: A,
     text: &mut Vec<u8, A>,
     monitor: &mut Monitor<A>,
     history: &[Entry],
     options: Options,
-) -> Result<(), AllocError>
+    output: &mut W,
+) -> Result<(), ShowError>
     requires judged { IsJudged (bodies_of monitor.old.spec.bodies) history.now }
     requires begun { monitor.old.trace ≡ [] }
     requires empty { text.old.items ≡ [] }
-    ensures { OnOk result (Shows options monitor.old.spec history.now text.new.items) }
+    ensures { OnOk result (Writes options monitor.old.spec history.now (W.contents output.old) (W.contents output.new) text.new.items) }
 {
     let mut said = Said::new(alloc, monitor.spec().alphabet(), options.format)?;
     match Counts::new(alloc, monitor.spec().alphabet().len()) {
@@ -136,6 +184,7 @@ fn fill<A: Allocator + Copy>(
                 alloc,
                 history,
                 options,
+                output,
             );
             drop(counts);
             drop(said);
@@ -143,49 +192,52 @@ fn fill<A: Allocator + Copy>(
         }
         Err(refused) => {
             drop(said);
-            Err(refused)
+            Err(refused.into())
         }
     }
 }
 
-/// Makes the whole text by a monitor that has accepted nothing.
-fn make_text<A: Allocator + Copy>(
+/// Makes the whole text by a monitor that has accepted nothing. What comes together is written now and then.
+fn make_text<A: Allocator + Copy, W: Write>(
     alloc: A,
     monitor: &mut Monitor<A>,
     history: &[Entry],
     options: Options,
-) -> Result<Vec<u8, A>, AllocError>
+    output: &mut W,
+) -> Result<Vec<u8, A>, ShowError>
     requires judged { IsJudged (bodies_of monitor.old.spec.bodies) history.now }
     requires begun { monitor.old.trace ≡ [] }
-    ensures { IfOk result (λ text. Shows options monitor.old.spec history.now text.items) }
+    ensures { IfOk result (λ left. Writes options monitor.old.spec history.now (W.contents output.old) (W.contents output.new) left.items) }
 {
     let mut text = Vec::new(alloc);
-    match fill(alloc, &mut text, monitor, history, options) {
+    match fill(alloc, &mut text, monitor, history, options, output) {
         Ok(()) => Ok(text),
-        Err(refused) => {
+        Err(error) => {
             drop(text);
-            Err(refused)
+            Err(error)
         }
     }
 }
 
-/// The text of a history that was judged for the specification: the lines of its entries, and then those of coverage, as far as
-/// they are wanted. Nothing but refused memory makes it fail.
+/// Writes the text of a history that was judged for the specification, but for its end, which is answered: the lines of its entries,
+/// and then those of coverage, as far as they are wanted. Nothing but refused memory and a failing output makes it fail; a part of
+/// the text may have been written then, but nothing of a text below 64 KiB.
 ///
 /// Costs what judging the history costs; with coverage, a step more for each binary digit that an entry changes of the counts of
-/// what could come, for all events together; and for each rejected refusal its acceptances. The text is one growing list; beside
-/// it there are what was said of the last rejected event, and the acceptances of an entry.
-pub fn show<A: Allocator + Copy>(
+/// what could come, for all events together; and for each rejected refusal its acceptances. It keeps 64 KiB of the text and a
+/// line, at its end the coverage; beside that, what was said of the last rejected event and of the last rejected refusal.
+pub fn show<A: Allocator + Copy, W: Write>(
     alloc: A,
     spec: Spec<A>,
     history: &[Entry],
     options: Options,
-) -> Result<Vec<u8, A>, AllocError>
+    output: &mut W,
+) -> Result<Vec<u8, A>, ShowError>
     requires { IsJudged (bodies_of spec.bodies) history.now }
-    ensures { IfOk result (λ text. Shows options spec history.now text.items) }
+    ensures { IfOk result (λ left. Writes options spec history.now (W.contents output.old) (W.contents output.new) left.items) }
 {
     let mut monitor = begin(alloc, spec)?;
-    let text = make_text(alloc, &mut monitor, history, options);
+    let left = make_text(alloc, &mut monitor, history, options, output);
     drop(monitor);
-    text
+    left
 }

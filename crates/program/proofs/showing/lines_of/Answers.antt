@@ -4,7 +4,7 @@ use Rattle.term.specs.Specs.{Specified}
 use Rattle.script.specs.Reading.{IsRead}
 use Rattle.shared.specs.Entry.{Entry}
 use Rattle.shared.specs.Legal.{IsJudged}
-use Rattle.shown.specs.Shows.{Shows}
+use Rattle.shown.specs.Shows.{Writes}
 use Rattle.program.proofs.showing.lines_of.Goals as goal
 
 pub show-requires : goal.show-requires
@@ -19,8 +19,10 @@ show-requires g c =
 pub returns-in-Ok : goal.returns-in-Ok
 returns-in-Ok g c =
     let spec = c.args.session.now.spec in
+    let old = g.W.Write.contents c.args.output.now in
+    let new = g.W.Write.contents c.show.new.output in
     let read =
     subst (λ (t : List ℕ). IsRead t c.deref-2.result.now spec) (sym c.deref.ensures.value)
     (subst (λ (r : List ℕ). IsRead c.args.header.now.script.items r spec) (sym c.deref-2.ensures.value) c.requires) in
-    subst (λ (s : Specified). IfOk c.show.result (λ lines. Shows c.args.options s c.args.session.now.history lines.items)) (c.in-Ok.ensures.only spec read)
-    (subst (λ (h : List Entry). IfOk c.show.result (λ lines. Shows c.args.options c.in-Ok.spec h lines.items)) c.history.ensures.entries c.show.ensures)
+    subst (λ (s : Specified). IfOk c.show.result (λ left. Writes c.args.options s c.args.session.now.history old new left.items)) (c.in-Ok.ensures.only spec read)
+    (subst (λ (h : List Entry). IfOk c.show.result (λ left. Writes c.args.options c.in-Ok.spec h old new left.items)) c.history.ensures.entries c.show.ensures)

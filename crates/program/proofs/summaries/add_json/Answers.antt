@@ -1,4 +1,4 @@
-use Rattle.std.proofs.Common.{◌++◌, ℕ, List, decimal, codes}
+use Rattle.std.proofs.Common.{◌++◌, decimal, codes}
 use Rattle.program.proofs.Fields.{where-ok, first-field, next-field, last-piece}
 use Rattle.program.proofs.summaries.add_json.Goals as goal
 

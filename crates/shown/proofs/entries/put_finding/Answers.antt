@@ -16,15 +16,15 @@ returns-then-entry-clause-finding g c before is =
     found c.put_accepted.result (bodies_of c.args.monitor.now.spec.bodies) before c.args.entry.now.verdict c.args.entry.now.report c.args.format cs cs c.args.text.now.items c.put_accepted.new.text.items accepted
     (λ i. cs) (finds_accepted (bodies_of c.args.monitor.now.spec.bodies) before c.args.entry.now.verdict c.args.entry.now.report c.if-entry.true) (c.put_accepted.ensures cs)
 
-pub put_said-requires : goal.put_said-requires
-put_said-requires g c =
+pub put_said_expected-requires : goal.put_said_expected-requires
+put_said_expected-requires g c =
     let same = c.alphabet-alphabet.ensures ∙ ap (λ s. s.alphabet) c.spec.ensures in
-    subst (λ (cs : List Channel). IsSaid c.args.format cs c.args.said.now.set c.args.said.now.text.items) (sym same) c.requires
+    subst (λ (cs : List Channel). IsSaid c.args.format cs c.args.said.now.next c.args.said.now.expected.items c.args.said.now.acceptances.items c.args.said.now.offered.items) (sym same) c.requires
 
 pub returns-in-Event-clause-said : goal.returns-in-Event-clause-said
 returns-in-Event-clause-said g c =
     let same = c.alphabet-alphabet.ensures ∙ ap (λ s. s.alphabet) c.spec.ensures in
-    subst (λ (cs : List Channel). OnOk c.put_said.result (IsSaid c.args.format cs c.put_said.new.said.set c.put_said.new.said.text.items)) same c.put_said.ensures.said
+    subst (λ (cs : List Channel). OnOk c.put_said_expected.result (IsSaid c.args.format cs c.put_said_expected.new.said.next c.put_said_expected.new.said.expected.items c.put_said_expected.new.said.acceptances.items c.put_said_expected.new.said.offered.items)) same c.put_said_expected.ensures.said
 
 pub returns-in-Event-clause-finding : goal.returns-in-Event-clause-finding
 returns-in-Event-clause-finding g c before is =
@@ -32,5 +32,5 @@ returns-in-Event-clause-finding g c before is =
     let B = bodies_of spec.bodies in
     let same = c.alphabet-alphabet.ensures ∙ ap (λ s. s.alphabet) c.spec.ensures in
     let next : HasNext B before c.next.result = λ x. subst (λ u. IsTrue (member c.next.result x) ↔ Trace B root (u ++ x ∷ [])) is (c.next.ensures x) in
-    found c.put_said.result B before c.args.entry.now.verdict c.args.entry.now.report c.args.format c.alphabet-alphabet.result.now spec.alphabet c.args.text.now.items c.put_said.new.text.items (expected c.next.result)
-    same (finds_expected B before c.args.entry.now.verdict c.args.entry.now.report c.in-Event.field-0 c.next.result c.if-entry.false c.in-Event.is next) c.put_said.ensures.text
+    found c.put_said_expected.result B before c.args.entry.now.verdict c.args.entry.now.report c.args.format c.alphabet-alphabet.result.now spec.alphabet c.args.text.now.items c.put_said_expected.new.text.items (expected c.next.result)
+    same (finds_expected B before c.args.entry.now.verdict c.args.entry.now.report c.in-Event.field-0 c.next.result c.if-entry.false c.in-Event.is next) c.put_said_expected.ensures.text

@@ -6,7 +6,7 @@ use Rattle.shown.proofs.whole.fill.Goals as goal
 
 pub put_whole-put-requires-clause-said : goal.put_whole-put-requires-clause-said
 put_whole-put-requires-clause-said g c =
-    subst (λ (cs : List Channel). IsSaid c.args.options.format cs c.in_ok-said.said.set c.in_ok-said.said.text.items) (c.alphabet.ensures ∙ ap (λ s. s.alphabet) c.spec.ensures) c.in_ok-said.ensures
+    subst (λ (cs : List Channel). IsSaid c.args.options.format cs c.in_ok-said.said.next c.in_ok-said.said.expected.items c.in_ok-said.said.acceptances.items c.in_ok-said.said.offered.items) (c.alphabet.ensures ∙ ap (λ s. s.alphabet) c.spec.ensures) c.in_ok-said.ensures
 
 pub put_whole-put-requires-clause-shown : goal.put_whole-put-requires-clause-shown
 put_whole-put-requires-clause-shown g c =
