@@ -11,7 +11,7 @@ ghost use Rattle.shown.specs.Tallies.{tallied};
 
 use crate::counts::{count_event, count_of, zeros};
 use crate::lines::put_listed;
-use crate::names::{put_name, put_number, put_set};
+use crate::names::{put_marked, put_name, put_set};
 use crate::options::Format;
 use crate::tally::Tally;
 use alphabet::{Alphabet, Event, EventSet, Report};
@@ -97,23 +97,17 @@ fn put_count<A: Allocator, B: Allocator>(
     match format {
         Format::Text => {
             put_name(text, alphabet, event, Format::Text)?;
-            text.extend_from_slice(b" accepted ")?;
-            put_number(text, accepted)?;
-            text.extend_from_slice(b" rejected ")?;
-            put_number(text, rejected)?;
-            text.extend_from_slice(b" possible ")?;
-            put_number(text, possible)?;
+            put_marked(text, b" accepted ", accepted)?;
+            put_marked(text, b" rejected ", rejected)?;
+            put_marked(text, b" possible ", possible)?;
             text.extend_from_slice(b"\n")
         }
         Format::Json => {
             text.extend_from_slice(b"{\"event\":")?;
             put_name(text, alphabet, event, Format::Json)?;
-            text.extend_from_slice(b",\"accepted\":")?;
-            put_number(text, accepted)?;
-            text.extend_from_slice(b",\"rejected\":")?;
-            put_number(text, rejected)?;
-            text.extend_from_slice(b",\"possible\":")?;
-            put_number(text, possible)?;
+            put_marked(text, b",\"accepted\":", accepted)?;
+            put_marked(text, b",\"rejected\":", rejected)?;
+            put_marked(text, b",\"possible\":", possible)?;
             text.extend_from_slice(b"}\n")
         }
     }

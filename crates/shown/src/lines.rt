@@ -8,7 +8,7 @@ ghost use Rattle.shown.specs.Names.{joined, set_text};
 ghost use Rattle.shown.specs.Lines.{accepted, alternatives, expected, finding_text, head_text, listed, offered, report_text};
 ghost use Rattle.shown.specs.declared.options.Format.TheVariants.{Text as text_format, Json as json_format};
 
-use crate::names::{put_name, put_names, put_number, put_plain, put_set};
+use crate::names::{put_marked, put_name, put_names, put_number, put_plain, put_set};
 use crate::options::Format;
 use alphabet::{Alphabet, EventSet, Report};
 use std::alloc::{AllocError, Allocator};
@@ -27,19 +27,14 @@ pub(crate) fn put_head<B: Allocator>(
     match format {
         Format::Text => {
             put_number(text, place)?;
-            text.extend_from_slice(b" ")?;
-            put_number(text, seat as u64)?;
-            text.extend_from_slice(b" ")?;
-            put_number(text, number as u64)?;
+            put_marked(text, b" ", seat as u64)?;
+            put_marked(text, b" ", number as u64)?;
             text.extend_from_slice(b" ")
         }
         Format::Json => {
-            text.extend_from_slice(b"{\"place\":")?;
-            put_number(text, place)?;
-            text.extend_from_slice(b",\"seat\":")?;
-            put_number(text, seat as u64)?;
-            text.extend_from_slice(b",\"number\":")?;
-            put_number(text, number as u64)?;
+            put_marked(text, b"{\"place\":", place)?;
+            put_marked(text, b",\"seat\":", seat as u64)?;
+            put_marked(text, b",\"number\":", number as u64)?;
             text.extend_from_slice(b",")
         }
     }

@@ -19,6 +19,18 @@ pub(crate) fn put_number<B: Allocator>(text: &mut Vec<u8, B>, number: u64) -> Re
     text.extend_from_slice(buffer.format(number).as_bytes())
 }
 
+/// Appends the mark, and a number in decimal after it.
+pub(crate) fn put_marked<B: Allocator>(
+    text: &mut Vec<u8, B>,
+    mark: &[u8],
+    number: u64,
+) -> Result<(), AllocError>
+    ensures { OnOk result (text.new.items ≡ text.old.items ++ mark.now ++ decimal number) }
+{
+    text.extend_from_slice(mark)?;
+    put_number(text, number)
+}
+
 /// Appends the event's name. What is no event of the alphabet has none.
 pub(crate) fn put_plain<A: Allocator, B: Allocator>(
     text: &mut Vec<u8, B>,
