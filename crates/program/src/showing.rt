@@ -130,8 +130,8 @@ fn write_all<D: Disk, A: Allocator + Copy, W: Write>(
 }
 
 /// Judges the records of the journal on the disk again, as `replay` does, and writes what is asked for of its history: the lines, and
-/// then the counts. The errors are those of `replay`, and that of the output. Where memory is refused or the output fails, a part
-/// may have been written, but nothing of less than 64 KiB.
+/// then the counts. The errors are those of `replay`, and that of the output. Where the output fails, a part may have been
+/// written; where memory is refused, a part of a text of 64 KiB or more.
 pub fn show<D: Disk + Drop, A: Allocator + Copy, W: Write>(
     alloc: A,
     disk: D,
