@@ -5,7 +5,6 @@ use Rattle.std.proofs.lemmas.Option.{get_or_from_slice_get, slice_get_within}
 use Rattle.term.specs.declared.terms.Term.{Term}
 use Rattle.term.specs.Traces.{In, here, there}
 use Rattle.term.specs.Proc.{Proc, proc, stop}
-use Rattle.term.specs.Limits.{Distinct}
 use Rattle.step.proofs.ActList.{append-In, In-append_l, In-append_r}
 use Rattle.step.proofs.Lists.{map_more}
 use Rattle.targets.proofs.Cutting.{only as one-In}

@@ -1,5 +1,5 @@
 -- How a list of processes grows, level by level, until hidden steps lead nowhere else.
-use Rattle.std.specs.Prelude.{◌≡◌, ℕ, ◌<◌, ◌≤◌, ◌⊎◌, List, [], ◌++◌, length}
+use Rattle.std.specs.Prelude.{◌≡◌, ℕ, ◌≤◌, ◌⊎◌, List, [], ◌++◌, length}
 use Rattle.alphabet.specs.declared.events.Event.{Event}
 use Rattle.alphabet.specs.declared.events.Event.TheVariants.{Tick as tick, Of as ev}
 use Rattle.term.specs.Traces.{In}

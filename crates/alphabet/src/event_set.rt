@@ -2,7 +2,7 @@
 
 ghost use Rattle.std.specs.Prelude.{◌≡◌, ◌↔◌, ◌&&◌, ◌||◌, not, true, false, IsTrue, nat_eq, MatchOption};
 ghost use Rattle.std.specs.Iterator.{YieldsFirst, item_count};
-ghost use Rattle.std.specs.Cmp.Rules.{comparing};
+ghost use Rattle.std.specs.Cmp.Rules.{comparing, hashing};
 ghost use Rattle.std.proofs.Common.{rules};
 ghost use Rattle.alphabet.specs.Events.{Event, ev, is_event, is_numbered_below};
 ghost use Rattle.alphabet.specs.Channels.{event_count};
@@ -13,6 +13,7 @@ use crate::half::Half;
 use crate::table::Alphabet;
 use std::alloc::Allocator;
 use std::fmt;
+use std::hash::{Hash, Hasher};
 use std::marker::Model;
 
 /// A set of events and tick. It takes no memory beside itself, and no call on it does.
@@ -180,6 +181,21 @@ impl PartialEq for EventSet {
 
 impl Eq for EventSet {
     ghost laws = { Prim.search rules };
+}
+
+impl Hash for EventSet {
+    ghost use Rattle.std.specs.Prelude.{◌++◌, ◌/◌, ◌%◌, ◌^◌};
+    ghost use Rattle.std.specs.Hash as fed;
+
+    ghost hash_input = { λ s. fed.u128 (s / 2 % 2 ^ 128) ++ (fed.u128 (s / 2 / 2 ^ 128) ++ fed.u8 (s % 2)) };
+
+    ghost respects_eq = { Prim.search (hashing, rules) };
+
+    fn hash<H: Hasher>(&self, state: &mut H) {
+        state.write_u128(self.low.bits());
+        state.write_u128(self.high.bits());
+        state.write_u8(self.tick as u8);
+    }
 }
 
 /// The members of a set in alphabet order, tick last.

@@ -11,7 +11,7 @@ use Rattle.alphabet.specs.Channels.{FieldValue, number, Values}
 use Rattle.syntax.specs.declared.form.Form.{Form}
 use Rattle.syntax.specs.declared.form.Form.TheVariants as forms
 use Rattle.syntax.specs.declared.operator.Operator.{Operator}
-use Rattle.syntax.specs.Grammar.{Syntax, Called, Numeral, Node, Syntaxes, NoSyntax, MoreSyntax}
+use Rattle.syntax.specs.Grammar.{Syntax}
 use Rattle.values.specs.Values.{◌>>=◌, Name, value_cmp, is_among, limited, set_of, union, intersection, difference, fitting_set, numbers_from, range}
 use Rattle.values.specs.Worths.{Worth, one, many, truth, Known, the_value, the_number, the_set, the_truth, the_only, the_two, two_numbers, two_sets, all_values, set_of_all, nothing_of, truth_of, calculated, computed, compared, is_comparison, comparison, operated, negated, negated_truth, set_with, range_with, union_with, intersection_with, difference_with, formed, worth}
 use Rattle.values.proofs.Keeps.{EachWorth, worth_keeps}

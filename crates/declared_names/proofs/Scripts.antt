@@ -1,5 +1,5 @@
 -- The declarations of a script, and the names that they declare.
-use Rattle.std.proofs.Common.{◌≡◌, [], cond, Option, Some, None, refl, sym, ap, ◌∙◌}
+use Rattle.std.proofs.Common.{◌≡◌, [], cond, Some, None, refl, sym, ap, ◌∙◌}
 use Rattle.tokens.specs.declared.error.ScriptErrorKind.{ScriptErrorKind}
 use Rattle.syntax.specs.declared.form.Form.TheVariants as forms
 use Rattle.syntax.specs.Grammar.{Syntax, Called, Numeral, Node, Syntaxes}

@@ -1,5 +1,5 @@
 -- Phrases for sets of events by their forms: how they are read from trees, and that their parts are smaller.
-use Rattle.std.proofs.Common.{◌≡◌, ◌≢◌, ℕ, ◌+◌, ◌<◌, ◌≤◌, List, [], ◌∷◌, Option, Some, None, Vec, refl, sym, ap, ◌∙◌, arith}
+use Rattle.std.proofs.Common.{◌≡◌, ℕ, ◌+◌, ◌<◌, ◌≤◌, List, [], ◌∷◌, Option, Some, None, Vec, refl, sym, ap, ◌∙◌, arith}
 use Rattle.std.specs.Option.{option_map, IfSome}
 use Rattle.syntax.specs.declared.tree.Tree.{Tree, Node as TreeNode}
 use Rattle.syntax.specs.declared.form.Form.{Form}
@@ -30,22 +30,6 @@ unfolding node_of
 node_parts tree line form v ts h is =
     ap (λ xs. node_with form (shapes xs)) is ∙ ap (node_with form) (sym (list_back (shapes v.items)))
     ∙ sym (ap (λ t. node_of (shape t)) h ∙ ap node_of (node_shape line form v))
-
--- a form of no set of events
-pub no_set_form : (f : Form) (ts : List Syntax) → f ≢ forms.Brackets → f ≢ forms.Event → f ≢ forms.EmptySet → f ≢ forms.Events → f ≢ forms.NoProductions → f ≢ forms.Productions → f ≢ forms.Set → f ≢ forms.Union → f ≢ forms.Intersection → f ≢ forms.Difference → f ≢ forms.If → set_form f ts ≡ None
-unfolding set_form
-no_set_form forms.Brackets ts a b d e g h i j k l m = absurd (a refl)
-no_set_form forms.Event ts a b d e g h i j k l m = absurd (b refl)
-no_set_form forms.EmptySet ts a b d e g h i j k l m = absurd (d refl)
-no_set_form forms.Events ts a b d e g h i j k l m = absurd (e refl)
-no_set_form forms.NoProductions ts a b d e g h i j k l m = absurd (g refl)
-no_set_form forms.Productions ts a b d e g h i j k l m = absurd (h refl)
-no_set_form forms.Set ts a b d e g h i j k l m = absurd (i refl)
-no_set_form forms.Union ts a b d e g h i j k l m = absurd (j refl)
-no_set_form forms.Intersection ts a b d e g h i j k l m = absurd (k refl)
-no_set_form forms.Difference ts a b d e g h i j k l m = absurd (l refl)
-no_set_form forms.If ts a b d e g h i j k l m = absurd (m refl)
-no_set_form f ts a b d e g h i j k l m = refl
 
 -- ---- smaller parts
 

@@ -4,7 +4,7 @@ use Rattle.std.specs.Result.{is_ok}
 use Rattle.alphabet.specs.declared.events.Event.TheVariants.{Of as ev}
 use Rattle.alphabet.specs.Channels.{Channel, name_of}
 use Rattle.term.specs.Proc.{Proc, stop, skip, prefix, ext, int, seq, par, hide, ren, intr, name}
-use Rattle.printing.specs.Printed.{joined, set_text, shared_text, pair_text, operation, mark, process_text}
+use Rattle.printing.specs.Printed.{joined, set_text, shared_text, pair_text, operation, process_text}
 use Rattle.printing.specs.Inside.{has_brackets, inside}
 
 closed : (l b r : List ℕ) → operation l b r ≡ codes "(" ++ (l ++ b ++ r) ++ codes ")"

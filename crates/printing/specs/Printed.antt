@@ -4,7 +4,6 @@ use Rattle.std.specs.List.{flat_map, range_with_len}
 use Rattle.alphabet.specs.declared.events.Event.TheVariants.{Of as ev}
 use Rattle.alphabet.specs.EventSets.{Set, members}
 use Rattle.alphabet.specs.Channels.{number, constant, Values, Channel, value_text, name_of}
-use Rattle.term.specs.Traces.{Pairs}
 use Rattle.term.specs.Proc.{Proc, stop, skip, prefix, ext, int, seq, par, hide, ren, intr, name, bodies_of}
 use Rattle.term.specs.Specs.{Specified}
 use Rattle.printing.specs.Names.{Name, constants, primed, datatype_name, datatype_primes, body_name, body_primes}

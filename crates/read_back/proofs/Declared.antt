@@ -5,7 +5,7 @@ use Rattle.std.proofs.lemmas.List.{map-append}
 use Rattle.std.proofs.lemmas.List.Folds.{list_all-append}
 use Rattle.std.specs.List.{list_all, range_with_len}
 use Rattle.std.specs.Cmp.Lexicographic.{pointwise, bytes_decides}
-use Rattle.alphabet.specs.Channels.{FieldValue, number, constant, Values, Channel, IsAlphabet, is_declared, is_apart_from}
+use Rattle.alphabet.specs.Channels.{constant, Values, Channel, IsAlphabet, is_declared, is_apart_from}
 use Rattle.alphabet.specs.Channels as alphabets
 use Rattle.alphabet.specs.Elements.{In, here, there, Distinct}
 use Rattle.alphabet.proofs.Lists.{In-map, In-under_map, In-append, In-append_left, In-append_right, Distinct-append, all-In, none-In, none-from_In, and-left, and-right}

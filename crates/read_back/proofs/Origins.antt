@@ -7,7 +7,7 @@ use Rattle.std.specs.List.{list_all, list_any}
 use Rattle.std.specs.Ordering.{is_lt}
 use Rattle.std.specs.Cmp.Lexicographic.{pointwise, bytes_decides}
 use Rattle.std.specs.declared.cmp.Ordering.TheVariants.{Less, Equal, Greater}
-use Rattle.alphabet.specs.Channels.{FieldValue, number, constant, Values, Channel, IsAlphabet, event_count, is_value, is_below, is_rising, is_field, is_declared, is_apart_from, is_in_range, are_apart}
+use Rattle.alphabet.specs.Channels.{FieldValue, number, constant, Values, Channel, IsAlphabet, event_count, is_value, is_below, is_rising, is_field, is_declared, is_apart_from, is_in_range}
 use Rattle.alphabet.specs.Channels as alphabets
 use Rattle.alphabet.specs.Names.{is_name}
 use Rattle.alphabet.specs.Elements.{In, here, there}

@@ -1,5 +1,5 @@
 -- Texts and what they are read as.
-use Rattle.std.proofs.Common.{◌≡◌, ℕ, List, [], ◌∷◌, map, false, cond, Option, Some, None, refl, sym, ap, subst, ◌∙◌}
+use Rattle.std.proofs.Common.{◌≡◌, ℕ, List, [], ◌∷◌, map, false, cond, Option, Some, None, sym, ap, subst, ◌∙◌}
 use Rattle.std.specs.List.{flat_map}
 use Rattle.alphabet.specs.Channels.{Channel}
 use Rattle.term.specs.Proc.{Proc}

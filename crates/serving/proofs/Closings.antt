@@ -1,5 +1,5 @@
 -- How a session went whose connections are over.
-use Rattle.std.proofs.Common.{◌≡◌, ◌+◌, ℕ, Bool, List, length, subst, Option, Result, Ok, Err, IfOk, IfErr}
+use Rattle.std.proofs.Common.{◌≡◌, ◌+◌, ℕ, Bool, List, length, subst, Option}
 use Rattle.std.specs.Prelude.{map, IfSome}
 use Rattle.term.specs.Specs.{Specified}
 use Rattle.shared.specs.Entry.{Entry}

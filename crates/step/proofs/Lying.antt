@@ -1,7 +1,6 @@
 -- What a process of a specification hides.
-use Rattle.std.proofs.Common.{◌≡◌, ℕ, ◌<◌, ◌≤◌, true, arith}
-use Rattle.alphabet.specs.declared.events.Event.TheVariants.{Tick as tick, Of as ev}
-use Rattle.alphabet.specs.EventSets.{has}
+use Rattle.std.proofs.Common.{ℕ, ◌≤◌, arith}
+use Rattle.alphabet.specs.declared.events.Event.TheVariants.{Of as ev}
 use Rattle.term.specs.Proc.{Proc, stop, skip, prefix, ext, int, seq, par, hide, ren, intr, name}
 use Rattle.term.specs.Specs.{LiesIn}
 use Rattle.step.specs.HiddenSets.{SetsBelow}

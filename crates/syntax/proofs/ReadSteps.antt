@@ -6,7 +6,7 @@ use Rattle.syntax.specs.declared.piece.Kind.{Kind}
 use Rattle.syntax.specs.declared.piece.Kind.TheVariants as kinds
 use Rattle.syntax.specs.declared.piece.Piece.{Piece}
 use Rattle.syntax.specs.Grammar.{Syntax}
-use Rattle.syntax.specs.Parsing.{◌>>=◌, Found, Row, Reader, climb, go_on, may_open, operand, read_in, reader, reads, row, step}
+use Rattle.syntax.specs.Parsing.{◌>>=◌, Found, Reader, climb, go_on, may_open, operand, read_in, reader, reads, row, step}
 use Rattle.syntax.proofs.Branches.{some_row}
 use Rattle.syntax.proofs.Steps.{reads_step}
 

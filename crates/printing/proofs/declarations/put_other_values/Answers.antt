@@ -1,4 +1,4 @@
-use Rattle.std.proofs.Common.{◌++◌, map, codes, ap, ◌∙◌, arith}
+use Rattle.std.proofs.Common.{◌++◌, codes, ap, ◌∙◌, arith}
 use Rattle.alphabet.specs.Channels.{value_text}
 use Rattle.alphabet.specs.Stored.{value_of}
 use Rattle.printing.proofs.Lists.{behind_item}

@@ -1,4 +1,4 @@
-use Rattle.std.proofs.Common.{refl, ap, []}
+use Rattle.std.proofs.Common.{ap, []}
 use Rattle.printing.specs.Names.{constants_in, with_names}
 use Rattle.printing.specs.View.{bytes}
 use Rattle.printing.proofs.NameLists.{names_next}

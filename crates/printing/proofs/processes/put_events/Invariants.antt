@@ -1,4 +1,4 @@
-use Rattle.std.proofs.Common.{◌≡◌, ◌++◌, ◌<◌, map, codes}
+use Rattle.std.proofs.Common.{◌≡◌, ◌++◌, map, codes}
 use Rattle.std.specs.List.{flat_map, AllByRecursion}
 use Rattle.alphabet.specs.EventSets.{members}
 use Rattle.alphabet.specs.Channels.{event_count, name_of}

@@ -1,7 +1,6 @@
 use Rattle.std.proofs.Common.{◌∙◌, inl, inr, sym}
 use Rattle.spaces.proofs.Ordering.{differs-by, first-decides, none-same}
 use Rattle.spaces.proofs.offers.comes_before.Goals as goal
-use Rattle.spaces.proofs.offers.comes_before.Goals.{After-iter}
 
 pub returns-in-Some-clause-before : goal.returns-in-Some-clause-before
 returns-in-Some-clause-before c =
