@@ -14,7 +14,7 @@ use Rattle.syntax.specs.Parsing.{syntaxes}
 use Rattle.syntax.specs.View.{shape, shapes}
 use Rattle.values.specs.Values.{◌>>=◌, Name}
 use Rattle.values.specs.Worths.{Worth, Known, worth, the_set}
-use Rattle.tokens.specs.declared.error.ScriptErrorKind.{ScriptErrorKind}
+use Rattle.tokens.specs.declared.unread.Unread.{Unread}
 use Rattle.values.specs.View.{Fails}
 use Rattle.values.proofs.Lists.{first_fails}
 use Rattle.values.specs.Names.{field_sets}
@@ -257,7 +257,7 @@ unfolding enter_names
 names_some known sets cs [] fields h e = absurd (h refl)
 names_some known sets cs (n ∷ ns) fields h e = ap (λ o. o >>= λ fields. steps (enter_name fields) cs (MoreSyntax (shape n) (syntaxes (shapes ns)))) e
 
-pub names_fail : {A : Type 0} (k : ScriptErrorKind) (known : Known) (sets : Syntaxes) (cs : List Channel) (ns : List (Tree A)) → (length ns ≡ 0 → ⊥) → Fails k (fields_of known sets) → Fails k (enter_names known sets cs (syntaxes (shapes ns)))
+pub names_fail : {A : Type 0} (k : Unread) (known : Known) (sets : Syntaxes) (cs : List Channel) (ns : List (Tree A)) → (length ns ≡ 0 → ⊥) → Fails k (fields_of known sets) → Fails k (enter_names known sets cs (syntaxes (shapes ns)))
 unfolding enter_names
 names_fail k known sets cs [] h f = absurd (h refl)
 names_fail k known sets cs (n ∷ ns) h f = first_fails k (fields_of known sets) (λ fields. steps (enter_name fields) cs (MoreSyntax (shape n) (syntaxes (shapes ns)))) f

@@ -4,8 +4,7 @@ use Rattle.std.proofs.lemmas.Bool.{ltb-true, ltb-false}
 use Rattle.std.specs.Prelude.{nat_lt}
 use Rattle.std.specs.List.{list_all}
 use Rattle.alphabet.specs.Channels.{Channel, event_count}
-use Rattle.tokens.specs.declared.error.ScriptErrorKind.{ScriptErrorKind}
-use Rattle.tokens.specs.declared.error.ScriptErrorKind.TheVariants.{Memory}
+use Rattle.tokens.specs.declared.unread.Unread.{Unread}
 use Rattle.syntax.specs.declared.form.Form.TheVariants as forms
 use Rattle.syntax.specs.Grammar.{Syntax, Called, Numeral, Node, Syntaxes}
 use Rattle.values.specs.Values.{◌>>=◌, Name}
@@ -13,16 +12,15 @@ use Rattle.values.specs.Worths.{Worth, Known}
 use Rattle.values.specs.Names.{Entry, declared, are_distinct, have_parameters, Stands}
 use Rattle.values.specs.Channels.{channels_of, Declares}
 use Rattle.values.specs.View.{Fails}
-use Rattle.values.proofs.Lists.{fails_on}
 use Rattle.declared_names.specs.Steps.{steps}
 use Rattle.declared_names.specs.Naming.{has_names, have_names}
 use Rattle.declared_names.specs.Entering.{script_parts, distinct_entries}
 use Rattle.declarations.specs.Fitting.{fitting, fitting_entries}
 use Rattle.declarations.specs.Sigma.{enter_declaration, KeepDeclared}
 use Rattle.declared_names.proofs.Chains.{bind_some, some_same}
-use Rattle.declared_names.proofs.FaultKinds.{none_wanted, none_fails}
 use Rattle.declared_names.proofs.Scripts.{parts_declared, parts_none}
 use Rattle.declarations.proofs.Entire.{entire}
+use Rattle.syntax.proofs.FaultKinds.{fails_none, fails_on}
 use Rattle.declarations.proofs.Meanings.{keeps}
 
 -- ---- the declarations of a script
@@ -120,41 +118,38 @@ declares_channels t ts es fs f g cs d p e s =
 
 -- ---- faults
 
-fails_some : {X Y : Type 0} (k : ScriptErrorKind) (o : Option X) (x : X) (p : Option Y) → o ≡ Some x → Fails k o → Fails k p
+fails_some : {X Y : Type 0} (k : Unread) (o : Option X) (x : X) (p : Option Y) → o ≡ Some x → Fails k o → Fails k p
 fails_some k o x p h e = fails_on k o p (λ n. absurd (let z : None ≡ Some x = sym n ∙ h in cc)) e
 
 -- where names aren't distinct, they don't fit
-pub entries_none : (k : ScriptErrorKind) (t : Syntax) → Fails k (distinct_entries t) → Fails k (fitting_entries t)
+pub entries_none : (k : Unread) (t : Syntax) → Fails k (distinct_entries t) → Fails k (fitting_entries t)
 unfolding fitting_entries
 entries_none k t h = fails_on k (distinct_entries t) (fitting_entries t) (λ n. ap (λ o. o >>= λ es. fitting es) n) h
 
--- another fault may be told for one that isn't want of memory
-pub other_fails : (k l : ScriptErrorKind) (t : Syntax) → Fails k (distinct_entries t) → (k ≡ Memory → ⊥) → Fails l (fitting_entries t)
-other_fails k l t h n = entries_none l t (none_fails l (distinct_entries t) (none_wanted k (distinct_entries t) n h))
+-- another fault may be answered for that of the names
+pub other_fails : (e : Unread) (t : Syntax) → distinct_entries t ≡ None → Fails e (fitting_entries t)
+other_fails e t h = entries_none e t (fails_none e (distinct_entries t) h)
 
 -- names whose parameters are in order, and others
 pub fit_same : (es : List Entry) → list_all (λ e. have_parameters es e.1) es ≡ true → fitting es ≡ Some es
 unfolding fitting
 fit_same es h = ap (λ b. cond b (Some es) None) h
 
-pub unfit_fails : (k : ScriptErrorKind) (es : List Entry) → list_all (λ e. have_parameters es e.1) es ≡ false → Fails k (fitting es)
+pub unfit_fails : (k : Unread) (es : List Entry) → list_all (λ e. have_parameters es e.1) es ≡ false → Fails k (fitting es)
 unfolding fitting
-unfit_fails k es h = none_fails k (fitting es) (ap (λ b. cond b (Some es) None) h)
+unfit_fails k es h = fails_none k (fitting es) (ap (λ b. cond b (Some es) None) h)
 
 pub entries_found : (t : Syntax) (es : List Entry) → distinct_entries t ≡ Some es → fitting es ≡ fitting_entries t
 unfolding fitting_entries
 entries_found t es h = sym (ap (λ o. o >>= λ es. fitting es) h)
 
-pub entries_fail : {Y : Type 0} (k : ScriptErrorKind) (t : Syntax) (es : List Entry) (f : Known) (cs : List Channel) (p : Option Y) → Declares t es f cs → Fails k (fitting_entries t) → Fails k p
+pub entries_fail : {Y : Type 0} (k : Unread) (t : Syntax) (es : List Entry) (f : Known) (cs : List Channel) (p : Option Y) → Declares t es f cs → Fails k (fitting_entries t) → Fails k p
 entries_fail k t es f cs p d e = fails_some k (fitting_entries t) es p (declares_entries t es f cs d) e
 
-pub parts_fail : {Y : Type 0} (k : ScriptErrorKind) (t : Syntax) (es : List Entry) (f : Known) (cs : List Channel) (p : Option Y) → Declares t es f cs → Fails k (script_parts t) → Fails k p
+pub parts_fail : {Y : Type 0} (k : Unread) (t : Syntax) (es : List Entry) (f : Known) (cs : List Channel) (p : Option Y) → Declares t es f cs → Fails k (script_parts t) → Fails k p
 parts_fail k t es f cs p d e = entries_fail k t es f cs p d (entries_none k t (parts_none k t e))
 
-pub memory_fails : {Y : Type 0} (k : ScriptErrorKind) (p : Option Y) → k ≡ Memory → Fails k p
-memory_fails k p h = subst (λ x. Fails x p) (sym h) tt
-
-pub channels_fail : {Y : Type 0} (k : ScriptErrorKind) (t : Syntax) (ts : Syntaxes) (es fs : List Entry) (f g : Known) (cs : List Channel) (p : Option Y) → Declares t es f cs → script_parts t ≡ Some ts → fitting_entries t ≡ Some fs → Stands fs g → Fails k (steps (enter_declaration g) [] ts) → Fails k p
+pub channels_fail : {Y : Type 0} (k : Unread) (t : Syntax) (ts : Syntaxes) (es fs : List Entry) (f g : Known) (cs : List Channel) (p : Option Y) → Declares t es f cs → script_parts t ≡ Some ts → fitting_entries t ≡ Some fs → Stands fs g → Fails k (steps (enter_declaration g) [] ts) → Fails k p
 channels_fail k t ts es fs f g cs p d q e s h = fails_some k (steps (enter_declaration g) [] ts) cs p (declares_channels t ts es fs f g cs d q e s).2 h
 
 pub same_all : (es fs : List Entry) (f g : Known) (cs ds : List Channel) → es ≡ fs → f ≡ g → cs ≡ ds → (let a : Option (List Entry × Known × List Channel) = Some (es, f, cs) in let b : Option (List Entry × Known × List Channel) = Some (fs, g, ds) in a ≡ b)

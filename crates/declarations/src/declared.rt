@@ -1,5 +1,5 @@
 //! What a script declares.
-ghost use Rattle.std.specs.Prelude.{◌≡◌, List, Some, IfOk, IsTrue};
+ghost use Rattle.std.specs.Prelude.{List, Some, IfOk, IsTrue};
 ghost use Rattle.alphabet.specs.Channels.{Channel};
 ghost use Rattle.syntax.specs.View.{shape};
 ghost use Rattle.values.specs.Channels.{Declares};
@@ -18,7 +18,7 @@ use declared_names::{
 };
 use std::alloc::Allocator;
 use syntax::Tree;
-use tokens::{ScriptError, ScriptErrorKind};
+use tokens::{Unread, fault};
 use values::Known;
 
 /// What a script declares.
@@ -37,7 +37,7 @@ pub struct Declared<'a, A: Allocator> {
 fn fitting<'a, A: Allocator + Copy>(
     entries: Entries<'a, A>,
     tree: &'a Tree<A>,
-) -> Result<Entries<'a, A>, ScriptError>
+) -> Result<Entries<'a, A>, Unread>
     ensures { Gives entries_of result (fitting_of (entries_of entries.entry)) }
 {
     if parameters_fit(&entries)? {
@@ -51,15 +51,13 @@ fn fitting<'a, A: Allocator + Copy>(
 fn fitting_entries<'a, A: Allocator + Copy>(
     alloc: A,
     tree: &'a Tree<A>,
-) -> Result<Entries<'a, A>, ScriptError>
+) -> Result<Entries<'a, A>, Unread>
     ensures { Gives entries_of result (fitting_entries_of (shape tree.now)) }
 {
     match distinct_entries(alloc, tree) {
         Ok(entries) => fitting(entries, tree),
-        Err(error) => match error.kind {
-            ScriptErrorKind::Memory => Err(error),
-            _ => Err(fault_of_names(tree)),
-        },
+        Err(Unread::Fault(_)) => Err(fault_of_names(tree)),
+        Err(Unread::Memory) => Err(Unread::Memory),
     }
 }
 
@@ -75,7 +73,7 @@ fn fitting_entries<'a, A: Allocator + Copy>(
 pub fn declare<'a, A: Allocator + Copy>(
     alloc: A,
     tree: &'a Tree<A>,
-) -> Result<Declared<'a, A>, ScriptError>
+) -> Result<Declared<'a, A>, Unread>
     requires { IsTrue (has_names (shape tree.now)) }
     // What is found is what the script declares.
     ensures found { IfOk result (λ d. Declares (shape tree.now) (entries_of d.entries) (table d.known) d.alphabet) }

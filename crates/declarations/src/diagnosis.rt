@@ -3,7 +3,7 @@
 ghost use Rattle.std.specs.Prelude.{◌≡◌, []};
 ghost use Rattle.syntax.specs.Parsing.{syntaxes};
 ghost use Rattle.syntax.specs.View.{shapes};
-ghost use Rattle.tokens.specs.declared.error.ScriptErrorKind.TheVariants.{Memory};
+ghost use Rattle.tokens.specs.declared.unread.Unread.TheVariants.{Memory};
 ghost use Rattle.values.specs.Tables.{table};
 ghost use Rattle.values.specs.View.{Gives};
 ghost use Rattle.declarations.specs.Sigma.{KeepDeclared, enter_declaration};
@@ -15,10 +15,10 @@ use crate::phrase_kinds::{event_in_set, kind_of};
 use crate::sight::{kind_of_name, undeclared, worth_here};
 use crate::sigma::alphabet_of;
 use alphabet::Alphabet;
-use declared_names::{Entries, Meaning, Part, fault, part_of, worth_alone};
+use declared_names::{Entries, Meaning, Part, part_of, worth_alone};
 use std::alloc::Allocator;
 use syntax::{Form, Tree};
-use tokens::{ScriptError, ScriptErrorKind};
+use tokens::{ScriptError, ScriptErrorKind, Unread, fault};
 use values::{Input, Known, Worth, is_value};
 
 /// What is reported of the phrase, which is to be a set of values for a channel's field and which evaluation refuses.
@@ -27,7 +27,7 @@ fn field_fault<'a, A: Allocator + Copy>(
     entries: &Entries<'a, A>,
     known: &Known<A>,
     phrase: &Tree<A>,
-) -> Result<Kind, ScriptError> {
+) -> Result<Kind, Unread> {
     let sight = seen_behind(alloc, entries, known, &[], phrase, false)?;
     kind_of(&sight, phrase, Wanted::Values, phrase.line())
 }
@@ -38,7 +38,7 @@ fn fields_fault<'a, A: Allocator + Copy>(
     entries: &Entries<'a, A>,
     known: &Known<A>,
     sets: &Tree<A>,
-) -> Result<(), ScriptError> {
+) -> Result<(), Unread> {
     let Part::Node(_, sets) = part_of(sets) else {
         return Ok(());
     };
@@ -49,7 +49,7 @@ fn fields_fault<'a, A: Allocator + Copy>(
                 return Err(fault(set.line(), ScriptErrorKind::Expected));
             }
             Err(own) => {
-                if !matches!(own.kind, ScriptErrorKind::Memory) {
+                if let Unread::Fault(_) = own {
                     field_fault(alloc, entries, known, set)?;
                 }
                 return Err(own);
@@ -65,7 +65,7 @@ fn channels_fault<'a, A: Allocator + Copy>(
     entries: &Entries<'a, A>,
     known: &Known<A>,
     declarations: &[Tree<A>],
-) -> Result<(), ScriptError> {
+) -> Result<(), Unread> {
     for declaration in declarations {
         if let Part::Node(Form::ChannelsWithFields, [_names, sets]) = part_of(declaration) {
             fields_fault(alloc, entries, known, sets)?;
@@ -81,13 +81,17 @@ fn diagnosed_channels<'a, A: Allocator + Copy>(
     entries: &Entries<'a, A>,
     known: &Known<A>,
     declarations: &[Tree<A>],
-    error: ScriptError,
-) -> ScriptError
-    ensures { error.kind ≡ Memory → result.kind ≡ Memory }
+    error: Unread,
+) -> Unread
+    ensures { error ≡ Memory → result ≡ Memory }
 {
-    match error.kind {
-        ScriptErrorKind::Memory | ScriptErrorKind::TooManyEvents => error,
-        _ => match channels_fault(alloc, entries, known, declarations) {
+    match error {
+        Unread::Memory => error,
+        Unread::Fault(ScriptError {
+            kind: ScriptErrorKind::TooManyEvents,
+            ..
+        }) => error,
+        Unread::Fault(_) => match channels_fault(alloc, entries, known, declarations) {
             Ok(()) => error,
             Err(found) => found,
         },
@@ -95,13 +99,13 @@ fn diagnosed_channels<'a, A: Allocator + Copy>(
 }
 
 /// The alphabet of these declarations, whose names are among the entries. A fault is told where it is met first.
-#[tactic(auto, using(declared_names::proofs::FaultKinds::fails_too))]
+#[tactic(auto, using(syntax::proofs::FaultKinds::fails_too))]
 pub(crate) fn told_alphabet<'a, A: Allocator + Copy>(
     alloc: A,
     entries: &Entries<'a, A>,
     known: &Known<A>,
     declarations: &[Tree<A>],
-) -> Result<Alphabet<A>, ScriptError>
+) -> Result<Alphabet<A>, Unread>
     requires { KeepDeclared (table known.now) [] (syntaxes (shapes declarations.now)) }
     ensures { Gives (λ a. a) result (steps (enter_declaration (table known.now)) [] (syntaxes (shapes declarations.now))) }
 {
@@ -124,7 +128,7 @@ pub fn fault_of_name<'a, A: Allocator + Copy>(
     known: &Known<A>,
     name: &[u8],
     line: u32,
-) -> ScriptError {
+) -> Unread {
     match kind_by_definitions(alloc, entries, known, name, line) {
         Ok(_) => fault(line, ScriptErrorKind::Expected),
         Err(error) => error,
@@ -138,7 +142,7 @@ fn kind_by_definitions<'a, A: Allocator + Copy>(
     known: &Known<A>,
     name: &[u8],
     line: u32,
-) -> Result<Kind, ScriptError> {
+) -> Result<Kind, Unread> {
     let Some(entry) = entries.get(name) else {
         return Err(undeclared(name, line));
     };
@@ -165,7 +169,7 @@ pub fn fault_of_phrase<'a, A: Allocator + Copy>(
     inputs: &[Input<A>],
     phrase: &Tree<A>,
     wanted: Wanted,
-) -> ScriptError {
+) -> Unread {
     match kind_behind_inputs(alloc, entries, known, inputs, phrase, wanted) {
         Ok(_) => fault(phrase.line(), ScriptErrorKind::Expected),
         Err(error) => error,
@@ -180,7 +184,7 @@ fn kind_behind_inputs<'a, A: Allocator + Copy>(
     inputs: &[Input<A>],
     phrase: &Tree<A>,
     wanted: Wanted,
-) -> Result<Kind, ScriptError> {
+) -> Result<Kind, Unread> {
     let sight = seen_behind(alloc, entries, known, inputs, phrase, true)?;
     let kind = kind_of(&sight, phrase, wanted, phrase.line())?;
     if kind == Kind::Values {
@@ -196,7 +200,7 @@ pub fn fault_of_beginning<'a, A: Allocator + Copy>(
     known: &Known<A>,
     inputs: &[Input<A>],
     phrase: &Tree<A>,
-) -> ScriptError {
+) -> Unread {
     match beginning_behind_inputs(alloc, entries, known, inputs, phrase) {
         Ok(()) => fault(phrase.line(), ScriptErrorKind::Expected),
         Err(error) => error,
@@ -210,7 +214,7 @@ fn beginning_behind_inputs<'a, A: Allocator + Copy>(
     known: &Known<A>,
     inputs: &[Input<A>],
     phrase: &Tree<A>,
-) -> Result<(), ScriptError> {
+) -> Result<(), Unread> {
     let sight = seen_behind(alloc, entries, known, inputs, phrase, true)?;
     event_in_set(&sight, phrase, false)
 }
@@ -222,7 +226,7 @@ pub fn fault_of_channel<'a, A: Allocator>(
     known: &Known<A>,
     inputs: &[Input<A>],
     phrase: &Tree<A>,
-) -> ScriptError {
+) -> Unread {
     let line = phrase.line();
     match part_of(phrase) {
         Part::Node(Form::Event, [first, ..]) => match part_of(first) {
@@ -241,7 +245,7 @@ pub fn fault_of_call<'a, A: Allocator>(
     entries: &Entries<'a, A>,
     name: &[u8],
     line: u32,
-) -> ScriptError {
+) -> Unread {
     match entries.get(name) {
         Some(_) => fault(line, ScriptErrorKind::Expected),
         None => undeclared(name, line),

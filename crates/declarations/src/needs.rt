@@ -27,10 +27,8 @@ fn truth_of<'a, A: Allocator + Copy>(
     match stands_for(&sight.alloc, sight.known, inputs, phrase) {
         Ok(Worth::Truth(truth)) => Ok(Some(truth)),
         Ok(_) => Ok(None),
-        Err(error) => match error.kind {
-            ScriptErrorKind::Memory => Err(AllocError),
-            _ => Ok(None),
-        },
+        Err(Unread::Fault(_)) => Ok(None),
+        Err(Unread::Memory) => Err(AllocError),
     }
 }
 

@@ -5,13 +5,13 @@ use crate::sight::{
     Sight, field_sets, is_in, kind_of_call, kind_of_event, kind_of_events, kind_of_worth,
     truth_here, worth_here,
 };
-use declared_names::{fault, is_process_form};
+use declared_names::is_process_form;
 use std::alloc::Allocator;
 use syntax::{Form, Operator, Tree};
-use tokens::{ScriptError, ScriptErrorKind};
+use tokens::{ScriptError, ScriptErrorKind, Unread, fault};
 
 /// What a phrase is that means a set of values, or the fault of one that means nothing.
-fn ended(own: Option<ScriptError>) -> Result<Kind, ScriptError> {
+fn ended(own: Option<Unread>) -> Result<Kind, Unread> {
     match own {
         Some(own) => Err(own),
         None => Ok(Kind::Values),
@@ -19,7 +19,7 @@ fn ended(own: Option<ScriptError>) -> Result<Kind, ScriptError> {
 }
 
 /// The kind, where it is wanted of a phrase on this line.
-fn as_wanted(wanted: Wanted, kind: Kind, line: u32) -> Result<Kind, ScriptError> {
+fn as_wanted(wanted: Wanted, kind: Kind, line: u32) -> Result<Kind, Unread> {
     if takes(wanted, kind) {
         Ok(kind)
     } else {
@@ -52,7 +52,7 @@ struct Spot {
     outer: u32,
     line: u32,
     /// What is reported of it where its parts are as they should be; none where it means a set.
-    own: Option<ScriptError>,
+    own: Option<Unread>,
 }
 
 /// What evaluation says of a phrase: its kind, its fault, or neither where its parts are to be looked into.
@@ -67,7 +67,7 @@ enum Told {
 fn told_of<A: Allocator + Copy>(
     sight: &Sight<'_, '_, A>,
     phrase: &Tree<A>,
-) -> Result<Told, ScriptError> {
+) -> Result<Told, Unread> {
     if let Tree::Node { form, .. } = phrase {
         if matches!(
             form,
@@ -81,10 +81,8 @@ fn told_of<A: Allocator + Copy>(
             Kind::Nothing => Ok(Told::Nothing),
             kind => Ok(Told::Is(kind)),
         },
-        Err(own) => match own.kind {
-            ScriptErrorKind::Memory => Err(own),
-            _ => Ok(Told::Fault(own)),
-        },
+        Err(Unread::Fault(own)) => Ok(Told::Fault(own)),
+        Err(Unread::Memory) => Err(Unread::Memory),
     }
 }
 
@@ -94,8 +92,8 @@ fn told_behind<A: Allocator + Copy>(
     sight: &Sight<'_, '_, A>,
     phrase: &Tree<A>,
     kind: Kind,
-    error: ScriptError,
-) -> ScriptError {
+    error: Unread,
+) -> Unread {
     if kind == Kind::Values {
         if let Err(own) = worth_here(sight, phrase) {
             return own;
@@ -111,10 +109,10 @@ pub(crate) fn kind_of<A: Allocator + Copy>(
     phrase: &Tree<A>,
     wanted: Wanted,
     outer: u32,
-) -> Result<Kind, ScriptError> {
+) -> Result<Kind, Unread> {
     let own = match told_of(sight, phrase)? {
         Told::Is(kind) => return as_wanted(wanted, kind, outer),
-        Told::Fault(own) => Some(own),
+        Told::Fault(own) => Some(Unread::Fault(own)),
         Told::Nothing => None,
     };
     match phrase {
@@ -142,7 +140,7 @@ fn kind_of_form<A: Allocator + Copy>(
     form: Form,
     parts: &[Tree<A>],
     spot: Spot,
-) -> Result<Kind, ScriptError> {
+) -> Result<Kind, Unread> {
     match form {
         Form::Brackets => match parts {
             [inner] => kind_of(sight, inner, spot.wanted, spot.outer),
@@ -170,7 +168,7 @@ fn kind_of_form<A: Allocator + Copy>(
 fn decided<A: Allocator + Copy>(
     sight: &Sight<'_, '_, A>,
     phrase: &Tree<A>,
-) -> Result<bool, ScriptError> {
+) -> Result<bool, Unread> {
     if let Some(truth) = truth_here(sight, phrase)? {
         return Ok(truth);
     }
@@ -184,7 +182,7 @@ fn kind_of_branch<A: Allocator + Copy>(
     sight: &Sight<'_, '_, A>,
     parts: &[Tree<A>],
     spot: Spot,
-) -> Result<Kind, ScriptError> {
+) -> Result<Kind, Unread> {
     match parts {
         [condition, first, second] => {
             if decided(sight, condition)? {
@@ -203,8 +201,8 @@ fn kind_of_truth<A: Allocator + Copy>(
     sight: &Sight<'_, '_, A>,
     form: Form,
     parts: &[Tree<A>],
-    own: Option<ScriptError>,
-) -> Result<Kind, ScriptError> {
+    own: Option<Unread>,
+) -> Result<Kind, Unread> {
     match form {
         Form::Operation(Operator::And) => connected(sight, false, parts, own),
         Form::Operation(Operator::Or) => connected(sight, true, parts, own),
@@ -226,8 +224,8 @@ fn connected<A: Allocator + Copy>(
     sight: &Sight<'_, '_, A>,
     decisive: bool,
     sides: &[Tree<A>],
-    own: Option<ScriptError>,
-) -> Result<Kind, ScriptError> {
+    own: Option<Unread>,
+) -> Result<Kind, Unread> {
     if let [first, second] = sides {
         if decided(sight, first)? != decisive {
             kind_of(sight, second, Wanted::Truth, second.line())?;
@@ -241,8 +239,8 @@ fn connected<A: Allocator + Copy>(
 fn compared<A: Allocator + Copy>(
     sight: &Sight<'_, '_, A>,
     sides: &[Tree<A>],
-    own: Option<ScriptError>,
-) -> Result<Kind, ScriptError> {
+    own: Option<Unread>,
+) -> Result<Kind, Unread> {
     if let [first, second] = sides {
         let line = second.line();
         let first = kind_of(sight, first, Wanted::Comparable, first.line())?;
@@ -259,8 +257,8 @@ fn compared<A: Allocator + Copy>(
 fn numbers<A: Allocator + Copy>(
     sight: &Sight<'_, '_, A>,
     parts: &[Tree<A>],
-    own: Option<ScriptError>,
-) -> Result<Kind, ScriptError> {
+    own: Option<Unread>,
+) -> Result<Kind, Unread> {
     for part in parts {
         kind_of(sight, part, Wanted::Number, part.line())?;
     }
@@ -272,8 +270,8 @@ fn numbers<A: Allocator + Copy>(
 fn kind_of_members<A: Allocator + Copy>(
     sight: &Sight<'_, '_, A>,
     members: &[Tree<A>],
-    own: Option<ScriptError>,
-) -> Result<Kind, ScriptError> {
+    own: Option<Unread>,
+) -> Result<Kind, Unread> {
     let mut first = None;
     for member in members {
         let line = member.line();
@@ -297,7 +295,7 @@ fn kind_of_members<A: Allocator + Copy>(
 fn kind_of_productions<A: Allocator + Copy>(
     sight: &Sight<'_, '_, A>,
     events: &[Tree<A>],
-) -> Result<Kind, ScriptError> {
+) -> Result<Kind, Unread> {
     for event in events {
         kind_of_events(sight, event.line())?;
         event_in_set(sight, event, false)?;
@@ -311,7 +309,7 @@ pub(crate) fn event_in_set<A: Allocator + Copy>(
     sight: &Sight<'_, '_, A>,
     phrase: &Tree<A>,
     is_member: bool,
-) -> Result<(), ScriptError> {
+) -> Result<(), Unread> {
     let Tree::Node { line, form, parts } = phrase else {
         return Ok(());
     };
@@ -345,7 +343,7 @@ fn values_in_sets<A: Allocator + Copy>(
     sight: &Sight<'_, '_, A>,
     parts: &[Tree<A>],
     sets: &[Tree<A>],
-) -> Result<(), ScriptError> {
+) -> Result<(), Unread> {
     for (place, part) in parts.iter().enumerate() {
         let Some(set) = place.checked_sub(1) else {
             continue;
@@ -367,8 +365,8 @@ fn values_in_sets<A: Allocator + Copy>(
 fn kind_of_sets<A: Allocator + Copy>(
     sight: &Sight<'_, '_, A>,
     parts: &[Tree<A>],
-    own: Option<ScriptError>,
-) -> Result<Kind, ScriptError> {
+    own: Option<Unread>,
+) -> Result<Kind, Unread> {
     let [left, right] = parts else {
         return ended(own);
     };
@@ -392,7 +390,7 @@ fn kind_of_sets<A: Allocator + Copy>(
 pub(crate) fn without_conditions<'t, A: Allocator + Copy>(
     sight: &Sight<'_, '_, A>,
     phrase: &'t Tree<A>,
-) -> Result<&'t Tree<A>, ScriptError> {
+) -> Result<&'t Tree<A>, Unread> {
     let Tree::Node { form, parts, .. } = phrase else {
         return Ok(phrase);
     };

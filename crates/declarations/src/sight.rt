@@ -1,10 +1,10 @@
 //! What is known where a fault is looked for, and what single names are.
 
 use crate::kinds::Kind;
-use declared_names::{Entries, Meaning, Part, fault, part_of, worth_alone};
-use std::alloc::Allocator;
+use declared_names::{Entries, Meaning, Part, part_of, worth_alone};
+use std::alloc::{AllocError, Allocator};
 use syntax::Tree;
-use tokens::{ScriptError, ScriptErrorKind};
+use tokens::{ScriptErrorKind, Unread, fault};
 use values::{Input, Known, Value, Worth, is_value, stands_for};
 
 /// What was found of a definition.
@@ -13,7 +13,7 @@ pub(crate) enum Found {
     /// It wasn't looked into, or is being looked into.
     Nothing,
     Is(Kind),
-    Fault(ScriptError),
+    Fault(Unread),
 }
 
 /// What is known where a fault is looked for.
@@ -34,7 +34,7 @@ pub(crate) struct Sight<'s, 'a, A: Allocator> {
 const BUILT_IN: [&str; 8] = ["CHAOS", "RUN", "DIV", "WAIT", "Int", "Bool", "Char", "Proc"];
 
 /// What is reported of a name that isn't declared.
-pub(crate) fn undeclared(name: &[u8], line: u32) -> ScriptError {
+pub(crate) fn undeclared(name: &[u8], line: u32) -> Unread {
     for word in &BUILT_IN {
         if word.as_bytes() == name {
             return fault(line, ScriptErrorKind::Unsupported);
@@ -68,18 +68,18 @@ pub(crate) fn hides<A: Allocator>(sight: &Sight<'_, '_, A>, name: &[u8]) -> bool
 pub(crate) fn worth_here<A: Allocator + Copy>(
     sight: &Sight<'_, '_, A>,
     phrase: &Tree<A>,
-) -> Result<Worth<A>, ScriptError> {
+) -> Result<Worth<A>, Unread> {
     stands_for(&sight.alloc, sight.known, sight.inputs, phrase)
 }
 
-/// The truth that a phrase stands for after the inputs, if it is one. The error is out of memory alone.
+/// The truth that a phrase stands for after the inputs, if it is one. 
 pub(crate) fn truth_here<A: Allocator + Copy>(
     sight: &Sight<'_, '_, A>,
     phrase: &Tree<A>,
-) -> Result<Option<bool>, ScriptError> {
+) -> Result<Option<bool>, AllocError> {
     match worth_here(sight, phrase) {
         Ok(Worth::Truth(truth)) => Ok(Some(truth)),
-        Err(error) if error.kind == ScriptErrorKind::Memory => Err(error),
+        Err(Unread::Memory) => Err(AllocError),
         _ => Ok(None),
     }
 }
@@ -89,7 +89,7 @@ fn kind_found<A: Allocator>(
     sight: &Sight<'_, '_, A>,
     name: &[u8],
     line: u32,
-) -> Result<Kind, ScriptError> {
+) -> Result<Kind, Unread> {
     let Some(place) = sight.entries.place(name) else {
         return Err(undeclared(name, line));
     };
@@ -106,7 +106,7 @@ pub(crate) fn kind_of_name<A: Allocator + Copy>(
     sight: &Sight<'_, '_, A>,
     name: &[u8],
     line: u32,
-) -> Result<Kind, ScriptError> {
+) -> Result<Kind, Unread> {
     let Some(entry) = sight.entries.get(name) else {
         return Err(undeclared(name, line));
     };
@@ -124,7 +124,7 @@ pub(crate) fn kind_of_event<A: Allocator + Copy>(
     sight: &Sight<'_, '_, A>,
     parts: &[Tree<A>],
     line: u32,
-) -> Result<Kind, ScriptError> {
+) -> Result<Kind, Unread> {
     let [first, fields @ ..] = parts else {
         return Err(fault(line, ScriptErrorKind::Expected));
     };
@@ -151,7 +151,7 @@ pub(crate) fn kind_of_call<A: Allocator + Copy>(
     sight: &Sight<'_, '_, A>,
     parts: &[Tree<A>],
     line: u32,
-) -> Result<Kind, ScriptError> {
+) -> Result<Kind, Unread> {
     let [first, arguments @ ..] = parts else {
         return Err(fault(line, ScriptErrorKind::Expected));
     };
@@ -176,7 +176,7 @@ pub(crate) fn kind_of_call<A: Allocator + Copy>(
 pub(crate) fn kind_of_events<A: Allocator>(
     sight: &Sight<'_, '_, A>,
     line: u32,
-) -> Result<Kind, ScriptError> {
+) -> Result<Kind, Unread> {
     if sight.has_events {
         Ok(Kind::Events)
     } else {
@@ -189,7 +189,7 @@ pub(crate) fn field_sets<'a, A: Allocator + Copy>(
     sight: &Sight<'_, 'a, A>,
     name: &Tree<A>,
     line: u32,
-) -> Result<&'a [Tree<A>], ScriptError> {
+) -> Result<&'a [Tree<A>], Unread> {
     let Part::Name(name) = part_of(name) else {
         return Err(fault(line, ScriptErrorKind::Expected));
     };
@@ -210,7 +210,7 @@ pub(crate) fn is_in<A: Allocator + Copy>(
     sight: &Sight<'_, '_, A>,
     value: &Tree<A>,
     set: Option<&Tree<A>>,
-) -> Result<bool, ScriptError> {
+) -> Result<bool, Unread> {
     let Some(set) = set else {
         return Ok(false);
     };

@@ -7,7 +7,6 @@ ghost use Rattle.alphabet.specs.Stored.{value_of as field_value_of, field_of, ch
 ghost use Rattle.syntax.specs.Grammar.{NoSyntax, MoreSyntax};
 ghost use Rattle.syntax.specs.Parsing.{syntaxes};
 ghost use Rattle.syntax.specs.View.{shape, shapes};
-ghost use Rattle.values.specs.Channels.{fields_of as fields_in};
 ghost use Rattle.values.specs.Tables.{table};
 ghost use Rattle.values.specs.View.{Gives, value as value_of, values as values_of};
 ghost use Rattle.alphabet.specs.Channels.{are_apart};
@@ -15,12 +14,10 @@ ghost use Rattle.declared_names.specs.Steps.{steps};
 ghost use Rattle.declarations.specs.Sigma.{add_field, enter, enter_name, enter_names, enter_channels, enter_fielded, enter_form, enter_declaration, AreParted, KeepNames, KeepList, KeepParts, KeepDeclared};
 
 use alphabet::{Alphabet, AlphabetError, Field, Value as FieldValue};
-use declared_names::{
-    Part, fault, name_list, no_parts, only_part, part_of, set_list, two_parts, worth_alone,
-};
+use declared_names::{Part, name_list, no_parts, only_part, part_of, set_list, two_parts, worth_alone};
 use std::alloc::{AllocError, Allocator};
 use syntax::{Form, Tree};
-use tokens::{ScriptError, ScriptErrorKind};
+use tokens::{ScriptErrorKind, Unread, fault};
 use values::{Known, Value, Values, the_set};
 
 /// The value as one of a field.
@@ -54,7 +51,7 @@ fn with_field<A: Allocator + Copy>(
     known: &Known<A>,
     fields: Vec<Field<A>, A>,
     set: &Tree<A>,
-) -> Result<Vec<Field<A>, A>, ScriptError>
+) -> Result<Vec<Field<A>, A>, Unread>
     requires { list_all is_rising (map field_of fields.items) ≡ true }
     ensures fields { Gives (λ v. map field_of v.items) result (add_field (table known.now) (map field_of fields.items) (shape set.now)) }
     ensures rising { IfOk result (λ v. list_all is_rising (map field_of v.items) ≡ true) }
@@ -72,7 +69,7 @@ fn fields_of<A: Allocator + Copy>(
     alloc: A,
     known: &Known<A>,
     sets: &[Tree<A>],
-) -> Result<Vec<Field<A>, A>, ScriptError>
+) -> Result<Vec<Field<A>, A>, Unread>
     ensures fields { Gives (λ v. map field_of v.items) result (steps (add_field (table known.now)) [] (syntaxes (shapes sets.now))) }
     ensures rising { IfOk result (λ v. list_all is_rising (map field_of v.items) ≡ true) }
 {
@@ -89,7 +86,7 @@ fn with_channel<A: Allocator + Copy>(
     name: &[u8],
     line: u32,
     fields: &[Field<A>],
-) -> Result<Alphabet<A>, ScriptError>
+) -> Result<Alphabet<A>, Unread>
     requires named { IsTrue (is_name name.now) }
     requires in_order { IsTrue (list_all is_field (map field_of fields.now)) }
     requires apart { IsTrue (are_apart (alphabet ++ channel_of name.now fields.now ∷ [])) }
@@ -100,7 +97,7 @@ fn with_channel<A: Allocator + Copy>(
         Ok(()) => Ok(alphabet),
         Err(AlphabetError::Redeclared) => Err(fault(line, ScriptErrorKind::Redeclared)),
         Err(AlphabetError::TooManyEvents) => Err(fault(line, ScriptErrorKind::TooManyEvents)),
-        Err(AlphabetError::Memory) => Err(fault(1, ScriptErrorKind::Memory)),
+        Err(AlphabetError::Memory) => Err(Unread::Memory),
     }
 }
 
@@ -110,7 +107,7 @@ fn with_channel_of<A: Allocator + Copy>(
     alphabet: Alphabet<A>,
     name: &Tree<A>,
     fields: &[Field<A>],
-) -> Result<Alphabet<A>, ScriptError>
+) -> Result<Alphabet<A>, Unread>
     requires { AreParted alphabet (MoreSyntax (shape name.now) NoSyntax) (map field_of fields.now) }
     ensures { Gives (λ a. a) result (enter_name (map field_of fields.now) alphabet (shape name.now)) }
 {
@@ -126,7 +123,7 @@ fn with_channels<A: Allocator + Copy>(
     alphabet: Alphabet<A>,
     names: &[Tree<A>],
     fields: &[Field<A>],
-) -> Result<Alphabet<A>, ScriptError>
+) -> Result<Alphabet<A>, Unread>
     requires { AreParted alphabet (syntaxes (shapes names.now)) (map field_of fields.now) }
     ensures { Gives (λ a. a) result (steps (enter_name (map field_of fields.now)) alphabet (syntaxes (shapes names.now))) }
 {
@@ -144,7 +141,7 @@ fn with_names<A: Allocator + Copy>(
     alphabet: Alphabet<A>,
     names: &[Tree<A>],
     sets: &[Tree<A>],
-) -> Result<Alphabet<A>, ScriptError>
+) -> Result<Alphabet<A>, Unread>
     requires { KeepNames (table known.now) alphabet (syntaxes (shapes names.now)) }
     ensures { Gives (λ a. a) result (enter_names (table known.now) (syntaxes (shapes sets.now)) alphabet (syntaxes (shapes names.now))) }
 {
@@ -163,7 +160,7 @@ fn with_list<A: Allocator + Copy>(
     alphabet: Alphabet<A>,
     names: &Tree<A>,
     sets: &[Tree<A>],
-) -> Result<Alphabet<A>, ScriptError>
+) -> Result<Alphabet<A>, Unread>
     requires { KeepList (table known.now) alphabet (shape names.now) }
     ensures { Gives (λ a. a) result (enter_channels (table known.now) alphabet (shape names.now) (syntaxes (shapes sets.now))) }
 {
@@ -179,7 +176,7 @@ fn with_fielded<A: Allocator + Copy>(
     alphabet: Alphabet<A>,
     names: &Tree<A>,
     sets: &Tree<A>,
-) -> Result<Alphabet<A>, ScriptError>
+) -> Result<Alphabet<A>, Unread>
     requires { KeepList (table known.now) alphabet (shape names.now) }
     ensures { Gives (λ a. a) result (enter_fielded (table known.now) alphabet (shape names.now) (shape sets.now)) }
 {
@@ -196,7 +193,7 @@ fn with_form<A: Allocator + Copy>(
     form: Form,
     parts: &[Tree<A>],
     line: u32,
-) -> Result<Alphabet<A>, ScriptError>
+) -> Result<Alphabet<A>, Unread>
     requires { KeepParts (table known.now) alphabet form (syntaxes (shapes parts.now)) }
     ensures { Gives (λ a. a) result (enter_form (table known.now) alphabet form (syntaxes (shapes parts.now))) }
 {
@@ -220,7 +217,7 @@ fn with_declaration<A: Allocator + Copy>(
     known: &Known<A>,
     alphabet: Alphabet<A>,
     declaration: &Tree<A>,
-) -> Result<Alphabet<A>, ScriptError>
+) -> Result<Alphabet<A>, Unread>
     requires { KeepDeclared (table known.now) alphabet (MoreSyntax (shape declaration.now) NoSyntax) }
     ensures { Gives (λ a. a) result (enter_declaration (table known.now) alphabet (shape declaration.now)) }
 {
@@ -238,7 +235,7 @@ pub(crate) fn alphabet_of<A: Allocator + Copy>(
     alloc: A,
     known: &Known<A>,
     declarations: &[Tree<A>],
-) -> Result<Alphabet<A>, ScriptError>
+) -> Result<Alphabet<A>, Unread>
     requires { KeepDeclared (table known.now) [] (syntaxes (shapes declarations.now)) }
     ensures { Gives (λ a. a) result (steps (enter_declaration (table known.now)) [] (syntaxes (shapes declarations.now))) }
 {

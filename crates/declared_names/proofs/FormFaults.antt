@@ -1,17 +1,17 @@
 -- Where the declarations of a form aren't entered.
 use Rattle.std.proofs.Common.{◌≡◌, List, None, ap, ◌∙◌, refl}
-use Rattle.tokens.specs.declared.error.ScriptErrorKind.{ScriptErrorKind}
+use Rattle.tokens.specs.declared.unread.Unread.{Unread}
 use Rattle.syntax.specs.declared.form.Form.{Form}
 use Rattle.syntax.specs.declared.form.Form.TheVariants as forms
 use Rattle.syntax.specs.Grammar.{Syntaxes, NoSyntax}
 use Rattle.values.specs.Values.{◌>>=◌}
 use Rattle.values.specs.Names.{Entry}
 use Rattle.values.specs.View.{Fails}
-use Rattle.values.proofs.Lists.{fails_on}
 use Rattle.declared_names.specs.Steps.{only_of, two_of, three_of}
+use Rattle.syntax.proofs.FaultKinds.{fails_on}
 use Rattle.declared_names.specs.Entering.{put_channels, put_fielded, put_typed, put_defined, put_parametric, put_form}
 
-module _ (k : ScriptErrorKind) (es : List Entry) (f : Form) (ts : Syntaxes) where
+module _ (k : Unread) (es : List Entry) (f : Form) (ts : Syntaxes) where
   pub in_channels : f ≡ forms.Channels → Fails k (only_of ts) → Fails k (put_form es f ts)
   unfolding put_form
   in_channels h e = fails_on k (only_of ts) (put_form es f ts) (λ n. ap (λ g. put_form es g ts) h ∙ ap (λ o. o >>= λ t. put_channels es t NoSyntax) n) e

@@ -4,14 +4,10 @@ use Rattle.std.specs.Option.{option_map}
 use Rattle.std.proofs.lemmas.Bool.Decides.{eqb_tells}
 use Rattle.std.specs.Prelude.{slice_get}
 use Rattle.std.specs.Cmp.Lexicographic.{bytes_decides}
-use Rattle.tokens.specs.declared.error.ScriptErrorKind.{ScriptErrorKind}
-use Rattle.tokens.specs.declared.error.ScriptErrorKind.TheVariants.{Memory}
-use Rattle.values.specs.View.{Fails}
 use Rattle.values.specs.Values.{◌>>=◌, Name}
 use Rattle.values.specs.Worths.{Worth, Known}
 use Rattle.values.specs.Names.{Entry, Meaning, same_name, meaning, worth_of, known_in, next_known, IsReached, IsWithin, Stands}
 use Rattle.values.proofs.Named.{later_steps, sound_step, stands_by_steps}
-use Rattle.declared_names.proofs.FaultKinds.{none_wanted}
 use Rattle.declared_names.specs.Standing.{IsSettled, lacking, Learns, LearnsFirst, LearnsAll}
 
 some_same : {X : Type 0} {x y : X} → Some x ≡ Some y → x ≡ y
@@ -181,7 +177,3 @@ all_settled es f h n w e =
 pub stands : (es : List Entry) (f g : Known) → IsReached es f → LearnsAll es f g false → Stands es g
 stands es f g h l =
     subst (Stands es) (sym l.0) (stands_by_steps es f h (all_settled es f l.1))
-
--- a name whose definition is at fault
-pub settled_fault : (k : ScriptErrorKind) (es : List Entry) (f : Known) (n : Name) → (k ≡ Memory → ⊥) → Fails k (next_known es f n) → IsSettled es f n
-settled_fault k es f n h e = settled_none es f n (none_wanted k (next_known es f n) h e)

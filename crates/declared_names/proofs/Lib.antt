@@ -1,5 +1,4 @@
 pub mod Chains
-pub mod FaultKinds
 pub mod Shapes
 pub mod Loops
 pub mod Tables

@@ -2,11 +2,11 @@
 
 use crate::entries::Hashing;
 use crate::naming::name_list;
-use crate::part::{Part, fault, part_of};
+use crate::part::{Part, part_of};
 use indexmap::IndexSet;
 use std::alloc::Allocator;
 use syntax::{Form, Tree};
-use tokens::{ScriptError, ScriptErrorKind};
+use tokens::{ScriptErrorKind, Unread, fault};
 
 type Names<'a, A> = IndexSet<&'a [u8], Hashing, A>;
 
@@ -14,7 +14,7 @@ type Names<'a, A> = IndexSet<&'a [u8], Hashing, A>;
 fn put_new<'a, A: Allocator + Copy>(
     names: &mut Names<'a, A>,
     name: &'a Tree<A>,
-) -> Result<(), ScriptError> {
+) -> Result<(), Unread> {
     if let Part::Name(text) = part_of(name) {
         if !names.insert(text)? {
             return Err(fault(name.line(), ScriptErrorKind::Redeclared));
@@ -27,7 +27,7 @@ fn put_new<'a, A: Allocator + Copy>(
 fn put_all_new<'a, A: Allocator + Copy>(
     names: &mut Names<'a, A>,
     more: &'a [Tree<A>],
-) -> Result<(), ScriptError> {
+) -> Result<(), Unread> {
     for name in more {
         put_new(names, name)?;
     }
@@ -38,7 +38,7 @@ fn put_all_new<'a, A: Allocator + Copy>(
 fn put_constants<'a, A: Allocator + Copy>(
     names: &mut Names<'a, A>,
     declaration: &'a Tree<A>,
-) -> Result<(), ScriptError> {
+) -> Result<(), Unread> {
     if let Part::Node(Form::Datatype, [_, constants]) = part_of(declaration) {
         for constant in name_list(constants)? {
             if let Part::Name(text) = part_of(constant) {
@@ -54,7 +54,7 @@ fn look_at_parameter<'a, A: Allocator + Copy>(
     constants: &Names<'a, A>,
     earlier: &mut Names<'a, A>,
     parameter: &'a Tree<A>,
-) -> Result<(), ScriptError> {
+) -> Result<(), Unread> {
     put_new(earlier, parameter)?;
     match part_of(parameter) {
         Part::Name(text) if constants.contains(text) => {
@@ -70,7 +70,7 @@ fn look_at_parameters<'a, A: Allocator + Copy>(
     alloc: A,
     constants: &Names<'a, A>,
     parameters: &'a [Tree<A>],
-) -> Result<(), ScriptError> {
+) -> Result<(), Unread> {
     let mut earlier = IndexSet::new(alloc);
     for parameter in parameters {
         look_at_parameter(constants, &mut earlier, parameter)?;
@@ -84,7 +84,7 @@ fn put_declared<'a, A: Allocator + Copy>(
     constants: &Names<'a, A>,
     names: &mut Names<'a, A>,
     declaration: &'a Tree<A>,
-) -> Result<(), ScriptError> {
+) -> Result<(), Unread> {
     let Part::Node(form, parts) = part_of(declaration) else {
         return Ok(());
     };
@@ -112,7 +112,7 @@ fn look_at_names<'a, A: Allocator + Copy>(
     alloc: A,
     constants: &Names<'a, A>,
     declarations: &'a [Tree<A>],
-) -> Result<(), ScriptError> {
+) -> Result<(), Unread> {
     let mut names = IndexSet::new(alloc);
     for declaration in declarations {
         put_declared(alloc, constants, &mut names, declaration)?;
@@ -124,7 +124,7 @@ fn look_at_names<'a, A: Allocator + Copy>(
 fn look_through<'a, A: Allocator + Copy>(
     alloc: A,
     declarations: &'a [Tree<A>],
-) -> Result<(), ScriptError> {
+) -> Result<(), Unread> {
     let mut constants = IndexSet::new(alloc);
     for declaration in declarations {
         put_constants(&mut constants, declaration)?;
@@ -135,7 +135,7 @@ fn look_through<'a, A: Allocator + Copy>(
 /// The first fault in the names that a script with this tree declares, where names are declared twice or parameters aren't as
 /// they have to be: `Redeclared` at a name or a parameter that is given for the second time, `Unsupported` at a parameter
 /// with the name of a constant; `Memory` where it can't be looked for. Costs a few look-ups by its hash for each name.
-pub fn fault_of_names<A: Allocator + Copy>(tree: &Tree<A>) -> ScriptError {
+pub fn fault_of_names<A: Allocator + Copy>(tree: &Tree<A>) -> Unread {
     if let Tree::Node { parts, .. } = tree {
         if let Err(error) = look_through(*parts.allocator(), parts) {
             return error;

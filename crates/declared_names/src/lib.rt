@@ -21,6 +21,6 @@ pub use named::has_names;
 pub use naming::{declarations_of, distinct_entries, name_list, set_list};
 pub use order::places_by_use;
 pub use parameters::parameters_fit;
-pub use part::{Part, fault, no_parts, only_part, part_of, two_parts, worth_alone};
+pub use part::{Part, no_parts, only_part, part_of, two_parts, worth_alone};
 pub use processes::{Answer, answer_of, is_process_form};
 pub use standing::table_of_names;

@@ -9,10 +9,9 @@ ghost use Rattle.declared_names.specs.Told.{name_in};
 ghost use Rattle.declared_names.specs.View.{entries as entries_of, meaning_of};
 
 use crate::entries::{Entries, Entry, Meaning, Table};
-use crate::part::fault;
 use crate::told::answers;
 use std::alloc::Allocator;
-use tokens::{ScriptError, ScriptErrorKind};
+use tokens::{ScriptErrorKind, Unread, fault};
 
 /// Enters the name after the others; `Redeclared` where it is among them.
 #[tactic(auto, unfolding(crate::specs::Entering::put), using(crate::proofs::Tables::is_there, crate::proofs::Tables::appended))]
@@ -21,7 +20,7 @@ pub(crate) fn enter<'a, A: Allocator + Copy>(
     name: &[u8],
     line: u32,
     meaning: Meaning<'a, A>,
-) -> Result<(), ScriptError>
+) -> Result<(), Unread>
     ensures { Gives (λ _. listed table.new.entries) result (put (listed table.old.entries) (name.now, meaning_of meaning.entry)) }
 {
     if table.contains_key(name) {
@@ -34,7 +33,7 @@ pub(crate) fn enter<'a, A: Allocator + Copy>(
 
 impl<'a, A: Allocator + Copy> Entries<'a, A> {
     /// The names in the table, with what can be found of them all at once.
-    pub(crate) fn complete(alloc: A, table: Table<'a, A>) -> Result<Entries<'a, A>, ScriptError>
+    pub(crate) fn complete(alloc: A, table: Table<'a, A>) -> Result<Entries<'a, A>, Unread>
         ensures { Gives entries_of result (Some (listed table.entry.entries)) }
     {
         let entries = Entries {

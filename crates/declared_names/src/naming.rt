@@ -11,15 +11,15 @@ ghost use Rattle.declared_names.specs.Entering.{add_name, list_parts, put_name, 
 
 use crate::entries::{Entries, Meaning, Table};
 use crate::names::enter;
-use crate::part::{Part, fault, no_parts, only_part, part_of, three_parts, two_parts};
+use crate::part::{Part, no_parts, only_part, part_of, three_parts, two_parts};
 use indexmap::IndexMap;
 use std::alloc::Allocator;
 use syntax::{Form, Tree};
-use tokens::{ScriptError, ScriptErrorKind};
+use tokens::{ScriptErrorKind, Unread, fault};
 
 /// The parts of a list of names, as of channels, of a datatype's constants or of parameters; `Expected` where it is none.
 #[tactic(auto, unfolding(crate::specs::Entering::list_parts))]
-pub fn name_list<A: Allocator>(tree: &Tree<A>) -> Result<&[Tree<A>], ScriptError>
+pub fn name_list<A: Allocator>(tree: &Tree<A>) -> Result<&[Tree<A>], Unread>
     ensures { Gives (λ ts. syntaxes (shapes ts.now)) result (list_parts (shape tree.now)) }
 {
     match part_of(tree) {
@@ -33,7 +33,7 @@ pub fn name_list<A: Allocator>(tree: &Tree<A>) -> Result<&[Tree<A>], ScriptError
 
 /// The sets of a channel's fields, as they are written; `Expected` where the tree is no list of them.
 #[tactic(auto, unfolding(values::specs::Names::field_sets))]
-pub fn set_list<A: Allocator>(tree: &Tree<A>) -> Result<&[Tree<A>], ScriptError>
+pub fn set_list<A: Allocator>(tree: &Tree<A>) -> Result<&[Tree<A>], Unread>
     ensures { Gives (λ ts. syntaxes (shapes ts.now)) result (field_sets (shape tree.now)) }
 {
     match part_of(tree) {
@@ -61,7 +61,7 @@ fn enter_name<'a, A: Allocator + Copy>(
     table: &mut Table<'a, A>,
     name: &'a Tree<A>,
     sets: Option<&'a [Tree<A>]>,
-) -> Result<(), ScriptError>
+) -> Result<(), Unread>
     ensures { Gives (λ _. listed table.new.entries) result (put_name (role sets.entry) (listed table.old.entries) (shape name.now)) }
 {
     match part_of(name) {
@@ -76,7 +76,7 @@ fn enter_names<'a, A: Allocator + Copy>(
     table: &mut Table<'a, A>,
     names: &'a [Tree<A>],
     sets: Option<&'a [Tree<A>]>,
-) -> Result<(), ScriptError>
+) -> Result<(), Unread>
     ensures { Gives (λ _. listed table.new.entries) result (steps (put_name (role sets.entry)) (listed table.old.entries) (syntaxes (shapes names.now))) }
 {
     for name in names {
@@ -91,7 +91,7 @@ fn push_name<A: Allocator + Copy>(
     alloc: A,
     names: &mut Vec<Vec<u8, A>, A>,
     part: &Tree<A>,
-) -> Result<(), ScriptError>
+) -> Result<(), Unread>
     ensures { Gives (λ _. map (λ n. n.items) names.new.items) result (add_name (map (λ n. n.items) names.old.items) (shape part.now)) }
 {
     match part_of(part) {
@@ -107,7 +107,7 @@ fn push_name<A: Allocator + Copy>(
 fn names_in<A: Allocator + Copy>(
     alloc: A,
     parts: &[Tree<A>],
-) -> Result<Vec<Vec<u8, A>, A>, ScriptError>
+) -> Result<Vec<Vec<u8, A>, A>, Unread>
     ensures { Gives (λ v. map (λ n. n.items) v.items) result (steps add_name [] (syntaxes (shapes parts.now))) }
 {
     let mut names = Vec::new(alloc);
@@ -123,7 +123,7 @@ fn enter_channels<'a, A: Allocator + Copy>(
     table: &mut Table<'a, A>,
     names: &'a Tree<A>,
     sets: &'a [Tree<A>],
-) -> Result<(), ScriptError>
+) -> Result<(), Unread>
     ensures { Gives (λ _. listed table.new.entries) result (put_channels (listed table.old.entries) (shape names.now) (syntaxes (shapes sets.now))) }
 {
     let names = name_list(names)?;
@@ -136,7 +136,7 @@ fn enter_fielded<'a, A: Allocator + Copy>(
     table: &mut Table<'a, A>,
     names: &'a Tree<A>,
     sets: &'a Tree<A>,
-) -> Result<(), ScriptError>
+) -> Result<(), Unread>
     ensures { Gives (λ _. listed table.new.entries) result (put_fielded (listed table.old.entries) (shape names.now) (shape sets.now)) }
 {
     let sets = set_list(sets)?;
@@ -151,7 +151,7 @@ fn enter_datatype<'a, A: Allocator + Copy>(
     name: &[u8],
     line: u32,
     constants: &'a [Tree<A>],
-) -> Result<(), ScriptError>
+) -> Result<(), Unread>
     ensures { Gives (λ _. listed table.new.entries) result (put_datatype (listed table.old.entries) name.now (syntaxes (shapes constants.now))) }
 {
     let names = names_in(alloc, constants)?;
@@ -166,7 +166,7 @@ fn enter_typed<'a, A: Allocator + Copy>(
     table: &mut Table<'a, A>,
     name: &'a Tree<A>,
     constants: &'a Tree<A>,
-) -> Result<(), ScriptError>
+) -> Result<(), Unread>
     ensures { Gives (λ _. listed table.new.entries) result (put_typed (listed table.old.entries) (shape name.now) (shape constants.now)) }
 {
     match part_of(name) {
@@ -184,7 +184,7 @@ fn enter_defined<'a, A: Allocator + Copy>(
     table: &mut Table<'a, A>,
     name: &'a Tree<A>,
     body: &'a Tree<A>,
-) -> Result<(), ScriptError>
+) -> Result<(), Unread>
     ensures { Gives (λ _. listed table.new.entries) result (put_defined (listed table.old.entries) (shape name.now) (shape body.now)) }
 {
     match part_of(name) {
@@ -201,7 +201,7 @@ fn enter_parametric<'a, A: Allocator + Copy>(
     name: &'a Tree<A>,
     parameters: &'a Tree<A>,
     body: &'a Tree<A>,
-) -> Result<(), ScriptError>
+) -> Result<(), Unread>
     ensures { Gives (λ _. listed table.new.entries) result (put_parametric (listed table.old.entries) (shape name.now) (shape parameters.now) (shape body.now)) }
 {
     match part_of(name) {
@@ -227,7 +227,7 @@ fn enter_form<'a, A: Allocator + Copy>(
     form: Form,
     parts: &'a [Tree<A>],
     line: u32,
-) -> Result<(), ScriptError>
+) -> Result<(), Unread>
     ensures { Gives (λ _. listed table.new.entries) result (put_form (listed table.old.entries) form (syntaxes (shapes parts.now))) }
 {
     match form {
@@ -261,7 +261,7 @@ fn enter_declaration<'a, A: Allocator + Copy>(
     alloc: A,
     table: &mut Table<'a, A>,
     declaration: &'a Tree<A>,
-) -> Result<(), ScriptError>
+) -> Result<(), Unread>
     ensures { Gives (λ _. listed table.new.entries) result (put_declaration (listed table.old.entries) (shape declaration.now)) }
 {
     match part_of(declaration) {
@@ -276,7 +276,7 @@ fn enter_declarations<'a, A: Allocator + Copy>(
     alloc: A,
     table: &mut Table<'a, A>,
     declarations: &'a [Tree<A>],
-) -> Result<(), ScriptError>
+) -> Result<(), Unread>
     ensures { Gives (λ _. listed table.new.entries) result (steps put_declaration (listed table.old.entries) (syntaxes (shapes declarations.now))) }
 {
     for declaration in declarations {
@@ -287,7 +287,7 @@ fn enter_declarations<'a, A: Allocator + Copy>(
 
 /// The declarations of a script; `Expected` where the tree is none of a script.
 #[tactic(auto, unfolding(crate::specs::Entering::script_parts))]
-pub fn declarations_of<A: Allocator>(tree: &Tree<A>) -> Result<&[Tree<A>], ScriptError>
+pub fn declarations_of<A: Allocator>(tree: &Tree<A>) -> Result<&[Tree<A>], Unread>
     ensures { Gives (λ ts. syntaxes (shapes ts.now)) result (script_parts (shape tree.now)) }
 {
     match part_of(tree) {
@@ -304,7 +304,7 @@ pub fn declarations_of<A: Allocator>(tree: &Tree<A>) -> Result<&[Tree<A>], Scrip
 pub fn distinct_entries<'a, A: Allocator + Copy>(
     alloc: A,
     tree: &'a Tree<A>,
-) -> Result<Entries<'a, A>, ScriptError>
+) -> Result<Entries<'a, A>, Unread>
     ensures { Gives entries_of result (distinct_entries_of (shape tree.now)) }
 {
     let declarations = declarations_of(tree)?;

@@ -11,7 +11,7 @@ ghost use Rattle.declared_names.specs.View.{part_shape};
 
 use std::alloc::Allocator;
 use syntax::{Form, Tree};
-use tokens::{ScriptError, ScriptErrorKind};
+use tokens::{ScriptErrorKind, Unread, fault};
 use values::{Known, Worth, stands_for};
 
 /// What a tree is, one level of it.
@@ -37,16 +37,9 @@ pub fn part_of<A: Allocator>(tree: &Tree<A>) -> Part<'_, A>
     }
 }
 
-/// The fault on this line.
-pub fn fault(line: u32, kind: ScriptErrorKind) -> ScriptError
-    ensures { result.kind ≡ kind }
-{
-    ScriptError { line, kind }
-}
-
 /// The only part; `Expected` on this line where there is another number of parts.
 #[tactic(auto, using(crate::proofs::Shapes::is_only, crate::proofs::Shapes::not_only))]
-pub fn only_part<A: Allocator>(parts: &[Tree<A>], line: u32) -> Result<&Tree<A>, ScriptError>
+pub fn only_part<A: Allocator>(parts: &[Tree<A>], line: u32) -> Result<&Tree<A>, Unread>
     ensures { Gives (λ t. shape t.now) result (only_of (syntaxes (shapes parts.now))) }
 {
     match parts {
@@ -60,7 +53,7 @@ pub fn only_part<A: Allocator>(parts: &[Tree<A>], line: u32) -> Result<&Tree<A>,
 pub fn two_parts<A: Allocator>(
     parts: &[Tree<A>],
     line: u32,
-) -> Result<(&Tree<A>, &Tree<A>), ScriptError>
+) -> Result<(&Tree<A>, &Tree<A>), Unread>
     ensures { Gives {Y = Syntax × Syntax} (λ p. (shape p.0.now, shape p.1.now)) result (two_of (syntaxes (shapes parts.now))) }
 {
     match parts {
@@ -74,7 +67,7 @@ pub fn two_parts<A: Allocator>(
 pub(crate) fn three_parts<A: Allocator>(
     parts: &[Tree<A>],
     line: u32,
-) -> Result<(&Tree<A>, &Tree<A>, &Tree<A>), ScriptError>
+) -> Result<(&Tree<A>, &Tree<A>, &Tree<A>), Unread>
     ensures { Gives {Y = Syntax × Syntax × Syntax} (λ p. (shape p.0.now, shape p.1.now, shape p.2.now)) result (three_of (syntaxes (shapes parts.now))) }
 {
     match parts {
@@ -96,7 +89,7 @@ pub fn worth_alone<A: Allocator + Copy>(
     alloc: A,
     known: &Known<A>,
     phrase: &Tree<A>,
-) -> Result<Worth<A>, ScriptError>
+) -> Result<Worth<A>, Unread>
     ensures { Gives worth_of result (worth_in (table known.now) (shape phrase.now)) }
 {
     let none = Vec::new(alloc);

@@ -1,6 +1,5 @@
 //! What the declared names stand for.
-ghost use Rattle.std.specs.Prelude.{◌≡◌, IfOk, MatchResult, OnOk};
-ghost use Rattle.tokens.specs.declared.error.ScriptErrorKind.TheVariants.{Memory};
+ghost use Rattle.std.specs.Prelude.{IfOk, OnOk};
 ghost use Rattle.values.specs.Names.{worth_of as worth_of_meaning, next_known, IsReached, Stands};
 ghost use Rattle.values.specs.Tables.{table};
 ghost use Rattle.values.specs.View.{Gives, worth as worth_of};
@@ -9,9 +8,9 @@ ghost use Rattle.declared_names.specs.Standing.{Learns, LearnsAll};
 
 use crate::entries::{Entries, Entry, Meaning};
 use crate::order::places_by_use;
-use crate::part::{fault, worth_alone};
+use crate::part::worth_alone;
 use std::alloc::{AllocError, Allocator};
-use tokens::{ScriptError, ScriptErrorKind};
+use tokens::{ScriptErrorKind, Unread, fault};
 use values::{Known, Value, Worth, constant_set};
 
 /// What a declared name means, where names mean what the table says.
@@ -21,7 +20,7 @@ fn worth_of_entry<'a, A: Allocator + Copy>(
     known: &Known<A>,
     name: &[u8],
     entry: &Entry<'a, A>,
-) -> Result<Worth<A>, ScriptError>
+) -> Result<Worth<A>, Unread>
     ensures { Gives worth_of result (worth_of_meaning (table known.now) name.now (meaning_of entry.now.meaning)) }
 {
     match &entry.meaning {
@@ -43,7 +42,7 @@ fn next_worth<'a, A: Allocator + Copy>(
     entries: &Entries<'a, A>,
     known: &Known<A>,
     name: &[u8],
-) -> Result<Worth<A>, ScriptError>
+) -> Result<Worth<A>, Unread>
     ensures { Gives worth_of result (next_known (entries_of entries.now) (table known.now) name.now) }
 {
     match entries.get(name) {
@@ -70,10 +69,8 @@ fn learn<'a, A: Allocator + Copy>(
             known.insert(Vec::from_slice(alloc, name)?, worth)?;
             Ok(true)
         }
-        Err(error) => match error.kind {
-            ScriptErrorKind::Memory => Err(AllocError),
-            _ => Ok(false),
-        },
+        Err(Unread::Fault(_)) => Ok(false),
+        Err(Unread::Memory) => Err(AllocError),
     }
 }
 
@@ -136,8 +133,8 @@ fn settle<'a, A: Allocator + Copy>(
 pub fn table_of_names<'a, A: Allocator + Copy>(
     alloc: A,
     entries: &Entries<'a, A>,
-) -> Result<Known<A>, ScriptError>
-    ensures { MatchResult result (λ k. Stands (entries_of entries.now) (table k)) (λ e. e.kind ≡ Memory) }
+) -> Result<Known<A>, AllocError>
+    ensures { IfOk result (λ k. Stands (entries_of entries.now) (table k)) }
 {
     let places = places_by_use(alloc, entries)?;
     let mut known = Known::new(alloc);

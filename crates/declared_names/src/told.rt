@@ -1,5 +1,5 @@
 //! Which names may be those of processes, found for all names at once.
-ghost use Rattle.std.specs.Prelude.{◌≡◌, ℕ, suc, Bool, true, ◌<◌, length, IfOk, MatchOption};
+ghost use Rattle.std.specs.Prelude.{◌≡◌, ℕ, suc, true, ◌<◌, length, IfOk, MatchOption};
 ghost use Rattle.declared_names.specs.Told.{AreAnswers, AreTold, IsAnswer, LeadsOn, MayLeadOn, count_told, told_in};
 ghost use Rattle.declared_names.specs.View.{entries as entries_of};
 

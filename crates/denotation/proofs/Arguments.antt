@@ -5,7 +5,7 @@ use Rattle.syntax.specs.Grammar.{Syntax}
 use Rattle.syntax.specs.Parsing.{syntaxes}
 use Rattle.syntax.specs.View.{shape, shapes}
 use Rattle.syntax.specs.declared.tree.Tree.{Tree}
-use Rattle.tokens.specs.declared.error.ScriptErrorKind.{ScriptErrorKind}
+use Rattle.tokens.specs.declared.unread.Unread.{Unread}
 use Rattle.values.specs.Values.{◌>>=◌, Name}
 use Rattle.values.specs.Worths.{Known, worth, the_value}
 use Rattle.values.specs.Names.{Meaning, channel, datatype, constant_name, definition, parametric, meaning}
@@ -15,11 +15,12 @@ use Rattle.values.specs.declared.value.Value.{Value}
 use Rattle.event_phrases.specs.Scopes.{Scope}
 use Rattle.event_phrases.specs.View.{listed}
 use Rattle.event_phrases.proofs.EventNumbers.{drop_item, drop_none}
-use Rattle.event_phrases.proofs.Options.{bind_assoc, step, fails_at, fails_on}
+use Rattle.event_phrases.proofs.Options.{bind_assoc, step, fails_at}
 use Rattle.event_phrases.proofs.Scopes.{hidden, seen}
 use Rattle.denotation.specs.Denotes.{paired}
 use Rattle.denotation.specs.Phrases.{is_for_all, takes, arguments}
 use Rattle.denotation.specs.Forms.{calling}
+use Rattle.syntax.proofs.FaultKinds.{fails_on}
 use Rattle.denotation.specs.Making.{Count, Made, refer, make_called_with, make_phrase}
 
 -- ---- lists that grow at their end
@@ -60,7 +61,7 @@ module _ (known : Known) (front : Values) where
   no_arguments = after_all front
 
   module _ (t : Syntax) (ts : List Syntax) where
-    pub argument_fails : (k : ScriptErrorKind) → Fails k (argument known t) → Fails k (after front (arguments_of known (t ∷ ts)))
+    pub argument_fails : (k : Unread) → Fails k (argument known t) → Fails k (after front (arguments_of known (t ∷ ts)))
     argument_fails k f =
         fails_on k (argument known t) (after front (arguments_of known (t ∷ ts)))
         (λ e. ap (after front) (arguments_from known t ts ∙ ap (λ o. o >>= λ v. arguments_of known ts >>= λ vs. Some (v ∷ vs)) e)) f
@@ -78,7 +79,7 @@ module _ {A : Type 0} (known : Known) (all : List (Tree A)) (i : ℕ) (front : V
     from_here : after front (arguments_of known (shape t ∷ rest)) ≡ arguments_of known (shapes all)
     from_here = ap (λ ts. after front (arguments_of known (shapes ts))) (sym (drop_item all i t h at)) ∙ so_far
 
-    pub turn_fails : (k : ScriptErrorKind) → Fails k (argument known (shape t)) → Fails k (arguments_of known (shapes all))
+    pub turn_fails : (k : Unread) → Fails k (argument known (shape t)) → Fails k (arguments_of known (shapes all))
     turn_fails k f = subst (λ o. Fails k o) from_here (argument_fails known front (shape t) rest k f)
 
     pub turn_so : (v : FieldValue) (new : Values) → argument known (shape t) ≡ Some v → new ≡ front ++ v ∷ [] → after new (arguments_of known rest) ≡ arguments_of known (shapes all)
@@ -146,7 +147,7 @@ module _ (s : Scope) (f : Name) (ts : List Syntax) (w : Count) where
         call_by : of_call ≡ from_arguments
         call_by = call_seen ∙ ap when_taken (takes_by (meaning s.entries f) xs t ts d ∙ for_all xs ts same)
 
-        pub call_fails : (k : ScriptErrorKind) → Fails k (arguments_of s.known ts) → Fails k of_call
+        pub call_fails : (k : Unread) → Fails k (arguments_of s.known ts) → Fails k of_call
         call_fails k e = subst (λ o. Fails k o) (sym call_by) (fails_at k (arguments_of s.known ts) (λ vs. refer (f, vs) w) e)
 
         pub call_so : (vs : Values) → arguments_of s.known ts ≡ Some vs → of_call ≡ refer (f, vs) w

@@ -2,7 +2,7 @@
 use Rattle.std.proofs.Common.{◌≡◌, ℕ, List, Bool, true, false, cond, Option, Some, None, refl, sym, subst, ◌∙◌}
 use Rattle.alphabet.specs.Channels.{Values, Parts, events}
 use Rattle.syntax.specs.Grammar.{Syntax, Syntaxes}
-use Rattle.tokens.specs.declared.error.ScriptErrorKind.{ScriptErrorKind}
+use Rattle.tokens.specs.declared.unread.Unread.{Unread}
 use Rattle.values.specs.Values.{◌>>=◌, Name}
 use Rattle.values.specs.Names.{same_name}
 use Rattle.values.specs.View.{Fails}
@@ -16,7 +16,7 @@ use Rattle.event_phrases.proofs.Options.{step, fails_at}
 -- ---- the choice over the branches
 
 module _ (s : Scope) (next : Scope → Count → Option Made) (w : Count) (e : Syntax) where
-  pub no_prefix : (k : ScriptErrorKind) → Fails k (prefix_parts s e) → Fails k (make_prefixed s e next w)
+  pub no_prefix : (k : Unread) → Fails k (prefix_parts s e) → Fails k (make_prefixed s e next w)
   unfolding make_prefixed
   no_prefix k h = fails_at k (prefix_parts s e) (λ p. make_branches next p.0 p.1 p.2 s 0 (events s.channels) w >>= make_choice) h
 
@@ -25,7 +25,7 @@ module _ (s : Scope) (next : Scope → Count → Option Made) (w : Count) (e : S
     unfolding make_prefixed
     all_there = step (prefix_parts s e) (λ p. make_branches next p.0 p.1 p.2 s 0 (events s.channels) w >>= make_choice) (c, ts, sets) h
 
-    pub branches_fail : (k : ScriptErrorKind) → Fails k (make_branches next c ts sets s 0 (events s.channels) w) → Fails k (make_prefixed s e next w)
+    pub branches_fail : (k : Unread) → Fails k (make_branches next c ts sets s 0 (events s.channels) w) → Fails k (make_prefixed s e next w)
     branches_fail k g = subst (λ o. Fails k o) (sym all_there) (fails_at k (make_branches next c ts sets s 0 (events s.channels) w) make_choice g)
 
     pub branches_made : (x : AllMade) → make_branches next c ts sets s 0 (events s.channels) w ≡ Some x → make_prefixed s e next w ≡ make_choice x

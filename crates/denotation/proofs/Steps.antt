@@ -6,7 +6,7 @@ use Rattle.term.specs.Proc.{par, hide}
 use Rattle.term.specs.Traces.{Pairs}
 use Rattle.syntax.specs.Grammar.{Syntax}
 use Rattle.syntax.specs.Parsing.{syntaxes}
-use Rattle.tokens.specs.declared.error.ScriptErrorKind.{ScriptErrorKind}
+use Rattle.tokens.specs.declared.unread.Unread.{Unread}
 use Rattle.values.specs.Values.{◌>>=◌}
 use Rattle.values.specs.View.{Fails}
 use Rattle.values.specs.Worths.{condition}
@@ -21,7 +21,7 @@ use Rattle.event_phrases.proofs.Options.{step, fails_at}
 
 module _ (s : Scope) (w : Count) (t : Syntax) where
   module _ (j : Join) (u : Syntax) where
-    pub joined_first : (k : ScriptErrorKind) → Fails k (make t s w) → Fails k (make_phrase (joined j t u) s w)
+    pub joined_first : (k : Unread) → Fails k (make t s w) → Fails k (make_phrase (joined j t u) s w)
     unfolding make_phrase
     joined_first k f = fails_at k (make t s w) (λ p. make u s p.1 >>= make_above 1 (join_of j) p) f
 
@@ -30,14 +30,14 @@ module _ (s : Scope) (w : Count) (t : Syntax) where
       unfolding make_phrase
       joined_on = step (make t s w) (λ p. make u s p.1 >>= make_above 1 (join_of j) p) p a
 
-      pub joined_second : (k : ScriptErrorKind) → Fails k (make u s p.1) → Fails k (make_phrase (joined j t u) s w)
+      pub joined_second : (k : Unread) → Fails k (make u s p.1) → Fails k (make_phrase (joined j t u) s w)
       joined_second k f = subst (λ o. Fails k o) (sym joined_on) (fails_at k (make u s p.1) (make_above 1 (join_of j) p) f)
 
       pub joined_so : (q : Made) → make u s p.1 ≡ Some q → make_phrase (joined j t u) s w ≡ make_above 1 (join_of j) p q
       joined_so q b = joined_on ∙ step (make u s p.1) (make_above 1 (join_of j) p) q b
 
   module _ (e u : Syntax) where
-    pub sharing_first : (k : ScriptErrorKind) → Fails k (make t s w) → Fails k (make_phrase (sharing t e u) s w)
+    pub sharing_first : (k : Unread) → Fails k (make t s w) → Fails k (make_phrase (sharing t e u) s w)
     unfolding make_phrase
     sharing_first k f = fails_at k (make t s w) (λ p. masked s.channels (events_by s e) >>= λ A. make u s p.1 >>= make_above 1 (par A) p) f
 
@@ -46,20 +46,20 @@ module _ (s : Scope) (w : Count) (t : Syntax) where
       unfolding make_phrase
       sharing_on = step (make t s w) (λ p. masked s.channels (events_by s e) >>= λ A. make u s p.1 >>= make_above 1 (par A) p) p a
 
-      pub sharing_set : (k : ScriptErrorKind) → Fails k (masked s.channels (events_by s e)) → Fails k (make_phrase (sharing t e u) s w)
+      pub sharing_set : (k : Unread) → Fails k (masked s.channels (events_by s e)) → Fails k (make_phrase (sharing t e u) s w)
       sharing_set k f = subst (λ o. Fails k o) (sym sharing_on) (fails_at k (masked s.channels (events_by s e)) (λ A. make u s p.1 >>= make_above 1 (par A) p) f)
 
       sharing_with : (A : Set) → masked s.channels (events_by s e) ≡ Some A → make_phrase (sharing t e u) s w ≡ (make u s p.1 >>= make_above 1 (par A) p)
       sharing_with A b = sharing_on ∙ step (masked s.channels (events_by s e)) (λ A. make u s p.1 >>= make_above 1 (par A) p) A b
 
-      pub sharing_second : (A : Set) → masked s.channels (events_by s e) ≡ Some A → (k : ScriptErrorKind) → Fails k (make u s p.1) → Fails k (make_phrase (sharing t e u) s w)
+      pub sharing_second : (A : Set) → masked s.channels (events_by s e) ≡ Some A → (k : Unread) → Fails k (make u s p.1) → Fails k (make_phrase (sharing t e u) s w)
       sharing_second A b k f = subst (λ o. Fails k o) (sym (sharing_with A b)) (fails_at k (make u s p.1) (make_above 1 (par A) p) f)
 
       pub sharing_so : (A : Set) → masked s.channels (events_by s e) ≡ Some A → (q : Made) → make u s p.1 ≡ Some q → make_phrase (sharing t e u) s w ≡ make_above 1 (par A) p q
       sharing_so A b q d = sharing_with A b ∙ step (make u s p.1) (make_above 1 (par A) p) q d
 
   module _ (e : Syntax) where
-    pub hiding_first : (k : ScriptErrorKind) → Fails k (make t s w) → Fails k (make_phrase (hiding t e) s w)
+    pub hiding_first : (k : Unread) → Fails k (make t s w) → Fails k (make_phrase (hiding t e) s w)
     unfolding make_phrase
     hiding_first k f = fails_at k (make t s w) (λ p. masked s.channels (events_by s e) >>= λ A. make_one (hide A) p) f
 
@@ -67,14 +67,14 @@ module _ (s : Scope) (w : Count) (t : Syntax) where
     unfolding make_phrase
     hiding_on p a = step (make t s w) (λ p. masked s.channels (events_by s e) >>= λ A. make_one (hide A) p) p a
 
-    pub hiding_set : (p : Made) → make t s w ≡ Some p → (k : ScriptErrorKind) → Fails k (masked s.channels (events_by s e)) → Fails k (make_phrase (hiding t e) s w)
+    pub hiding_set : (p : Made) → make t s w ≡ Some p → (k : Unread) → Fails k (masked s.channels (events_by s e)) → Fails k (make_phrase (hiding t e) s w)
     hiding_set p a k f = subst (λ o. Fails k o) (sym (hiding_on p a)) (fails_at k (masked s.channels (events_by s e)) (λ A. make_one (hide A) p) f)
 
     pub hiding_so : (p : Made) → make t s w ≡ Some p → (A : Set) → masked s.channels (events_by s e) ≡ Some A → make_phrase (hiding t e) s w ≡ make_one (hide A) p
     hiding_so p a A b = hiding_on p a ∙ step (masked s.channels (events_by s e)) (λ A. make_one (hide A) p) A b
 
   module _ (ts : List Syntax) where
-    pub renaming_first : (k : ScriptErrorKind) → Fails k (make t s w) → Fails k (make_phrase (renaming t ts) s w)
+    pub renaming_first : (k : Unread) → Fails k (make t s w) → Fails k (make_phrase (renaming t ts) s w)
     unfolding make_phrase
     renaming_first k f = fails_at k (make t s w) (λ p. pairs_of s.channels s.known (syntaxes ts) >>= λ R. make_renamed (event_count s.channels) R p) f
 
@@ -93,7 +93,7 @@ two_masked_is s (Some A) None f = refl
 two_masked_is s (Some A) (Some B) f = refl
 
 module _ (s : Scope) (w : Count) (t e g u : Syntax) where
-  pub alphabetised_first : (k : ScriptErrorKind) → Fails k (make t s w) → Fails k (make_phrase (alphabetised t e g u) s w)
+  pub alphabetised_first : (k : Unread) → Fails k (make t s w) → Fails k (make_phrase (alphabetised t e g u) s w)
   unfolding make_phrase
   alphabetised_first k f = fails_at k (make t s w) (λ p. masked s.channels (events_by s e) >>= λ A. masked s.channels (events_by s g) >>= λ B. make u s p.1 >>= make_above 5 (make_alphabetised s (has A) (has B)) p) f
 
@@ -104,7 +104,7 @@ module _ (s : Scope) (w : Count) (t e g u : Syntax) where
         step (make t s w) (λ p. masked s.channels (events_by s e) >>= λ A. masked s.channels (events_by s g) >>= λ B. make u s p.1 >>= make_above 5 (make_alphabetised s (has A) (has B)) p) p a
         ∙ two_masked_is s (events_by s e) (events_by s g) (λ A B. make u s p.1 >>= make_above 5 (make_alphabetised s (has A) (has B)) p)
 
-    pub alphabetised_sets : (k : ScriptErrorKind) → Fails k (two_masked s.channels (events_by s e) (events_by s g)) → Fails k (make_phrase (alphabetised t e g u) s w)
+    pub alphabetised_sets : (k : Unread) → Fails k (two_masked s.channels (events_by s e) (events_by s g)) → Fails k (make_phrase (alphabetised t e g u) s w)
     alphabetised_sets k f =
         subst (λ o. Fails k o) (sym alphabetised_on)
         (fails_at k (two_masked s.channels (events_by s e) (events_by s g)) (λ (x : Set × Set). make u s p.1 >>= make_above 5 (make_alphabetised s (has x.0) (has x.1)) p) f)
@@ -113,7 +113,7 @@ module _ (s : Scope) (w : Count) (t e g u : Syntax) where
     alphabetised_with x b = alphabetised_on ∙ step (two_masked s.channels (events_by s e) (events_by s g)) (λ (x : Set × Set). make u s p.1 >>= make_above 5 (make_alphabetised s (has x.0) (has x.1)) p) x b
 
     module _ (x : Set × Set) (b : two_masked s.channels (events_by s e) (events_by s g) ≡ Some x) where
-      pub alphabetised_second : (k : ScriptErrorKind) → Fails k (make u s p.1) → Fails k (make_phrase (alphabetised t e g u) s w)
+      pub alphabetised_second : (k : Unread) → Fails k (make u s p.1) → Fails k (make_phrase (alphabetised t e g u) s w)
       alphabetised_second k f = subst (λ o. Fails k o) (sym (alphabetised_with x b)) (fails_at k (make u s p.1) (make_above 5 (make_alphabetised s (has x.0) (has x.1)) p) f)
 
       pub alphabetised_so : (q : Made) → make u s p.1 ≡ Some q → make_phrase (alphabetised t e g u) s w ≡ make_above 5 (make_alphabetised s (has x.0) (has x.1)) p q
@@ -123,7 +123,7 @@ module _ (s : Scope) (w : Count) (t e g u : Syntax) where
 
 module _ (s : Scope) (w : Count) (c t : Syntax) where
   module _ (u : Syntax) where
-    pub conditional_fails : (k : ScriptErrorKind) → Fails k (condition s.known c) → Fails k (make_phrase (conditional c t u) s w)
+    pub conditional_fails : (k : Unread) → Fails k (condition s.known c) → Fails k (make_phrase (conditional c t u) s w)
     unfolding make_phrase
     conditional_fails k f = fails_at k (condition s.known c) (λ b. cond b (make t s w) (make u s w)) f
 
@@ -137,7 +137,7 @@ module _ (s : Scope) (w : Count) (c t : Syntax) where
     pub conditional_second : (b : Bool) → condition s.known c ≡ Some b → b ≡ false → make_phrase (conditional c t u) s w ≡ make u s w
     conditional_second b h e = conditional_so b h ∙ ap (λ b. cond b (make t s w) (make u s w)) e
 
-  pub guarded_fails : (k : ScriptErrorKind) → Fails k (condition s.known c) → Fails k (make_phrase (guarded c t) s w)
+  pub guarded_fails : (k : Unread) → Fails k (condition s.known c) → Fails k (make_phrase (guarded c t) s w)
   unfolding make_phrase
   guarded_fails k f = fails_at k (condition s.known c) (λ b. cond b (make t s w) (make_stop w)) f
 
@@ -155,7 +155,7 @@ module _ (s : Scope) (w : Count) (c t : Syntax) where
 -- ---- replicated forms
 
 module _ (s : Scope) (w : Count) (j : Join) (gs : List Syntax) (t : Syntax) where
-  pub replicated_fails : (k : ScriptErrorKind) → Fails k (make_over (syntaxes gs) (make t) s w) → Fails k (make_phrase (replicated j gs t) s w)
+  pub replicated_fails : (k : Unread) → Fails k (make_over (syntaxes gs) (make t) s w) → Fails k (make_phrase (replicated j gs t) s w)
   unfolding make_phrase
   replicated_fails k f = fails_at k (make_over (syntaxes gs) (make t) s w) (λ x. make_replicated j x) f
 

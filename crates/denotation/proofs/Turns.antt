@@ -3,7 +3,7 @@ use Rattle.std.proofs.Common.{◌≡◌, ℕ, suc, ◌+◌, List, [], ◌∷◌,
 use Rattle.alphabet.specs.Channels.{Values, Parts}
 use Rattle.syntax.specs.Grammar.{Syntax, Syntaxes}
 use Rattle.syntax.specs.Parsing.{syntaxes}
-use Rattle.tokens.specs.declared.error.ScriptErrorKind.{ScriptErrorKind}
+use Rattle.tokens.specs.declared.unread.Unread.{Unread}
 use Rattle.term.specs.Proc.{Proc, prefix}
 use Rattle.values.specs.Values.{◌>>=◌, Name}
 use Rattle.values.specs.View.{Fails}
@@ -12,9 +12,10 @@ use Rattle.event_phrases.specs.Fitting.{Fitting}
 use Rattle.event_phrases.specs.Leading.{Fit, first_fit, fit_or, leading, led_fits}
 use Rattle.event_phrases.specs.Scopes.{Scope}
 use Rattle.event_phrases.proofs.FirstValues.{led_fits_is}
-use Rattle.event_phrases.proofs.Options.{bind_same, fails_at, fails_on, step}
+use Rattle.event_phrases.proofs.Options.{bind_same, fails_at, step}
 use Rattle.denotation.specs.Branches.{FoundFit, make_fit, make_first_fit, make_fits}
 use Rattle.denotation.specs.Making.{Count, Made, AllMade, FoundBranch, make_behind, make_branches, make_one, branches_behind, put, spend}
+use Rattle.syntax.proofs.FaultKinds.{fails_on}
 use Rattle.denotation.proofs.Prefixes.{branch_is}
 
 abbrev some_all : AllMade → Option AllMade
@@ -74,7 +75,7 @@ module _ (test : Parts → Fitting) (next : Scope → Count → Option Made) whe
     turn : whole ≡ branches_behind front (make_first_fit test next i ps w >>= more_fits)
     turn = sym inv ∙ ap (branches_behind front) (fits_are i ps w)
 
-    pub turn_fails : (k : ScriptErrorKind) → Fails k (make_first_fit test next i ps w) → Fails k whole
+    pub turn_fails : (k : Unread) → Fails k (make_first_fit test next i ps w) → Fails k whole
     unfolding branches_behind
     turn_fails k f = fails_on k (make_first_fit test next i ps w) whole (λ e. turn ∙ ap (λ o. branches_behind front (o >>= more_fits)) e) f
 
@@ -92,7 +93,7 @@ module _ (test : Parts → Fitting) (next : Scope → Count → Option Made) whe
 -- ---- one branch
 
 module _ (test : Parts → Fitting) (next : Scope → Count → Option Made) (i : ℕ) (ps : List Parts) (w : Count) where
-  pub fit_fails : (k : ScriptErrorKind) → Fails k (first_fit test i ps) → Fails k (make_first_fit test next i ps w)
+  pub fit_fails : (k : Unread) → Fails k (first_fit test i ps) → Fails k (make_first_fit test next i ps w)
   fit_fails k f = fails_at k (first_fit test i ps) (make_fit next w) f
 
   pub none_fits : first_fit test i ps ≡ Some None → make_first_fit test next i ps w ≡ Some (None, w)
@@ -115,14 +116,14 @@ module _ (test : Parts → Fitting) (next : Scope → Count → Option Made) (i 
         by None = refl
         by (Some p) = spent p (spend 1 p.1)
 
-    pub body_fails : (k : ScriptErrorKind) → Fails k (next inner w) → Fails k (make_first_fit test next i ps w)
+    pub body_fails : (k : Unread) → Fails k (next inner w) → Fails k (make_first_fit test next i ps w)
     body_fails k f = subst (λ o. Fails k o) (sym fits) (fails_at k (next inner w) (λ p. make_one (prefix b) p >>= with_event) f)
 
     module _ (q : Made) (m : next inner w ≡ Some q) where
       one_event : make_first_fit test next i ps w ≡ (make_one (prefix b) q >>= with_event)
       one_event = fits ∙ step (next inner w) (λ p. make_one (prefix b) p >>= with_event) q m
 
-      pub event_fails : (k : ScriptErrorKind) → Fails k (make_one (prefix b) q) → Fails k (make_first_fit test next i ps w)
+      pub event_fails : (k : Unread) → Fails k (make_one (prefix b) q) → Fails k (make_first_fit test next i ps w)
       event_fails k f = subst (λ o. Fails k o) (sym one_event) (fails_at k (make_one (prefix b) q) with_event f)
 
       pub event_made : (r : Made) → make_one (prefix b) q ≡ Some r → make_first_fit test next i ps w ≡ Some (Some (b, r.0, rest), r.1)

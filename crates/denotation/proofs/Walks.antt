@@ -4,15 +4,16 @@ use Rattle.alphabet.specs.Channels.{Values}
 use Rattle.syntax.specs.Grammar.{Syntax}
 use Rattle.syntax.specs.Parsing.{syntaxes}
 use Rattle.term.specs.Proc.{Proc}
-use Rattle.tokens.specs.declared.error.ScriptErrorKind.{ScriptErrorKind}
+use Rattle.tokens.specs.declared.unread.Unread.{Unread}
 use Rattle.values.specs.Values.{◌>>=◌, Name}
 use Rattle.values.specs.View.{Fails}
 use Rattle.event_phrases.specs.Scopes.{Scope, with_input}
-use Rattle.event_phrases.proofs.Options.{some_is, fails_on, fails_at}
+use Rattle.event_phrases.proofs.Options.{some_is, fails_at}
 use Rattle.denotation.specs.Forms.{generator_of}
 use Rattle.denotation.specs.Making.{Count, Made, AllMade, branches_behind, make_for_each, make_over}
 use Rattle.denotation.specs.Parts.{generator_values}
 use Rattle.denotation.specs.Walks.{Visit, opens, fails, stands, behind_each, behind_found, visits, make_visits, with_made, first_scope}
+use Rattle.syntax.proofs.FaultKinds.{fails_on}
 use Rattle.denotation.proofs.Replications.{by_generator, generated_is}
 
 abbrev some_all : AllMade → Option AllMade
@@ -92,7 +93,7 @@ module _ (next : Scope → Count → Option Made) where
     begun : make_over (syntaxes gs) next s w ≡ (first_scope (visits gs s) >>= λ us. make_visits next us w)
     begun = over_is_walk gs s w ∙ first_is (visits gs s) w
 
-    pub no_first : (k : ScriptErrorKind) → Fails k (first_scope (visits gs s)) → Fails k (make_over (syntaxes gs) next s w)
+    pub no_first : (k : Unread) → Fails k (first_scope (visits gs s)) → Fails k (make_over (syntaxes gs) next s w)
     no_first k f = fails_on k (first_scope (visits gs s)) (make_over (syntaxes gs) next s w) (λ e. begun ∙ ap (λ o. o >>= λ us. make_visits next us w) e) f
 
     pub from_first : (us : List Visit) → first_scope (visits gs s) ≡ Some us → make_over (syntaxes gs) next s w ≡ make_visits next us w
@@ -123,14 +124,14 @@ module _ (next : Scope → Count → Option Made) where
     unfolding make_visits
     standing = sym inv ∙ ap (λ us. behind front us w) h ∙ with_one (next s w)
 
-    pub stands_fails : (k : ScriptErrorKind) → Fails k (with_made front (next s w)) → Fails k whole
+    pub stands_fails : (k : Unread) → Fails k (with_made front (next s w)) → Fails k whole
     stands_fails k f = fails_on k (with_made front (next s w)) whole (λ e. standing ∙ ap (λ o. o >>= λ x. behind x.0 vs x.1) e) f
 
     module _ (x : AllMade) (m : with_made front (next s w) ≡ Some x) where
       later : whole ≡ branches_behind x.0 (first_scope vs >>= λ us. make_visits next us x.1)
       later = standing ∙ ap (λ o. o >>= λ x. behind x.0 vs x.1) m ∙ ap (branches_behind x.0) (first_is vs x.1)
 
-      pub no_next : (k : ScriptErrorKind) → Fails k (first_scope vs) → Fails k whole
+      pub no_next : (k : Unread) → Fails k (first_scope vs) → Fails k whole
       unfolding branches_behind
       no_next k f = fails_on k (first_scope vs) whole (λ e. later ∙ ap (λ o. branches_behind x.0 (o >>= λ us. make_visits next us x.1)) e) f
 
@@ -139,7 +140,7 @@ module _ (next : Scope → Count → Option Made) where
 
 -- with one more process, step by step
 
-pub no_process : (k : ScriptErrorKind) (front : List Proc) (o : Option Made) → Fails k o → Fails k (with_made front o)
+pub no_process : (k : Unread) (front : List Proc) (o : Option Made) → Fails k o → Fails k (with_made front o)
 no_process k front o f = fails_at k o (λ p. some_all (front ++ p.0 ∷ [], p.1)) f
 
 pub one_process : (front new : List Proc) (o : Option Made) (p : Made) → o ≡ Some p → new ≡ front ++ p.0 ∷ [] → with_made front o ≡ Some (new, p.1)

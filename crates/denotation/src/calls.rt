@@ -1,5 +1,5 @@
 //! Terms of calls.
-ghost use Rattle.std.specs.Prelude.{◌≡◌, map};
+ghost use Rattle.std.specs.Prelude.{map};
 ghost use Rattle.syntax.specs.Parsing.{syntaxes};
 ghost use Rattle.syntax.specs.View.{shapes};
 ghost use Rattle.term.specs.Proc.{proc};
@@ -14,11 +14,11 @@ ghost use Rattle.denotation.specs.View.{count};
 
 use crate::call::Call;
 use crate::work::{Work, refer};
-use event_phrases::{GlobalScope, Scope, fault, wanted_value};
+use event_phrases::{GlobalScope, Scope, wanted_value};
 use std::alloc::Allocator;
 use syntax::Tree;
 use term::Term;
-use tokens::{ScriptError, ScriptErrorKind};
+use tokens::{ScriptErrorKind, Unread, fault};
 use values::Value;
 
 /// The values that these phrases mean, from the left; the fault of the first that means none.
@@ -26,7 +26,7 @@ fn argument_values<A: Allocator + Copy, G: GlobalScope<A>>(
     alloc: A,
     scope: &Scope<'_, A, G>,
     phrases: &[Tree<A>],
-) -> Result<Vec<Value<A>, A>, ScriptError>
+) -> Result<Vec<Value<A>, A>, Unread>
     ensures { Gives (λ v. listed v.items) result (arguments_of (within (G.scope scope.now.global.now) (map input scope.now.inputs.items)).known (syntaxes (shapes phrases.now))) }
 {
     let mut found = Vec::new(alloc);
@@ -44,7 +44,7 @@ pub(crate) fn called_with<A: Allocator + Copy, G: GlobalScope<A>>(
     arguments: &[Tree<A>],
     line: u32,
     work: Work<A>,
-) -> Result<(Term<A>, Work<A>), ScriptError>
+) -> Result<(Term<A>, Work<A>), Unread>
     ensures { Gives (λ x. (proc x.0, count x.1)) result (make_phrase (calling name.now (shapes arguments.now)) (within (G.scope scope.now.global.now) (map input scope.now.inputs.items)) (count work)) }
 {
     if scope.is_value(name) {

@@ -11,7 +11,7 @@ use crate::joining::joined;
 use crate::work::{Work, spent};
 use std::alloc::{AllocError, Allocator};
 use term::Term;
-use tokens::ScriptError;
+use tokens::Unread;
 
 /// What a list without terms is, joined so.
 #[tactic(auto, unfolding(crate::specs::Parts::none_of))]
@@ -66,7 +66,7 @@ pub(crate) fn halved_within<A: Allocator + Copy>(
     terms: Vec<Term<A>, A>,
     work: Work<A>,
     line: u32,
-) -> Result<(Term<A>, Work<A>), ScriptError>
+) -> Result<(Term<A>, Work<A>), Unread>
     ensures { Gives (λ x. (proc x.0, count x.1)) result (make_halved (join_of join) (none_of join) (map proc terms.items, count work)) }
 {
     let nodes = nodes_of_halved(&terms);
@@ -82,7 +82,7 @@ pub(crate) fn chosen<A: Allocator + Copy>(
     terms: Vec<Term<A>, A>,
     work: Work<A>,
     line: u32,
-) -> Result<(Term<A>, Work<A>), ScriptError>
+) -> Result<(Term<A>, Work<A>), Unread>
     ensures { Gives (λ x. (proc x.0, count x.1)) result (make_choice (map proc terms.items, count work)) }
 {
     halved_within(alloc, Join::External, terms, work, line)

@@ -1,5 +1,5 @@
 //! The bodies of what is reached from a root.
-ghost use Rattle.std.specs.Prelude.{◌≡◌, Some, List, IfOk, map, []};
+ghost use Rattle.std.specs.Prelude.{Some, List, IfOk, map, []};
 ghost use Rattle.term.specs.Proc.{Proc, proc};
 ghost use Rattle.values.specs.View.{Gives};
 ghost use Rattle.denotation.specs.Making.{Gathered};
@@ -11,7 +11,7 @@ use event_phrases::GlobalScope;
 use indexmap::IndexSet;
 use std::alloc::Allocator;
 use term::Term;
-use tokens::ScriptError;
+use tokens::{Unread, fault};
 
 /// The most nodes that all bodies have together.
 const NODE_LIMIT: usize = 65_536;
@@ -27,7 +27,7 @@ pub fn gathered<A: Allocator + Copy, G: GlobalScope<A>>(
     alloc: A,
     global: &G,
     root: &[u8],
-) -> Result<Vec<Term<A>, A>, ScriptError>
+) -> Result<Vec<Term<A>, A>, Unread>
     // What is given are the bodies of what is reached.
     ensures found { IfOk result (λ v. Gathered (G.scope global.now) (root.now, []) (map proc v.items)) }
     // These are given, unless memory runs out, and no others are bodies of what is reached.

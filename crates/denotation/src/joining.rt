@@ -1,5 +1,5 @@
 //! Terms made of others.
-ghost use Rattle.std.specs.Prelude.{◌≡◌, ◌<◌, ◌≤◌, Some, IfOk, map};
+ghost use Rattle.std.specs.Prelude.{◌≡◌, ◌<◌, ◌≤◌, IfOk, map};
 ghost use Rattle.alphabet.specs.Channels.{event_count};
 ghost use Rattle.alphabet.specs.Events.{is_numbered_below};
 ghost use Rattle.alphabet.specs.EventSets.{has, member};
@@ -22,7 +22,7 @@ use event_phrases::{GlobalScope, Scope, ordered, pairs_of};
 use std::alloc::{AllocError, Allocator};
 use syntax::Tree;
 use term::Term;
-use tokens::ScriptError;
+use tokens::Unread;
 
 /// Two terms joined so.
 #[tactic(auto, unfolding(crate::specs::Making::join_of))]
@@ -53,7 +53,7 @@ pub(crate) fn joined_within<A: Allocator + Copy>(
     second: Term<A>,
     work: Work<A>,
     line: u32,
-) -> Result<(Term<A>, Work<A>), ScriptError>
+) -> Result<(Term<A>, Work<A>), Unread>
     ensures { Gives (λ x. (proc x.0, count x.1)) result (make_above 1 (join_of join) (proc first, count work) (proc second, count work)) }
 {
     let work = spent(work, 1, line)?;
@@ -69,7 +69,7 @@ pub(crate) fn shared<A: Allocator + Copy>(
     second: Term<A>,
     work: Work<A>,
     line: u32,
-) -> Result<(Term<A>, Work<A>), ScriptError>
+) -> Result<(Term<A>, Work<A>), Unread>
     ensures { Gives (λ x. (proc x.0, count x.1)) result (make_above 1 (par set) (proc first, count work) (proc second, count work)) }
 {
     let work = spent(work, 1, line)?;
@@ -85,7 +85,7 @@ pub(crate) fn behind_event<A: Allocator + Copy>(
     term: Term<A>,
     work: Work<A>,
     line: u32,
-) -> Result<(Term<A>, Work<A>), ScriptError>
+) -> Result<(Term<A>, Work<A>), Unread>
     requires { number < 256 }
     ensures { Gives (λ x. (proc x.0, count x.1)) result (make_one (prefix number) (proc term, count work)) }
 {
@@ -101,7 +101,7 @@ pub(crate) fn hidden<A: Allocator + Copy>(
     term: Term<A>,
     work: Work<A>,
     line: u32,
-) -> Result<(Term<A>, Work<A>), ScriptError>
+) -> Result<(Term<A>, Work<A>), Unread>
     ensures { Gives (λ x. (proc x.0, count x.1)) result (make_one (hide set) (proc term, count work)) }
 {
     let work = spent(work, 1, line)?;
@@ -117,7 +117,7 @@ pub(crate) fn renamed<A: Allocator + Copy>(
     term: Term<A>,
     work: Work<A>,
     line: u32,
-) -> Result<(Term<A>, Work<A>), ScriptError>
+) -> Result<(Term<A>, Work<A>), Unread>
     requires { events ≤ 256 }
     ensures { Gives (λ x. (proc x.0, count x.1)) result (make_renamed events pairs.now (proc term, count work)) }
 {
@@ -138,7 +138,7 @@ pub(crate) fn renamed_by<A: Allocator + Copy, G: GlobalScope<A>>(
     pairs: &[Tree<A>],
     term: Term<A>,
     work: Work<A>,
-) -> Result<(Term<A>, Work<A>), ScriptError>
+) -> Result<(Term<A>, Work<A>), Unread>
     ensures { Gives (λ x. (proc x.0, count x.1)) result (make_renamed_by (G.scope scope.now.global.now).channels (pairs_of_all (G.scope scope.now.global.now).channels (within (G.scope scope.now.global.now) (map input scope.now.inputs.items)).known (syntaxes (shapes pairs.now))) (proc term, count work)) }
 {
     let pairs = pairs_of(alloc, scope, pairs)?;
@@ -177,7 +177,7 @@ pub(crate) fn alphabetised_within<A: Allocator + Copy, G: GlobalScope<A>>(
     sets: (EventSet, EventSet),
     terms: (Term<A>, Term<A>),
     work: Work<A>,
-) -> Result<(Term<A>, Work<A>), ScriptError>
+) -> Result<(Term<A>, Work<A>), Unread>
     ensures { Gives (λ x. (proc x.0, count x.1)) result (make_above 5 (make_alphabetised (G.scope scope.now.global.now) (has sets.0) (has sets.1)) (proc terms.0, count work) (proc terms.1, count work)) }
 {
     let work = spent(work, 5, scope.line)?;

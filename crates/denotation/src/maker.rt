@@ -16,11 +16,11 @@ ghost use Rattle.denotation.specs.View.{count, key};
 use crate::call::Call;
 use crate::making::process;
 use crate::work::Work;
-use event_phrases::{GlobalScope, Scope, fault};
+use event_phrases::{GlobalScope, Scope};
 use std::alloc::{AllocError, Allocator};
 use syntax::Tree;
 use term::Term;
-use tokens::{ScriptError, ScriptErrorKind};
+use tokens::{ScriptErrorKind, Unread, fault};
 use values::{Input, Value};
 
 /// The greatest depth of a body.
@@ -31,7 +31,7 @@ const DEEPEST: u64 = 200;
 fn unless_deep<A: Allocator>(
     made: (Term<A>, Work<A>),
     line: u32,
-) -> Result<(Term<A>, Work<A>), ScriptError>
+) -> Result<(Term<A>, Work<A>), Unread>
     ensures { Gives (λ x. (proc x.0, count x.1)) result (shallow (proc made.0, count made.1)) }
 {
     if made.0.depth() > DEEPEST {
@@ -47,7 +47,7 @@ fn body_within<'a, A: Allocator + Copy, G: GlobalScope<A>>(
     scope: &Scope<'a, A, G>,
     tree: &'a Tree<A>,
     work: Work<A>,
-) -> Result<(Term<A>, Work<A>), ScriptError>
+) -> Result<(Term<A>, Work<A>), Unread>
     ensures { Gives (λ x. (proc x.0, count x.1)) result (make_shallow (shape tree.now) (within (G.scope scope.now.global.now) (map input scope.now.inputs.items)) (count work)) }
 {
     let made = process(alloc, scope, tree, work)?;
@@ -61,7 +61,7 @@ fn plain_body<A: Allocator + Copy, G: GlobalScope<A>>(
     global: &G,
     name: &[u8],
     work: Work<A>,
-) -> Result<(Term<A>, Work<A>), ScriptError>
+) -> Result<(Term<A>, Work<A>), Unread>
     ensures { Gives (λ x. (proc x.0, count x.1)) result (make_body (G.scope global.now) (name.now, []) (count work)) }
 {
     if !global.is_process(name) {
@@ -109,7 +109,7 @@ fn called_body<A: Allocator + Copy, G: GlobalScope<A>>(
     name: &[u8],
     arguments: &[Value<A>],
     work: Work<A>,
-) -> Result<(Term<A>, Work<A>), ScriptError>
+) -> Result<(Term<A>, Work<A>), Unread>
     ensures { Gives (λ x. (proc x.0, count x.1)) result (make_called (G.scope global.now) (meaning (G.scope global.now).entries name.now) (listed arguments.now) (count work)) }
 {
     match global.with_parameters(name) {
@@ -135,7 +135,7 @@ pub(crate) fn body<A: Allocator + Copy, G: GlobalScope<A>>(
     global: &G,
     call: &Call<A>,
     work: Work<A>,
-) -> Result<(Term<A>, Work<A>), ScriptError>
+) -> Result<(Term<A>, Work<A>), Unread>
     ensures { Gives (λ x. (proc x.0, count x.1)) result (make_body (G.scope global.now) (key call.now) (count work)) }
 {
     if call.arguments.is_empty() {

@@ -1,5 +1,5 @@
 //! Terms made of phrases for processes.
-ghost use Rattle.std.specs.Prelude.{◌≡◌, ◌<◌, ◌≤◌, suc, drop, Some, IfOk, IfSome, map};
+ghost use Rattle.std.specs.Prelude.{◌<◌, ◌≤◌, suc, drop, Some, IfOk, IfSome, map};
 ghost use Rattle.std.specs.Option.{option_map};
 ghost use Rattle.alphabet.specs.Channels.{events as events_of};
 ghost use Rattle.syntax.specs.View.{shape, shapes};
@@ -10,7 +10,7 @@ ghost use Rattle.event_phrases.specs.Leading.{led_fits};
 ghost use Rattle.event_phrases.specs.Scopes.{within};
 ghost use Rattle.denotation.specs.Branches.{make_first_fit, make_fits};
 ghost use Rattle.denotation.specs.Forms.{joined, sharing, alphabetised, hiding, renaming, conditional, guarded, replicated};
-ghost use Rattle.denotation.specs.Making.{branches_behind, make, make_phrase, make_prefixed};
+ghost use Rattle.denotation.specs.Making.{make, make_phrase, make_prefixed};
 ghost use Rattle.denotation.specs.Places.{from_scope};
 ghost use Rattle.denotation.specs.Shapes.{plain};
 ghost use Rattle.denotation.specs.Walks.{make_visits, with_made};
@@ -28,14 +28,11 @@ use crate::simple::{called, skip, stop};
 use crate::walk::{Place, first_place, next_place};
 use crate::work::Work;
 use event_phrases::forms::event_parts;
-use event_phrases::{
-    GlobalScope, Prefix, Scope, fault, next_fitting, prefix_of, two_sets, wanted_events,
-    wanted_truth,
-};
+use event_phrases::{GlobalScope, Prefix, Scope, next_fitting, prefix_of, two_sets, wanted_events, wanted_truth};
 use std::alloc::Allocator;
 use syntax::Tree;
 use term::Term;
-use tokens::{ScriptError, ScriptErrorKind};
+use tokens::{ScriptErrorKind, Unread, fault};
 
 /// The first branch of a prefix from the event with this number on, with its event's number.
 #[cycle(making)]
@@ -45,7 +42,7 @@ fn next_branch<'a, A: Allocator + Copy, G: GlobalScope<A>>(
     prefix: &Prefix<'a, A>,
     from: usize,
     work: Work<A>,
-) -> Result<(Option<(usize, Term<A>)>, Work<A>), ScriptError>
+) -> Result<(Option<(usize, Term<A>)>, Work<A>), Unread>
     ensures branch { Gives (λ x. (option_map (λ p. (p.0, proc p.1, drop (suc p.0) (events_of (G.scope scope.now.global.now).channels))) x.0, count x.1)) result (make_first_fit (led_fits prefix.now.channel.now (listed prefix.now.leading.items) (shapes prefix.now.fields.now) (map (λ v. listed v.items) prefix.now.sets.now) (within (G.scope scope.now.global.now) (map input scope.now.inputs.items))) (make (shape prefix.now.then.now)) from (drop from (events_of (G.scope scope.now.global.now).channels)) (count work)) }
     ensures number { IfOk result (λ x. IfSome x.0 (λ p. (from ≤ p.0) × (p.0 < 256))) }
 {
@@ -72,7 +69,7 @@ fn branches<'a, A: Allocator + Copy, G: GlobalScope<A>>(
     scope: &Scope<'a, A, G>,
     prefix: &Prefix<'a, A>,
     work: Work<A>,
-) -> Result<(Vec<Term<A>, A>, Work<A>), ScriptError>
+) -> Result<(Vec<Term<A>, A>, Work<A>), Unread>
     ensures { Gives (λ x. (map proc x.0.items, count x.1)) result (make_fits (led_fits prefix.now.channel.now (listed prefix.now.leading.items) (shapes prefix.now.fields.now) (map (λ v. listed v.items) prefix.now.sets.now) (within (G.scope scope.now.global.now) (map input scope.now.inputs.items))) (make (shape prefix.now.then.now)) 0 (events_of (G.scope scope.now.global.now).channels) (count work)) }
 {
     let mut terms = Vec::new(alloc);
@@ -99,7 +96,7 @@ fn prefixed<'a, A: Allocator + Copy, G: GlobalScope<A>>(
     event: &'a Tree<A>,
     then: &'a Tree<A>,
     work: Work<A>,
-) -> Result<(Term<A>, Work<A>), ScriptError>
+) -> Result<(Term<A>, Work<A>), Unread>
     ensures { Gives (λ x. (proc x.0, count x.1)) result (make_prefixed (within (G.scope scope.now.global.now) (map input scope.now.inputs.items)) (shape event.now) (make (shape then.now)) (count work)) }
 {
     let prefix = prefix_of(alloc, scope, event, then)?;
@@ -116,7 +113,7 @@ fn joined_phrases<'a, A: Allocator + Copy, G: GlobalScope<A>>(
     first: &'a Tree<A>,
     second: &'a Tree<A>,
     work: Work<A>,
-) -> Result<(Term<A>, Work<A>), ScriptError>
+) -> Result<(Term<A>, Work<A>), Unread>
     ensures { Gives (λ x. (proc x.0, count x.1)) result (make_phrase (joined join (shape first.now) (shape second.now)) (within (G.scope scope.now.global.now) (map input scope.now.inputs.items)) (count work)) }
 {
     let (first, work) = process(alloc, scope, first, work)?;
@@ -133,7 +130,7 @@ fn sharing_phrases<'a, A: Allocator + Copy, G: GlobalScope<A>>(
     set: &'a Tree<A>,
     second: &'a Tree<A>,
     work: Work<A>,
-) -> Result<(Term<A>, Work<A>), ScriptError>
+) -> Result<(Term<A>, Work<A>), Unread>
     ensures { Gives (λ x. (proc x.0, count x.1)) result (make_phrase (sharing (shape first.now) (shape set.now) (shape second.now)) (within (G.scope scope.now.global.now) (map input scope.now.inputs.items)) (count work)) }
 {
     let (first, work) = process(alloc, scope, first, work)?;
@@ -151,7 +148,7 @@ fn alphabetised_phrases<'a, A: Allocator + Copy, G: GlobalScope<A>>(
     sets: (&'a Tree<A>, &'a Tree<A>),
     second: &'a Tree<A>,
     work: Work<A>,
-) -> Result<(Term<A>, Work<A>), ScriptError>
+) -> Result<(Term<A>, Work<A>), Unread>
     ensures { Gives (λ x. (proc x.0, count x.1)) result (make_phrase (alphabetised (shape first.now) (shape sets.entry.0.now) (shape sets.entry.1.now) (shape second.now)) (within (G.scope scope.now.global.now) (map input scope.now.inputs.items)) (count work)) }
 {
     let (first, work) = process(alloc, scope, first, work)?;
@@ -168,7 +165,7 @@ fn hiding_phrase<'a, A: Allocator + Copy, G: GlobalScope<A>>(
     tree: &'a Tree<A>,
     set: &'a Tree<A>,
     work: Work<A>,
-) -> Result<(Term<A>, Work<A>), ScriptError>
+) -> Result<(Term<A>, Work<A>), Unread>
     ensures { Gives (λ x. (proc x.0, count x.1)) result (make_phrase (hiding (shape tree.now) (shape set.now)) (within (G.scope scope.now.global.now) (map input scope.now.inputs.items)) (count work)) }
 {
     let (term, work) = process(alloc, scope, tree, work)?;
@@ -184,7 +181,7 @@ fn renaming_phrase<'a, A: Allocator + Copy, G: GlobalScope<A>>(
     tree: &'a Tree<A>,
     pairs: &'a [Tree<A>],
     work: Work<A>,
-) -> Result<(Term<A>, Work<A>), ScriptError>
+) -> Result<(Term<A>, Work<A>), Unread>
     ensures { Gives (λ x. (proc x.0, count x.1)) result (make_phrase (renaming (shape tree.now) (shapes pairs.now)) (within (G.scope scope.now.global.now) (map input scope.now.inputs.items)) (count work)) }
 {
     let (term, work) = process(alloc, scope, tree, work)?;
@@ -199,7 +196,7 @@ fn conditional_phrase<'a, A: Allocator + Copy, G: GlobalScope<A>>(
     condition: &'a Tree<A>,
     trees: (&'a Tree<A>, &'a Tree<A>),
     work: Work<A>,
-) -> Result<(Term<A>, Work<A>), ScriptError>
+) -> Result<(Term<A>, Work<A>), Unread>
     ensures { Gives (λ x. (proc x.0, count x.1)) result (make_phrase (conditional (shape condition.now) (shape trees.entry.0.now) (shape trees.entry.1.now)) (within (G.scope scope.now.global.now) (map input scope.now.inputs.items)) (count work)) }
 {
     let holds = wanted_truth(alloc, scope, condition)?;
@@ -218,7 +215,7 @@ fn guarded_phrase<'a, A: Allocator + Copy, G: GlobalScope<A>>(
     condition: &'a Tree<A>,
     then: &'a Tree<A>,
     work: Work<A>,
-) -> Result<(Term<A>, Work<A>), ScriptError>
+) -> Result<(Term<A>, Work<A>), Unread>
     ensures { Gives (λ x. (proc x.0, count x.1)) result (make_phrase (guarded (shape condition.now) (shape then.now)) (within (G.scope scope.now.global.now) (map input scope.now.inputs.items)) (count work)) }
 {
     let holds = wanted_truth(alloc, scope, condition)?;
@@ -236,7 +233,7 @@ fn with_process<'a, A: Allocator + Copy, G: GlobalScope<A>>(
     scope: &Scope<'a, A, G>,
     tree: &'a Tree<A>,
     made: (Vec<Term<A>, A>, Work<A>),
-) -> Result<(Vec<Term<A>, A>, Work<A>), ScriptError>
+) -> Result<(Vec<Term<A>, A>, Work<A>), Unread>
     ensures { Gives (λ x. (map proc x.0.items, count x.1)) result (with_made (map proc made.0.items) (make (shape tree.now) (within (G.scope scope.now.global.now) (map input scope.now.inputs.items)) (count made.1))) }
 {
     let (mut terms, work) = made;
@@ -253,7 +250,7 @@ fn over<'a, A: Allocator + Copy, G: GlobalScope<A>>(
     first: Option<Place<'a, A>>,
     then: &'a Tree<A>,
     work: Work<A>,
-) -> Result<(Vec<Term<A>, A>, Work<A>), ScriptError>
+) -> Result<(Vec<Term<A>, A>, Work<A>), Unread>
     ensures { Gives (λ x. (map proc x.0.items, count x.1)) result (make_visits (make (shape then.now)) (from_scope (G.scope scope.now.global.now) first.entry) (count work)) }
 {
     let mut at = first;
@@ -284,7 +281,7 @@ fn replicated_phrase<'a, A: Allocator + Copy, G: GlobalScope<A>>(
     form: (&'a [Tree<A>], &'a Tree<A>),
     line: u32,
     work: Work<A>,
-) -> Result<(Term<A>, Work<A>), ScriptError>
+) -> Result<(Term<A>, Work<A>), Unread>
     ensures { Gives (λ x. (proc x.0, count x.1)) result (make_phrase (replicated join (shapes form.entry.0.now) (shape form.entry.1.now)) (within (G.scope scope.now.global.now) (map input scope.now.inputs.items)) (count work)) }
 {
     let first = first_place(alloc, scope, form.0)?;
@@ -300,7 +297,7 @@ fn made<'a, A: Allocator + Copy, G: GlobalScope<A>>(
     phrase: Phrase<'a, A>,
     line: u32,
     work: Work<A>,
-) -> Result<(Term<A>, Work<A>), ScriptError>
+) -> Result<(Term<A>, Work<A>), Unread>
     ensures { Gives (λ x. (proc x.0, count x.1)) result (make_phrase (plain phrase.entry) (within (G.scope scope.now.global.now) (map input scope.now.inputs.items)) (count work)) }
 {
     match phrase {
@@ -343,7 +340,7 @@ pub(crate) fn process<'a, A: Allocator + Copy, G: GlobalScope<A>>(
     scope: &Scope<'a, A, G>,
     tree: &'a Tree<A>,
     work: Work<A>,
-) -> Result<(Term<A>, Work<A>), ScriptError>
+) -> Result<(Term<A>, Work<A>), Unread>
     ensures { Gives (λ x. (proc x.0, count x.1)) result (make (shape tree.now) (within (G.scope scope.now.global.now) (map input scope.now.inputs.items)) (count work)) }
 {
     match process_phrase(tree) {

@@ -1,5 +1,5 @@
 //! The parts of replicated forms that make no process.
-ghost use Rattle.std.specs.Prelude.{◌≡◌, map};
+ghost use Rattle.std.specs.Prelude.{map};
 ghost use Rattle.syntax.specs.View.{shape};
 ghost use Rattle.term.specs.Proc.{proc};
 ghost use Rattle.values.specs.Tables.{input};
@@ -12,11 +12,11 @@ ghost use Rattle.denotation.specs.View.{count};
 use crate::choice::halved_within;
 use crate::forms::Join;
 use crate::work::Work;
-use event_phrases::{GlobalScope, Scope, fault, wanted_values};
+use event_phrases::{GlobalScope, Scope, wanted_values};
 use std::alloc::Allocator;
 use syntax::Tree;
 use term::Term;
-use tokens::{ScriptError, ScriptErrorKind};
+use tokens::{ScriptErrorKind, Unread, fault};
 use values::Values;
 
 /// The values of a generator with this name and this set, on this line.
@@ -27,7 +27,7 @@ pub(crate) fn values_of<A: Allocator + Copy, G: GlobalScope<A>>(
     name: &[u8],
     set: &Tree<A>,
     line: u32,
-) -> Result<Values<A>, ScriptError>
+) -> Result<Values<A>, Unread>
     ensures { Gives values result (generator_values (within (G.scope scope.now.global.now) (map input scope.now.inputs.items)) name.now (shape set.now)) }
 {
     if scope.global.is_constant(name) {
@@ -45,7 +45,7 @@ pub(crate) fn all_joined<A: Allocator + Copy>(
     work: Work<A>,
     body: u32,
     line: u32,
-) -> Result<(Term<A>, Work<A>), ScriptError>
+) -> Result<(Term<A>, Work<A>), Unread>
     ensures { Gives (λ x. (proc x.0, count x.1)) result (make_replicated join (map proc terms.items, count work)) }
 {
     match join {

@@ -1,5 +1,5 @@
 //! Terms of phrases with no process in them.
-ghost use Rattle.std.specs.Prelude.{◌≡◌, map};
+ghost use Rattle.std.specs.Prelude.{map};
 ghost use Rattle.term.specs.Proc.{proc};
 ghost use Rattle.values.specs.Tables.{input};
 ghost use Rattle.values.specs.View.{Gives};
@@ -10,17 +10,17 @@ ghost use Rattle.denotation.specs.View.{count};
 
 use crate::call::Call;
 use crate::work::{Work, refer, spent};
-use event_phrases::{GlobalScope, Scope, fault};
+use event_phrases::{GlobalScope, Scope};
 use std::alloc::Allocator;
 use term::Term;
-use tokens::{ScriptError, ScriptErrorKind};
+use tokens::{ScriptErrorKind, Unread, fault};
 
 /// `STOP`, where there is room for it.
 #[tactic(auto, unfolding(crate::specs::Making::make_phrase))]
 pub(crate) fn stop<A: Allocator>(
     work: Work<A>,
     line: u32,
-) -> Result<(Term<A>, Work<A>), ScriptError>
+) -> Result<(Term<A>, Work<A>), Unread>
     ensures { (s : ScopeOf) → Gives (λ x. (proc x.0, count x.1)) result (make_phrase stops s (count work)) }
 {
     let work = spent(work, 1, line)?;
@@ -32,7 +32,7 @@ pub(crate) fn stop<A: Allocator>(
 pub(crate) fn skip<A: Allocator>(
     work: Work<A>,
     line: u32,
-) -> Result<(Term<A>, Work<A>), ScriptError>
+) -> Result<(Term<A>, Work<A>), Unread>
     ensures { (s : ScopeOf) → Gives (λ x. (proc x.0, count x.1)) result (make_phrase skips s (count work)) }
 {
     let work = spent(work, 1, line)?;
@@ -47,7 +47,7 @@ pub(crate) fn called<A: Allocator + Copy, G: GlobalScope<A>>(
     name: &[u8],
     line: u32,
     work: Work<A>,
-) -> Result<(Term<A>, Work<A>), ScriptError>
+) -> Result<(Term<A>, Work<A>), Unread>
     ensures { Gives (λ x. (proc x.0, count x.1)) result (make_phrase (called_by name.now) (within (G.scope scope.now.global.now) (map input scope.now.inputs.items)) (count work)) }
 {
     if scope.is_value(name) {

@@ -1,7 +1,6 @@
 //! The definitions that are met, by their numbers, and the nodes that may still be made.
 ghost use Rattle.std.specs.Prelude.{◌≡◌, IfOk, map};
 ghost use Rattle.term.specs.Proc.{proc};
-ghost use Rattle.tokens.specs.declared.error.ScriptErrorKind.TheVariants.{TooLarge};
 ghost use Rattle.values.specs.View.{Gives};
 ghost use Rattle.denotation.specs.Denotes.{place, with_key};
 ghost use Rattle.denotation.specs.Making.{refer as refer_to, spend};
@@ -12,7 +11,7 @@ use indexmap::IndexSet;
 use std::alloc::{AllocError, Allocator};
 use std::hash::{BuildHasherDefault, FoldHasher};
 use term::Term;
-use tokens::{ScriptError, ScriptErrorKind};
+use tokens::{ScriptErrorKind, Unread, fault};
 
 type Hashing = BuildHasherDefault<FoldHasher>;
 
@@ -25,28 +24,18 @@ pub(crate) struct Work<A: Allocator> {
     pub(crate) room: usize,
 }
 
-/// Too many nodes are made where this line stands.
-fn too_large(line: u32) -> ScriptError
-    ensures { result.kind ≡ TooLarge }
-{
-    ScriptError {
-        line,
-        kind: ScriptErrorKind::TooLarge,
-    }
-}
-
 /// The same with so many nodes less to be made; `TooLarge` where there is no room for them.
 #[tactic(auto, unfolding(crate::specs::Making::spend, crate::specs::Making::room_left))]
 pub(crate) fn spent<A: Allocator>(
     work: Work<A>,
     nodes: usize,
     line: u32,
-) -> Result<Work<A>, ScriptError>
+) -> Result<Work<A>, Unread>
     ensures { Gives (λ w. count w) result (spend nodes (count work)) }
 {
     let Work { met, room } = work;
     if room < nodes {
-        return Err(too_large(line));
+        return Err(fault(line, ScriptErrorKind::TooLarge));
     }
     Ok(Work {
         met,
@@ -73,12 +62,12 @@ pub(crate) fn refer<A: Allocator>(
     call: Call<A>,
     work: Work<A>,
     line: u32,
-) -> Result<(Term<A>, Work<A>), ScriptError>
+) -> Result<(Term<A>, Work<A>), Unread>
     ensures { Gives (λ x. (proc x.0, count x.1)) result (refer_to (key call) (count work)) }
 {
     let Work { met, room } = work;
     if room < 1 {
-        return Err(too_large(line));
+        return Err(fault(line, ScriptErrorKind::TooLarge));
     }
     let (number, met) = numbered(met, call)?;
     let room = room - 1;

@@ -14,9 +14,10 @@ use Rattle.event_phrases.specs.Events.{KnownEvents, Beginning, unless_value, cha
 use Rattle.event_phrases.specs.Fitting.{against, fits_field}
 use Rattle.event_phrases.specs.Scopes.{Scope}
 use Rattle.event_phrases.specs.EventForms.{within_by, begin_by, whole_by, chosen, given_value, is_in_both, combine, gives_by, set_by, pairs_by, fits_by}
-use Rattle.tokens.specs.declared.error.ScriptErrorKind.{ScriptErrorKind}
+use Rattle.tokens.specs.declared.unread.Unread.{Unread}
 use Rattle.values.specs.View.{Fails}
-use Rattle.event_phrases.proofs.Options.{some_is, some_truth, fails_on, fails_at}
+use Rattle.event_phrases.proofs.Options.{some_is, some_truth, fails_at}
+use Rattle.syntax.proofs.FaultKinds.{fails_on}
 use Rattle.event_phrases.proofs.Shapes.{list_forth}
 
 abbrev some_values : Values → Option Values
@@ -212,7 +213,7 @@ branch_chosen known (Node forms.If (MoreSyntax b (MoreSyntax t (MoreSyntax u (Mo
 branch_chosen known (Node f ts) c left right h = absurd cc
 
 module _ (known : Known) (t c left right : Syntax) (h : branches_of t ≡ three_parts c left right) where
-  pub branch_fails : (k : ScriptErrorKind) → Fails k (condition known c) → Fails k (chosen known t)
+  pub branch_fails : (k : Unread) → Fails k (condition known c) → Fails k (chosen known t)
   branch_fails k f = subst (λ o. Fails k o) (sym (branch_chosen known t c left right h)) (fails_at k (condition known c) (λ b. cond b (chosen known left) (chosen known right)) f)
 
   pub first_branch : (b : Bool) → condition known c ≡ Some b → b ≡ true → chosen known t ≡ chosen known left
@@ -389,14 +390,14 @@ module _ (cs : List Channel) (known : Known) (t : Syntax) (c : Name) (ts : List 
     unfolding begin_by
     begin_so_far = begins_by cs known t (c, ts) (sym h) ∙ ap (λ o. o >>= λ sets. within_by known ts sets >>= λ vs. begun c vs) (sym f)
 
-    pub begin_fails : (k : ScriptErrorKind) → Fails k (within_by known ts sets) → Fails k (beginning cs known t)
+    pub begin_fails : (k : Unread) → Fails k (within_by known ts sets) → Fails k (beginning cs known t)
     begin_fails k e = fails_on k (within_by known ts sets) (beginning cs known t) (λ e. begin_so_far ∙ ap (λ o. o >>= λ vs. begun c vs) e) e
 
     pub begin_made : (name : Name) (vs : Values) → within_by known ts sets ≡ Some vs → name ≡ c → beginning cs known t ≡ Some (name, vs)
     begin_made name vs e n = begin_so_far ∙ ap (λ o. o >>= λ vs. begun c vs) e ∙ ap (λ c. begun c vs) (sym n)
 
 -- what is left of a phrase is nothing
-pub whole_unchosen : (cs : List Channel) (known : Known) (t : Syntax) (k : ScriptErrorKind) → Fails k (chosen known t) → Fails k (whole_event cs known t)
+pub whole_unchosen : (cs : List Channel) (known : Known) (t : Syntax) (k : Unread) → Fails k (chosen known t) → Fails k (whole_event cs known t)
 whole_unchosen cs known t k f = subst (λ o. Fails k o) (sym (whole_is cs known t)) (fails_at k (chosen known t) (given_event cs known) f)
 
 module _ (cs : List Channel) (known : Known) (t u : Syntax) (un : chosen known t ≡ some_syntax u) where
@@ -424,7 +425,7 @@ module _ (cs : List Channel) (known : Known) (t u : Syntax) (un : chosen known t
       pub whole_lacks : (length ts ≡ length sets → ⊥) → whole_event cs known t ≡ None
       whole_lacks n = whole_so_far false (grind (arith, n))
 
-      pub whole_fails : length ts ≡ length sets → (k : ScriptErrorKind) → Fails k (within_by known ts sets) → Fails k (whole_event cs known t)
+      pub whole_fails : length ts ≡ length sets → (k : Unread) → Fails k (within_by known ts sets) → Fails k (whole_event cs known t)
       whole_fails l k e = fails_on k (within_by known ts sets) (whole_event cs known t) (λ e. whole_so_far true (grind (arith, l)) ∙ ap (λ o. o >>= λ vs. begun c vs) e) e
 
       pub whole_made : length ts ≡ length sets → (name : Name) (vs : Values) → within_by known ts sets ≡ Some vs → name ≡ c → whole_event cs known t ≡ Some (name, vs)

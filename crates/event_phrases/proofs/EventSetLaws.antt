@@ -10,7 +10,7 @@ use Rattle.syntax.specs.declared.tree.Tree.{Tree}
 use Rattle.syntax.specs.Grammar.{Syntax}
 use Rattle.syntax.specs.Parsing.{syntaxes}
 use Rattle.syntax.specs.View.{shape, shapes}
-use Rattle.tokens.specs.declared.error.ScriptErrorKind.{ScriptErrorKind}
+use Rattle.tokens.specs.declared.unread.Unread.{Unread}
 use Rattle.values.specs.Values.{◌>>=◌, Name}
 use Rattle.values.specs.Worths.{Known, condition}
 use Rattle.values.specs.View.{Fails}
@@ -28,7 +28,8 @@ use Rattle.event_phrases.proofs.Scopes.{hidden, seen}
 use Rattle.event_phrases.specs.View.{row}
 use Rattle.event_phrases.proofs.EventNumbers.{drop_item, drop_none, none_below}
 use Rattle.event_phrases.proofs.SetsBelow.{below_same, inside_is, is_in, member_is, is_below, has_is}
-use Rattle.event_phrases.proofs.Options.{some_truth, fails_on}
+use Rattle.syntax.proofs.FaultKinds.{fails_on}
+use Rattle.event_phrases.proofs.Options.{some_truth}
 
 abbrev some_set : Set → Option Set
 some_set S = Some S
@@ -109,11 +110,11 @@ unfolding masked
 masked_none cs None h = refl
 masked_none cs (Some A) h = absurd cc
 
-pub first_fails : (k : ScriptErrorKind) (cs : List Channel) (o : Option Events) (f : Events → Option Events) → Fails k (masked cs o) → Fails k (masked cs (o >>= f))
+pub first_fails : (k : Unread) (cs : List Channel) (o : Option Events) (f : Events → Option Events) → Fails k (masked cs o) → Fails k (masked cs (o >>= f))
 unfolding masked
 first_fails k cs o f h = fails_on k (masked cs o) (masked cs (o >>= f)) (λ e. ap (λ o. masked cs (o >>= f)) (masked_none cs o e)) h
 
-pub second_fails : (k : ScriptErrorKind) (cs : List Channel) (c : Combination) (o p : Option Events) → Fails k (masked cs p) → Fails k (masked cs (o >>= λ A. p >>= λ B. Some (combine c A B)))
+pub second_fails : (k : Unread) (cs : List Channel) (c : Combination) (o p : Option Events) → Fails k (masked cs p) → Fails k (masked cs (o >>= λ A. p >>= λ B. Some (combine c A B)))
 unfolding masked
 second_fails k cs c o p h = fails_on k (masked cs p) (masked cs (o >>= λ A. p >>= λ B. Some (combine c A B))) (λ e. ap (λ p. masked cs (o >>= λ A. p >>= λ B. Some (combine c A B))) (masked_none cs p e) ∙ by o) h
   where
@@ -188,7 +189,7 @@ module _ {A : Type 0} (cs : List Channel) (gives : Syntax → Option Events) (tr
         lies_more S T R E inv.1 (sym (set_is g)) m,
       )
 
-  pub several_fails : (k : ScriptErrorKind) (i : ℕ) (t : Tree A) (S : Set) (whole : Option Set) → (with_set cs S (others i) ≡ whole) × Lies cs S → i < length trees → t ≡ get_or trees i t → Fails k (masked cs (gives (shape t))) → Fails k whole
+  pub several_fails : (k : Unread) (i : ℕ) (t : Tree A) (S : Set) (whole : Option Set) → (with_set cs S (others i) ≡ whole) × Lies cs S → i < length trees → t ≡ get_or trees i t → Fails k (masked cs (gives (shape t))) → Fails k whole
   unfolding masked
   several_fails k i t S whole inv h is f =
       fails_on k (masked cs (gives (shape t))) whole (λ e. sym inv.0 ∙ ap (with_set cs S) (step i t h is ∙ ap (λ o. o >>= λ A. others (i + 1) >>= λ B. Some (either A B)) (masked_none cs (gives (shape t)) e))) f
@@ -240,12 +241,12 @@ unfolding set_below
 empty_is S h = none_below no_events S h
 
 -- faults of the phrases in a set
-pub begun_fails : (k : ScriptErrorKind) (cs : List Channel) (known : Known) (e : Extent) (t : Syntax) → e ≡ extents.Beginnings → Fails k (beginning cs known t) → Fails k (masked cs (gives_by cs known e t))
+pub begun_fails : (k : Unread) (cs : List Channel) (known : Known) (e : Extent) (t : Syntax) → e ≡ extents.Beginnings → Fails k (beginning cs known t) → Fails k (masked cs (gives_by cs known e t))
 unfolding gives_by masked
 begun_fails k cs known e t h f =
     fails_on k (beginning cs known t) (masked cs (gives_by cs known e t)) (λ n. ap (λ e. masked cs (gives_by cs known e t)) h ∙ ap (λ o. masked cs (o >>= λ b. Some (beginning_so cs b))) n) f
 
-pub member_fails : (k : ScriptErrorKind) (cs : List Channel) (known : Known) (e : Extent) (t : Syntax) → e ≡ extents.Events → Fails k (whole_event cs known t) → Fails k (masked cs (gives_by cs known e t))
+pub member_fails : (k : Unread) (cs : List Channel) (known : Known) (e : Extent) (t : Syntax) → e ≡ extents.Events → Fails k (whole_event cs known t) → Fails k (masked cs (gives_by cs known e t))
 unfolding gives_by masked
 member_fails k cs known e t h f =
     fails_on k (whole_event cs known t) (masked cs (gives_by cs known e t)) (λ n. ap (λ e. masked cs (gives_by cs known e t)) h ∙ ap (λ o. masked cs (o >>= λ b. Some (beginning_so cs b))) n) f
@@ -302,7 +303,7 @@ module _ (q : SetPhrase) where
       unfolding set_by
       chosen_set = ap (λ q. masked cs (set_by cs known sets q)) h
 
-      pub condition_fails : (k : ScriptErrorKind) → Fails k (condition known c) → Fails k (masked cs (set_by cs known sets q))
+      pub condition_fails : (k : Unread) → Fails k (condition known c) → Fails k (masked cs (set_by cs known sets q))
       unfolding masked
       condition_fails k f = fails_on k (condition known c) (masked cs (set_by cs known sets q)) (λ e. chosen_set ∙ ap (λ o. masked cs (chosen_by o)) e) f
 
@@ -317,11 +318,11 @@ module _ (q : SetPhrase) where
       unfolding set_by
       combined_set = ap (λ q. masked cs (set_by cs known sets q)) h
 
-      pub first_set_fails : (k : ScriptErrorKind) → Fails k (masked cs (event_set cs known sets t)) → Fails k (masked cs (set_by cs known sets q))
+      pub first_set_fails : (k : Unread) → Fails k (masked cs (event_set cs known sets t)) → Fails k (masked cs (set_by cs known sets q))
       first_set_fails k f =
           subst (λ o. Fails k o) (sym combined_set) (first_fails k cs (event_set cs known sets t) (λ A. event_set cs known sets u >>= λ B. Some (combine c A B)) f)
 
-      pub second_set_fails : (k : ScriptErrorKind) → Fails k (masked cs (event_set cs known sets u)) → Fails k (masked cs (set_by cs known sets q))
+      pub second_set_fails : (k : Unread) → Fails k (masked cs (event_set cs known sets u)) → Fails k (masked cs (set_by cs known sets q))
       second_set_fails k f = subst (λ o. Fails k o) (sym combined_set) (second_fails k cs c (event_set cs known sets t) (event_set cs known sets u) f)
 
       pub both_sets : (S T R : Set) → masked cs (event_set cs known sets t) ≡ Some S → masked cs (event_set cs known sets u) ≡ Some T → ((x : Event) → member R x ≡ is_in_both c (member S x) (member T x)) → masked cs (set_by cs known sets q) ≡ Some R

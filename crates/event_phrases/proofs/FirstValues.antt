@@ -4,7 +4,7 @@ use Rattle.std.proofs.lemmas.List.{drop-map}
 use Rattle.alphabet.specs.Channels.{FieldValue, Values, Parts}
 use Rattle.syntax.specs.Grammar.{Syntax}
 use Rattle.syntax.specs.Parsing.{syntaxes}
-use Rattle.tokens.specs.declared.error.ScriptErrorKind.{ScriptErrorKind}
+use Rattle.tokens.specs.declared.unread.Unread.{Unread}
 use Rattle.values.specs.Values.{◌>>=◌, Name, is_among, is_same}
 use Rattle.values.specs.Names.{same_name}
 use Rattle.values.specs.View.{Fails}
@@ -16,7 +16,7 @@ use Rattle.event_phrases.specs.Leading.{Fit, before_more, first_fit, fit_or, lea
 use Rattle.event_phrases.specs.Scopes.{Scope}
 use Rattle.event_phrases.proofs.EventLaws.{value_so, no_value}
 use Rattle.event_phrases.proofs.EventNumbers.{drop_item, drop_none}
-use Rattle.event_phrases.proofs.Options.{fails_on}
+use Rattle.syntax.proofs.FaultKinds.{fails_on}
 use Rattle.event_phrases.proofs.Scopes.{field_fits}
 
 abbrev fits_or_not : Bool → Scope → Fitting
@@ -97,7 +97,7 @@ module _ {R : Type 0} (view : R → Parts) (rs : List R) (es : List Parts) (all 
     with_fit : (o : Fitting) → test (view r) ≡ o → whole ≡ (o >>= fit_or i (map view (drop (i + 1) rs)) (first_fit test (suc i) (map view (drop (i + 1) rs))))
     with_fit o e = here ∙ ap (λ o. o >>= fit_or i (map view (drop (i + 1) rs)) (first_fit test (suc i) (map view (drop (i + 1) rs)))) e
 
-    pub fault_at : (k : ScriptErrorKind) → Fails k (test (view r)) → Fails k whole
+    pub fault_at : (k : Unread) → Fails k (test (view r)) → Fails k whole
     fault_at k f = fails_on k (test (view r)) whole (λ e. with_fit None e) f
 
     pub passed : test (view r) ≡ Some None → whole ≡ from_number (i + 1)

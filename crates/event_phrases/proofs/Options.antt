@@ -1,9 +1,9 @@
 -- Options, step by step, and faults of steps.
 use Rattle.std.proofs.Common.{◌≡◌, Bool, Option, Some, None, refl, ap}
-use Rattle.tokens.specs.declared.error.ScriptErrorKind.{ScriptErrorKind}
-use Rattle.tokens.specs.declared.error.ScriptErrorKind.TheVariants as kinds
+use Rattle.tokens.specs.declared.unread.Unread.{Unread}
 use Rattle.values.specs.Values.{◌>>=◌}
 use Rattle.values.specs.View.{Fails}
+use Rattle.syntax.proofs.FaultKinds.{fails_on}
 
 pub some_is : {A : Type 0} {x y : A} → Some x ≡ Some y → x ≡ y
 some_is h = cc
@@ -31,22 +31,6 @@ bind_same (Some x) f h = h x
 pub step : {X Y : Type 0} (o : Option X) (f : X → Option Y) (x : X) → o ≡ Some x → (o >>= f) ≡ f x
 step o f x h = ap (λ o. o >>= f) h
 
--- a fault of a part is one of the whole
-pub fails_on : {A B : Type 0} (k : ScriptErrorKind) (r : Option A) (t : Option B) → (r ≡ None → t ≡ None) → Fails k r → Fails k t
-fails_on kinds.Memory r t f h = tt
-fails_on kinds.BadByte r t f h = f h
-fails_on kinds.BadToken r t f h = f h
-fails_on kinds.Expected r t f h = f h
-fails_on kinds.UnknownName r t f h = f h
-fails_on kinds.Redeclared r t f h = f h
-fails_on kinds.WrongFields r t f h = f h
-fails_on kinds.OutOfRange r t f h = f h
-fails_on kinds.TooManyEvents r t f h = f h
-fails_on kinds.TooDeep r t f h = f h
-fails_on kinds.TooLarge r t f h = f h
-fails_on kinds.Unsupported r t f h = f h
-fails_on kinds.NoSuchProcess r t f h = f h
-
 -- a fault of a step is one of the whole
-pub fails_at : {X Y : Type 0} (k : ScriptErrorKind) (o : Option X) (f : X → Option Y) → Fails k o → Fails k (o >>= f)
+pub fails_at : {X Y : Type 0} (k : Unread) (o : Option X) (f : X → Option Y) → Fails k o → Fails k (o >>= f)
 fails_at k o f h = fails_on k o (o >>= f) (λ n. ap (λ o. o >>= f) n) h

@@ -1,8 +1,7 @@
 -- Turns over the values of an input, where a channel has no event.
 use Rattle.std.proofs.Common.{◌≡◌, ℕ, ◌+◌, ◌<◌, ◌≤◌, List, [], ◌∷◌, length, map, drop, get_or, filter, false, cond, Option, Some, None, Result, Ok, Err, MatchResult, refl, sym, ap, subst, ◌∙◌}
-use Rattle.tokens.specs.declared.error.ScriptError.{ScriptError}
-use Rattle.tokens.specs.declared.error.ScriptErrorKind.{ScriptErrorKind}
-use Rattle.tokens.specs.declared.error.ScriptErrorKind.TheVariants as kinds
+use Rattle.tokens.specs.declared.unread.Unread.{Unread}
+use Rattle.tokens.specs.declared.unread.Unread.TheVariants as kinds
 use Rattle.values.specs.Names.{is_constant, meaning}
 use Rattle.values.specs.Values.{◌>>=◌, Name, is_among}
 use Rattle.values.specs.View.{Fails}
@@ -14,7 +13,7 @@ use Rattle.event_phrases.specs.Prefixes.{all_pass, fields_pass, scopes_after}
 use Rattle.event_phrases.specs.Scopes.{Scope, with_input, values_by}
 use Rattle.event_phrases.specs.Uses.{chosen_values, field_passes}
 use Rattle.event_phrases.proofs.EventNumbers.{drop_item, drop_none}
-use Rattle.event_phrases.proofs.Options.{fails_on}
+use Rattle.syntax.proofs.FaultKinds.{fails_on}
 use Rattle.event_phrases.proofs.Unused.{ended}
 
 -- ---- what passes
@@ -28,7 +27,7 @@ module _ {R X : Type 0} (view : R → X) (test : X → Option (Unit {0})) (rs : 
     pub turn_passes : test (view r) ≡ Some tt → all_pass test (map view (drop (i + 1) rs)) ≡ all_pass test (map view (drop i rs))
     turn_passes h = sym (here ∙ ap (λ o. o >>= λ u. all_pass test (map view (drop (i + 1) rs))) h)
 
-    pub turn_fails : (k : ScriptErrorKind) → all_pass test (map view (drop i rs)) ≡ all_pass test (map view rs) → Fails k (test (view r)) → Fails k (all_pass test (map view rs))
+    pub turn_fails : (k : Unread) → all_pass test (map view (drop i rs)) ≡ all_pass test (map view rs) → Fails k (test (view r)) → Fails k (all_pass test (map view rs))
     turn_fails k inv f = fails_on k (test (view r)) (all_pass test (map view rs)) (λ e. sym inv ∙ here ∙ ap (λ o. o >>= λ u. all_pass test (map view (drop (i + 1) rs))) e) f
 
   pub all_passed : length rs ≤ i → all_pass test (map view (drop i rs)) ≡ all_pass test (map view rs) → all_pass test (map view rs) ≡ Some tt
@@ -37,7 +36,7 @@ module _ {R X : Type 0} (view : R → X) (test : X → Option (Unit {0})) (rs : 
 
 -- ---- what is looked at after an input
 
-pub looked_so : {T : Type 0} (r : Result T ScriptError) (x : Option (Unit {0})) (each : Scope → Option (Unit {0})) (after : Scope → T → Option (Unit {0})) (s : Scope) → x ≡ each s → MatchResult r (λ o. (s : Scope) → each s ≡ after s o) (λ e. e.kind ≡ kinds.Memory) → MatchResult r (λ o. x ≡ after s o) (λ e. Fails e.kind x)
+pub looked_so : {T : Type 0} (r : Result T Unread) (x : Option (Unit {0})) (each : Scope → Option (Unit {0})) (after : Scope → T → Option (Unit {0})) (s : Scope) → x ≡ each s → MatchResult r (λ o. (s : Scope) → each s ≡ after s o) (λ e. e.kind ≡ kinds.Memory) → MatchResult r (λ o. x ≡ after s o) (λ e. Fails e.kind x)
 looked_so (Ok o) x each after s h k = h ∙ k s
 looked_so (Err e) x each after s h k = subst (λ k. Fails k x) (sym k) tt
 
@@ -80,6 +79,6 @@ module _ (ts : List Syntax) (sets : List Values) (s : Scope) (set : Values) wher
     pub part_passes : (x : Name) (t : Syntax) (vs : Values) → p ≡ input_from x t → is_constant (meaning s.entries x) ≡ false → chosen_values s t set ≡ Some vs → field_passes ts sets s p set ≡ all_pass (fields_pass (syntaxes ts) sets) (map (with_input s x) vs)
     part_passes x t vs h c e = part_is x t h c ∙ ap (λ o. onward (o >>= λ vs. Some (scopes_with x vs))) e
 
-    pub part_fails : (x : Name) (t : Syntax) (k : ScriptErrorKind) → p ≡ input_from x t → is_constant (meaning s.entries x) ≡ false → Fails k (chosen_values s t set) → Fails k (field_passes ts sets s p set)
+    pub part_fails : (x : Name) (t : Syntax) (k : Unread) → p ≡ input_from x t → is_constant (meaning s.entries x) ≡ false → Fails k (chosen_values s t set) → Fails k (field_passes ts sets s p set)
     part_fails x t k h c f =
         fails_on k (chosen_values s t set) (field_passes ts sets s p set) (λ e. part_is x t h c ∙ ap (λ o. onward (o >>= λ vs. Some (scopes_with x vs))) e) f

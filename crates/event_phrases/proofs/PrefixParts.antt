@@ -5,7 +5,7 @@ use Rattle.syntax.specs.declared.form.Form.{Form}
 use Rattle.syntax.specs.declared.form.Form.TheVariants as forms
 use Rattle.syntax.specs.Grammar.{Syntax, Called, Numeral, Node, Syntaxes, NoSyntax, MoreSyntax}
 use Rattle.syntax.specs.Parsing.{syntaxes}
-use Rattle.tokens.specs.declared.error.ScriptErrorKind.{ScriptErrorKind}
+use Rattle.tokens.specs.declared.unread.Unread.{Unread}
 use Rattle.values.specs.Values.{◌>>=◌, Name}
 use Rattle.values.specs.View.{Fails}
 use Rattle.event_phrases.specs.Events.{channel_fields}
@@ -79,7 +79,7 @@ module _ (s : Scope) (e : Syntax) where
         all_there : prefix_parts s e ≡ (at_no_fault (syntaxes ts) sets s >>= λ u. parts_with c (syntaxes ts) sets)
         all_there = within_sets ∙ ap (λ b. cond b (at_no_fault (syntaxes ts) sets s >>= λ u. parts_with c (syntaxes ts) sets) None) (has_all_is ts sets n)
 
-        pub field_fails : (k : ScriptErrorKind) → Fails k (at_no_fault (syntaxes ts) sets s) → Fails k (prefix_parts s e)
+        pub field_fails : (k : Unread) → Fails k (at_no_fault (syntaxes ts) sets s) → Fails k (prefix_parts s e)
         field_fails k g = subst (λ o. Fails k o) (sym all_there) (fails_at k (at_no_fault (syntaxes ts) sets s) (λ u. parts_with c (syntaxes ts) sets) g)
 
         pub parts_found : at_no_fault (syntaxes ts) sets s ≡ Some tt → prefix_parts s e ≡ Some (c, syntaxes ts, sets)

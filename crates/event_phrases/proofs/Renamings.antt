@@ -6,7 +6,7 @@ use Rattle.syntax.specs.declared.tree.Tree.{Tree}
 use Rattle.syntax.specs.Grammar.{Syntax}
 use Rattle.syntax.specs.Parsing.{syntaxes}
 use Rattle.syntax.specs.View.{shape, shapes}
-use Rattle.tokens.specs.declared.error.ScriptErrorKind.{ScriptErrorKind}
+use Rattle.tokens.specs.declared.unread.Unread.{Unread}
 use Rattle.values.specs.Values.{◌>>=◌}
 use Rattle.values.specs.Worths.{Known}
 use Rattle.values.specs.View.{Fails}
@@ -14,8 +14,8 @@ use Rattle.event_phrases.specs.Events.{Beginning, beginning, begins_so, number_i
 use Rattle.event_phrases.specs.EventForms.{behind_pairs, pairs_by}
 use Rattle.event_phrases.specs.Forms.{sides_of}
 use Rattle.event_phrases.proofs.EventLaws.{pair_is}
+use Rattle.syntax.proofs.FaultKinds.{fails_on}
 use Rattle.event_phrases.proofs.EventNumbers.{drop_item, drop_none}
-use Rattle.event_phrases.proofs.Options.{fails_on}
 
 abbrev some_pairs : Pairs → Option Pairs
 some_pairs R = Some R
@@ -99,7 +99,7 @@ module _ {A : Type 0} (cs : List Channel) (known : Known) (ts : List (Tree A)) w
   none_is front None h = refl
   none_is front (Some R) h = absurd cc
 
-  pub others_fail : (k : ScriptErrorKind) (i : ℕ) (t : Tree A) (front : Pairs) (whole : Option Pairs) → behind_pairs front (others i) ≡ whole → i < length ts → t ≡ get_or ts i t → Fails k (behind_pairs front (pair_of cs known (shape t))) → Fails k whole
+  pub others_fail : (k : Unread) (i : ℕ) (t : Tree A) (front : Pairs) (whole : Option Pairs) → behind_pairs front (others i) ≡ whole → i < length ts → t ≡ get_or ts i t → Fails k (behind_pairs front (pair_of cs known (shape t))) → Fails k whole
   unfolding behind_pairs
   others_fail k i t front whole inv h is f =
       fails_on k (behind_pairs front (pair_of cs known (shape t))) whole
@@ -124,7 +124,7 @@ module _ (cs : List Channel) (known : Known) (t : Syntax) (front : Pairs) where
     unfolding pairs_by
     pair_so = pair_is cs known t ∙ ap (λ o. o >>= pairs_by cs known) (sym h)
 
-    pub left_fails : (k : ScriptErrorKind) → Fails k (beginning cs known u) → Fails k (behind_pairs front (pair_of cs known t))
+    pub left_fails : (k : Unread) → Fails k (beginning cs known u) → Fails k (behind_pairs front (pair_of cs known t))
     unfolding behind_pairs
     left_fails k f =
         fails_on k (beginning cs known u) (behind_pairs front (pair_of cs known t))
@@ -134,7 +134,7 @@ module _ (cs : List Channel) (known : Known) (t : Syntax) (front : Pairs) where
       pair_on : pair_of cs known t ≡ (beginning cs known v >>= λ right. pairs_from cs left right 0 (events cs))
       pair_on = pair_so ∙ ap (λ o. o >>= λ left. beginning cs known v >>= λ right. pairs_from cs left right 0 (events cs)) l
 
-      pub right_fails : (k : ScriptErrorKind) → Fails k (beginning cs known v) → Fails k (behind_pairs front (pair_of cs known t))
+      pub right_fails : (k : Unread) → Fails k (beginning cs known v) → Fails k (behind_pairs front (pair_of cs known t))
       unfolding behind_pairs
       right_fails k f =
           fails_on k (beginning cs known v) (behind_pairs front (pair_of cs known t))

@@ -1,10 +1,9 @@
 -- Scopes behind inputs, values of fields, and fields of a prefix.
-use Rattle.std.proofs.Common.{◌≡◌, ℕ, zero, suc, ◌-◌, ◌<◌, ◌≤◌, List, [], ◌∷◌, ◌++◌, length, take, drop, get_or, true, false, cond, Option, Some, None, refl, sym, ap, ◌∙◌, arith, append-nil, append_assoc, subst}
+use Rattle.std.proofs.Common.{◌≡◌, ℕ, zero, suc, ◌-◌, ◌<◌, ◌≤◌, List, [], ◌∷◌, ◌++◌, length, take, drop, get_or, true, false, cond, Option, Some, None, refl, sym, ap, ◌∙◌, arith, append-nil, append_assoc}
 use Rattle.std.proofs.lemmas.List.{length-drop}
 use Rattle.alphabet.specs.Channels.{FieldValue, Values}
 use Rattle.syntax.specs.Grammar.{Syntax}
-use Rattle.tokens.specs.declared.error.ScriptErrorKind.{ScriptErrorKind}
-use Rattle.tokens.specs.declared.error.ScriptErrorKind.TheVariants as kinds
+use Rattle.tokens.specs.declared.unread.Unread.{Unread}
 use Rattle.values.specs.Values.{◌>>=◌, Name, is_among}
 use Rattle.values.specs.Worths.{Worth, Known}
 use Rattle.values.specs.Tables.{behind, names_value}
@@ -15,8 +14,8 @@ use Rattle.event_phrases.specs.EventForms.{within_by, values_behind, fits_by}
 use Rattle.event_phrases.specs.Forms.{FieldPhrase, field_of}
 use Rattle.event_phrases.specs.Fitting.{fits_field}
 use Rattle.event_phrases.specs.Scopes.{Scope, with_input, within}
+use Rattle.syntax.proofs.FaultKinds.{fails_on}
 use Rattle.event_phrases.proofs.EventLaws.{unless_is, fits_is}
-use Rattle.event_phrases.proofs.Options.{fails_on}
 
 pub hidden : {X : Type 0} (o : Option Worth) (x : Option X) → names_value o ≡ true → unless_value o x ≡ None
 hidden o x h = unless_is o x ∙ ap (λ b. cond b None x) h
@@ -63,7 +62,7 @@ module _ (known : Known) (t : Syntax) (ts : List Syntax) (set : Values) (sets : 
       ap (λ o. values_behind front (o >>= λ v. cond (is_among v set) (within_by known ts sets >>= λ vs. some_values (v ∷ vs)) None)) h
       ∙ ap (λ b. values_behind front (cond b (within_by known ts sets >>= λ vs. some_values (v ∷ vs)) None)) a
 
-  pub value_fails : (k : ScriptErrorKind) → Fails k (field_value known t) → Fails k (values_behind front (within_by known (t ∷ ts) (set ∷ sets)))
+  pub value_fails : (k : Unread) → Fails k (field_value known t) → Fails k (values_behind front (within_by known (t ∷ ts) (set ∷ sets)))
   unfolding within_by values_behind
   value_fails k f =
       fails_on k (field_value known t) (values_behind front (within_by known (t ∷ ts) (set ∷ sets)))
@@ -82,38 +81,6 @@ field_fits t p set v s h = fits_is t set v s ∙ ap (λ o. o >>= λ p. fits_by p
 
 pub no_field : (t : Syntax) (set : Values) (v : FieldValue) (s : Scope) → field_of t ≡ None → fits_field t set v s ≡ None
 no_field t set v s h = fits_is t set v s ∙ ap (λ o. o >>= λ p. fits_by p set v s) h
-
--- where nothing is wanted any fault will do
-pub fails_none : {Y : Type 0} (k : ScriptErrorKind) (o : Option Y) → o ≡ None → Fails k o
-fails_none kinds.Memory o e = tt
-fails_none kinds.BadByte o e = e
-fails_none kinds.BadToken o e = e
-fails_none kinds.Expected o e = e
-fails_none kinds.UnknownName o e = e
-fails_none kinds.Redeclared o e = e
-fails_none kinds.WrongFields o e = e
-fails_none kinds.OutOfRange o e = e
-fails_none kinds.TooManyEvents o e = e
-fails_none kinds.TooDeep o e = e
-fails_none kinds.TooLarge o e = e
-fails_none kinds.Unsupported o e = e
-fails_none kinds.NoSuchProcess o e = e
-
--- a fault that is told for another one, which isn't want of memory
-pub fails_too : {Y : Type 0} (k l : ScriptErrorKind) (o : Option Y) → Fails k o → (k ≡ kinds.Memory → l ≡ kinds.Memory) → Fails l o
-fails_too kinds.Memory l o h m = subst (λ x. Fails x o) (sym (m refl)) tt
-fails_too kinds.BadByte l o h m = fails_none l o h
-fails_too kinds.BadToken l o h m = fails_none l o h
-fails_too kinds.Expected l o h m = fails_none l o h
-fails_too kinds.UnknownName l o h m = fails_none l o h
-fails_too kinds.Redeclared l o h m = fails_none l o h
-fails_too kinds.WrongFields l o h m = fails_none l o h
-fails_too kinds.OutOfRange l o h m = fails_none l o h
-fails_too kinds.TooManyEvents l o h m = fails_none l o h
-fails_too kinds.TooDeep l o h m = fails_none l o h
-fails_too kinds.TooLarge l o h m = fails_none l o h
-fails_too kinds.Unsupported l o h m = fails_none l o h
-fails_too kinds.NoSuchProcess l o h m = fails_none l o h
 
 -- ---- slices
 

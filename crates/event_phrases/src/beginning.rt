@@ -1,6 +1,5 @@
 //! Events, and events that begin alike, as phrases without inputs give them.
-ghost use Rattle.std.specs.Prelude.{◌≡◌, ◌++◌, Some, length, map};
-ghost use Rattle.std.specs.Option.{option_map};
+ghost use Rattle.std.specs.Prelude.{◌≡◌, Some, map};
 ghost use Rattle.syntax.specs.View.{shape, shapes};
 ghost use Rattle.values.specs.Tables.{input};
 ghost use Rattle.values.specs.Values.{is_among};
@@ -14,10 +13,10 @@ ghost use Rattle.event_phrases.specs.View.{beginning as beginning_of, listed};
 use crate::forms::{FieldPhrase, branches, event_parts, field, in_brackets};
 use crate::global_scope::{GlobalScope, Set, Wanted};
 use crate::row::Row;
-use crate::scope::{Scope, fault, told, truth, worth};
+use crate::scope::{Scope, told, truth, worth};
 use std::alloc::Allocator;
 use syntax::Tree;
-use tokens::{ScriptError, ScriptErrorKind};
+use tokens::{ScriptErrorKind, Unread, fault};
 use values::{Value, the_value};
 
 /// Whether the value is one of the set.
@@ -38,7 +37,7 @@ fn given_by<A: Allocator + Copy, G: GlobalScope<A>>(
     scope: &Scope<'_, A, G>,
     phrase: FieldPhrase<'_, A>,
     line: u32,
-) -> Result<Value<A>, ScriptError>
+) -> Result<Value<A>, Unread>
     ensures { Gives value_of result (given_value (within (G.scope scope.now.global.now) (map input scope.now.inputs.items)).known (plain_field phrase.entry)) }
 {
     match phrase {
@@ -57,7 +56,7 @@ pub(crate) fn given<A: Allocator + Copy, G: GlobalScope<A>>(
     alloc: A,
     scope: &Scope<'_, A, G>,
     tree: &Tree<A>,
-) -> Result<Value<A>, ScriptError>
+) -> Result<Value<A>, Unread>
     ensures { Gives value_of result (field_value (within (G.scope scope.now.global.now) (map input scope.now.inputs.items)).known (shape tree.now)) }
 {
     match field(tree) {
@@ -75,7 +74,7 @@ fn more_values<A: Allocator + Copy, G: GlobalScope<A>>(
     sets: &[Set<A>],
     before: Vec<Value<A>, A>,
     line: u32,
-) -> Result<Vec<Value<A>, A>, ScriptError>
+) -> Result<Vec<Value<A>, A>, Unread>
     ensures { Gives (λ v. listed v.items) result (values_behind (listed before.items) (within_by (within (G.scope scope.now.global.now) (map input scope.now.inputs.items)).known (shapes fields.now) (map (λ v. listed v.items) sets.now))) }
 {
     match fields {
@@ -103,7 +102,7 @@ fn values_of<A: Allocator + Copy, G: GlobalScope<A>>(
     fields: &[Tree<A>],
     sets: &[Set<A>],
     line: u32,
-) -> Result<Vec<Value<A>, A>, ScriptError>
+) -> Result<Vec<Value<A>, A>, Unread>
     ensures { Gives (λ v. listed v.items) result (within_by (within (G.scope scope.now.global.now) (map input scope.now.inputs.items)).known (shapes fields.now) (map (λ v. listed v.items) sets.now)) }
 {
     if fields.len() > sets.len() {
@@ -117,7 +116,7 @@ pub(crate) fn beginning<A: Allocator + Copy, G: GlobalScope<A>>(
     alloc: A,
     scope: &Scope<'_, A, G>,
     tree: &Tree<A>,
-) -> Result<Row<A>, ScriptError>
+) -> Result<Row<A>, Unread>
     ensures { Gives (λ r. beginning_of r) result (beginning_in (G.scope scope.now.global.now).channels (within (G.scope scope.now.global.now) (map input scope.now.inputs.items)).known (shape tree.now)) }
 {
     match event_parts(tree) {
@@ -137,12 +136,12 @@ pub(crate) fn beginning<A: Allocator + Copy, G: GlobalScope<A>>(
 
 /// The same, and the fault where it gives none: of the event where its name is no channel's, one of its fields is an input or
 /// it has too many (`WrongFields`), and of a field whose value is none of its set (`OutOfRange`).
-#[tactic(auto, using(crate::proofs::Scopes::fails_too))]
+#[tactic(auto, using(syntax::proofs::FaultKinds::fails_too))]
 pub(crate) fn wanted_beginning<A: Allocator + Copy, G: GlobalScope<A>>(
     alloc: A,
     scope: &Scope<'_, A, G>,
     tree: &Tree<A>,
-) -> Result<Row<A>, ScriptError>
+) -> Result<Row<A>, Unread>
     ensures { Gives (λ r. beginning_of r) result (beginning_in (G.scope scope.now.global.now).channels (within (G.scope scope.now.global.now) (map input scope.now.inputs.items)).known (shape tree.now)) }
 {
     match beginning(alloc, scope, tree) {
@@ -156,7 +155,7 @@ fn chosen<'t, A: Allocator + Copy, G: GlobalScope<A>>(
     alloc: A,
     scope: &Scope<'_, A, G>,
     tree: &'t Tree<A>,
-) -> Result<&'t Tree<A>, ScriptError>
+) -> Result<&'t Tree<A>, Unread>
     ensures { Gives (λ t. shape t.now) result (chosen_of (within (G.scope scope.now.global.now) (map input scope.now.inputs.items)).known (shape tree.now)) }
 {
     match in_brackets(tree) {
@@ -179,7 +178,7 @@ pub(crate) fn whole_event<A: Allocator + Copy, G: GlobalScope<A>>(
     alloc: A,
     scope: &Scope<'_, A, G>,
     tree: &Tree<A>,
-) -> Result<Row<A>, ScriptError>
+) -> Result<Row<A>, Unread>
     ensures { Gives (λ r. beginning_of r) result (whole_event_in (G.scope scope.now.global.now).channels (within (G.scope scope.now.global.now) (map input scope.now.inputs.items)).known (shape tree.now)) }
 {
     let inner = chosen(alloc, scope, tree)?;

@@ -4,10 +4,10 @@ ghost use Rattle.std.specs.Option.{option_map};
 ghost use Rattle.std.specs.Result.{MatchResult};
 ghost use Rattle.syntax.specs.Parsing.{syntaxes};
 ghost use Rattle.syntax.specs.View.{shape, shapes};
-ghost use Rattle.tokens.specs.declared.error.ScriptErrorKind.TheVariants as kinds;
+ghost use Rattle.tokens.specs.declared.unread.Unread.TheVariants.{Memory};
 ghost use Rattle.values.specs.Tables.{input};
 ghost use Rattle.values.specs.Values.{is_among};
-ghost use Rattle.values.specs.View.{Fails, Gives, value as value_of, values};
+ghost use Rattle.values.specs.View.{Fails, Gives, values};
 ghost use Rattle.event_phrases.specs.Forms.{given};
 ghost use Rattle.event_phrases.specs.Leading.{leading as leading_in};
 ghost use Rattle.event_phrases.specs.Prefixes.{all_pass as all_pass_in, at_no_fault as at_no_fault_of, fields_pass as fields_pass_in, has_event as has_event_in, prefix_parts, scopes_after};
@@ -22,11 +22,11 @@ use crate::global_scope::{GlobalScope, Set, Wanted};
 use crate::leading::leading_values;
 use crate::prefix::{Prefix, has_value};
 use crate::row::extended;
-use crate::scope::{Scope, copies, fault, push_input, wanted_worth};
+use crate::scope::{Scope, copies, push_input, wanted_worth};
 use crate::uses::mentions;
 use std::alloc::{AllocError, Allocator};
 use syntax::Tree;
-use tokens::{ScriptError, ScriptErrorKind};
+use tokens::{ScriptErrorKind, Unread, fault};
 use values::{Input, Value, Values, the_set, the_value};
 
 /// Whether the name is in one of the fields up to the first without values.
@@ -68,8 +68,8 @@ fn looked_at<'a, A: Allocator + Copy>(
     name: &'a [u8],
     values: &[Value<A>],
     rest: (&[Tree<A>], &[Set<A>]),
-) -> Result<Option<(&'a [u8], Vec<Value<A>, A>)>, ScriptError>
-    ensures { MatchResult result (λ o. (s : PlainScope) → all_pass_in (fields_pass_in (syntaxes (shapes rest.entry.0.now)) (map (λ v. listed v.items) rest.entry.1.now)) (map (with_input_of s name.now) (listed values.now)) ≡ passes_after (shapes rest.entry.0.now) (map (λ v. listed v.items) rest.entry.1.now) s (option_map (λ p. (p.0.now, listed p.1.items)) o)) (λ e. e.kind ≡ kinds.Memory) }
+) -> Result<Option<(&'a [u8], Vec<Value<A>, A>)>, Unread>
+    ensures { MatchResult result (λ o. (s : PlainScope) → all_pass_in (fields_pass_in (syntaxes (shapes rest.entry.0.now)) (map (λ v. listed v.items) rest.entry.1.now)) (map (with_input_of s name.now) (listed values.now)) ≡ passes_after (shapes rest.entry.0.now) (map (λ v. listed v.items) rest.entry.1.now) s (option_map (λ p. (p.0.now, listed p.1.items)) o)) (λ e. e ≡ Memory) }
 {
     match values {
         [] => Ok(Some((name, Vec::new(alloc)))),
@@ -91,7 +91,7 @@ fn value_passes<A: Allocator + Copy, G: GlobalScope<A>>(
     inputs: &[Input<A>],
     tree: &Tree<A>,
     set: &Set<A>,
-) -> Result<(), ScriptError>
+) -> Result<(), Unread>
     ensures { Gives (λ u. within (G.scope global.now) (map input inputs.now) ∷ []) result (scopes_after (given (shape tree.now)) (listed set.now.items) (within (G.scope global.now) (map input inputs.now))) }
 {
     let found = wanted_worth(alloc, global, inputs, tree, Wanted::Value)?;
@@ -111,7 +111,7 @@ fn chosen<A: Allocator + Copy, G: GlobalScope<A>>(
     inputs: &[Input<A>],
     tree: &Tree<A>,
     all: &[Value<A>],
-) -> Result<Vec<Value<A>, A>, ScriptError>
+) -> Result<Vec<Value<A>, A>, Unread>
     ensures { Gives (λ v. listed v.items) result (chosen_values (within (G.scope global.now) (map input inputs.now)) (shape tree.now) (listed all.now)) }
 {
     let found = wanted_worth(alloc, global, inputs, tree, Wanted::Values)?;
@@ -131,8 +131,8 @@ fn passing<'a, A: Allocator + Copy, G: GlobalScope<A>>(
     set: &Set<A>,
     rest: (&[Tree<A>], &[Set<A>]),
     line: u32,
-) -> Result<Option<(&'a [u8], Vec<Value<A>, A>)>, ScriptError>
-    ensures { MatchResult result (λ o. (field_passes (shapes rest.entry.0.now) (map (λ v. listed v.items) rest.entry.1.now) (within (G.scope global.now) (map input inputs.now)) (plain_field phrase.entry) (listed set.now.items)) ≡ passes_after (shapes rest.entry.0.now) (map (λ v. listed v.items) rest.entry.1.now) (within (G.scope global.now) (map input inputs.now)) (option_map (λ p. (p.0.now, listed p.1.items)) o)) (λ e. Fails e.kind (field_passes (shapes rest.entry.0.now) (map (λ v. listed v.items) rest.entry.1.now) (within (G.scope global.now) (map input inputs.now)) (plain_field phrase.entry) (listed set.now.items))) }
+) -> Result<Option<(&'a [u8], Vec<Value<A>, A>)>, Unread>
+    ensures { MatchResult result (λ o. (field_passes (shapes rest.entry.0.now) (map (λ v. listed v.items) rest.entry.1.now) (within (G.scope global.now) (map input inputs.now)) (plain_field phrase.entry) (listed set.now.items)) ≡ passes_after (shapes rest.entry.0.now) (map (λ v. listed v.items) rest.entry.1.now) (within (G.scope global.now) (map input inputs.now)) (option_map (λ p. (p.0.now, listed p.1.items)) o)) (λ e. Fails e (field_passes (shapes rest.entry.0.now) (map (λ v. listed v.items) rest.entry.1.now) (within (G.scope global.now) (map input inputs.now)) (plain_field phrase.entry) (listed set.now.items))) }
 {
     match phrase {
         FieldPhrase::Given(tree) => {
@@ -164,7 +164,7 @@ fn all_pass<A: Allocator + Copy, G: GlobalScope<A>>(
     name: &[u8],
     values: &[Value<A>],
     rest: (&[Tree<A>], &[Set<A>]),
-) -> Result<(), ScriptError>
+) -> Result<(), Unread>
     ensures { Gives (λ u. u) result (all_pass_in (λ v. fields_pass_in (syntaxes (shapes rest.entry.0.now)) (map (λ v. listed v.items) rest.entry.1.now) (with_input_of (within (G.scope global.now) (map input inputs.now)) name.now v)) (listed values.now)) }
 {
     for value in values {
@@ -184,7 +184,7 @@ fn fields_pass<A: Allocator + Copy, G: GlobalScope<A>>(
     inputs: &[Input<A>],
     fields: &[Tree<A>],
     sets: &[Set<A>],
-) -> Result<(), ScriptError>
+) -> Result<(), Unread>
     ensures { Gives (λ u. u) result (fields_pass_in (syntaxes (shapes fields.now)) (map (λ v. listed v.items) sets.now) (within (G.scope global.now) (map input inputs.now))) }
 {
     match fields {
@@ -225,7 +225,7 @@ fn at_no_fault<A: Allocator + Copy, G: GlobalScope<A>>(
     scope: &Scope<'_, A, G>,
     fields: &[Tree<A>],
     sets: &[Set<A>],
-) -> Result<(), ScriptError>
+) -> Result<(), Unread>
     ensures { Gives (λ u. u) result (at_no_fault_of (syntaxes (shapes fields.now)) (map (λ v. listed v.items) sets.now) (within (G.scope scope.now.global.now) (map input scope.now.inputs.items))) }
 {
     if has_event(sets) {
@@ -241,7 +241,7 @@ pub fn prefix_of<'a, A: Allocator + Copy, G: GlobalScope<A>>(
     scope: &Scope<'a, A, G>,
     event: &'a Tree<A>,
     then: &'a Tree<A>,
-) -> Result<Prefix<'a, A>, ScriptError>
+) -> Result<Prefix<'a, A>, Unread>
     ensures parts { Gives (λ p. (p.channel.now, syntaxes (shapes p.fields.now), map (λ v. listed v.items) p.sets.now)) result (prefix_parts (within (G.scope scope.now.global.now) (map input scope.now.inputs.items)) (shape event.now)) }
     ensures then { IfOk result (λ p. p.then.now ≡ then.now) }
     ensures leading { IfOk result (λ p. listed p.leading.items ≡ leading_in (within (G.scope scope.now.global.now) (map input scope.now.inputs.items)).known (shapes p.fields.now) (map (λ v. listed v.items) p.sets.now)) }

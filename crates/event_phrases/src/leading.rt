@@ -1,5 +1,5 @@
 //! The first values of a prefix, and the events that fit it.
-ghost use Rattle.std.specs.Prelude.{◌≡◌, ℕ, suc, ◌≤◌, ◌<◌, ◌++◌, IfOk, IfSome, Some, drop, map};
+ghost use Rattle.std.specs.Prelude.{suc, ◌≤◌, ◌<◌, ◌++◌, IfOk, IfSome, Some, drop, map};
 ghost use Rattle.std.specs.Option.{option_map};
 ghost use Rattle.alphabet.specs.Channels.{events as events_of};
 ghost use Rattle.syntax.specs.View.{shape, shapes};
@@ -14,10 +14,10 @@ use crate::beginning::{given, is_one_of};
 use crate::global_scope::{GlobalScope, Set};
 use crate::prefix::{Prefix, fitting};
 use crate::row::{Row, is_equal};
-use crate::scope::{Scope, copies, fault};
+use crate::scope::{Scope, copies};
 use std::alloc::Allocator;
 use syntax::Tree;
-use tokens::{ScriptError, ScriptErrorKind};
+use tokens::{ScriptErrorKind, Unread, fault};
 use values::{Input, Value};
 
 /// The value that a field gives, if it is one of the field's set. A fault isn't reported here.
@@ -27,7 +27,7 @@ fn leading_value<A: Allocator + Copy, G: GlobalScope<A>>(
     scope: &Scope<'_, A, G>,
     field: &Tree<A>,
     set: &Set<A>,
-) -> Result<Option<Value<A>>, ScriptError>
+) -> Result<Option<Value<A>>, Unread>
     ensures { Gives (option_map value_of) result (Some (value_within (field_value (within (G.scope scope.now.global.now) (map input scope.now.inputs.items)).known (shape field.now)) (listed set.now.items))) }
 {
     match given(alloc, scope, field) {
@@ -38,10 +38,8 @@ fn leading_value<A: Allocator + Copy, G: GlobalScope<A>>(
                 Ok(None)
             }
         }
-        Err(error) => match error.kind {
-            ScriptErrorKind::Memory => Err(error),
-            _ => Ok(None),
-        },
+        Err(Unread::Fault(_)) => Ok(None),
+        Err(Unread::Memory) => Err(Unread::Memory),
     }
 }
 
@@ -53,7 +51,7 @@ fn more_leading<A: Allocator + Copy, G: GlobalScope<A>>(
     fields: &[Tree<A>],
     sets: &[Set<A>],
     before: Vec<Value<A>, A>,
-) -> Result<Vec<Value<A>, A>, ScriptError>
+) -> Result<Vec<Value<A>, A>, Unread>
     ensures { Gives (λ v. listed v.items) result (Some (listed before.items ++ leading (within (G.scope scope.now.global.now) (map input scope.now.inputs.items)).known (shapes fields.now) (map (λ v. listed v.items) sets.now))) }
 {
     match fields {
@@ -78,7 +76,7 @@ pub(crate) fn leading_values<A: Allocator + Copy, G: GlobalScope<A>>(
     scope: &Scope<'_, A, G>,
     fields: &[Tree<A>],
     sets: &[Set<A>],
-) -> Result<Vec<Value<A>, A>, ScriptError>
+) -> Result<Vec<Value<A>, A>, Unread>
     ensures { Gives (λ v. listed v.items) result (Some (leading (within (G.scope scope.now.global.now) (map input scope.now.inputs.items)).known (shapes fields.now) (map (λ v. listed v.items) sets.now))) }
 {
     more_leading(alloc, scope, fields, sets, Vec::new(alloc))
@@ -94,7 +92,7 @@ fn led_fitting<A: Allocator + Copy, G: GlobalScope<A>>(
     sets: &[Set<A>],
     values: &[Value<A>],
     line: u32,
-) -> Result<Option<Vec<Input<A>, A>>, ScriptError>
+) -> Result<Option<Vec<Input<A>, A>>, Unread>
     ensures { Gives (option_map (λ v. within (G.scope scope.now.global.now) (map input v.items))) result (led_fitting_of (listed leading.now) (shapes fields.now) (map (λ v. listed v.items) sets.now) (listed values.now) (within (G.scope scope.now.global.now) (map input scope.now.inputs.items))) }
 {
     match leading {
@@ -134,7 +132,7 @@ fn inputs_behind<A: Allocator + Copy, G: GlobalScope<A>>(
     scope: &Scope<'_, A, G>,
     prefix: &Prefix<'_, A>,
     event: &Row<A>,
-) -> Result<Option<Vec<Input<A>, A>>, ScriptError>
+) -> Result<Option<Vec<Input<A>, A>>, Unread>
     ensures { Gives (option_map (λ v. within (G.scope scope.now.global.now) (map input v.items))) result (led_fits prefix.now.channel.now (listed prefix.now.leading.items) (shapes prefix.now.fields.now) (map (λ v. listed v.items) prefix.now.sets.now) (within (G.scope scope.now.global.now) (map input scope.now.inputs.items)) (row event.now)) }
 {
     if prefix.channel != event.channel.as_slice() {
@@ -158,7 +156,7 @@ pub fn next_fitting<A: Allocator + Copy, G: GlobalScope<A>>(
     scope: &Scope<'_, A, G>,
     prefix: &Prefix<'_, A>,
     from: usize,
-) -> Result<Option<(usize, Vec<Input<A>, A>)>, ScriptError>
+) -> Result<Option<(usize, Vec<Input<A>, A>)>, Unread>
     ensures first { Gives (option_map (λ x. (x.0, within (G.scope scope.now.global.now) (map input x.1.items), drop (suc x.0) (events_of (G.scope scope.now.global.now).channels)))) result (first_fit (led_fits prefix.now.channel.now (listed prefix.now.leading.items) (shapes prefix.now.fields.now) (map (λ v. listed v.items) prefix.now.sets.now) (within (G.scope scope.now.global.now) (map input scope.now.inputs.items))) from (drop from (events_of (G.scope scope.now.global.now).channels))) }
     ensures number { IfOk result (λ o. IfSome o (λ x. (from ≤ x.0) × (x.0 < 256))) }
 {

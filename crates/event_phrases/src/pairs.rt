@@ -1,5 +1,5 @@
 //! The pairs of renamings.
-ghost use Rattle.std.specs.Prelude.{◌≡◌, ℕ, ◌<◌, ◌≤◌, ◌++◌, IfOk, length, map, filter};
+ghost use Rattle.std.specs.Prelude.{◌≡◌, ℕ, ◌<◌, ◌≤◌, ◌++◌, IfOk, map, filter};
 ghost use Rattle.std.specs.List.{range_with_len};
 ghost use Rattle.alphabet.specs.EventSets.{has};
 ghost use Rattle.event_phrases.specs.Events.{is_pair_of, in_order};

@@ -16,10 +16,10 @@ use crate::beginning::is_one_of;
 use crate::forms::{FieldPhrase, field};
 use crate::global_scope::{GlobalScope, Set, Wanted};
 use crate::row::is_equal;
-use crate::scope::{fault, push_input, wanted_worth};
+use crate::scope::{push_input, wanted_worth};
 use std::alloc::Allocator;
 use syntax::Tree;
-use tokens::{ScriptError, ScriptErrorKind};
+use tokens::{ScriptErrorKind, Unread, fault};
 use values::{Input, Value, Values, the_set, the_value};
 
 /// A prefix: the channel of its event, the fields with the sets of their values, and the process after its arrow.
@@ -55,7 +55,7 @@ fn is_given<A: Allocator + Copy, G: GlobalScope<A>>(
     tree: &Tree<A>,
     set: &Set<A>,
     value: &Value<A>,
-) -> Result<bool, ScriptError>
+) -> Result<bool, Unread>
     ensures { Gives (λ fits. if fits then Some (within (G.scope global.now) (map input inputs.now)) else None) result (against (listed set.now.items) (value_of value.now) (within (G.scope global.now) (map input inputs.now)) (value_by (within (G.scope global.now) (map input inputs.now)) (shape tree.now))) }
 {
     let found = wanted_worth(alloc, global, inputs, tree, Wanted::Value)?;
@@ -74,7 +74,7 @@ fn is_in_part<A: Allocator + Copy, G: GlobalScope<A>>(
     inputs: &[Input<A>],
     tree: &Tree<A>,
     value: &Value<A>,
-) -> Result<bool, ScriptError>
+) -> Result<bool, Unread>
     ensures { Gives (λ b. b) result (option_map (is_among (value_of value.now)) (values_by (within (G.scope global.now) (map input inputs.now)) (shape tree.now))) }
 {
     let found = wanted_worth(alloc, global, inputs, tree, Wanted::Values)?;
@@ -92,7 +92,7 @@ fn fits_phrase<A: Allocator + Copy, G: GlobalScope<A>>(
     set: &Set<A>,
     value: &Value<A>,
     line: u32,
-) -> Result<bool, ScriptError>
+) -> Result<bool, Unread>
     ensures { Gives (λ fits. if fits then Some (within (G.scope global.now) (map input inputs.new.items)) else None) result (fits_by (plain_field phrase.entry) (listed set.now.items) (value_of value.now) (within (G.scope global.now) (map input inputs.old.items))) }
 {
     match phrase {
@@ -126,7 +126,7 @@ fn fits<A: Allocator + Copy, G: GlobalScope<A>>(
     tree: &Tree<A>,
     set: &Set<A>,
     value: &Value<A>,
-) -> Result<bool, ScriptError>
+) -> Result<bool, Unread>
     ensures { Gives (λ fits. if fits then Some (within (G.scope global.now) (map input inputs.new.items)) else None) result (fits_field (shape tree.now) (listed set.now.items) (value_of value.now) (within (G.scope global.now) (map input inputs.old.items))) }
 {
     match field(tree) {
@@ -145,7 +145,7 @@ pub(crate) fn fitting<A: Allocator + Copy, G: GlobalScope<A>>(
     sets: &[Set<A>],
     values: &[Value<A>],
     line: u32,
-) -> Result<bool, ScriptError>
+) -> Result<bool, Unread>
     ensures { Gives (λ fits. if fits then Some (within (G.scope global.now) (map input inputs.new.items)) else None) result (fitting_of (syntaxes (shapes fields.now)) (map (λ v. listed v.items) sets.now) (listed values.now) (within (G.scope global.now) (map input inputs.old.items))) }
 {
     match fields {

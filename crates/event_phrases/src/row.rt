@@ -1,5 +1,5 @@
 //! Events by their channels and values.
-ghost use Rattle.std.specs.Prelude.{◌≡◌, ◌++◌, IfOk, map};
+ghost use Rattle.std.specs.Prelude.{◌≡◌, ◌++◌, IfOk};
 ghost use Rattle.std.specs.Cmp.Lexicographic.{pointwise};
 ghost use Rattle.values.specs.Values.{is_same};
 ghost use Rattle.values.specs.View.{value};

@@ -2,7 +2,7 @@
 ghost use Rattle.std.specs.Prelude.{◌≡◌, ◌++◌, ◌∷◌, [], IfOk, OnOk, map};
 ghost use Rattle.std.specs.Option.{option_map};
 ghost use Rattle.syntax.specs.View.{shape};
-ghost use Rattle.tokens.specs.declared.error.ScriptErrorKind.TheVariants.{Memory};
+ghost use Rattle.tokens.specs.declared.unread.Unread.TheVariants.{Memory};
 ghost use Rattle.values.specs.Tables.{input, names_value};
 ghost use Rattle.values.specs.View.{Gives, value as value_of, values, worth as worth_of};
 ghost use Rattle.values.specs.Worths.{condition, worth as worth_in};
@@ -13,7 +13,7 @@ ghost use Rattle.event_phrases.specs.View.{listed};
 use crate::global_scope::{GlobalScope, Set, Wanted};
 use std::alloc::{AllocError, Allocator};
 use syntax::Tree;
-use tokens::{ScriptError, ScriptErrorKind};
+use tokens::{Unread, fault};
 use values::{Input, Value, Values, Worth, is_value, stands_for, the_set, the_truth, the_value};
 
 /// The scope of a phrase: what is known of the script, and the inputs before the phrase.
@@ -25,13 +25,6 @@ pub struct Scope<'a, A: Allocator, G: GlobalScope<A>> {
     pub inputs: Vec<Input<A>, A>,
     /// The line of the name of the definition that the phrase stands in.
     pub line: u32,
-}
-
-/// A fault of this kind on this line.
-pub fn fault(line: u32, kind: ScriptErrorKind) -> ScriptError
-    ensures { result.kind ≡ kind }
-{
-    ScriptError { line, kind }
 }
 
 /// A copy of the inputs.
@@ -57,7 +50,7 @@ pub(crate) fn worth<A: Allocator + Copy, G: GlobalScope<A>>(
     global: &G,
     inputs: &[Input<A>],
     tree: &Tree<A>,
-) -> Result<Worth<A>, ScriptError>
+) -> Result<Worth<A>, Unread>
     ensures { Gives worth_of result (worth_in (within (G.scope global.now) (map input inputs.now)).known (shape tree.now)) }
 {
     stands_for(&alloc, global.known(), inputs, tree)
@@ -69,25 +62,25 @@ pub(crate) fn told<A: Allocator, G: GlobalScope<A>>(
     inputs: &[Input<A>],
     tree: &Tree<A>,
     wanted: Wanted,
-    error: ScriptError,
-) -> ScriptError
-    ensures { error.kind ≡ Memory → result.kind ≡ Memory }
+    error: Unread,
+) -> Unread
+    ensures { error ≡ Memory → result ≡ Memory }
 {
-    match error.kind {
-        ScriptErrorKind::Memory => error,
-        _ => global.phrase_fault(inputs, tree, wanted),
+    match error {
+        Unread::Memory => error,
+        Unread::Fault(_) => global.phrase_fault(inputs, tree, wanted),
     }
 }
 
 /// What a phrase means after these inputs, where this is wanted of it; the fault where it means nothing.
-#[tactic(auto, using(crate::proofs::Scopes::fails_too))]
+#[tactic(auto, using(syntax::proofs::FaultKinds::fails_too))]
 pub(crate) fn wanted_worth<A: Allocator + Copy, G: GlobalScope<A>>(
     alloc: A,
     global: &G,
     inputs: &[Input<A>],
     tree: &Tree<A>,
     wanted: Wanted,
-) -> Result<Worth<A>, ScriptError>
+) -> Result<Worth<A>, Unread>
     ensures { Gives worth_of result (worth_in (within (G.scope global.now) (map input inputs.now)).known (shape tree.now)) }
 {
     match worth(alloc, global, inputs, tree) {
@@ -102,7 +95,7 @@ pub(crate) fn truth<A: Allocator + Copy, G: GlobalScope<A>>(
     alloc: A,
     scope: &Scope<'_, A, G>,
     tree: &Tree<A>,
-) -> Result<bool, ScriptError>
+) -> Result<bool, Unread>
     ensures { Gives (λ b. b) result (condition (within (G.scope scope.now.global.now) (map input scope.now.inputs.items)).known (shape tree.now)) }
 {
     let worth = worth(alloc, scope.global, &scope.inputs, tree)?;
@@ -110,12 +103,12 @@ pub(crate) fn truth<A: Allocator + Copy, G: GlobalScope<A>>(
 }
 
 /// The truth that a condition means, and the fault where it means none.
-#[tactic(auto, using(crate::proofs::Scopes::fails_too))]
+#[tactic(auto, using(syntax::proofs::FaultKinds::fails_too))]
 pub fn wanted_truth<A: Allocator + Copy, G: GlobalScope<A>>(
     alloc: A,
     scope: &Scope<'_, A, G>,
     tree: &Tree<A>,
-) -> Result<bool, ScriptError>
+) -> Result<bool, Unread>
     ensures { Gives (λ b. b) result (condition (within (G.scope scope.now.global.now) (map input scope.now.inputs.items)).known (shape tree.now)) }
 {
     match truth(alloc, scope, tree) {
@@ -129,7 +122,7 @@ pub fn wanted_value<A: Allocator + Copy, G: GlobalScope<A>>(
     alloc: A,
     scope: &Scope<'_, A, G>,
     tree: &Tree<A>,
-) -> Result<Value<A>, ScriptError>
+) -> Result<Value<A>, Unread>
     ensures { Gives value_of result (value_by (within (G.scope scope.now.global.now) (map input scope.now.inputs.items)) (shape tree.now)) }
 {
     let worth = wanted_worth(alloc, scope.global, &scope.inputs, tree, Wanted::Value)?;
@@ -141,7 +134,7 @@ pub fn wanted_values<A: Allocator + Copy, G: GlobalScope<A>>(
     alloc: A,
     scope: &Scope<'_, A, G>,
     tree: &Tree<A>,
-) -> Result<Values<A>, ScriptError>
+) -> Result<Values<A>, Unread>
     ensures { Gives values result (values_by (within (G.scope scope.now.global.now) (map input scope.now.inputs.items)) (shape tree.now)) }
 {
     let worth = wanted_worth(alloc, scope.global, &scope.inputs, tree, Wanted::Values)?;
@@ -203,7 +196,7 @@ impl<'a, A: Allocator + Copy, G: GlobalScope<A>> Scope<'a, A, G> {
     }
 
     /// The fault of an event phrase whose name is no channel's.
-    pub fn no_channel(&self, event: &Tree<A>) -> ScriptError {
+    pub fn no_channel(&self, event: &Tree<A>) -> Unread {
         self.global
             .phrase_fault(&self.inputs, event, Wanted::Channel)
     }

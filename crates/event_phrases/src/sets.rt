@@ -1,5 +1,5 @@
 //! Sets of events, as phrases give them.
-ghost use Rattle.std.specs.Prelude.{◌≡◌, ◌≤◌, Some, length, map};
+ghost use Rattle.std.specs.Prelude.{◌≡◌, Some, map};
 ghost use Rattle.alphabet.specs.declared.events.Event.{Event};
 ghost use Rattle.alphabet.specs.EventSets.{member};
 ghost use Rattle.syntax.specs.Parsing.{syntaxes};
@@ -15,11 +15,11 @@ use crate::beginning::{beginning, whole_event};
 use crate::events::beginning_so;
 use crate::forms::{Combination, Extent, SetPhrase, set_phrase};
 use crate::global_scope::{GlobalScope, Wanted};
-use crate::scope::{Scope, fault, told, truth};
+use crate::scope::{Scope, told, truth};
 use alphabet::EventSet;
 use std::alloc::Allocator;
 use syntax::Tree;
-use tokens::{ScriptError, ScriptErrorKind};
+use tokens::{ScriptErrorKind, Unread, fault};
 
 /// What is made of two sets.
 #[tactic(auto, unfolding(crate::specs::EventForms::is_in_both))]
@@ -40,7 +40,7 @@ fn events_of<A: Allocator + Copy, G: GlobalScope<A>>(
     scope: &Scope<'_, A, G>,
     extent: Extent,
     tree: &Tree<A>,
-) -> Result<EventSet, ScriptError>
+) -> Result<EventSet, Unread>
     ensures { Gives (λ s. s) result (masked (G.scope scope.now.global.now).channels (gives_by (G.scope scope.now.global.now).channels (within (G.scope scope.now.global.now) (map input scope.now.inputs.items)).known extent (shape tree.now))) }
 {
     let event = match extent {
@@ -56,7 +56,7 @@ fn several<A: Allocator + Copy, G: GlobalScope<A>>(
     scope: &Scope<'_, A, G>,
     extent: Extent,
     trees: &[Tree<A>],
-) -> Result<EventSet, ScriptError>
+) -> Result<EventSet, Unread>
     ensures { Gives (λ s. s) result (masked (G.scope scope.now.global.now).channels (together (gives_by (G.scope scope.now.global.now).channels (within (G.scope scope.now.global.now) (map input scope.now.inputs.items)).known extent) (syntaxes (shapes trees.now)))) }
 {
     let mut set = EventSet::empty();
@@ -73,7 +73,7 @@ fn event_set<A: Allocator + Copy, G: GlobalScope<A>>(
     alloc: A,
     scope: &Scope<'_, A, G>,
     tree: &Tree<A>,
-) -> Result<EventSet, ScriptError>
+) -> Result<EventSet, Unread>
     ensures { Gives (λ s. s) result (masked (G.scope scope.now.global.now).channels (event_set_in (G.scope scope.now.global.now).channels (within (G.scope scope.now.global.now) (map input scope.now.inputs.items)).known (G.scope scope.now.global.now).sets (shape tree.now))) }
 {
     match set_phrase(tree) {
@@ -89,7 +89,7 @@ fn set_of_phrase<A: Allocator + Copy, G: GlobalScope<A>>(
     scope: &Scope<'_, A, G>,
     phrase: SetPhrase<'_, A>,
     line: u32,
-) -> Result<EventSet, ScriptError>
+) -> Result<EventSet, Unread>
     ensures { Gives (λ s. s) result (masked (G.scope scope.now.global.now).channels (set_by (G.scope scope.now.global.now).channels (within (G.scope scope.now.global.now) (map input scope.now.inputs.items)).known (G.scope scope.now.global.now).sets (plain_set phrase.entry))) }
 {
     match phrase {
@@ -122,12 +122,12 @@ fn set_of_phrase<A: Allocator + Copy, G: GlobalScope<A>>(
 }
 
 /// The set of events that a phrase means, and the fault where it means none.
-#[tactic(auto, using(crate::proofs::Scopes::fails_too))]
+#[tactic(auto, using(syntax::proofs::FaultKinds::fails_too))]
 pub fn wanted_events<A: Allocator + Copy, G: GlobalScope<A>>(
     alloc: A,
     scope: &Scope<'_, A, G>,
     tree: &Tree<A>,
-) -> Result<EventSet, ScriptError>
+) -> Result<EventSet, Unread>
     ensures { Gives (λ s. s) result (masked (G.scope scope.now.global.now).channels (event_set_in (G.scope scope.now.global.now).channels (within (G.scope scope.now.global.now) (map input scope.now.inputs.items)).known (G.scope scope.now.global.now).sets (shape tree.now))) }
 {
     match event_set(alloc, scope, tree) {
@@ -142,7 +142,7 @@ pub fn two_sets<A: Allocator + Copy, G: GlobalScope<A>>(
     scope: &Scope<'_, A, G>,
     first: &Tree<A>,
     second: &Tree<A>,
-) -> Result<(EventSet, EventSet), ScriptError>
+) -> Result<(EventSet, EventSet), Unread>
     ensures { Gives (λ p. p) result (two_masked (G.scope scope.now.global.now).channels (events_by (within (G.scope scope.now.global.now) (map input scope.now.inputs.items)) (shape first.now)) (events_by (within (G.scope scope.now.global.now) (map input scope.now.inputs.items)) (shape second.now))) }
 {
     let first = wanted_events(alloc, scope, first)?;
@@ -155,7 +155,7 @@ pub fn set_of_events<A: Allocator + Copy, G: GlobalScope<A>>(
     alloc: A,
     global: &G,
     tree: &Tree<A>,
-) -> Result<EventSet, ScriptError>
+) -> Result<EventSet, Unread>
     ensures { Gives (λ s. s) result (masked (G.scope global.now).channels (event_set_in (G.scope global.now).channels (G.scope global.now).known (G.scope global.now).sets (shape tree.now))) }
 {
     let scope = Scope {

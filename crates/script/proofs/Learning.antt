@@ -6,15 +6,11 @@ use Rattle.std.specs.Prelude.{slice_get}
 use Rattle.std.specs.Cmp.Lexicographic.{bytes_decides}
 use Rattle.alphabet.specs.Channels.{Channel}
 use Rattle.alphabet.specs.EventSets.{Set, has}
-use Rattle.tokens.specs.declared.error.ScriptErrorKind.{ScriptErrorKind}
-use Rattle.tokens.specs.declared.error.ScriptErrorKind.TheVariants.{Memory}
-use Rattle.values.specs.View.{Fails}
 use Rattle.values.specs.Values.{◌>>=◌, Name}
 use Rattle.values.specs.Worths.{Known}
 use Rattle.values.specs.Names.{Entry, Meaning, channel, datatype, constant_name, definition, parametric, same_name, meaning}
 use Rattle.syntax.specs.Grammar.{Syntax}
 use Rattle.event_phrases.specs.Events.{Events, event_set, events_of, events_in, EventsStand, set_of, masked}
-use Rattle.declared_names.proofs.FaultKinds.{none_wanted}
 use Rattle.event_phrases.proofs.EventSetLaws.{masked_none}
 use Rattle.script.specs.Standing.{KnownSets, events_by, next_events, AreReached, IsSettled, lacking, Learns, LearnsFirst, LearnsAll}
 use Rattle.script.proofs.Copies.{some_same}
@@ -113,7 +109,7 @@ module _ (cs : List Channel) (known : Known) (es : List Entry) where
           p ∙ ap some_set (d ∙ ap (set_of cs) same)
 
   -- a name whose definition says nothing
-  settled_none : (f : KnownSets) (n : Name) → masked cs (next_events cs known es (events_by f) n) ≡ None → IsSettled cs known es f n
+  pub settled_none : (f : KnownSets) (n : Name) → masked cs (next_events cs known es (events_by f) n) ≡ None → IsSettled cs known es f n
   settled_none f n h A e = absurd (let x : None ≡ Some A = sym (masked_none cs (next_events cs known es (events_by f) n) h) ∙ e in cc)
 
   pub learns_more : (f g : KnownSets) (n : Name) (S : Set) → AreReached cs known es f → is_some (f n) ≡ false → masked cs (next_events cs known es (events_by f) n) ≡ Some S → ((m : Name) → g m ≡ cond (same_name m n) (Some S) (f m)) → Learns cs known es f g true n
@@ -196,10 +192,6 @@ module _ (cs : List Channel) (known : Known) (es : List Entry) where
   -- no sets are reached
   pub none_reached : (f : KnownSets) → ((n : Name) → f n ≡ None) → AreReached cs known es f
   none_reached f h n S e = absurd (let x : None ≡ Some S = sym (h n) ∙ e in cc)
-
-  -- a name whose definition is at fault
-  pub settled_fault : (k : ScriptErrorKind) (f : KnownSets) (n : Name) → (k ≡ Memory → ⊥) → Fails k (masked cs (next_events cs known es (events_by f) n)) → IsSettled cs known es f n
-  settled_fault k f n h e = settled_none f n (none_wanted k (masked cs (next_events cs known es (events_by f) n)) h e)
 
   -- ---- what the definition of a name says
 

@@ -5,6 +5,7 @@ ghost use Rattle.syntax.specs.View.{shape};
 ghost use Rattle.term.specs.Proc.{Proc, proc};
 ghost use Rattle.term.specs.Specs.{Specified};
 ghost use Rattle.tokens.specs.declared.error.ScriptErrorKind.TheVariants.{Memory};
+ghost use Rattle.tokens.specs.declared.unread.Unread.TheVariants as unread;
 ghost use Rattle.values.specs.Tables.{table};
 ghost use Rattle.values.specs.View.{Gives};
 ghost use Rattle.declared_names.specs.Naming.{has_names};
@@ -22,14 +23,14 @@ use denotation::gathered;
 use std::alloc::Allocator;
 use syntax::{Tree, parse};
 use term::{Spec, Term};
-use tokens::{ScriptError, ScriptErrorKind};
+use tokens::{ScriptError, Unread};
 
 /// The bodies of what is reached from the root.
 fn bodies_of<'a, A: Allocator + Copy>(
     alloc: A,
     names: &Names<'a, A>,
     root: &[u8],
-) -> Result<Vec<Term<A>, A>, ScriptError>
+) -> Result<Vec<Term<A>, A>, Unread>
     ensures found { IfOk result (λ v. AreBodies names.now.sigma.alphabet (table names.now.known) (entries_of names.now.entries) root.now (map proc v.items)) }
     ensures only { (ps : List Proc) → AreBodies names.now.sigma.alphabet (table names.now.known) (entries_of names.now.entries) root.now ps → Gives (λ v. map proc v.items) result (Some ps) }
 {
@@ -44,10 +45,8 @@ fn bodies_of<'a, A: Allocator + Copy>(
     };
     match gathered(alloc, &script, root) {
         Ok(bodies) => Ok(bodies),
-        Err(error) => match error.kind {
-            ScriptErrorKind::Memory => Err(error),
-            _ => Err(root_fault(alloc, names, root, error)),
-        },
+        Err(Unread::Fault(error)) => Err(root_fault(alloc, names, root, Unread::Fault(error))),
+        Err(Unread::Memory) => Err(Unread::Memory),
     }
 }
 
@@ -56,10 +55,10 @@ fn denoted<A: Allocator + Copy>(
     alloc: A,
     tree: &Tree<A>,
     root: &[u8],
-) -> Result<Spec<A>, ScriptError>
+) -> Result<Spec<A>, Unread>
     requires { IsTrue (has_names (shape tree.now)) }
     ensures found { IfOk result (λ spec. Denotes (shape tree.now) root.now spec) }
-    ensures only { (spec : Specified) → Denotes (shape tree.now) root.now spec → MatchResult result (λ s. s ≡ spec) (λ e. e.kind ≡ Memory) }
+    ensures only { (spec : Specified) → Denotes (shape tree.now) root.now spec → MatchResult result (λ s. s ≡ spec) (λ e. e ≡ unread.Memory) }
 {
     let declared = declare(alloc, tree)?;
     let names = names_of(alloc, declared)?;
@@ -87,5 +86,5 @@ pub fn read<A: Allocator + Copy>(alloc: A, text: &[u8], root: &[u8]) -> Result<S
 {
     let tree = parse(alloc, text)?;
     trees_have_names();
-    denoted(alloc, &tree, root)
+    Ok(denoted(alloc, &tree, root)?)
 }

@@ -2,17 +2,14 @@
 use crate::names::Names;
 use declarations::fault_of_name;
 use declared_names::{Meaning, is_process_form, worth_alone};
-use std::alloc::Allocator;
+use std::alloc::{AllocError, Allocator};
 use syntax::{Form, Tree};
-use tokens::{ScriptError, ScriptErrorKind};
+use tokens::{ScriptErrorKind, Unread, fault};
 use values::{Known, Worth};
 
 /// The fault of a root that is of another kind, or isn't declared.
-pub(crate) fn no_process() -> ScriptError {
-    ScriptError {
-        line: 1,
-        kind: ScriptErrorKind::NoSuchProcess,
-    }
+pub(crate) fn no_process() -> Unread {
+    fault(1, ScriptErrorKind::NoSuchProcess)
 }
 
 /// The truth that a condition means; none where the condition is at fault.
@@ -20,14 +17,12 @@ fn truth_of<A: Allocator + Copy>(
     alloc: A,
     known: &Known<A>,
     condition: &Tree<A>,
-) -> Result<Option<bool>, ScriptError> {
+) -> Result<Option<bool>, AllocError> {
     match worth_alone(alloc, known, condition) {
         Ok(Worth::Truth(truth)) => Ok(Some(truth)),
         Ok(_) => Ok(None),
-        Err(error) => match error.kind {
-            ScriptErrorKind::Memory => Err(error),
-            _ => Ok(None),
-        },
+        Err(Unread::Fault(_)) => Ok(None),
+        Err(Unread::Memory) => Err(AllocError),
     }
 }
 
@@ -36,7 +31,7 @@ fn chosen<'t, A: Allocator + Copy>(
     alloc: A,
     known: &Known<A>,
     phrase: &'t Tree<A>,
-) -> Result<Option<&'t Tree<A>>, ScriptError> {
+) -> Result<Option<&'t Tree<A>>, AllocError> {
     let Tree::Node { form, parts, .. } = phrase else {
         return Ok(Some(phrase));
     };
@@ -78,13 +73,10 @@ fn name_fault<A: Allocator + Copy>(
     names: &Names<'_, A>,
     name: &[u8],
     line: u32,
-) -> Option<ScriptError> {
+) -> Option<Unread> {
     match names.entries.get(name) {
         Some(entry) => match &entry.meaning {
-            Meaning::WithParameters { .. } => Some(ScriptError {
-                line,
-                kind: ScriptErrorKind::Expected,
-            }),
+            Meaning::WithParameters { .. } => Some(fault(line, ScriptErrorKind::Expected)),
             _ => None,
         },
         None => Some(fault_of_name(alloc, &names.entries, &names.known, name, line)),
@@ -97,8 +89,8 @@ pub(crate) fn root_fault<A: Allocator + Copy>(
     alloc: A,
     names: &Names<'_, A>,
     root: &[u8],
-    told: ScriptError,
-) -> ScriptError {
+    told: Unread,
+) -> Unread {
     let mut name = root;
     for _ in 0..names.entries.len() {
         let Some(body) = names.body(name) else {
@@ -107,7 +99,7 @@ pub(crate) fn root_fault<A: Allocator + Copy>(
         let phrase = match chosen(alloc, &names.known, body) {
             Ok(Some(phrase)) => phrase,
             Ok(None) => return told,
-            Err(error) => return error,
+            Err(refused) => return refused.into(),
         };
         let Some(next) = bare_name(phrase) else {
             return if is_process(phrase) {

@@ -1,7 +1,6 @@
 //! Which sets of events names mean.
-ghost use Rattle.std.specs.Prelude.{◌≡◌, IfOk, MatchResult};
+ghost use Rattle.std.specs.Prelude.{IfOk};
 ghost use Rattle.event_phrases.specs.Events.{EventsStand, event_set, masked};
-ghost use Rattle.tokens.specs.declared.error.ScriptErrorKind.TheVariants.{Memory};
 ghost use Rattle.syntax.specs.View.{shape};
 ghost use Rattle.values.specs.Tables.{table};
 ghost use Rattle.values.specs.View.{Gives};
@@ -16,9 +15,9 @@ use crate::table::Table;
 use alphabet::EventSet;
 use declared_names::places_by_use;
 use event_phrases::set_of_events;
-use std::alloc::Allocator;
+use std::alloc::{AllocError, Allocator};
 use syntax::Tree;
-use tokens::{ScriptError, ScriptErrorKind};
+use tokens::{ScriptErrorKind, Unread, fault};
 
 /// What the body of a definition says, where names mean the sets in the table.
 fn set_of_body<'a, A: Allocator + Copy>(
@@ -26,7 +25,7 @@ fn set_of_body<'a, A: Allocator + Copy>(
     names: &Names<'a, A>,
     sets: &Table<EventSet, A>,
     body: &'a Tree<A>,
-) -> Result<EventSet, ScriptError>
+) -> Result<EventSet, Unread>
     requires { AreReachedBy names.now (said sets.now) }
     ensures { Gives (λ s. s) result (masked names.now.sigma.alphabet (event_set names.now.sigma.alphabet (table names.now.known) (events_by (said sets.now)) (shape body.now))) }
 {
@@ -41,16 +40,13 @@ fn next_set<'a, A: Allocator + Copy>(
     names: &Names<'a, A>,
     sets: &Table<EventSet, A>,
     name: &[u8],
-) -> Result<EventSet, ScriptError>
+) -> Result<EventSet, Unread>
     requires { AreReachedBy names.now (said sets.now) }
     ensures { Gives (λ s. s) result (masked names.now.sigma.alphabet (next_events names.now.sigma.alphabet (table names.now.known) (entries_of names.now.entries) (events_by (said sets.now)) name.now)) }
 {
     match names.body(name) {
         Some(body) => set_of_body(alloc, names, sets, body),
-        None => Err(ScriptError {
-            line: 1,
-            kind: ScriptErrorKind::Expected,
-        }),
+        None => Err(fault(1, ScriptErrorKind::Expected)),
     }
 }
 
@@ -61,19 +57,17 @@ fn learned<'a, A: Allocator + Copy>(
     names: &Names<'a, A>,
     sets: Table<EventSet, A>,
     name: &[u8],
-) -> Result<(Table<EventSet, A>, bool), ScriptError>
+) -> Result<(Table<EventSet, A>, bool), AllocError>
     requires { AreReachedBy names.now (said sets) }
-    ensures { MatchResult result (λ r. LearnsOf names.now (said sets) (said r.0) r.1 name.now) (λ e. e.kind ≡ Memory) }
+    ensures { IfOk result (λ r. LearnsOf names.now (said sets) (said r.0) r.1 name.now) }
 {
     if sets.has(name) {
         return Ok((sets, false));
     }
     match next_set(alloc, names, &sets, name) {
         Ok(set) => Ok((sets.with(name, set)?, true)),
-        Err(error) => match error.kind {
-            ScriptErrorKind::Memory => Err(error),
-            _ => Ok((sets, false)),
-        },
+        Err(Unread::Fault(_)) => Ok((sets, false)),
+        Err(Unread::Memory) => Err(AllocError),
     }
 }
 
@@ -82,9 +76,9 @@ fn learned_all<'a, A: Allocator + Copy>(
     alloc: A,
     names: &Names<'a, A>,
     sets: Table<EventSet, A>,
-) -> Result<(Table<EventSet, A>, bool), ScriptError>
+) -> Result<(Table<EventSet, A>, bool), AllocError>
     requires { AreReachedBy names.now (said sets) }
-    ensures { MatchResult result (λ r. LearnsAllOf names.now (said sets) (said r.0) r.1) (λ e. e.kind ≡ Memory) }
+    ensures { IfOk result (λ r. LearnsAllOf names.now (said sets) (said r.0) r.1) }
 {
     let mut sets = sets;
     let mut any = false;
@@ -104,9 +98,9 @@ fn learned_in_order<'a, A: Allocator + Copy>(
     names: &Names<'a, A>,
     sets: Table<EventSet, A>,
     places: &[usize],
-) -> Result<Table<EventSet, A>, ScriptError>
+) -> Result<Table<EventSet, A>, AllocError>
     requires { AreReachedBy names.now (said sets) }
-    ensures { MatchResult result (λ t. AreReachedBy names.now (said t)) (λ e. e.kind ≡ Memory) }
+    ensures { IfOk result (λ t. AreReachedBy names.now (said t)) }
 {
     let mut sets = sets;
     for place in places {
@@ -123,10 +117,10 @@ fn settled<'a, A: Allocator + Copy>(
     alloc: A,
     names: &Names<'a, A>,
     sets: Table<EventSet, A>,
-) -> Result<Table<EventSet, A>, ScriptError>
+) -> Result<Table<EventSet, A>, AllocError>
     requires { AreReachedBy names.now (said sets) }
     ensures stand { IfOk result (λ t. EventsStand names.now.sigma.alphabet (table names.now.known) (entries_of names.now.entries) (events_by (said t))) }
-    ensures reached { MatchResult result (λ t. AreReachedBy names.now (said t)) (λ e. e.kind ≡ Memory) }
+    ensures reached { IfOk result (λ t. AreReachedBy names.now (said t)) }
 {
     let mut sets = sets;
     loop {
@@ -143,9 +137,9 @@ fn settled<'a, A: Allocator + Copy>(
 pub(crate) fn named_sets<'a, A: Allocator + Copy>(
     alloc: A,
     names: &Names<'a, A>,
-) -> Result<Table<EventSet, A>, ScriptError>
+) -> Result<Table<EventSet, A>, AllocError>
     ensures stand { IfOk result (λ t. EventsStand names.now.sigma.alphabet (table names.now.known) (entries_of names.now.entries) (events_by (said t))) }
-    ensures reached { MatchResult result (λ t. AreReachedBy names.now (said t)) (λ e. e.kind ≡ Memory) }
+    ensures reached { IfOk result (λ t. AreReachedBy names.now (said t)) }
 {
     let places = places_by_use(alloc, &names.entries)?;
     let sets = learned_in_order(alloc, names, Table::new(alloc), &places)?;

@@ -3,9 +3,7 @@ use Rattle.std.proofs.Common.{◌≡◌, ℕ, zero, suc, ◌-◌, ◌<◌, ◌�
 use Rattle.std.specs.Prelude.{nat_lt}
 use Rattle.std.proofs.lemmas.Bool.{lt-ltb, le-ltb}
 use Rattle.tokens.specs.Lexeme.{Lexeme}
-use Rattle.tokens.specs.declared.error.ScriptErrorKind.{ScriptErrorKind}
-use Rattle.tokens.specs.declared.error.ScriptErrorKind.TheVariants as errors
-use Rattle.tokens.specs.declared.error.ScriptError.{ScriptError}
+use Rattle.tokens.specs.declared.unread.Unread.{Unread}
 use Rattle.syntax.specs.declared.operator.Operator.{Operator}
 use Rattle.syntax.specs.declared.piece.Fields.{Fields}
 use Rattle.syntax.specs.declared.piece.Kind.{Kind}
@@ -18,6 +16,7 @@ use Rattle.syntax.specs.declared.form.Form.TheVariants as forms
 use Rattle.syntax.specs.Operators.{behind}
 use Rattle.syntax.specs.Grammar.{Syntax, Node, height_of}
 use Rattle.syntax.specs.Parsing.{◌>>=◌, Fails, Gives, Found, Row, Reader, syntaxes, last_is_open, another, others_on, others, row, back, front, turned, node_of, node_on, node, next_operator, may_begin, grown, climb_on, climb, reads, reader}
+use Rattle.syntax.proofs.FaultKinds.{fails_on}
 use Rattle.syntax.proofs.Steps.{inside_none, inside_step}
 
 abbrev pub some_found : Syntax → List Lexeme → Option Found
@@ -28,21 +27,7 @@ some_row ts rest = Some (ts, rest)
 
 -- ---- failing
 
-pub fails_as : {Y : Type 0} (k : ScriptErrorKind) (r s : Option Y) → r ≡ s → Fails k s → Fails k r
-fails_as {Y = Y} k r s e f = subst (λ (o : Option Y). Fails k o) (sym e) f
-
-pub fails_deep : {Y : Type 0} (k : ScriptErrorKind) (r : Option Y) → k ≡ errors.TooDeep → r ≡ None → Fails k r
-fails_deep k r e f = subst (λ (k : ScriptErrorKind). Fails k r) (sym e) f
-
-pub fails_none : {Y : Type 0} (k : ScriptErrorKind) (r : Option Y) → r ≡ None → Fails k r
-fails_none errors.Memory r e = tt
-fails_none _ r e = e
-
-pub fails_by : {X Y : Type 0} (k : ScriptErrorKind) (a : Option X) (r : Option Y) → (a ≡ None → r ≡ None) → Fails k a → Fails k r
-fails_by errors.Memory a r f h = tt
-fails_by _ a r f h = f h
-
-pub gives_as : {X Y : Type 0} (view : X → Y) (result : Result X ScriptError) (r s : Option Y) → r ≡ s → Gives view result s → Gives view result r
+pub gives_as : {X Y : Type 0} (view : X → Y) (result : Result X Unread) (r s : Option Y) → r ≡ s → Gives view result s → Gives view result r
 gives_as {Y = Y} view result r s e g = subst (λ (o : Option Y). Gives view result o) (sym e) g
 
 -- ---- places
@@ -99,9 +84,9 @@ node_is read opening m f g toks rest last first second none ps qs t e1 e2 e3 e4 
     ∙ ap (λ (r : Option Row). r >>= node_of g) e6
     ∙ ap (λ (u : Syntax). some_found u last) (sym e7)
 
-pub node_fails : (k : ScriptErrorKind) (read : Reader) (opening : Bool) (m : Fields) (f g : Form) (toks rest : List Lexeme) (first second : List Piece) (none ps : List Syntax) → first ≡ front f → none ≡ [] → row read opening first none toks ≡ some_row ps rest → g ≡ turned f rest → second ≡ back m g → Fails k (row read opening second ps rest) → Fails k (node read opening m f toks)
-node_fails k read opening m f g toks rest first second none ps e1 e2 e3 e4 e5 h =
-    fails_by k (row read opening second ps rest) (node read opening m f toks)
+pub node_fails : (e : Unread) (read : Reader) (opening : Bool) (m : Fields) (f g : Form) (toks rest : List Lexeme) (first second : List Piece) (none ps : List Syntax) → first ≡ front f → none ≡ [] → row read opening first none toks ≡ some_row ps rest → g ≡ turned f rest → second ≡ back m g → Fails e (row read opening second ps rest) → Fails e (node read opening m f toks)
+node_fails e read opening m f g toks rest first second none ps e1 e2 e3 e4 e5 h =
+    fails_on e (row read opening second ps rest) (node read opening m f toks)
     (λ e. node_row read opening m f g toks rest first second none ps e1 e2 e3 e4 e5 ∙ ap (λ (r : Option Row). r >>= node_of g) e) h
 
 -- ---- operators
@@ -118,9 +103,9 @@ grown_is read opening op left t toks last ps parts qs e1 e2 e3 e4 =
     ∙ ap (λ (r : Option Row). r >>= node_of (forms.Operation op)) e3
     ∙ ap (λ (u : Syntax). some_found u last) (sym e4)
 
-pub grown_fails : (k : ScriptErrorKind) (read : Reader) (opening : Bool) (op : Operator) (left : Syntax) (toks : List Lexeme) (ps : List Piece) (parts : List Syntax) → ps ≡ behind op → parts ≡ left ∷ [] → Fails k (row read opening ps parts toks) → Fails k (grown read opening op left toks)
-grown_fails k read opening op left toks ps parts e1 e2 h =
-    fails_by k (row read opening ps parts toks) (grown read opening op left toks)
+pub grown_fails : (e : Unread) (read : Reader) (opening : Bool) (op : Operator) (left : Syntax) (toks : List Lexeme) (ps : List Piece) (parts : List Syntax) → ps ≡ behind op → parts ≡ left ∷ [] → Fails e (row read opening ps parts toks) → Fails e (grown read opening op left toks)
+grown_fails e read opening op left toks ps parts e1 e2 h =
+    fails_on e (row read opening ps parts toks) (grown read opening op left toks)
     (λ e. grown_row read opening op left toks ps parts e1 e2 ∙ ap (λ (r : Option Row). r >>= node_of (forms.Operation op)) e) h
 
 abbrev pub some_operator : Operator → List Lexeme → Option (Operator × List Lexeme)

@@ -1,5 +1,5 @@
 -- A tree that fits and is within the limits, spelled by its tokens and followed by what ends it, is what is read there.
-use Rattle.std.proofs.Common.{◌≡◌, ℕ, zero, suc, ◌-◌, ◌<◌, ◌≤◌, List, [], ◌∷◌, ◌++◌, Bool, true, false, Option, Some, None, refl, sym, ap, ◌∙◌, arith}
+use Rattle.std.proofs.Common.{◌≡◌, ℕ, zero, suc, ◌-◌, ◌<◌, ◌≤◌, List, [], ◌∷◌, ◌++◌, Bool, true, false, Option, Some, None, refl, sym, ap, subst, ◌∙◌, arith}
 use Rattle.std.proofs.lemmas.Bool.{leb-true, le-leb}
 use Rattle.std.proofs.lemmas.List.{append-nil}
 use Rattle.std.proofs.Math.Nat.{le-max_left}
@@ -12,8 +12,8 @@ use Rattle.syntax.specs.declared.form.Form.{Form}
 use Rattle.syntax.specs.declared.form.Form.TheVariants as forms
 use Rattle.syntax.specs.Rules.{rule, form_level, is_heavy}
 use Rattle.syntax.specs.Grammar.{Syntax, Called, Numeral, Node, Syntaxes, NoSyntax, MoreSyntax, flat, height_of, highest, nesting, is, is_open, is_event, is_value, is_numeral, is_field, is_generator, is_generators, is_pair, is_called, is_names, is_constants, is_field_sets, is_declaration, is_script, level_in, Fits, FitAll, FitsPart}
-use Rattle.tokens.specs.declared.error.ScriptErrorKind.{ScriptErrorKind}
-use Rattle.tokens.specs.declared.error.ScriptErrorKind.TheVariants as errors
+use Rattle.tokens.specs.declared.unread.Unread.{Unread}
+use Rattle.tokens.specs.declared.unread.Unread.TheVariants.{Memory}
 use Rattle.syntax.specs.Script.{IsScript}
 use Rattle.syntax.specs.Parsing.{◌>>=◌, Fails, Found, operand, go_on, read_in, climb, reader, may_open, reads, is_alone, numeral_at, number_at, name_at, may_be_number, ended, whole}
 use Rattle.syntax.proofs.Branches.{some_found}
@@ -21,6 +21,7 @@ use Rattle.syntax.proofs.Climbing.{stops_tighter, climb_stops}
 use Rattle.syntax.proofs.Steps.{reads_suc}
 use Rattle.syntax.proofs.Table.{operator_row}
 use Rattle.syntax.proofs.CompleteBools.{false_true}
+use Rattle.syntax.proofs.FaultKinds.{only_memory}
 use Rattle.syntax.proofs.CompleteFollow.{Follows}
 use Rattle.syntax.proofs.CompleteFirst.{is_operation}
 use Rattle.syntax.proofs.CompleteGoal.{rank, is_read_kind, IsRead, Comes, AllRead, edge, spine, start}
@@ -213,10 +214,6 @@ one_tree toks t u h j = same_tree t u (sym (whole_is toks t h) ∙ whole_is toks
 pub tree_is : (toks : List Lexeme) (t u : Syntax) → whole toks ≡ Some u → IsScript toks t → u ≡ t
 tree_is toks t u e h = same_tree u t (sym e ∙ whole_is toks t h)
 
-none_read : (o : Option Syntax) (t : Syntax) → o ≡ None → o ≡ Some t → ⊥
-none_read o t e f = cc
-
 -- where a script is not read, memory has run out
-pub memory_only : (k : ScriptErrorKind) (toks : List Lexeme) (t : Syntax) → Fails k (whole toks) → IsScript toks t → k ≡ errors.Memory
-memory_only errors.Memory toks t f h = refl
-memory_only k toks t f h = absurd (none_read (whole toks) t f (whole_is toks t h))
+pub memory_only : (e : Unread) (toks : List Lexeme) (t : Syntax) → Fails e (whole toks) → IsScript toks t → e ≡ Memory
+memory_only e toks t f h = only_memory e t (subst (λ (o : Option Syntax). Fails e o) (whole_is toks t h) f)

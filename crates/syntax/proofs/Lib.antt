@@ -18,6 +18,7 @@ pub mod Forms
 pub mod Lists
 pub mod NextTokens
 pub mod Noded
+pub mod FaultKinds
 pub mod ReadSteps
 pub mod Sound
 pub mod Spelled

@@ -5,4 +5,5 @@ pub mod Grammar
 pub mod Script
 pub mod View
 -- Steps of the program.
+pub mod Faults
 pub mod Parsing

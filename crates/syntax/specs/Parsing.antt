@@ -8,9 +8,8 @@ use Rattle.tokens.specs.declared.keyword.Keyword.{Keyword}
 use Rattle.tokens.specs.declared.keyword.Keyword.TheVariants as keywords
 use Rattle.tokens.specs.contracts.symbol.Symbol.{the_type as symbol_type}
 use Rattle.tokens.specs.contracts.keyword.Keyword.{the_type as keyword_type}
-use Rattle.tokens.specs.declared.error.ScriptErrorKind.{ScriptErrorKind}
-use Rattle.tokens.specs.declared.error.ScriptErrorKind.TheVariants as errors
-use Rattle.tokens.specs.declared.error.ScriptError.{ScriptError}
+use Rattle.tokens.specs.declared.unread.Unread.{Unread}
+use Rattle.tokens.specs.declared.unread.Unread.TheVariants.{Fault, Memory}
 use Rattle.syntax.specs.declared.operator.Operator.{Operator}
 use Rattle.syntax.specs.declared.piece.Sign.{Sign as Signs}
 use Rattle.syntax.specs.declared.piece.Sign.TheVariants as signs
@@ -35,14 +34,15 @@ abbrev pub ◌>>=◌ : {A B : Type 0} → Option A → (A → Option B) → Opti
 (Some x) >>= f = f x
 None >>= f = None
 
--- what a function returned, seen by view, is what reading gives, unless memory ran out
-abbrev pub Fails : {Y : Type 0} → ScriptErrorKind → Option Y → Type 0
-Fails errors.Memory read = Unit {0}
-Fails _ read = read ≡ None
+-- a fault is answered only where nothing is wanted; memory may run out anywhere
+abbrev pub Fails : {Y : Type 0} → Unread → Option Y → Type 0
+Fails (Fault error) wanted = wanted ≡ None
+Fails Memory wanted = Unit {0}
 
-abbrev pub Gives : {X Y : Type 0} → (X → Y) → Result X ScriptError → Option Y → Type 0
-Gives view (Ok x) read = read ≡ Some (view x)
-Gives view (Err e) read = Fails e.kind read
+-- what a call returned, seen by view, is what is wanted, unless memory ran out
+abbrev pub Gives : {X Y : Type 0} → (X → Y) → Result X Unread → Option Y → Type 0
+Gives view (Ok x) wanted = wanted ≡ Some (view x)
+Gives view (Err unread) wanted = Fails unread wanted
 
 -- a part and the tokens after it
 abbrev pub Found : Type 0

@@ -11,7 +11,7 @@ use crate::form::{Form, looseness};
 use crate::operator::{Operator, of_keyword, of_symbol};
 use crate::piece::{Fields, Kind, Sign};
 use std::alloc::Allocator;
-use tokens::{Keyword, ScriptError, Symbol, Token, Word};
+use tokens::{Keyword, Symbol, Token, Unread, Word};
 
 /// Whether a token says this sign.
 #[tactic(auto, unfolding(crate::specs::Parsing::is_sign))]
@@ -56,7 +56,7 @@ fn begins_with<A: Allocator>(tokens: &[Token<A>], symbol: Symbol) -> bool
 pub(crate) fn after<A: Allocator>(
     tokens: &[Token<A>],
     sign: Sign,
-) -> Result<&[Token<A>], ScriptError>
+) -> Result<&[Token<A>], Unread>
     ensures { Gives (λ x. lexemes x.now) result (after_sign sign (lexemes tokens.now)) }
 {
     match past(tokens, sign) {

@@ -1,42 +1,48 @@
 //! Why tokens are no script.
 ghost use Rattle.std.specs.Prelude.{◌≡◌};
-ghost use Rattle.tokens.specs.declared.error.ScriptErrorKind.TheVariants.{Expected, TooDeep};
+ghost use Rattle.tokens.specs.declared.error.ScriptErrorKind.TheVariants.{Expected, TooDeep, Unsupported};
+ghost use Rattle.syntax.specs.Faults.{fault_at, first_line};
 
 use std::alloc::Allocator;
-use tokens::{ScriptError, ScriptErrorKind, Token};
+use tokens::{ScriptError, ScriptErrorKind, Token, Unread};
 
 /// The line of the first token; 0 at the end of the text.
-pub(crate) fn line_of<A: Allocator>(tokens: &[Token<A>]) -> u32 {
+pub(crate) fn line_of<A: Allocator>(tokens: &[Token<A>]) -> u32
+    ensures { result ≡ first_line tokens.now }
+{
     match tokens {
         [first, ..] => first.line,
         [] => 0,
     }
 }
 
-/// The first token isn't what the grammar wants there.
-pub(crate) fn expected<A: Allocator>(tokens: &[Token<A>]) -> ScriptError
-    ensures { result.kind ≡ Expected }
+/// A fault of this kind at the first token.
+fn fault_at<A: Allocator>(tokens: &[Token<A>], kind: ScriptErrorKind) -> Unread
+    ensures { result ≡ fault_at tokens.now kind }
 {
-    ScriptError {
+    Unread::Fault(ScriptError {
         line: line_of(tokens),
-        kind: ScriptErrorKind::Expected,
-    }
+        kind,
+    })
+}
+
+/// The first token isn't what the grammar wants there.
+pub(crate) fn expected<A: Allocator>(tokens: &[Token<A>]) -> Unread
+    ensures { result ≡ fault_at tokens.now Expected }
+{
+    fault_at(tokens, ScriptErrorKind::Expected)
 }
 
 /// What begins with the first token is too high, or opens a bracket too many.
-pub(crate) fn too_deep<A: Allocator>(tokens: &[Token<A>]) -> ScriptError
-    ensures { result.kind ≡ TooDeep }
+pub(crate) fn too_deep<A: Allocator>(tokens: &[Token<A>]) -> Unread
+    ensures { result ≡ fault_at tokens.now TooDeep }
 {
-    ScriptError {
-        line: line_of(tokens),
-        kind: ScriptErrorKind::TooDeep,
-    }
+    fault_at(tokens, ScriptErrorKind::TooDeep)
 }
 
 /// What begins with the first token is left out of this profile.
-pub(crate) fn unsupported<A: Allocator>(tokens: &[Token<A>]) -> ScriptError {
-    ScriptError {
-        line: line_of(tokens),
-        kind: ScriptErrorKind::Unsupported,
-    }
+pub(crate) fn unsupported<A: Allocator>(tokens: &[Token<A>]) -> Unread
+    ensures { result ≡ fault_at tokens.now Unsupported }
+{
+    fault_at(tokens, ScriptErrorKind::Unsupported)
 }

@@ -8,7 +8,7 @@ use crate::piece::{Kind, Sign};
 use crate::reading::read;
 use crate::tree::Tree;
 use std::alloc::Allocator;
-use tokens::{ScriptError, ScriptErrorKind, Symbol, Token, Word};
+use tokens::{Symbol, Token, Unread, Word};
 
 /// What a definition by patterns has in place of a parameter: a phrase that is no name.
 ///
@@ -16,8 +16,8 @@ use tokens::{ScriptError, ScriptErrorKind, Symbol, Token, Word};
 fn unless_patterns<A: Allocator + Clone + Drop>(
     alloc: &A,
     tokens: &[Token<A>],
-    fault: ScriptError,
-) -> ScriptError {
+    fault: Unread,
+) -> Unread {
     let limits = Limits {
         brackets: MAX_BRACKETS - 1,
         room: MAX_HEIGHT,
@@ -64,8 +64,8 @@ fn of_declaration<A: Allocator + Clone + Drop>(
     alloc: &A,
     tokens: &[Token<A>],
     datatype: bool,
-    fault: ScriptError,
-) -> ScriptError {
+    fault: Unread,
+) -> Unread {
     match tokens {
         [first, second, parameters @ ..] => match (&first.word, &second.word) {
             (Word::Symbol(Symbol::Dot), _) if datatype => unsupported(tokens),
@@ -88,8 +88,8 @@ fn of_declaration<A: Allocator + Clone + Drop>(
 pub(crate) fn unless_left_out<A: Allocator + Clone + Drop>(
     alloc: &A,
     tokens: &[Token<A>],
-    fault: ScriptError,
-) -> ScriptError {
+    fault: Unread,
+) -> Unread {
     let limits = Limits {
         brackets: MAX_BRACKETS,
         room: MAX_HEIGHT,
@@ -104,9 +104,9 @@ pub(crate) fn unless_left_out<A: Allocator + Clone + Drop>(
                 rest = behind;
             }
             Err(error) => {
-                return match error.kind {
-                    ScriptErrorKind::Memory => error,
-                    _ => of_declaration(alloc, rest, datatype, fault),
+                return match error {
+                    Unread::Memory => error,
+                    Unread::Fault(_) => of_declaration(alloc, rest, datatype, fault),
                 };
             }
         }

@@ -1,6 +1,5 @@
 //! Trees on their way.
-ghost use Rattle.std.specs.Prelude.{◌≡◌, ◌≤◌, ◌+◌, ◌++◌, ◌∷◌, [], max, MatchResult, if◌then◌else◌};
-ghost use Rattle.tokens.specs.declared.error.ScriptErrorKind.TheVariants.{Memory};
+ghost use Rattle.std.specs.Prelude.{◌≡◌, ◌≤◌, ◌+◌, ◌++◌, ◌∷◌, [], max, IfOk, if◌then◌else◌};
 ghost use Rattle.syntax.specs.Rules.{is_heavy};
 ghost use Rattle.syntax.specs.Grammar.{Node, height_of, highest, is_open};
 ghost use Rattle.syntax.specs.Parsing.{last_is_open, syntaxes};
@@ -8,8 +7,7 @@ ghost use Rattle.syntax.specs.View.{shape, shapes};
 
 use crate::form::{Ending, Form, end_of, heavy};
 use crate::tree::Tree;
-use std::alloc::Allocator;
-use tokens::ScriptError;
+use std::alloc::{AllocError, Allocator};
 
 /// A tree, its height, and whether it takes all that can follow.
 #[derive(Drop)]
@@ -35,8 +33,8 @@ pub(crate) struct Parts<A: Allocator> {
 
 impl<A: Allocator + Clone + Drop> Parts<A> {
     /// No parts.
-    pub(crate) fn new(alloc: &A) -> Result<Parts<A>, ScriptError>
-        ensures { MatchResult result (λ p. (shapes p.trees.items ≡ []) × (p.height ≡ 0)) (λ e. e.kind ≡ Memory) }
+    pub(crate) fn new(alloc: &A) -> Result<Parts<A>, AllocError>
+        ensures { IfOk result (λ p. (shapes p.trees.items ≡ []) × (p.height ≡ 0)) }
     {
         Ok(Parts {
             trees: Vec::new(alloc.clone()?),
@@ -47,8 +45,8 @@ impl<A: Allocator + Clone + Drop> Parts<A> {
 
     /// One part more.
     #[tactic(auto, using(crate::proofs::Lists::push_shape, crate::proofs::Lists::highest_push, crate::proofs::Lists::open_push))]
-    pub(crate) fn with(self, part: Parsed<A>) -> Result<Parts<A>, ScriptError>
-        ensures { MatchResult result (λ p. (shapes p.trees.items ≡ shapes self.trees.items ++ shape part.tree ∷ []) × (p.height ≡ max self.height part.height)) (λ e. e.kind ≡ Memory) }
+    pub(crate) fn with(self, part: Parsed<A>) -> Result<Parts<A>, AllocError>
+        ensures { IfOk result (λ p. (shapes p.trees.items ≡ shapes self.trees.items ++ shape part.tree ∷ []) × (p.height ≡ max self.height part.height)) }
     {
         let Parts {
             mut trees,

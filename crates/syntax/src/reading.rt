@@ -23,14 +23,14 @@ use crate::parts::{Parsed, Parts};
 use crate::piece::{Fields, Kind, Piece, Place, Sign, Start};
 use crate::tree::Tree;
 use std::alloc::Allocator;
-use tokens::{ScriptError, Symbol, Token, Word};
+use tokens::{Symbol, Token, Unread, Word};
 
 /// A name that must stand first.
 #[tactic(auto, unfolding(crate::specs::Parsing::name_at, crate::specs::Grammar::is_open))]
 fn name_at<'t, A: Allocator + Clone + Drop>(
     alloc: &A,
     tokens: &'t [Token<A>],
-) -> Result<(Parsed<A>, &'t [Token<A>]), ScriptError>
+) -> Result<(Parsed<A>, &'t [Token<A>]), Unread>
     ensures read { Gives (λ x. (shape x.0.tree, lexemes x.1.now)) result (name_at_of (lexemes tokens.now)) }
     ensures low { IfOk result (λ x. x.0.height ≡ 0) }
 {
@@ -181,7 +181,7 @@ fn part<'t, A: Allocator + Clone + Drop>(
     kind: Kind,
     tokens: &'t [Token<A>],
     limits: Limits,
-) -> Result<(Parsed<A>, &'t [Token<A>]), ScriptError>
+) -> Result<(Parsed<A>, &'t [Token<A>]), Unread>
     requires { limits.room ≤ 250 }
     ensures read { Gives (λ x. (shape x.0.tree, lexemes x.1.now)) result (reader limits.brackets limits.room limits.layers place kind (lexemes tokens.now)) }
     ensures high { IfOk result (λ x. x.0.height ≤ limits.room) }
@@ -212,7 +212,7 @@ fn others<'t, A: Allocator + Clone + Drop>(
     front: Parts<A>,
     tokens: &'t [Token<A>],
     limits: Limits,
-) -> Result<(Parts<A>, &'t [Token<A>]), ScriptError>
+) -> Result<(Parts<A>, &'t [Token<A>]), Unread>
     requires room { limits.room ≤ 250 }
     requires low { front.height ≤ limits.room }
     ensures read { Gives (λ x. (shapes x.0.trees.items, lexemes x.1.now)) result (others_of (reader limits.brackets limits.room limits.layers place kind) start (length (lexemes tokens.now)) (shapes front.trees.items) (lexemes tokens.now)) }
@@ -242,7 +242,7 @@ fn step<'t, A: Allocator + Clone + Drop>(
     parts: Parts<A>,
     tokens: &'t [Token<A>],
     limits: Limits,
-) -> Result<(Parts<A>, &'t [Token<A>]), ScriptError>
+) -> Result<(Parts<A>, &'t [Token<A>]), Unread>
     requires room { limits.room ≤ 250 }
     requires low { parts.height ≤ limits.room }
     ensures read { Gives (λ x. (shapes x.0.trees.items, lexemes x.1.now)) result (step_of (reader limits.brackets limits.room limits.layers) (may_open_of limits.brackets) piece (shapes parts.trees.items) (lexemes tokens.now)) }
@@ -283,7 +283,7 @@ fn row<'t, A: Allocator + Clone + Drop>(
     parts: Parts<A>,
     tokens: &'t [Token<A>],
     limits: Limits,
-) -> Result<(Parts<A>, &'t [Token<A>]), ScriptError>
+) -> Result<(Parts<A>, &'t [Token<A>]), Unread>
     requires short { length pieces.now ≤ 9 }
     requires room { limits.room ≤ 250 }
     requires low { parts.height ≤ limits.room }
@@ -308,7 +308,7 @@ fn node<'t, A: Allocator + Clone + Drop>(
     fields: Fields,
     tokens: &'t [Token<A>],
     limits: Limits,
-) -> Result<(Parsed<A>, &'t [Token<A>]), ScriptError>
+) -> Result<(Parsed<A>, &'t [Token<A>]), Unread>
     requires { (if is_heavy form then 1 else 0) + limits.room ≤ 250 }
     ensures read { Gives (λ x. (shape x.0.tree, lexemes x.1.now)) result (node_of_form (reader limits.brackets limits.room limits.layers) (may_open_of limits.brackets) fields form (lexemes tokens.now)) }
     ensures high { IfOk result (λ x. x.0.height ≤ (if is_heavy form then 1 else 0) + limits.room) }
@@ -329,7 +329,7 @@ fn operand<'t, A: Allocator + Clone + Drop>(
     kind: Kind,
     tokens: &'t [Token<A>],
     limits: Limits,
-) -> Result<(Parsed<A>, &'t [Token<A>]), ScriptError>
+) -> Result<(Parsed<A>, &'t [Token<A>]), Unread>
     requires room { (0 < limits.room) × (limits.room ≤ 250) }
     requires layers { 0 < limits.layers }
     ensures read { Gives (λ x. (shape x.0.tree, lexemes x.1.now)) result (operand_of (reader limits.brackets (limits.room - 1) 4) (reader limits.brackets limits.room (limits.layers - 1)) (may_open_of limits.brackets) kind (lexemes tokens.now)) }
@@ -375,7 +375,7 @@ fn grown<'t, A: Allocator + Clone + Drop>(
     left: Parsed<A>,
     tokens: &'t [Token<A>],
     limits: Limits,
-) -> Result<(Parsed<A>, &'t [Token<A>]), ScriptError>
+) -> Result<(Parsed<A>, &'t [Token<A>]), Unread>
     requires { (left.height < limits.room) × (limits.room ≤ 250) }
     ensures read { Gives (λ x. (shape x.0.tree, lexemes x.1.now)) result (grown_of (reader limits.brackets (limits.room - 1) 4) (may_open_of limits.brackets) operator (shape left.tree) (lexemes tokens.now)) }
     ensures high { IfOk result (λ x. x.0.height ≤ limits.room) }
@@ -401,7 +401,7 @@ fn climb<'t, A: Allocator + Clone + Drop>(
     limits: Limits,
     limit: u32,
     turns: u32,
-) -> Result<(Parsed<A>, &'t [Token<A>]), ScriptError>
+) -> Result<(Parsed<A>, &'t [Token<A>]), Unread>
     requires room { (0 < limits.room) × (limits.room ≤ 250) }
     requires turns { turns ≤ 250 }
     requires left { left.height ≤ limits.room }
@@ -431,7 +431,7 @@ pub(crate) fn read<'t, A: Allocator + Clone + Drop>(
     kind: Kind,
     tokens: &'t [Token<A>],
     limits: Limits,
-) -> Result<(Parsed<A>, &'t [Token<A>]), ScriptError>
+) -> Result<(Parsed<A>, &'t [Token<A>]), Unread>
     requires { limits.room ≤ 250 }
     ensures read { Gives (λ x. (shape x.0.tree, lexemes x.1.now)) result (reads limits.brackets limits.room limits.layers kind (lexemes tokens.now)) }
     ensures high { IfOk result (λ x. x.0.height ≤ limits.room) }
@@ -457,7 +457,7 @@ pub(crate) fn read<'t, A: Allocator + Clone + Drop>(
 pub(crate) fn whole<A: Allocator + Clone + Drop>(
     alloc: &A,
     tokens: &[Token<A>],
-) -> Result<Tree<A>, ScriptError>
+) -> Result<Tree<A>, Unread>
     ensures { Gives shape result (whole_of (lexemes tokens.now)) }
 {
     let limits = Limits {

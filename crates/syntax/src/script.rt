@@ -1,41 +1,60 @@
 //! The tree of a script.
 ghost use Rattle.std.specs.Prelude.{◌≡◌, IfOk, MatchResult};
-ghost use Rattle.tokens.specs.declared.error.ScriptErrorKind.TheVariants.{Memory};
+ghost use Rattle.tokens.specs.declared.error.ScriptErrorKind.TheVariants as kinds;
+ghost use Rattle.tokens.specs.declared.unread.Unread.TheVariants.{Memory};
 ghost use Rattle.tokens.specs.Lexeme.{lexemes};
 ghost use Rattle.syntax.specs.Grammar.{Syntax};
 ghost use Rattle.syntax.specs.Script.{HasTree, IsScript};
-ghost use Rattle.syntax.specs.Parsing.{Gives, whole as whole_of};
 ghost use Rattle.syntax.specs.View.{shape};
 
 use crate::left_out::unless_left_out;
 use crate::reading::whole;
 use crate::tree::Tree;
 use std::alloc::Allocator;
-use tokens::{ScriptError, ScriptErrorKind, Token, end_line, scan};
+use tokens::{ScriptError, ScriptErrorKind, Token, Unread, end_line, scan};
+
+/// The fault with the line on which the text ends in place of line 0.
+fn at_end(unread: Unread, end: u32) -> Unread
+    ensures { unread ≡ Memory → result ≡ Memory }
+{
+    match unread {
+        Unread::Fault(error) => Unread::Fault(ScriptError {
+            line: if error.line == 0 { end } else { error.line },
+            kind: error.kind,
+        }),
+        Unread::Memory => Unread::Memory,
+    }
+}
+
+/// The fault of tokens that are no script: one that names what CSPM has and this profile leaves out, where that is why.
+fn explained<A: Allocator + Clone + Drop>(
+    alloc: &A,
+    tokens: &[Token<A>],
+    unread: Unread,
+) -> Unread
+    ensures { unread ≡ Memory → result ≡ Memory }
+{
+    match unread {
+        Unread::Fault(error) => match error.kind {
+            ScriptErrorKind::Expected => unless_left_out(alloc, tokens, unread),
+            _ => unread,
+        },
+        Unread::Memory => Unread::Memory,
+    }
+}
 
 /// The tree of the script that has these tokens, in a text that ends on this line; line 0 of a fault is that line.
-#[tactic(auto, using(crate::proofs::Branches::fails_none))]
 pub(crate) fn read_script<A: Allocator + Clone + Drop>(
     alloc: &A,
     tokens: &[Token<A>],
     end: u32,
-) -> Result<Tree<A>, ScriptError>
-    ensures read { Gives shape result (whole_of (lexemes tokens.now)) }
+) -> Result<Tree<A>, Unread>
     ensures found { IfOk result (λ tree. IsScript (lexemes tokens.now) (shape tree)) }
-    ensures only { (t : Syntax) → IsScript (lexemes tokens.now) t → MatchResult result (λ tree. shape tree ≡ t) (λ e. e.kind ≡ Memory) }
+    ensures only { (t : Syntax) → IsScript (lexemes tokens.now) t → MatchResult result (λ tree. shape tree ≡ t) (λ e. e ≡ Memory) }
 {
     match whole(alloc, tokens) {
         Ok(tree) => Ok(tree),
-        Err(error) => {
-            let error = match error.kind {
-                ScriptErrorKind::Expected => unless_left_out(alloc, tokens, error),
-                _ => error,
-            };
-            Err(ScriptError {
-                line: if error.line == 0 { end } else { error.line },
-                kind: error.kind,
-            })
-        }
+        Err(unread) => Err(at_end(explained(alloc, tokens, unread), end)),
     }
 }
 
@@ -53,8 +72,8 @@ pub fn parse<A: Allocator + Clone + Drop>(alloc: A, text: &[u8]) -> Result<Tree<
     ensures found { IfOk result (λ tree. HasTree text.now (shape tree)) }
 
     // A tree that the text has is read, and no other, unless memory runs out.
-    ensures only { (t : Syntax) → HasTree text.now t → MatchResult result (λ tree. shape tree ≡ t) (λ e. e.kind ≡ Memory) }
+    ensures only { (t : Syntax) → HasTree text.now t → MatchResult result (λ tree. shape tree ≡ t) (λ e. e.kind ≡ kinds.Memory) }
 {
     let tokens = scan(alloc.clone()?, text)?;
-    read_script(&alloc, &tokens, end_line(text))
+    Ok(read_script(&alloc, &tokens, end_line(text))?)
 }

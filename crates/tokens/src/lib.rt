@@ -11,6 +11,7 @@ mod reserved;
 mod script;
 mod symbol;
 mod token;
+mod unread;
 
 pub use error::{ScriptError, ScriptErrorKind};
 pub use keyword::Keyword;
@@ -18,3 +19,4 @@ pub use law::one_token_list;
 pub use script::{MAX_SCRIPT_LEN, end_line, scan};
 pub use symbol::Symbol;
 pub use token::{Token, Word};
+pub use unread::{Unread, fault};

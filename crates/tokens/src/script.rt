@@ -1,5 +1,5 @@
 //! From bytes to tokens.
-ghost use Rattle.std.specs.Prelude.{◌≡◌, ℕ, ◌+◌, ◌≤◌, ◌++◌, ◌==◌, List, [], IfOk, MatchResult, count_by, length};
+ghost use Rattle.std.specs.Prelude.{◌≡◌, ℕ, ◌+◌, ◌≤◌, ◌++◌, ◌==◌, List, [], IfOk, MatchResult, OnOk, count_by, length};
 ghost use Rattle.tokens.specs.Found.{token_found};
 ghost use Rattle.tokens.specs.Lexeme.{Lexeme, lexemes};
 ghost use Rattle.tokens.specs.Text.{HasTokens, behind};
@@ -8,7 +8,7 @@ ghost use Rattle.tokens.specs.declared.error.ScriptErrorKind.TheVariants.{Memory
 use crate::error::{ScriptError, ScriptErrorKind};
 use crate::part::{Found, first_part};
 use crate::token::{Token, Word};
-use std::alloc::Allocator;
+use std::alloc::{AllocError, Allocator};
 
 /// The longest script, in bytes.
 pub const MAX_SCRIPT_LEN: usize = 65_536;
@@ -18,8 +18,8 @@ fn keep<A: Allocator + Clone>(
     tokens: &mut Vec<Token<A>, A>,
     found: Option<Found<'_>>,
     line: u32,
-) -> Result<(), ScriptError>
-    ensures { MatchResult result (λ _. lexemes tokens.new.items ≡ lexemes tokens.old.items ++ behind (token_found found.entry) []) (λ e. e.kind ≡ Memory) }
+) -> Result<(), AllocError>
+    ensures { OnOk result (lexemes tokens.new.items ≡ lexemes tokens.old.items ++ behind (token_found found.entry) []) }
 {
     let word = match found {
         None => return Ok(()),

@@ -5,12 +5,11 @@ ghost use Rattle.values.specs.Names.{same_name};
 ghost use Rattle.values.specs.View.{Gives, worth as worth_of};
 ghost use Rattle.values.specs.Tables.{table, names_value};
 
-use crate::number::fault;
 use crate::worth::Worth;
 use indexmap::IndexMap;
 use std::alloc::{AllocError, Allocator};
 use std::hash::{BuildHasherDefault, FoldHasher};
-use tokens::{ScriptError, ScriptErrorKind};
+use tokens::{ScriptErrorKind, Unread, fault};
 
 type Hashing = BuildHasherDefault<FoldHasher>;
 
@@ -76,7 +75,7 @@ impl<A: Allocator + Clone> Known<A> {
     }
 
     /// A copy of what the name means; `UnknownName` where the table hasn't got it.
-    pub fn worth(&self, name: &[u8], line: u32) -> Result<Worth<A>, ScriptError>
+    pub fn worth(&self, name: &[u8], line: u32) -> Result<Worth<A>, Unread>
         ensures { Gives worth_of result (table self.now name.now) }
     {
         match self.get(name) {

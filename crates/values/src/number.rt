@@ -3,18 +3,11 @@ ghost use Rattle.std.specs.Prelude.{◌≡◌, Some, ◌+ℤ◌, ◌-ℤ◌, ◌
 ghost use Rattle.values.specs.Values.{limited as limited_of, remainder as remainder_of};
 ghost use Rattle.values.specs.View.{Gives};
 
-use tokens::{ScriptError, ScriptErrorKind};
-
-/// The fault on this line.
-pub(crate) fn fault(line: u32, kind: ScriptErrorKind) -> ScriptError
-    ensures { result.kind ≡ kind }
-{
-    ScriptError { line, kind }
-}
+use tokens::{ScriptErrorKind, Unread, fault};
 
 /// The number, if it is from -1,000,000 to 1,000,000.
 #[tactic(auto, unfolding(crate::specs::Values::limited))]
-pub(crate) fn limited(number: i64, line: u32) -> Result<i64, ScriptError>
+pub(crate) fn limited(number: i64, line: u32) -> Result<i64, Unread>
     ensures { Gives (λ z. z) result (limited_of number) }
 {
     if number < -1_000_000 || number > 1_000_000 {
@@ -25,7 +18,7 @@ pub(crate) fn limited(number: i64, line: u32) -> Result<i64, ScriptError>
 
 /// What is computed, if it is a number within the limits; None is past 64 bits.
 #[tactic(auto, using(crate::proofs::Numbers::beyond))]
-pub(crate) fn sum(first: i64, second: i64, line: u32) -> Result<i64, ScriptError>
+pub(crate) fn sum(first: i64, second: i64, line: u32) -> Result<i64, Unread>
     ensures { Gives (λ z. z) result (limited_of (first +ℤ second)) }
 {
     match first.checked_add(second) {
@@ -35,7 +28,7 @@ pub(crate) fn sum(first: i64, second: i64, line: u32) -> Result<i64, ScriptError
 }
 
 #[tactic(auto, using(crate::proofs::Numbers::beyond))]
-pub(crate) fn difference(first: i64, second: i64, line: u32) -> Result<i64, ScriptError>
+pub(crate) fn difference(first: i64, second: i64, line: u32) -> Result<i64, Unread>
     ensures { Gives (λ z. z) result (limited_of (first -ℤ second)) }
 {
     match first.checked_sub(second) {
@@ -45,7 +38,7 @@ pub(crate) fn difference(first: i64, second: i64, line: u32) -> Result<i64, Scri
 }
 
 #[tactic(auto, using(crate::proofs::Numbers::beyond))]
-pub(crate) fn product(first: i64, second: i64, line: u32) -> Result<i64, ScriptError>
+pub(crate) fn product(first: i64, second: i64, line: u32) -> Result<i64, Unread>
     ensures { Gives (λ z. z) result (limited_of (first *ℤ second)) }
 {
     match first.checked_mul(second) {
@@ -56,7 +49,7 @@ pub(crate) fn product(first: i64, second: i64, line: u32) -> Result<i64, ScriptE
 
 /// The remainder of a number that is at least 0 by one above 0.
 #[tactic(auto, unfolding(crate::specs::Values::remainder))]
-pub(crate) fn remainder(first: i64, second: i64, line: u32) -> Result<i64, ScriptError>
+pub(crate) fn remainder(first: i64, second: i64, line: u32) -> Result<i64, Unread>
     ensures { Gives (λ z. z) result (remainder_of first second) }
 {
     if first < 0 || second <= 0 {

@@ -4,11 +4,10 @@ ghost use Rattle.std.specs.Int.{int_gap};
 ghost use Rattle.values.specs.Values.{union as union_of, intersection as intersection_of, difference as difference_of, fitting_set, range as range_of, numbers_from};
 ghost use Rattle.values.specs.View.{Gives, value, values};
 
-use crate::number::fault;
 use crate::value::Value;
 use std::alloc::{AllocError, Allocator};
 use std::collections::BTreeSet;
-use tokens::{ScriptError, ScriptErrorKind};
+use tokens::{ScriptErrorKind, Unread, fault};
 
 /// A set of values, in their order.
 pub type Values<A> = BTreeSet<Value<A>, A>;
@@ -55,7 +54,7 @@ pub(crate) fn difference<A: Allocator>(first: Values<A>, second: &Values<A>) -> 
 
 /// The set, if it has no more values than the limit.
 #[tactic(auto, unfolding(crate::specs::Values::fitting_set), using(crate::proofs::ValueSets::as_many))]
-pub(crate) fn fitting<A: Allocator>(set: Values<A>, line: u32) -> Result<Values<A>, ScriptError>
+pub(crate) fn fitting<A: Allocator>(set: Values<A>, line: u32) -> Result<Values<A>, Unread>
     ensures { Gives values result (fitting_set (values set)) }
 {
     if set.len() > SET_LIMIT {
@@ -86,7 +85,7 @@ pub(crate) fn range<A: Allocator + Clone>(
     alloc: &A,
     ends: (i64, i64),
     line: u32,
-) -> Result<Values<A>, ScriptError>
+) -> Result<Values<A>, Unread>
     ensures { Gives values result (range_of ends.0 ends.1) }
 {
     let (first, last) = ends;

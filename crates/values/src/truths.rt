@@ -4,12 +4,11 @@ ghost use Rattle.values.specs.Worths.{one, truth_of as truth_of_bool, negated_tr
 ghost use Rattle.values.specs.Lazy.{form_of};
 ghost use Rattle.values.specs.View.{Gives, value as value_of, worth as worth_of};
 
-use crate::number::fault;
 use crate::value::Value;
 use crate::worth::{Worth, the_number, the_only, the_truth, the_two};
 use std::alloc::Allocator;
 use syntax::{Form, Operator};
-use tokens::{ScriptError, ScriptErrorKind};
+use tokens::{ScriptErrorKind, Unread, fault};
 
 /// A form of which not all parts are looked at.
 #[derive(Clone, Copy)]
@@ -39,7 +38,7 @@ pub(crate) fn truth_of<A: Allocator>(
     truth: bool,
     worths: Vec<Worth<A>, A>,
     line: u32,
-) -> Result<Worth<A>, ScriptError>
+) -> Result<Worth<A>, Unread>
     ensures { Gives worth_of result (truth_of_bool truth (map worth_of worths.items)) }
 {
     if worths.is_empty() {
@@ -53,7 +52,7 @@ pub(crate) fn truth_of<A: Allocator>(
 pub(crate) fn negated_truth<A: Allocator>(
     worths: Vec<Worth<A>, A>,
     line: u32,
-) -> Result<Worth<A>, ScriptError>
+) -> Result<Worth<A>, Unread>
     ensures { Gives worth_of result (negated_truth_of (map worth_of worths.items)) }
 {
     let only = the_only(worths, line)?;
@@ -67,7 +66,7 @@ fn are_same_values<A: Allocator>(
     first: &Value<A>,
     second: &Value<A>,
     line: u32,
-) -> Result<bool, ScriptError>
+) -> Result<bool, Unread>
     ensures { Gives (λ b. b) result (are_same_of (one (value_of first.now)) (one (value_of second.now))) }
 {
     match (first, second) {
@@ -80,7 +79,7 @@ fn are_same_values<A: Allocator>(
 
 /// Whether two numbers, two constants or two truths are the same.
 #[tactic(auto, unfolding(crate::specs::Worths::are_same))]
-fn are_same<A: Allocator>(first: Worth<A>, second: Worth<A>, line: u32) -> Result<bool, ScriptError>
+fn are_same<A: Allocator>(first: Worth<A>, second: Worth<A>, line: u32) -> Result<bool, Unread>
     ensures { Gives (λ b. b) result (are_same_of (worth_of first) (worth_of second)) }
 {
     match (first, second) {
@@ -92,7 +91,7 @@ fn are_same<A: Allocator>(first: Worth<A>, second: Worth<A>, line: u32) -> Resul
 
 /// Whether the first of two numbers is below the second.
 #[tactic(auto, unfolding(crate::specs::Worths::is_less))]
-fn is_less<A: Allocator>(first: Worth<A>, second: Worth<A>, line: u32) -> Result<bool, ScriptError>
+fn is_less<A: Allocator>(first: Worth<A>, second: Worth<A>, line: u32) -> Result<bool, Unread>
     ensures { Gives (λ b. b) result (is_less_of (worth_of first) (worth_of second)) }
 {
     let first = the_number(first, line)?;
@@ -106,7 +105,7 @@ fn is_at_most<A: Allocator>(
     first: Worth<A>,
     second: Worth<A>,
     line: u32,
-) -> Result<bool, ScriptError>
+) -> Result<bool, Unread>
     ensures { Gives (λ b. b) result (is_at_most_of (worth_of first) (worth_of second)) }
 {
     let first = the_number(first, line)?;
@@ -120,7 +119,7 @@ fn compared<A: Allocator>(
     operator: Operator,
     sides: (Worth<A>, Worth<A>),
     line: u32,
-) -> Result<bool, ScriptError>
+) -> Result<bool, Unread>
     ensures { Gives (λ b. b) result (compared_of operator (worth_of sides.0) (worth_of sides.1)) }
 {
     let (first, second) = sides;
@@ -154,7 +153,7 @@ pub(crate) fn comparison<A: Allocator>(
     operator: Operator,
     worths: Vec<Worth<A>, A>,
     line: u32,
-) -> Result<Worth<A>, ScriptError>
+) -> Result<Worth<A>, Unread>
     ensures { Gives worth_of result (comparison_of operator (map worth_of worths.items)) }
 {
     let sides = the_two(worths, line)?;

@@ -5,12 +5,11 @@ ghost use Rattle.values.specs.Values.{set_of};
 ghost use Rattle.values.specs.Worths.{the_value as the_value_of, the_number as the_number_of, the_set as the_set_of, the_truth as the_truth_of, the_only as the_only_of, the_two as the_two_of, two_numbers as two_numbers_of, two_sets as two_sets_of, set_of_all};
 ghost use Rattle.values.specs.View.{Gives, value, values, worth as worth_of};
 
-use crate::number::fault;
 use crate::sets::Values;
 use crate::value::Value;
 use std::alloc::{AllocError, Allocator};
 use std::collections::BTreeSet;
-use tokens::{ScriptError, ScriptErrorKind};
+use tokens::{ScriptErrorKind, Unread, fault};
 
 /// What a phrase means.
 #[derive(Drop)]
@@ -37,7 +36,7 @@ impl<A: Allocator + Clone> Worth<A> {
 
 /// The value, where it is one; else `Expected`.
 #[tactic(auto, unfolding(crate::specs::Worths::the_value))]
-pub fn the_value<A: Allocator>(worth: Worth<A>, line: u32) -> Result<Value<A>, ScriptError>
+pub fn the_value<A: Allocator>(worth: Worth<A>, line: u32) -> Result<Value<A>, Unread>
     ensures { Gives value result (the_value_of (worth_of worth)) }
 {
     match worth {
@@ -48,7 +47,7 @@ pub fn the_value<A: Allocator>(worth: Worth<A>, line: u32) -> Result<Value<A>, S
 
 /// The number, where it is one.
 #[tactic(auto, unfolding(crate::specs::Worths::the_number))]
-pub(crate) fn the_number<A: Allocator>(worth: Worth<A>, line: u32) -> Result<i64, ScriptError>
+pub(crate) fn the_number<A: Allocator>(worth: Worth<A>, line: u32) -> Result<i64, Unread>
     ensures { Gives (λ z. z) result (the_number_of (worth_of worth)) }
 {
     match worth {
@@ -60,7 +59,7 @@ pub(crate) fn the_number<A: Allocator>(worth: Worth<A>, line: u32) -> Result<i64
 
 /// The set, where it is one; else `Expected`.
 #[tactic(auto, unfolding(crate::specs::Worths::the_set))]
-pub fn the_set<A: Allocator>(worth: Worth<A>, line: u32) -> Result<Values<A>, ScriptError>
+pub fn the_set<A: Allocator>(worth: Worth<A>, line: u32) -> Result<Values<A>, Unread>
     ensures { Gives values result (the_set_of (worth_of worth)) }
 {
     match worth {
@@ -71,7 +70,7 @@ pub fn the_set<A: Allocator>(worth: Worth<A>, line: u32) -> Result<Values<A>, Sc
 
 /// The truth, where it is one; else `Expected`.
 #[tactic(auto, unfolding(crate::specs::Worths::the_truth))]
-pub fn the_truth<A: Allocator>(worth: Worth<A>, line: u32) -> Result<bool, ScriptError>
+pub fn the_truth<A: Allocator>(worth: Worth<A>, line: u32) -> Result<bool, Unread>
     ensures { Gives (λ b. b) result (the_truth_of (worth_of worth)) }
 {
     match worth {
@@ -85,7 +84,7 @@ pub fn the_truth<A: Allocator>(worth: Worth<A>, line: u32) -> Result<bool, Scrip
 pub(crate) fn the_only<A: Allocator>(
     worths: Vec<Worth<A>, A>,
     line: u32,
-) -> Result<Worth<A>, ScriptError>
+) -> Result<Worth<A>, Unread>
     ensures { Gives worth_of result (the_only_of (map worth_of worths.items)) }
 {
     let mut worths = worths;
@@ -103,7 +102,7 @@ pub(crate) fn the_only<A: Allocator>(
 pub(crate) fn the_two<A: Allocator>(
     worths: Vec<Worth<A>, A>,
     line: u32,
-) -> Result<(Worth<A>, Worth<A>), ScriptError>
+) -> Result<(Worth<A>, Worth<A>), Unread>
     ensures { Gives (λ p. (worth_of p.0, worth_of p.1)) result (the_two_of (map worth_of worths.items)) }
 {
     let mut worths = worths;
@@ -124,7 +123,7 @@ pub(crate) fn the_two<A: Allocator>(
 pub(crate) fn two_numbers<A: Allocator>(
     worths: Vec<Worth<A>, A>,
     line: u32,
-) -> Result<(i64, i64), ScriptError>
+) -> Result<(i64, i64), Unread>
     ensures { Gives (λ p. (p.0, p.1)) result (two_numbers_of (map worth_of worths.items)) }
 {
     let (first, second) = the_two(worths, line)?;
@@ -138,7 +137,7 @@ pub(crate) fn two_numbers<A: Allocator>(
 pub(crate) fn two_sets<A: Allocator>(
     worths: Vec<Worth<A>, A>,
     line: u32,
-) -> Result<(Values<A>, Values<A>), ScriptError>
+) -> Result<(Values<A>, Values<A>), Unread>
     ensures { Gives (λ p. (values p.0, values p.1)) result (two_sets_of (map worth_of worths.items)) }
 {
     let (first, second) = the_two(worths, line)?;
@@ -153,7 +152,7 @@ pub(crate) fn listed<A: Allocator + Clone>(
     alloc: &A,
     worths: Vec<Worth<A>, A>,
     line: u32,
-) -> Result<Values<A>, ScriptError>
+) -> Result<Values<A>, Unread>
     ensures { Gives values result (set_of_all (map worth_of worths.items)) }
 {
     let mut worths = worths;
@@ -170,7 +169,7 @@ pub(crate) fn listed<A: Allocator + Clone>(
 pub fn constant_set<A: Allocator + Clone>(
     alloc: &A,
     names: &[Vec<u8, A>],
-) -> Result<Values<A>, ScriptError>
+) -> Result<Values<A>, Unread>
     ensures { Gives values result (Some (set_of (map (λ n. constant n.items) names.now))) }
 {
     let mut worths = Vec::new(alloc.clone()?);

@@ -11,12 +11,12 @@ use Rattle.declarations.proofs.declared.declare.Goals as goal
 pub returns-in_err-entries-clause-only : goal.returns-in_err-entries-clause-only
 returns-in_err-entries-clause-only g c = λ es known cs d.
     let p = err_from_is_err_and c.from_residual.result c.from_residual.ensures.1 in
-    rw (p.1, p.2) (entries_fail c.in_err-entries.field-0.0.kind (shape c.args.tree.now) es known cs _ d c.in_err-entries.ensures)
+    rw (p.1, p.2) (entries_fail c.in_err-entries.field-0.0 (shape c.args.tree.now) es known cs _ d c.in_err-entries.ensures)
 
 pub returns-in_err-declarations_of-clause-only : goal.returns-in_err-declarations_of-clause-only
 returns-in_err-declarations_of-clause-only g c = λ es known cs d.
     let p = err_from_is_err_and c.from_residual-in_err-declarations_of.result c.from_residual-in_err-declarations_of.ensures.1 in
-    rw (p.1, p.2) (parts_fail c.in_err-declarations_of.field-0.0.kind (shape c.args.tree.now) es known cs _ d c.in_err-declarations_of.ensures)
+    rw (p.1, p.2) (parts_fail c.in_err-declarations_of.field-0.0 (shape c.args.tree.now) es known cs _ d c.in_err-declarations_of.ensures)
 
 pub told_alphabet-requires : goal.told_alphabet-requires
 told_alphabet-requires g c =
@@ -25,7 +25,7 @@ told_alphabet-requires g c =
 pub returns-in_err-alphabet-clause-only : goal.returns-in_err-alphabet-clause-only
 returns-in_err-alphabet-clause-only g c = λ es known cs d.
     let p = err_from_is_err_and c.from_residual-in_err-alphabet.result c.from_residual-in_err-alphabet.ensures.1 in
-    rw (p.1, p.2) (channels_fail c.in_err-alphabet.field-0.0.kind (shape c.args.tree.now) (syntaxes (shapes c.in_ok-declarations_of.field-0.now)) es (entries c.in_ok-entries.entries) known (table c.in_ok-known.known) cs _ d c.in_ok-declarations_of.ensures c.in_ok-entries.ensures c.in_ok-known.ensures c.in_err-alphabet.ensures)
+    rw (p.1, p.2) (channels_fail c.in_err-alphabet.field-0.0 (shape c.args.tree.now) (syntaxes (shapes c.in_ok-declarations_of.field-0.now)) es (entries c.in_ok-entries.entries) known (table c.in_ok-known.known) cs _ d c.in_ok-declarations_of.ensures c.in_ok-entries.ensures c.in_ok-known.ensures c.in_err-alphabet.ensures)
 
 pub returns-clause-found : goal.returns-clause-found
 returns-clause-found g c =

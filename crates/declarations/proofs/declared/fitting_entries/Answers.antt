@@ -9,4 +9,4 @@ pub returns-in-Ok : goal.returns-in-Ok
 returns-in-Ok g c = subst (λ o. Gives entries c.fitting.result o) (entries_found (shape c.args.tree.now) (entries c.in-Ok.entries) c.in-Ok.ensures) c.fitting.ensures
 
 pub returns-in_default : goal.returns-in_default
-returns-in_default g c = other_fails c.in-Err.error.kind c.fault_of_names.result.kind (shape c.args.tree.now) c.in-Err.ensures c.in_default.not-Memory
+returns-in_default g c = other_fails c.in-Err.error c.fault_of_names.result (shape c.args.tree.now) c.in-Err.ensures c.in_default.not-Memory

@@ -20,9 +20,9 @@ pub returns-in_err-fields : goal.returns-in_err-fields
 returns-in_err-fields g c =
     let p = err_from_is_err_and c.from_residual.result c.from_residual.ensures.1 in
     rw (p.1, p.2) (
-    names_fail c.in_err-fields.field-0.0.kind (table c.args.known.now) (syntaxes (shapes c.args.sets.now)) c.args.alphabet c.args.names.now
+    names_fail c.in_err-fields.field-0.0 (table c.args.known.now) (syntaxes (shapes c.args.sets.now)) c.args.alphabet c.args.names.now
     (λ e. let x : true ≡ false = sym (eq-eqb (length c.args.names.now) 0 e) ∙ sym c.is_empty.ensures ∙ c.if-is_empty.false in cc)
-    (subst (λ o. Fails c.in_err-fields.field-0.0.kind o) (all_fields (table c.args.known.now) (syntaxes (shapes c.args.sets.now))) c.in_err-fields.ensures.fields)
+    (subst (λ o. Fails c.in_err-fields.field-0.0 o) (all_fields (table c.args.known.now) (syntaxes (shapes c.args.sets.now))) c.in_err-fields.ensures.fields)
     )
 
 pub with_channels-requires : goal.with_channels-requires

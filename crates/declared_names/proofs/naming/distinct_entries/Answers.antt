@@ -13,14 +13,14 @@ use Rattle.declared_names.proofs.naming.distinct_entries.Goals as goal
 pub returns-in_err-declarations : goal.returns-in_err-declarations
 returns-in_err-declarations g c =
     let p = err_from_is_err_and c.from_residual.result c.from_residual.ensures.1 in
-    rw (p.1, p.2) (parts_none c.in_err-declarations.field-0.0.kind (shape c.args.tree.now) c.in_err-declarations.ensures)
+    rw (p.1, p.2) (parts_none c.in_err-declarations.field-0.0 (shape c.args.tree.now) c.in_err-declarations.ensures)
 
 pub returns-in_err-enter_declarations : goal.returns-in_err-enter_declarations
 returns-in_err-enter_declarations g c =
     let p = err_from_is_err_and c.from_residual-in_err-enter_declarations.result c.from_residual-in_err-enter_declarations.ensures.1 in
     let empty : listed c.new-table.result.entries ≡ [] = ap listed c.new-table.ensures.empty in
     rw (p.1, p.2) (rw (← put_parts (shape c.args.tree.now) (syntaxes (shapes c.in_ok-declarations.declarations.now)) c.in_ok-declarations.ensures)
-    (subst (λ es. Fails c.in_err-enter_declarations.field-0.0.kind (steps put_declaration es (syntaxes (shapes c.in_ok-declarations.declarations.now)))) empty c.in_err-enter_declarations.ensures))
+    (subst (λ es. Fails c.in_err-enter_declarations.field-0.0 (steps put_declaration es (syntaxes (shapes c.in_ok-declarations.declarations.now)))) empty c.in_err-enter_declarations.ensures))
 
 pub returns : goal.returns
 returns g c =

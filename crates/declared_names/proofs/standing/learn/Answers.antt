@@ -17,4 +17,4 @@ returns-in_ok-insert-in-Ok g c =
 
 pub returns-in_default : goal.returns-in_default
 returns-in_default g c =
-    learns_same (entries c.args.entries.now) (table c.args.known.now) c.args.name.now (settled_fault c.in-Err.error.kind (entries c.args.entries.now) (table c.args.known.now) c.args.name.now c.in_default.not-Memory c.in-Err.ensures)
+    learns_same (entries c.args.entries.now) (table c.args.known.now) c.args.name.now (settled_fault c.in-Err.error (entries c.args.entries.now) (table c.args.known.now) c.args.name.now c.in_default.not-Memory c.in-Err.ensures)

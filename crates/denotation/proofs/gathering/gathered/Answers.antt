@@ -4,12 +4,12 @@ use Rattle.std.proofs.lemmas.Result.{err_from_is_err_and}
 use Rattle.alphabet.specs.Channels.{Values}
 use Rattle.term.specs.Proc.{proc}
 use Rattle.event_phrases.specs.View.{listed}
-use Rattle.event_phrases.proofs.Options.{fails_on}
 use Rattle.denotation.specs.Making.{make_body}
 use Rattle.denotation.specs.View.{key, count}
 use Rattle.denotation.proofs.Progress.{start, one_more, finish, unique, stuck, body_less}
 use Rattle.denotation.proofs.FirstPlaces.{same}
 use Rattle.denotation.proofs.Seen.{seen_root, seen_body}
+use Rattle.syntax.proofs.FaultKinds.{fails_on}
 use Rattle.denotation.proofs.gathering.gathered.Goals as goal
 
 pub loop-alloc-init : goal.loop-alloc-init
@@ -33,7 +33,7 @@ returns-in_err-term-clause-only g c = λ ps d.
     let lt : length made < length c.loop-alloc.work.met.keys = omega (arith, n) in
     let at = seen_body S c.loop-alloc.work.met.keys c.len-in-loop-alloc-2.result (length made) c.index.result.now (key c.in_ok-call.call) (c.args.root.now, []) (count c.loop-alloc.work) n c.index.ensures c.in_ok-call.ensures in
     let p = err_from_is_err_and c.from_residual-in_err-term.result c.from_residual-in_err-term.ensures.1 in
-    rw (p.1, p.2) (fails_on c.in_err-term.field-0.0.kind (make_body S (key c.in_ok-call.call) (count c.loop-alloc.work)) (Some ps)
+    rw (p.1, p.2) (fails_on c.in_err-term.field-0.0 (make_body S (key c.in_ok-call.call) (count c.loop-alloc.work)) (Some ps)
     (λ e. absurd (stuck S (c.args.root.now, []) made keys c.loop-alloc.work.room c.loop-alloc.invariant (omega (arith, lt, length-map c.loop-alloc.work.met.keys key)) ps d (at ∙ e))) c.in_err-term.ensures)
 
 pub returns-in_err-push-clause-only : goal.returns-in_err-push-clause-only

@@ -19,13 +19,13 @@ use Rattle.denotation.specs.Walks.{make_visits, visits_after}
 use Rattle.event_phrases.specs.View.{listed}
 use Rattle.denotation.specs.View.{count}
 use Rattle.denotation.proofs.FormLaws.{made_so, not_made}
-use Rattle.event_phrases.proofs.Scopes.{fails_none}
 use Rattle.event_phrases.proofs.FirstValues.{none_if}
 use Rattle.denotation.proofs.Prefixes.{no_prefix, branches_fail, branches_made}
 use Rattle.denotation.proofs.Steps.{joined_first, joined_second, joined_so, sharing_first, sharing_set, sharing_second, sharing_so, alphabetised_first, alphabetised_sets, alphabetised_second, alphabetised_so, hiding_first, hiding_set, hiding_so, renaming_first, renaming_on, conditional_fails, conditional_first, conditional_second, guarded_fails, guarded_met, guarded_not, replicated_fails, replicated_so}
 use Rattle.denotation.proofs.Replications.{put_behind}
 use Rattle.denotation.proofs.Walks.{no_first, from_first, none_before, walk_end, stands_fails, no_next, next_found, no_process, one_process, not_more}
 use Rattle.denotation.proofs.Turns.{some_fit, some_found, none_behind, fit_fails, none_fits, body_fails, event_fails, event_made, next_turn, last_turn, turn_fails, led_branches}
+use Rattle.syntax.proofs.FaultKinds.{fails_none}
 use Rattle.denotation.proofs.making.+making.Goals as goal
 
 pub joined_phrases-process-requires : goal.joined_phrases-process-requires
@@ -62,13 +62,13 @@ pub joined_phrases-returns-in_err-first : goal.joined_phrases-returns-in_err-fir
 joined_phrases-returns-in_err-first g t c =
     let s = within (g.G.GlobalScope.scope c.args.scope.now.global.now) (map input c.args.scope.now.inputs.items) in
     let p = err_from_is_err_and c.from_residual.result c.from_residual.ensures.1 in
-    rw (p.1, p.2) (joined_first s (count c.args.work) (shape c.args.first.now) c.args.join (shape c.args.second.now) c.in_err-first.field-0.0.kind c.in_err-first.ensures)
+    rw (p.1, p.2) (joined_first s (count c.args.work) (shape c.args.first.now) c.args.join (shape c.args.second.now) c.in_err-first.field-0.0 c.in_err-first.ensures)
 
 pub joined_phrases-returns-in_err-second : goal.joined_phrases-returns-in_err-second
 joined_phrases-returns-in_err-second g t c =
     let s = within (g.G.GlobalScope.scope c.args.scope.now.global.now) (map input c.args.scope.now.inputs.items) in
     let p = err_from_is_err_and c.from_residual-in_err-second.result c.from_residual-in_err-second.ensures.1 in
-    rw (p.1, p.2) (joined_second s (count c.args.work) (shape c.args.first.now) c.args.join (shape c.args.second.now) (proc c.in_ok-first.first, count c.in_ok-first.work) c.in_ok-first.ensures c.in_err-second.field-0.0.kind c.in_err-second.ensures)
+    rw (p.1, p.2) (joined_second s (count c.args.work) (shape c.args.first.now) c.args.join (shape c.args.second.now) (proc c.in_ok-first.first, count c.in_ok-first.work) c.in_ok-first.ensures c.in_err-second.field-0.0 c.in_err-second.ensures)
 
 pub joined_phrases-returns : goal.joined_phrases-returns
 joined_phrases-returns g t c =
@@ -79,19 +79,19 @@ pub sharing_phrases-returns-in_err-first : goal.sharing_phrases-returns-in_err-f
 sharing_phrases-returns-in_err-first g t c =
     let s = within (g.G.GlobalScope.scope c.args.scope.now.global.now) (map input c.args.scope.now.inputs.items) in
     let p = err_from_is_err_and c.from_residual.result c.from_residual.ensures.1 in
-    rw (p.1, p.2) (sharing_first s (count c.args.work) (shape c.args.first.now) (shape c.args.set.now) (shape c.args.second.now) c.in_err-first.field-0.0.kind c.in_err-first.ensures)
+    rw (p.1, p.2) (sharing_first s (count c.args.work) (shape c.args.first.now) (shape c.args.set.now) (shape c.args.second.now) c.in_err-first.field-0.0 c.in_err-first.ensures)
 
 pub sharing_phrases-returns-in_err-set : goal.sharing_phrases-returns-in_err-set
 sharing_phrases-returns-in_err-set g t c =
     let s = within (g.G.GlobalScope.scope c.args.scope.now.global.now) (map input c.args.scope.now.inputs.items) in
     let p = err_from_is_err_and c.from_residual-in_err-set.result c.from_residual-in_err-set.ensures.1 in
-    rw (p.1, p.2) (sharing_set s (count c.args.work) (shape c.args.first.now) (shape c.args.set.now) (shape c.args.second.now) (proc c.in_ok-first.first, count c.in_ok-first.work) c.in_ok-first.ensures c.in_err-set.field-0.0.kind c.in_err-set.ensures)
+    rw (p.1, p.2) (sharing_set s (count c.args.work) (shape c.args.first.now) (shape c.args.set.now) (shape c.args.second.now) (proc c.in_ok-first.first, count c.in_ok-first.work) c.in_ok-first.ensures c.in_err-set.field-0.0 c.in_err-set.ensures)
 
 pub sharing_phrases-returns-in_err-second : goal.sharing_phrases-returns-in_err-second
 sharing_phrases-returns-in_err-second g t c =
     let s = within (g.G.GlobalScope.scope c.args.scope.now.global.now) (map input c.args.scope.now.inputs.items) in
     let p = err_from_is_err_and c.from_residual-in_err-second.result c.from_residual-in_err-second.ensures.1 in
-    rw (p.1, p.2) (sharing_second s (count c.args.work) (shape c.args.first.now) (shape c.args.set.now) (shape c.args.second.now) (proc c.in_ok-first.first, count c.in_ok-first.work) c.in_ok-first.ensures c.in_ok-set.set c.in_ok-set.ensures c.in_err-second.field-0.0.kind c.in_err-second.ensures)
+    rw (p.1, p.2) (sharing_second s (count c.args.work) (shape c.args.first.now) (shape c.args.set.now) (shape c.args.second.now) (proc c.in_ok-first.first, count c.in_ok-first.work) c.in_ok-first.ensures c.in_ok-set.set c.in_ok-set.ensures c.in_err-second.field-0.0 c.in_err-second.ensures)
 
 pub sharing_phrases-returns : goal.sharing_phrases-returns
 sharing_phrases-returns g t c =
@@ -102,19 +102,19 @@ pub alphabetised_phrases-returns-in_err-first : goal.alphabetised_phrases-return
 alphabetised_phrases-returns-in_err-first g t c =
     let s = within (g.G.GlobalScope.scope c.args.scope.now.global.now) (map input c.args.scope.now.inputs.items) in
     let p = err_from_is_err_and c.from_residual.result c.from_residual.ensures.1 in
-    rw (p.1, p.2) (alphabetised_first s (count c.args.work) (shape c.args.first.now) (shape c.args.sets.0.now) (shape c.args.sets.1.now) (shape c.args.second.now) c.in_err-first.field-0.0.kind c.in_err-first.ensures)
+    rw (p.1, p.2) (alphabetised_first s (count c.args.work) (shape c.args.first.now) (shape c.args.sets.0.now) (shape c.args.sets.1.now) (shape c.args.second.now) c.in_err-first.field-0.0 c.in_err-first.ensures)
 
 pub alphabetised_phrases-returns-in_err-sets : goal.alphabetised_phrases-returns-in_err-sets
 alphabetised_phrases-returns-in_err-sets g t c =
     let s = within (g.G.GlobalScope.scope c.args.scope.now.global.now) (map input c.args.scope.now.inputs.items) in
     let p = err_from_is_err_and c.from_residual-in_err-sets.result c.from_residual-in_err-sets.ensures.1 in
-    rw (p.1, p.2) (alphabetised_sets s (count c.args.work) (shape c.args.first.now) (shape c.args.sets.0.now) (shape c.args.sets.1.now) (shape c.args.second.now) (proc c.in_ok-first.first, count c.in_ok-first.work) c.in_ok-first.ensures c.in_err-sets.field-0.0.kind c.in_err-sets.ensures)
+    rw (p.1, p.2) (alphabetised_sets s (count c.args.work) (shape c.args.first.now) (shape c.args.sets.0.now) (shape c.args.sets.1.now) (shape c.args.second.now) (proc c.in_ok-first.first, count c.in_ok-first.work) c.in_ok-first.ensures c.in_err-sets.field-0.0 c.in_err-sets.ensures)
 
 pub alphabetised_phrases-returns-in_err-second : goal.alphabetised_phrases-returns-in_err-second
 alphabetised_phrases-returns-in_err-second g t c =
     let s = within (g.G.GlobalScope.scope c.args.scope.now.global.now) (map input c.args.scope.now.inputs.items) in
     let p = err_from_is_err_and c.from_residual-in_err-second.result c.from_residual-in_err-second.ensures.1 in
-    rw (p.1, p.2) (alphabetised_second s (count c.args.work) (shape c.args.first.now) (shape c.args.sets.0.now) (shape c.args.sets.1.now) (shape c.args.second.now) (proc c.in_ok-first.first, count c.in_ok-first.work) c.in_ok-first.ensures c.in_ok-sets.sets c.in_ok-sets.ensures c.in_err-second.field-0.0.kind c.in_err-second.ensures)
+    rw (p.1, p.2) (alphabetised_second s (count c.args.work) (shape c.args.first.now) (shape c.args.sets.0.now) (shape c.args.sets.1.now) (shape c.args.second.now) (proc c.in_ok-first.first, count c.in_ok-first.work) c.in_ok-first.ensures c.in_ok-sets.sets c.in_ok-sets.ensures c.in_err-second.field-0.0 c.in_err-second.ensures)
 
 pub alphabetised_phrases-returns : goal.alphabetised_phrases-returns
 alphabetised_phrases-returns g t c =
@@ -135,13 +135,13 @@ pub hiding_phrase-returns-in_err-term : goal.hiding_phrase-returns-in_err-term
 hiding_phrase-returns-in_err-term g t c =
     let s = within (g.G.GlobalScope.scope c.args.scope.now.global.now) (map input c.args.scope.now.inputs.items) in
     let p = err_from_is_err_and c.from_residual.result c.from_residual.ensures.1 in
-    rw (p.1, p.2) (hiding_first s (count c.args.work) (shape c.args.tree.now) (shape c.args.set.now) c.in_err-term.field-0.0.kind c.in_err-term.ensures)
+    rw (p.1, p.2) (hiding_first s (count c.args.work) (shape c.args.tree.now) (shape c.args.set.now) c.in_err-term.field-0.0 c.in_err-term.ensures)
 
 pub hiding_phrase-returns-in_err-set : goal.hiding_phrase-returns-in_err-set
 hiding_phrase-returns-in_err-set g t c =
     let s = within (g.G.GlobalScope.scope c.args.scope.now.global.now) (map input c.args.scope.now.inputs.items) in
     let p = err_from_is_err_and c.from_residual-in_err-set.result c.from_residual-in_err-set.ensures.1 in
-    rw (p.1, p.2) (hiding_set s (count c.args.work) (shape c.args.tree.now) (shape c.args.set.now) (proc c.in_ok-term.term, count c.in_ok-term.work) c.in_ok-term.ensures c.in_err-set.field-0.0.kind c.in_err-set.ensures)
+    rw (p.1, p.2) (hiding_set s (count c.args.work) (shape c.args.tree.now) (shape c.args.set.now) (proc c.in_ok-term.term, count c.in_ok-term.work) c.in_ok-term.ensures c.in_err-set.field-0.0 c.in_err-set.ensures)
 
 pub hiding_phrase-returns : goal.hiding_phrase-returns
 hiding_phrase-returns g t c =
@@ -152,7 +152,7 @@ pub renaming_phrase-returns-in_err-term : goal.renaming_phrase-returns-in_err-te
 renaming_phrase-returns-in_err-term g t c =
     let s = within (g.G.GlobalScope.scope c.args.scope.now.global.now) (map input c.args.scope.now.inputs.items) in
     let p = err_from_is_err_and c.from_residual.result c.from_residual.ensures.1 in
-    rw (p.1, p.2) (renaming_first s (count c.args.work) (shape c.args.tree.now) (shapes c.args.pairs.now) c.in_err-term.field-0.0.kind c.in_err-term.ensures)
+    rw (p.1, p.2) (renaming_first s (count c.args.work) (shape c.args.tree.now) (shapes c.args.pairs.now) c.in_err-term.field-0.0 c.in_err-term.ensures)
 
 pub renaming_phrase-returns : goal.renaming_phrase-returns
 renaming_phrase-returns g t c =
@@ -273,18 +273,18 @@ process-returns-in-Some g t c =
 pub process-returns-in-Some-event_parts : goal.process-returns-in-Some-event_parts
 process-returns-in-Some-event_parts g t c =
     let s = within (g.G.GlobalScope.scope c.args.scope.now.global.now) (map input c.args.scope.now.inputs.items) in
-    fails_none c.no_channel.result.kind (make (shape c.args.tree.now) s (count c.args.work)) (not_made (shape c.args.tree.now) s (count c.args.work) (sym c.in-None.ensures.shape))
+    fails_none c.no_channel.result (make (shape c.args.tree.now) s (count c.args.work)) (not_made (shape c.args.tree.now) s (count c.args.work) (sym c.in-None.ensures.shape))
 
 pub process-returns : goal.process-returns
 process-returns g t c =
     let s = within (g.G.GlobalScope.scope c.args.scope.now.global.now) (map input c.args.scope.now.inputs.items) in
-    fails_none c.fault.result.kind (make (shape c.args.tree.now) s (count c.args.work)) (not_made (shape c.args.tree.now) s (count c.args.work) (sym c.in-None.ensures.shape))
+    fails_none c.fault.result (make (shape c.args.tree.now) s (count c.args.work)) (not_made (shape c.args.tree.now) s (count c.args.work) (sym c.in-None.ensures.shape))
 
 pub prefixed-returns-in_err-prefix : goal.prefixed-returns-in_err-prefix
 prefixed-returns-in_err-prefix g t c =
     let s = within (g.G.GlobalScope.scope c.args.scope.now.global.now) (map input c.args.scope.now.inputs.items) in
     let p = err_from_is_err_and c.from_residual.result c.from_residual.ensures.1 in
-    rw (p.1, p.2) (no_prefix s (make (shape c.args.then.now)) (count c.args.work) (shape c.args.event.now) c.in_err-prefix.field-0.0.kind c.in_err-prefix.ensures.parts)
+    rw (p.1, p.2) (no_prefix s (make (shape c.args.then.now)) (count c.args.work) (shape c.args.event.now) c.in_err-prefix.field-0.0 c.in_err-prefix.ensures.parts)
 
 pub prefixed-branches-requires : goal.prefixed-branches-requires
 prefixed-branches-requires g t c κs within =
@@ -296,7 +296,7 @@ pub prefixed-returns-in_err-terms : goal.prefixed-returns-in_err-terms
 prefixed-returns-in_err-terms g t c =
     let s = within (g.G.GlobalScope.scope c.args.scope.now.global.now) (map input c.args.scope.now.inputs.items) in
     let q = c.in_ok-prefix.prefix in
-    let k = c.in_err-terms.field-0.0.kind in
+    let k = c.in_err-terms.field-0.0 in
     let p = err_from_is_err_and c.from_residual-in_err-terms.result c.from_residual-in_err-terms.ensures.1 in
     let sets = map (λ v. listed v.items) q.sets.now in
     let same : make (shape q.then.now) ≡ make (shape c.args.then.now) = ap (λ t. make (shape t)) c.in_ok-prefix.ensures.then in
@@ -324,7 +324,7 @@ next_branch-returns-in_err-found-clause-branch g t c =
     let test = led_fits q.channel.now (listed q.leading.items) (shapes q.fields.now) (map (λ v. listed v.items) q.sets.now) s in
     let next = make (shape q.then.now) in
     let p = err_from_is_err_and c.from_residual.result c.from_residual.ensures.1 in
-    rw (p.1, p.2) (fit_fails test next c.args.from (drop c.args.from es) (count c.args.work) c.in_err-found.field-0.0.kind c.in_err-found.ensures.first)
+    rw (p.1, p.2) (fit_fails test next c.args.from (drop c.args.from es) (count c.args.work) c.in_err-found.field-0.0 c.in_err-found.ensures.first)
 
 pub next_branch-returns-in-None-clause-branch : goal.next_branch-returns-in-None-clause-branch
 next_branch-returns-in-None-clause-branch g t c =
@@ -351,7 +351,7 @@ next_branch-returns-in_err-term-in-Some-clause-branch g t c =
     let inner = within (g.G.GlobalScope.scope c.args.scope.now.global.now) (map input c.in-Some.inputs.items) in
     let found = c.in_ok-found.ensures.first ∙ ap (λ o. some_fit (option_map (λ x. (x.0, within (g.G.GlobalScope.scope c.args.scope.now.global.now) (map input x.1.items), drop (suc x.0) es)) o)) c.in-Some.is in
     let p = err_from_is_err_and c.from_residual-in_err-term-in-Some.result c.from_residual-in_err-term-in-Some.ensures.1 in
-    rw (p.1, p.2) (body_fails test next c.args.from (drop c.args.from es) (count c.args.work) number inner (drop (suc number) es) found c.in_err-term-in-Some.field-0.0.kind c.in_err-term-in-Some.ensures)
+    rw (p.1, p.2) (body_fails test next c.args.from (drop c.args.from es) (count c.args.work) number inner (drop (suc number) es) found c.in_err-term-in-Some.field-0.0 c.in_err-term-in-Some.ensures)
 
 pub next_branch-behind_event-requires : goal.next_branch-behind_event-requires
 next_branch-behind_event-requires g t c =
@@ -369,7 +369,7 @@ next_branch-returns-in_err-term-in-Some-2-clause-branch g t c =
     let inner = within (g.G.GlobalScope.scope c.args.scope.now.global.now) (map input c.in-Some.inputs.items) in
     let found = c.in_ok-found.ensures.first ∙ ap (λ o. some_fit (option_map (λ x. (x.0, within (g.G.GlobalScope.scope c.args.scope.now.global.now) (map input x.1.items), drop (suc x.0) es)) o)) c.in-Some.is in
     let p = err_from_is_err_and c.from_residual-in_err-term-in-Some-2.result c.from_residual-in_err-term-in-Some-2.ensures.1 in
-    rw (p.1, p.2) (event_fails test next c.args.from (drop c.args.from es) (count c.args.work) number inner (drop (suc number) es) found (proc c.in_ok-term-in-Some.term, count c.in_ok-term-in-Some.work) c.in_ok-term-in-Some.ensures c.in_err-term-in-Some-2.field-0.0.kind c.in_err-term-in-Some-2.ensures)
+    rw (p.1, p.2) (event_fails test next c.args.from (drop c.args.from es) (count c.args.work) number inner (drop (suc number) es) found (proc c.in_ok-term-in-Some.term, count c.in_ok-term-in-Some.work) c.in_ok-term-in-Some.ensures c.in_err-term-in-Some-2.field-0.0 c.in_err-term-in-Some-2.ensures)
 
 pub next_branch-returns-in_ok-term-in-Some-2-clause-branch : goal.next_branch-returns-in_ok-term-in-Some-2-clause-branch
 next_branch-returns-in_ok-term-in-Some-2-clause-branch g t c =
@@ -405,7 +405,7 @@ branches-returns-in_err-found g t c =
     let test = led_fits q.channel.now (listed q.leading.items) (shapes q.fields.now) (map (λ v. listed v.items) q.sets.now) s in
     let next = make (shape q.then.now) in
     let p = err_from_is_err_and c.from_residual.result c.from_residual.ensures.1 in
-    rw (p.1, p.2) (turn_fails test next c.loop-terms.from (drop c.loop-terms.from es) (count c.loop-terms.work) (map proc c.loop-terms.terms.items) (make_fits test next 0 es (count c.args.work)) c.loop-terms.invariant c.in_err-found.field-0.0.kind c.in_err-found.ensures.branch)
+    rw (p.1, p.2) (turn_fails test next c.loop-terms.from (drop c.loop-terms.from es) (count c.loop-terms.work) (map proc c.loop-terms.terms.items) (make_fits test next 0 es (count c.args.work)) c.loop-terms.invariant c.in_err-found.field-0.0 c.in_err-found.ensures.branch)
 
 pub branches-returns-in-None : goal.branches-returns-in-None
 branches-returns-in-None g t c =
@@ -444,7 +444,7 @@ pub conditional_phrase-returns-in_err-holds : goal.conditional_phrase-returns-in
 conditional_phrase-returns-in_err-holds g t c =
     let s = within (g.G.GlobalScope.scope c.args.scope.now.global.now) (map input c.args.scope.now.inputs.items) in
     let p = err_from_is_err_and c.from_residual.result c.from_residual.ensures.1 in
-    rw (p.1, p.2) (conditional_fails s (count c.args.work) (shape c.args.condition.now) (shape c.args.trees.0.now) (shape c.args.trees.1.now) c.in_err-holds.field-0.0.kind c.in_err-holds.ensures)
+    rw (p.1, p.2) (conditional_fails s (count c.args.work) (shape c.args.condition.now) (shape c.args.trees.0.now) (shape c.args.trees.1.now) c.in_err-holds.field-0.0 c.in_err-holds.ensures)
 
 pub conditional_phrase-returns-then-holds : goal.conditional_phrase-returns-then-holds
 conditional_phrase-returns-then-holds g t c =
@@ -465,7 +465,7 @@ pub guarded_phrase-returns-in_err-holds : goal.guarded_phrase-returns-in_err-hol
 guarded_phrase-returns-in_err-holds g t c =
     let s = within (g.G.GlobalScope.scope c.args.scope.now.global.now) (map input c.args.scope.now.inputs.items) in
     let p = err_from_is_err_and c.from_residual.result c.from_residual.ensures.1 in
-    rw (p.1, p.2) (guarded_fails s (count c.args.work) (shape c.args.condition.now) (shape c.args.then.now) c.in_err-holds.field-0.0.kind c.in_err-holds.ensures)
+    rw (p.1, p.2) (guarded_fails s (count c.args.work) (shape c.args.condition.now) (shape c.args.then.now) c.in_err-holds.field-0.0 c.in_err-holds.ensures)
 
 pub guarded_phrase-returns-then-holds : goal.guarded_phrase-returns-then-holds
 guarded_phrase-returns-then-holds g t c =
@@ -486,7 +486,7 @@ pub with_process-returns-in_err-term : goal.with_process-returns-in_err-term
 with_process-returns-in_err-term g t c =
     let s = within (g.G.GlobalScope.scope c.args.scope.now.global.now) (map input c.args.scope.now.inputs.items) in
     let p = err_from_is_err_and c.from_residual.result c.from_residual.ensures.1 in
-    rw (p.1, p.2) (no_process c.in_err-term.field-0.0.kind (map proc c.args.made.0.items) (make (shape c.args.tree.now) s (count c.args.made.1)) c.in_err-term.ensures)
+    rw (p.1, p.2) (no_process c.in_err-term.field-0.0 (map proc c.args.made.0.items) (make (shape c.args.tree.now) s (count c.args.made.1)) c.in_err-term.ensures)
 
 pub with_process-returns : goal.with_process-returns
 with_process-returns g t c =
@@ -508,14 +508,14 @@ over-returns-in_err-more g t c =
     let s = g.G.GlobalScope.scope c.args.scope.now.global.now in
     let is = map input c.in-Some.field-0.inputs.items in
     let p = err_from_is_err_and c.from_residual.result c.from_residual.ensures.1 in
-    rw (p.1, p.2) (stands_fails (make (shape c.args.then.now)) (map proc c.loop-at.terms.items) (from_scope s c.loop-at.at) (visits_after s is (innermost_first c.in-Some.field-0.outer.items)) (within s is) (count c.loop-at.work) (make_visits (make (shape c.args.then.now)) (from_scope s c.args.first) (count c.args.work)) c.loop-at.invariant (ap (from_scope s) c.in-Some.is) c.in_err-more.field-0.0.kind c.in_err-more.ensures)
+    rw (p.1, p.2) (stands_fails (make (shape c.args.then.now)) (map proc c.loop-at.terms.items) (from_scope s c.loop-at.at) (visits_after s is (innermost_first c.in-Some.field-0.outer.items)) (within s is) (count c.loop-at.work) (make_visits (make (shape c.args.then.now)) (from_scope s c.args.first) (count c.args.work)) c.loop-at.invariant (ap (from_scope s) c.in-Some.is) c.in_err-more.field-0.0 c.in_err-more.ensures)
 
 pub over-returns-in_err-next : goal.over-returns-in_err-next
 over-returns-in_err-next g t c =
     let s = g.G.GlobalScope.scope c.args.scope.now.global.now in
     let is = map input c.in-Some.field-0.inputs.items in
     let p = err_from_is_err_and c.from_residual-in_err-next.result c.from_residual-in_err-next.ensures.1 in
-    rw (p.1, p.2) (no_next (make (shape c.args.then.now)) (map proc c.loop-at.terms.items) (from_scope s c.loop-at.at) (visits_after s is (innermost_first c.in-Some.field-0.outer.items)) (within s is) (count c.loop-at.work) (make_visits (make (shape c.args.then.now)) (from_scope s c.args.first) (count c.args.work)) c.loop-at.invariant (ap (from_scope s) c.in-Some.is) (map proc c.in_ok-more.more.items, count c.in_ok-more.left) c.in_ok-more.ensures c.in_err-next.field-0.0.kind c.in_err-next.ensures)
+    rw (p.1, p.2) (no_next (make (shape c.args.then.now)) (map proc c.loop-at.terms.items) (from_scope s c.loop-at.at) (visits_after s is (innermost_first c.in-Some.field-0.outer.items)) (within s is) (count c.loop-at.work) (make_visits (make (shape c.args.then.now)) (from_scope s c.args.first) (count c.args.work)) c.loop-at.invariant (ap (from_scope s) c.in-Some.is) (map proc c.in_ok-more.more.items, count c.in_ok-more.left) c.in_ok-more.ensures c.in_err-next.field-0.0 c.in_err-next.ensures)
 
 pub over-loop-at-smaller : goal.over-loop-at-smaller
 over-loop-at-smaller g t c =
@@ -539,7 +539,7 @@ over-returns g t c =
 pub replicated_phrase-returns-in_err-first : goal.replicated_phrase-returns-in_err-first
 replicated_phrase-returns-in_err-first g t c =
     let s = within (g.G.GlobalScope.scope c.args.scope.now.global.now) (map input c.args.scope.now.inputs.items) in
-    let k = c.in_err-first.field-0.0.kind in
+    let k = c.in_err-first.field-0.0 in
     let p = err_from_is_err_and c.from_residual.result c.from_residual.ensures.1 in
     rw (p.1, p.2) (replicated_fails s (count c.args.work) c.args.join (shapes c.args.form.0.now) (shape c.args.form.1.now) k (no_first (make (shape c.args.form.1.now)) (shapes c.args.form.0.now) s (count c.args.work) k c.in_err-first.ensures))
 
@@ -551,7 +551,7 @@ replicated_phrase-over-requires g t c κs within =
 pub replicated_phrase-returns-in_err-terms : goal.replicated_phrase-returns-in_err-terms
 replicated_phrase-returns-in_err-terms g t c =
     let s = within (g.G.GlobalScope.scope c.args.scope.now.global.now) (map input c.args.scope.now.inputs.items) in
-    let k = c.in_err-terms.field-0.0.kind in
+    let k = c.in_err-terms.field-0.0 in
     let e = from_first (make (shape c.args.form.1.now)) (shapes c.args.form.0.now) s (count c.args.work) (from_scope (g.G.GlobalScope.scope c.args.scope.now.global.now) c.in_ok-first.first) c.in_ok-first.ensures in
     let p = err_from_is_err_and c.from_residual-in_err-terms.result c.from_residual-in_err-terms.ensures.1 in
     rw (p.1, p.2) (replicated_fails s (count c.args.work) c.args.join (shapes c.args.form.0.now) (shape c.args.form.1.now) k (subst (λ o. Fails k o) (sym e) c.in_err-terms.ensures))

@@ -2,22 +2,22 @@ use Rattle.std.proofs.Common.{◌≡◌, ◌<◌, map, length, subst, sym, arith
 use Rattle.std.proofs.lemmas.List.{length-map}
 use Rattle.term.specs.Proc.{proc}
 use Rattle.values.specs.View.{Gives}
-use Rattle.event_phrases.proofs.Scopes.{fails_none}
 use Rattle.denotation.specs.Making.{make_replicated}
 use Rattle.denotation.specs.View.{count}
 use Rattle.denotation.proofs.Replications.{no_form, internal_none, internal_some, others_joined}
+use Rattle.syntax.proofs.FaultKinds.{fails_none}
 use Rattle.denotation.proofs.replicated.all_joined.Goals as goal
 
 pub returns-in-Sequence : goal.returns-in-Sequence
 returns-in-Sequence g c =
-    fails_none c.fault.result.kind (make_replicated c.args.join (map proc c.args.terms.items, count c.args.work)) (no_form c.args.join (map proc c.args.terms.items, count c.args.work) c.in-Sequence.is)
+    fails_none c.fault.result (make_replicated c.args.join (map proc c.args.terms.items, count c.args.work)) (no_form c.args.join (map proc c.args.terms.items, count c.args.work) c.in-Sequence.is)
 
 pub returns-then-length-lt1 : goal.returns-then-length-lt1
 returns-then-length-lt1 g c =
     let ps = map proc c.args.terms.items in
     let n : length ps ≡ length c.args.terms.items = length-map c.args.terms.items proc in
     let h : length c.args.terms.items < 1 = omega arith in
-    fails_none c.fault-then-length-lt1.result.kind (make_replicated c.args.join (ps, count c.args.work)) (internal_none c.args.join ps (count c.args.work) c.in-Internal.is (omega (arith, n, h)))
+    fails_none c.fault-then-length-lt1.result (make_replicated c.args.join (ps, count c.args.work)) (internal_none c.args.join ps (count c.args.work) c.in-Internal.is (omega (arith, n, h)))
 
 pub returns-else-length-lt1 : goal.returns-else-length-lt1
 returns-else-length-lt1 g c =

@@ -13,7 +13,7 @@ returns-in_err-entered g c =
     let s = g.G.GlobalScope.scope c.args.scope.now.global.now in
     let at = c.loop-tree.at in
     let p = err_from_is_err_and c.from_residual.result c.from_residual.ensures.1 in
-    rw (p.1, p.2) (opening_fails s (map input at.inputs.items) (innermost_first at.outer.items) (shapes at.inner.now) (first_scope (from_place s c.args.place)) c.loop-tree.invariant (shape c.in-Some.tree.now) (shapes c.in-Some.inner.now) (some_first (shapes at.inner.now) (shape c.in-Some.tree.now) (shapes c.in-Some.inner.now) c.in-Some.ensures) c.in_err-entered.field-0.0.kind c.in_err-entered.ensures)
+    rw (p.1, p.2) (opening_fails s (map input at.inputs.items) (innermost_first at.outer.items) (shapes at.inner.now) (first_scope (from_place s c.args.place)) c.loop-tree.invariant (shape c.in-Some.tree.now) (shapes c.in-Some.inner.now) (some_first (shapes at.inner.now) (shape c.in-Some.tree.now) (shapes c.in-Some.inner.now) c.in-Some.ensures) c.in_err-entered.field-0.0 c.in_err-entered.ensures)
 
 pub returns-in-None : goal.returns-in-None
 returns-in-None g c =

@@ -17,7 +17,7 @@ returns-in_err-truth-in-Some-branches g t c =
     let known = (within (g.G.GlobalScope.scope c.args.scope.now.global.now) (map input c.args.scope.now.inputs.items)).known in
     let b = c.in-Some-branches in
     let p = err_from_is_err_and c.from_residual.result c.from_residual.ensures.1 in
-    rw (p.1, p.2) (branch_fails known (shape c.args.tree.now) (shape b.condition.now) (shape b.first.now) (shape b.second.now) (sym b.ensures.shape) c.in_err-truth-in-Some-branches.field-0.0.kind c.in_err-truth-in-Some-branches.ensures)
+    rw (p.1, p.2) (branch_fails known (shape c.args.tree.now) (shape b.condition.now) (shape b.first.now) (shape b.second.now) (sym b.ensures.shape) c.in_err-truth-in-Some-branches.field-0.0 c.in_err-truth-in-Some-branches.ensures)
 
 pub returns-then-branch : goal.returns-then-branch
 returns-then-branch g t c =

@@ -8,7 +8,8 @@ use Rattle.values.specs.View.{Gives, Fails, value}
 use Rattle.event_phrases.specs.EventForms.{within_by, values_behind}
 use Rattle.event_phrases.specs.Scopes.{within}
 use Rattle.event_phrases.specs.View.{listed}
-use Rattle.event_phrases.proofs.Scopes.{no_fields, no_sets, one_value, value_fails, fails_none, no_items, first_item, rest_is}
+use Rattle.event_phrases.proofs.Scopes.{no_fields, no_sets, one_value, value_fails, no_items, first_item, rest_is}
+use Rattle.syntax.proofs.FaultKinds.{fails_none}
 use Rattle.event_phrases.proofs.beginning.+more_values.Goals as goal
 
 pub returns-in-empty : goal.returns-in-empty
@@ -23,7 +24,7 @@ returns-in-empty-sets g t c =
     let front = listed c.args.before.items in
     let ef = first_item c.args.fields.now c.field-item.result c.in-len1-up.len_at_least c.field-item.is in
     let es = no_items c.args.sets.now c.in-empty-sets.len_below in
-    fails_none c.fault.result.kind (values_behind front (within_by known (shapes c.args.fields.now) (map (λ v. listed v.items) c.args.sets.now)))
+    fails_none c.fault.result (values_behind front (within_by known (shapes c.args.fields.now) (map (λ v. listed v.items) c.args.sets.now)))
     (ap₂ (λ ts vs. values_behind front (within_by known (shapes ts) (map (λ v. listed v.items) vs))) ef es ∙ no_sets known (shape c.field-item.result) (shapes (drop 1 c.args.fields.now)) front)
 
 pub returns-in_err-value-in-len1-up-sets : goal.returns-in_err-value-in-len1-up-sets
@@ -33,7 +34,7 @@ returns-in_err-value-in-len1-up-sets g t c =
     let ef = first_item c.args.fields.now c.field-item.result c.in-len1-up.len_at_least c.field-item.is in
     let es = first_item c.args.sets.now c.set-item.result c.in-len1-up-sets.len_at_least c.set-item.is in
     let whole = ap₂ (λ ts vs. values_behind front (within_by known (shapes ts) (map (λ v. listed v.items) vs))) ef es in
-    let k = c.in_err-value-in-len1-up-sets.field-0.0.kind in
+    let k = c.in_err-value-in-len1-up-sets.field-0.0 in
     let p = err_from_is_err_and c.from_residual.result c.from_residual.ensures.1 in
     rw (p.1, p.2) (subst (λ o. Fails k o) (sym whole) (value_fails known (shape c.field-item.result) (shapes (drop 1 c.args.fields.now)) (listed c.set-item.result.items) (map (λ v. listed v.items) (drop 1 c.args.sets.now)) front k c.in_err-value-in-len1-up-sets.ensures))
 

@@ -6,7 +6,7 @@ use Rattle.event_phrases.specs.EventForms.{within_by}
 use Rattle.event_phrases.specs.Scopes.{within}
 use Rattle.event_phrases.specs.View.{listed}
 use Rattle.event_phrases.proofs.EventLaws.{too_many}
-use Rattle.event_phrases.proofs.Scopes.{fails_none}
+use Rattle.syntax.proofs.FaultKinds.{fails_none}
 use Rattle.event_phrases.proofs.beginning.values_of.Goals as goal
 
 pub returns-then-fields-sets : goal.returns-then-fields-sets
@@ -15,4 +15,4 @@ returns-then-fields-sets g c =
     let sets = map (λ v. listed v.items) c.args.sets.now in
     let a = length-map c.args.fields.now shape in
     let b = length-map c.args.sets.now (λ v. listed v.items) in
-    fails_none c.fault.result.kind (within_by known (shapes c.args.fields.now) sets) (too_many known (shapes c.args.fields.now) sets (omega (arith, a, b)))
+    fails_none c.fault.result (within_by known (shapes c.args.fields.now) sets) (too_many known (shapes c.args.fields.now) sets (omega (arith, a, b)))

@@ -41,7 +41,7 @@ all_pass-returns-in_err-fields_pass g t c =
     let v = value c.value-item.result in
     let e = behind_input scope (map input c.args.inputs.now) (map input c.push_input.new.inputs.items) x v (c.in_ok-push_input.ensures ∙ ap (λ is. is ++ (x, v) ∷ []) c.in_ok-inner.ensures) in
     let here : test v ≡ fields_pass ts sets (within scope (map input c.deref.result.now)) = ap (fields_pass ts sets) (sym e) ∙ ap (λ is. fields_pass ts sets (within scope (map input is))) (sym c.deref.ensures.value) in
-    let k = c.in_err-fields_pass.field-0.0.kind in
+    let k = c.in_err-fields_pass.field-0.0 in
     let p = err_from_is_err_and c.from_residual-in_err-fields_pass.result c.from_residual-in_err-fields_pass.ensures.1 in
     rw (p.1, p.2) (turn_fails value test c.args.values.now c.loop-value.value-index c.value-item.result (omega arith) c.value-item.is k c.loop-value.invariant (subst (λ o. Fails k o) (sym here) c.in_err-fields_pass.ensures))
 
@@ -68,7 +68,7 @@ fields_pass-returns-in_err-passing-in-Some g t c =
     ap₂ (λ ts vs. fields_pass (syntaxes (shapes ts)) (map (λ v. listed v.items) vs) s) ef es
     ∙ field_is (shapes (drop 1 c.args.fields.now)) (map (λ v. listed v.items) (drop 1 c.args.sets.now)) s set (shape c.tree-item.result) phrase (sym c.in-Some.ensures)
     ∙ ap₂ (λ ts vs. field_passes (shapes ts) (map (λ v. listed v.items) vs) s phrase set) (sym (rest_is c.args.fields.now)) (sym (rest_is c.args.sets.now)) in
-    let k = c.in_err-passing-in-Some.field-0.0.kind in
+    let k = c.in_err-passing-in-Some.field-0.0 in
     let p = err_from_is_err_and c.from_residual.result c.from_residual.ensures.1 in
     rw (p.1, p.2) (subst (λ o. Fails k o) (sym whole) c.in_err-passing-in-Some.ensures)
 

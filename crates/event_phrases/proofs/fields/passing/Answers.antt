@@ -35,7 +35,7 @@ pub returns-in_err-values-in-InputFrom : goal.returns-in_err-values-in-InputFrom
 returns-in_err-values-in-InputFrom g c =
     let s = within (g.G.GlobalScope.scope c.args.global.now) (map input c.args.inputs.now) in
     let sets = map (λ v. listed v.items) c.args.rest.1.now in
-    let k = c.in_err-values-in-InputFrom.field-0.0.kind in
+    let k = c.in_err-values-in-InputFrom.field-0.0 in
     let p = err_from_is_err_and c.from_residual-in_err-values-in-InputFrom.result c.from_residual-in_err-values-in-InputFrom.ensures.1 in
     let e = subst (λ vs. Fails k (chosen_values s (shape c.in-InputFrom.tree.now) (listed vs))) c.deref-in-InputFrom.ensures.value c.in_err-values-in-InputFrom.ensures in
     rw (p.1, p.2) (part_fails (shapes c.args.rest.0.now) sets s (listed c.args.set.now.items) (plain_field c.args.phrase) c.in-InputFrom.name.now (shape c.in-InputFrom.tree.now) k (ap plain_field c.in-InputFrom.is) (sym c.is_constant-in-InputFrom.ensures ∙ c.if-is_constant-2.false) e)

@@ -7,29 +7,29 @@ use Rattle.event_phrases.specs.Prefixes.{prefix_parts}
 use Rattle.event_phrases.specs.Scopes.{within}
 use Rattle.event_phrases.specs.View.{listed}
 use Rattle.event_phrases.proofs.PrefixParts.{no_event, no_channel, other_count, field_fails, parts_found}
-use Rattle.event_phrases.proofs.Scopes.{fails_none}
+use Rattle.syntax.proofs.FaultKinds.{fails_none}
 use Rattle.event_phrases.proofs.fields.prefix_of.Goals as goal
 
 pub returns-in-None-clause-parts : goal.returns-in-None-clause-parts
 returns-in-None-clause-parts g c =
     let s = within (g.G.GlobalScope.scope c.args.scope.now.global.now) (map input c.args.scope.now.inputs.items) in
-    fails_none c.fault.result.kind (prefix_parts s (shape c.args.event.now)) (no_event s (shape c.args.event.now) c.in-None.ensures)
+    fails_none c.fault.result (prefix_parts s (shape c.args.event.now)) (no_event s (shape c.args.event.now) c.in-None.ensures)
 
 pub returns-in-None-fields-clause-parts : goal.returns-in-None-fields-clause-parts
 returns-in-None-fields-clause-parts g c =
     let s = within (g.G.GlobalScope.scope c.args.scope.now.global.now) (map input c.args.scope.now.inputs.items) in
-    fails_none c.no_channel.result.kind (prefix_parts s (shape c.args.event.now)) (no_channel s (shape c.args.event.now) c.in-Some.channel.now (shapes c.in-Some.fields.now) c.in-Some.ensures c.in-None-fields.ensures)
+    fails_none c.no_channel.result (prefix_parts s (shape c.args.event.now)) (no_channel s (shape c.args.event.now) c.in-Some.channel.now (shapes c.in-Some.fields.now) c.in-Some.ensures c.in-None-fields.ensures)
 
 pub returns-then-fields-sets-clause-parts : goal.returns-then-fields-sets-clause-parts
 returns-then-fields-sets-clause-parts g c =
     let s = within (g.G.GlobalScope.scope c.args.scope.now.global.now) (map input c.args.scope.now.inputs.items) in
-    fails_none c.fault-then-fields-sets.result.kind (prefix_parts s (shape c.args.event.now)) (other_count s (shape c.args.event.now) c.in-Some.channel.now (shapes c.in-Some.fields.now) c.in-Some.ensures (map (λ v. listed v.items) c.in-Some-fields.sets.now) c.in-Some-fields.ensures (λ e. c.if-fields-sets.true (omega (arith, e, length-map c.in-Some.fields.now (shape {A = g.row.A.Denot}), length-map c.in-Some-fields.sets.now (λ v. listed v.items)))))
+    fails_none c.fault-then-fields-sets.result (prefix_parts s (shape c.args.event.now)) (other_count s (shape c.args.event.now) c.in-Some.channel.now (shapes c.in-Some.fields.now) c.in-Some.ensures (map (λ v. listed v.items) c.in-Some-fields.sets.now) c.in-Some-fields.ensures (λ e. c.if-fields-sets.true (omega (arith, e, length-map c.in-Some.fields.now (shape {A = g.row.A.Denot}), length-map c.in-Some-fields.sets.now (λ v. listed v.items)))))
 
 pub returns-in_err-at_no_fault-in-Some-fields-clause-parts : goal.returns-in_err-at_no_fault-in-Some-fields-clause-parts
 returns-in_err-at_no_fault-in-Some-fields-clause-parts g c =
     let s = within (g.G.GlobalScope.scope c.args.scope.now.global.now) (map input c.args.scope.now.inputs.items) in
     let p = err_from_is_err_and c.from_residual.result c.from_residual.ensures.1 in
-    rw (p.1, p.2) (field_fails s (shape c.args.event.now) c.in-Some.channel.now (shapes c.in-Some.fields.now) c.in-Some.ensures (map (λ v. listed v.items) c.in-Some-fields.sets.now) c.in-Some-fields.ensures (length-map c.in-Some.fields.now shape ∙ c.if-fields-sets.false ∙ sym (length-map c.in-Some-fields.sets.now (λ v. listed v.items))) c.in_err-at_no_fault-in-Some-fields.field-0.0.kind c.in_err-at_no_fault-in-Some-fields.ensures)
+    rw (p.1, p.2) (field_fails s (shape c.args.event.now) c.in-Some.channel.now (shapes c.in-Some.fields.now) c.in-Some.ensures (map (λ v. listed v.items) c.in-Some-fields.sets.now) c.in-Some-fields.ensures (length-map c.in-Some.fields.now shape ∙ c.if-fields-sets.false ∙ sym (length-map c.in-Some-fields.sets.now (λ v. listed v.items))) c.in_err-at_no_fault-in-Some-fields.field-0.0 c.in_err-at_no_fault-in-Some-fields.ensures)
 
 pub returns-in_ok-leading-in-Some-fields-clause-parts : goal.returns-in_ok-leading-in-Some-fields-clause-parts
 returns-in_ok-leading-in-Some-fields-clause-parts g c =

@@ -6,23 +6,23 @@ use Rattle.values.specs.View.{Gives, value}
 use Rattle.event_phrases.specs.Scopes.{within}
 use Rattle.event_phrases.specs.View.{listed}
 use Rattle.event_phrases.proofs.FieldSteps.{led_no_fields, led_no_sets, led_no_values, led_other, led_same}
-use Rattle.event_phrases.proofs.Scopes.{fails_none}
+use Rattle.syntax.proofs.FaultKinds.{fails_none}
 use Rattle.event_phrases.proofs.leading.+led_fitting.Goals as goal
 
 pub returns-in-empty-fields : goal.returns-in-empty-fields
 returns-in-empty-fields g t c =
     let s = within (g.G.GlobalScope.scope c.args.scope.now.global.now) (map input c.args.scope.now.inputs.items) in
-    fails_none c.fault.result.kind _ (led_no_fields value shape (λ v. listed v.items) value s c.args.leading.now c.args.fields.now c.args.sets.now c.args.values.now c.in-len1-up.len_at_least c.in-empty-fields.len_below)
+    fails_none c.fault.result _ (led_no_fields value shape (λ v. listed v.items) value s c.args.leading.now c.args.fields.now c.args.sets.now c.args.values.now c.in-len1-up.len_at_least c.in-empty-fields.len_below)
 
 pub returns-in-empty-sets : goal.returns-in-empty-sets
 returns-in-empty-sets g t c =
     let s = within (g.G.GlobalScope.scope c.args.scope.now.global.now) (map input c.args.scope.now.inputs.items) in
-    fails_none c.fault-in-empty-sets.result.kind _ (led_no_sets value shape (λ v. listed v.items) value s c.args.leading.now c.args.fields.now c.args.sets.now c.args.values.now c.in-len1-up.len_at_least c.in-len1-up-fields.len_at_least c.in-empty-sets.len_below)
+    fails_none c.fault-in-empty-sets.result _ (led_no_sets value shape (λ v. listed v.items) value s c.args.leading.now c.args.fields.now c.args.sets.now c.args.values.now c.in-len1-up.len_at_least c.in-len1-up-fields.len_at_least c.in-empty-sets.len_below)
 
 pub returns-in-empty-values : goal.returns-in-empty-values
 returns-in-empty-values g t c =
     let s = within (g.G.GlobalScope.scope c.args.scope.now.global.now) (map input c.args.scope.now.inputs.items) in
-    fails_none c.fault-in-empty-values.result.kind _ (led_no_values value shape (λ v. listed v.items) value s c.args.leading.now c.args.fields.now c.args.sets.now c.args.values.now c.in-len1-up.len_at_least c.in-len1-up-fields.len_at_least c.in-len1-up-sets.len_at_least c.in-empty-values.len_below)
+    fails_none c.fault-in-empty-values.result _ (led_no_values value shape (λ v. listed v.items) value s c.args.leading.now c.args.fields.now c.args.sets.now c.args.values.now c.in-len1-up.len_at_least c.in-len1-up-fields.len_at_least c.in-len1-up-sets.len_at_least c.in-empty-values.len_below)
 
 pub returns-then-is_equal : goal.returns-then-is_equal
 returns-then-is_equal g t c =

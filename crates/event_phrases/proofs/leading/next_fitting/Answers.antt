@@ -27,7 +27,7 @@ returns-in_err-inputs-clause-first g c =
     let rows = c.events-events.result.now in
     let es = events s.channels in
     let p = err_from_is_err_and c.from_residual.result c.from_residual.ensures.1 in
-    rw (p.1, p.2) (fault_at row rows es c.events-events.ensures.rows test c.loop-number.number c.index-events-number.result (first_fit test c.args.from (drop c.args.from es)) c.loop-number.invariant.1 (omega (arith, c.loop-number-test.true)) c.index-events-number.is c.in_err-inputs.field-0.0.kind c.in_err-inputs.ensures)
+    rw (p.1, p.2) (fault_at row rows es c.events-events.ensures.rows test c.loop-number.number c.index-events-number.result (first_fit test c.args.from (drop c.args.from es)) c.loop-number.invariant.1 (omega (arith, c.loop-number-test.true)) c.index-events-number.is c.in_err-inputs.field-0.0 c.in_err-inputs.ensures)
 
 pub returns-in-Some-clause-first : goal.returns-in-Some-clause-first
 returns-in-Some-clause-first g c =

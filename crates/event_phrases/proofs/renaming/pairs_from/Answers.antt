@@ -5,9 +5,9 @@ use Rattle.event_phrases.specs.Events.{number_in, pairs_from}
 use Rattle.event_phrases.specs.EventForms.{behind_pairs}
 use Rattle.event_phrases.specs.View.{beginning, listed, row}
 use Rattle.values.specs.View.{value}
-use Rattle.event_phrases.proofs.Scopes.{fails_none}
 use Rattle.event_phrases.proofs.Renamings.{image_of, pairs_behind, pair_more, pair_less, no_image, pairs_end}
 use Rattle.event_phrases.proofs.renaming.pairs_from.Goals as goal
+use Rattle.syntax.proofs.FaultKinds.{fails_none}
 use Rattle.event_phrases.proofs.renaming.pairs_from.Goals.{then-begins_so+in_ok-wanted+in-Some+in_ok-push-in-Some, else-begins_so}
 
 pub overflow_cast-target : goal.overflow_cast-target
@@ -20,7 +20,7 @@ returns-in-None g c = λ cs h.
     let whole = behind_pairs c.args.before.items (pairs_from cs left right 0 (events cs)) in
     let n : length left.1 ≡ c.len.result = omega (arith, length-map c.args.left.now.values.items (value {A = g.row.A.Denot}), c.args.left.now.values.ok, c.len.ensures) in
     let moved : image_of left right (row c.index-events-number.result) ≡ beginning c.in_ok-wanted.wanted = ap (λ (k : ℕ). (right.0, right.1 ++ drop k (listed c.index-events-number.result.values.items))) n ∙ sym c.in_ok-wanted.ensures in
-    fails_none c.fault.result.kind whole
+    fails_none c.fault.result whole
     (no_image row cs left right c.args.events.now c.loop-number.number c.index-events-number.result c.loop-number.pairs.items whole (c.loop-number.invariant cs h) (omega arith) c.index-events-number.is
     (sym c.begins_so.ensures ∙ c.if-begins_so.true)
     (ap₂ (λ ps b. number_in ps b) (sym h) moved ∙ sym c.in-None.ensures.number))

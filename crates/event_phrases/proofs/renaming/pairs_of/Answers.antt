@@ -25,7 +25,7 @@ returns-in_err-pairs g c =
     let s = g.G.GlobalScope.scope c.args.scope.now.global.now in
     let known = (within s (map input c.args.scope.now.inputs.items)).known in
     let p = err_from_is_err_and c.from_residual.result c.from_residual.ensures.1 in
-    rw (p.1, p.2) (others_fail s.channels known c.args.trees.now c.in_err-pairs.field-0.0.kind c.loop-tree.tree-index c.tree-item.result c.loop-tree.pairs.items (pairs_of s.channels known (syntaxes (shapes c.args.trees.now))) c.loop-tree.invariant (omega arith) c.tree-item.is c.in_err-pairs.ensures)
+    rw (p.1, p.2) (others_fail s.channels known c.args.trees.now c.in_err-pairs.field-0.0 c.loop-tree.tree-index c.tree-item.result c.loop-tree.pairs.items (pairs_of s.channels known (syntaxes (shapes c.args.trees.now))) c.loop-tree.invariant (omega arith) c.tree-item.is c.in_err-pairs.ensures)
 
 pub returns : goal.returns
 returns g c =

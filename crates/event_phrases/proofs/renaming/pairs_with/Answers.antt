@@ -7,29 +7,29 @@ use Rattle.event_phrases.specs.Events.{pair_of}
 use Rattle.event_phrases.specs.EventForms.{behind_pairs}
 use Rattle.event_phrases.specs.Scopes.{within}
 use Rattle.event_phrases.specs.View.{beginning}
-use Rattle.event_phrases.proofs.Scopes.{fails_none}
 use Rattle.event_phrases.proofs.Renamings.{no_pair, left_fails, right_fails, pair_made}
+use Rattle.syntax.proofs.FaultKinds.{fails_none}
 use Rattle.event_phrases.proofs.renaming.pairs_with.Goals as goal
 
 pub returns-in-None : goal.returns-in-None
 returns-in-None g c =
     let s = g.G.GlobalScope.scope c.args.scope.now.global.now in
     let known = (within s (map input c.args.scope.now.inputs.items)).known in
-    fails_none c.fault.result.kind (behind_pairs c.args.before.items (pair_of s.channels known (shape c.args.tree.now))) (no_pair s.channels known (shape c.args.tree.now) c.args.before.items c.in-None.ensures)
+    fails_none c.fault.result (behind_pairs c.args.before.items (pair_of s.channels known (shape c.args.tree.now))) (no_pair s.channels known (shape c.args.tree.now) c.args.before.items c.in-None.ensures)
 
 pub returns-in_err-left-in-Some : goal.returns-in_err-left-in-Some
 returns-in_err-left-in-Some g c =
     let s = g.G.GlobalScope.scope c.args.scope.now.global.now in
     let known = (within s (map input c.args.scope.now.inputs.items)).known in
     let p = err_from_is_err_and c.from_residual.result c.from_residual.ensures.1 in
-    rw (p.1, p.2) (left_fails s.channels known (shape c.args.tree.now) c.args.before.items (shape c.in-Some.left.now) (shape c.in-Some.right.now) c.in-Some.ensures c.in_err-left-in-Some.field-0.0.kind c.in_err-left-in-Some.ensures)
+    rw (p.1, p.2) (left_fails s.channels known (shape c.args.tree.now) c.args.before.items (shape c.in-Some.left.now) (shape c.in-Some.right.now) c.in-Some.ensures c.in_err-left-in-Some.field-0.0 c.in_err-left-in-Some.ensures)
 
 pub returns-in_err-right-in-Some : goal.returns-in_err-right-in-Some
 returns-in_err-right-in-Some g c =
     let s = g.G.GlobalScope.scope c.args.scope.now.global.now in
     let known = (within s (map input c.args.scope.now.inputs.items)).known in
     let p = err_from_is_err_and c.from_residual-in_err-right-in-Some.result c.from_residual-in_err-right-in-Some.ensures.1 in
-    rw (p.1, p.2) (right_fails s.channels known (shape c.args.tree.now) c.args.before.items (shape c.in-Some.left.now) (shape c.in-Some.right.now) c.in-Some.ensures (beginning c.in_ok-left-in-Some.left) c.in_ok-left-in-Some.ensures c.in_err-right-in-Some.field-0.0.kind c.in_err-right-in-Some.ensures)
+    rw (p.1, p.2) (right_fails s.channels known (shape c.args.tree.now) c.args.before.items (shape c.in-Some.left.now) (shape c.in-Some.right.now) c.in-Some.ensures (beginning c.in_ok-left-in-Some.left) c.in_ok-left-in-Some.ensures c.in_err-right-in-Some.field-0.0 c.in_err-right-in-Some.ensures)
 
 pub returns-in_ok-right-in-Some : goal.returns-in_ok-right-in-Some
 returns-in_ok-right-in-Some g c =

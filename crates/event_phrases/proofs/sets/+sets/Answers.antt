@@ -11,7 +11,7 @@ use Rattle.event_phrases.specs.Forms.{tall, sets_tall}
 use Rattle.event_phrases.specs.Shapes.{plain_set}
 use Rattle.event_phrases.proofs.EventLaws.{event_set_is}
 use Rattle.event_phrases.proofs.EventSetLaws.{no_set, inside_tall, chosen_tall, combined_tall, inside_set, hidden_set, seen_set, nothing_set, everything_set, several_set, condition_fails, first_chosen, second_chosen, first_set_fails, second_set_fails, both_sets}
-use Rattle.event_phrases.proofs.Scopes.{fails_none}
+use Rattle.syntax.proofs.FaultKinds.{fails_none}
 use Rattle.event_phrases.proofs.sets.+sets.Goals as goal
 
 pub event_set-returns-in-Some : goal.event_set-returns-in-Some
@@ -24,7 +24,7 @@ pub event_set-returns-in-None : goal.event_set-returns-in-None
 event_set-returns-in-None g t c =
     let s = g.G.GlobalScope.scope c.args.scope.now.global.now in
     let known = (within s (map input c.args.scope.now.inputs.items)).known in
-    fails_none c.fault.result.kind (masked s.channels (event_set s.channels known s.sets (shape c.args.tree.now))) (no_set s.channels known s.sets (shape c.args.tree.now) c.in-None.ensures.shape)
+    fails_none c.fault.result (masked s.channels (event_set s.channels known s.sets (shape c.args.tree.now))) (no_set s.channels known s.sets (shape c.args.tree.now) c.in-None.ensures.shape)
 
 pub set_of_phrase-event_set-requires : goal.set_of_phrase-event_set-requires
 set_of_phrase-event_set-requires g t c =
@@ -52,7 +52,7 @@ set_of_phrase-returns-then-is_value g t c =
     let s = g.G.GlobalScope.scope c.args.scope.now.global.now in
     let known = (within s (map input c.args.scope.now.inputs.items)).known in
     let q = plain_set c.args.phrase in
-    fails_none c.fault.result.kind (masked s.channels (set_by s.channels known s.sets q)) (hidden_set q s.channels known s.sets c.in-Called.name.now (ap plain_set c.in-Called.is) (sym c.is_value.ensures ∙ c.if-is_value.true))
+    fails_none c.fault.result (masked s.channels (set_by s.channels known s.sets q)) (hidden_set q s.channels known s.sets c.in-Called.name.now (ap plain_set c.in-Called.is) (sym c.is_value.ensures ∙ c.if-is_value.true))
 
 pub set_of_phrase-returns-in-Some : goal.set_of_phrase-returns-in-Some
 set_of_phrase-returns-in-Some g t c =
@@ -66,7 +66,7 @@ set_of_phrase-returns-in-None g t c =
     let s = g.G.GlobalScope.scope c.args.scope.now.global.now in
     let known = (within s (map input c.args.scope.now.inputs.items)).known in
     let q = plain_set c.args.phrase in
-    fails_none c.fault-in-None.result.kind (masked s.channels (set_by s.channels known s.sets q)) (seen_set q s.channels known s.sets c.in-Called.name.now (ap plain_set c.in-Called.is) (sym c.is_value.ensures ∙ c.if-is_value.false) ∙ sym c.in-None.ensures)
+    fails_none c.fault-in-None.result (masked s.channels (set_by s.channels known s.sets q)) (seen_set q s.channels known s.sets c.in-Called.name.now (ap plain_set c.in-Called.is) (sym c.is_value.ensures ∙ c.if-is_value.false) ∙ sym c.in-None.ensures)
 
 pub set_of_phrase-returns-in-Nothing : goal.set_of_phrase-returns-in-Nothing
 set_of_phrase-returns-in-Nothing g t c =
@@ -104,7 +104,7 @@ set_of_phrase-returns-in_err-truth-in-Chosen g t c =
     let known = (within s (map input c.args.scope.now.inputs.items)).known in
     let b = c.in-Chosen in
     let p = err_from_is_err_and c.from_residual.result c.from_residual.ensures.1 in
-    rw (p.1, p.2) (condition_fails (plain_set c.args.phrase) s.channels known s.sets (shape b.condition.now) (shape b.first.now) (shape b.second.now) (ap plain_set b.is) c.in_err-truth-in-Chosen.field-0.0.kind c.in_err-truth-in-Chosen.ensures)
+    rw (p.1, p.2) (condition_fails (plain_set c.args.phrase) s.channels known s.sets (shape b.condition.now) (shape b.first.now) (shape b.second.now) (ap plain_set b.is) c.in_err-truth-in-Chosen.field-0.0 c.in_err-truth-in-Chosen.ensures)
 
 pub set_of_phrase-returns-then-branch : goal.set_of_phrase-returns-then-branch
 set_of_phrase-returns-then-branch g t c =
@@ -125,14 +125,14 @@ set_of_phrase-returns-in_err-first-in-Combined g t c =
     let s = g.G.GlobalScope.scope c.args.scope.now.global.now in
     let known = (within s (map input c.args.scope.now.inputs.items)).known in
     let p = err_from_is_err_and c.from_residual-in_err-first-in-Combined.result c.from_residual-in_err-first-in-Combined.ensures.1 in
-    rw (p.1, p.2) (first_set_fails (plain_set c.args.phrase) s.channels known s.sets c.in-Combined.combination (shape c.in-Combined.first.now) (shape c.in-Combined.second.now) (ap plain_set c.in-Combined.is) c.in_err-first-in-Combined.field-0.0.kind c.in_err-first-in-Combined.ensures)
+    rw (p.1, p.2) (first_set_fails (plain_set c.args.phrase) s.channels known s.sets c.in-Combined.combination (shape c.in-Combined.first.now) (shape c.in-Combined.second.now) (ap plain_set c.in-Combined.is) c.in_err-first-in-Combined.field-0.0 c.in_err-first-in-Combined.ensures)
 
 pub set_of_phrase-returns-in_err-second-in-Combined : goal.set_of_phrase-returns-in_err-second-in-Combined
 set_of_phrase-returns-in_err-second-in-Combined g t c =
     let s = g.G.GlobalScope.scope c.args.scope.now.global.now in
     let known = (within s (map input c.args.scope.now.inputs.items)).known in
     let p = err_from_is_err_and c.from_residual-in_err-second-in-Combined.result c.from_residual-in_err-second-in-Combined.ensures.1 in
-    rw (p.1, p.2) (second_set_fails (plain_set c.args.phrase) s.channels known s.sets c.in-Combined.combination (shape c.in-Combined.first.now) (shape c.in-Combined.second.now) (ap plain_set c.in-Combined.is) c.in_err-second-in-Combined.field-0.0.kind c.in_err-second-in-Combined.ensures)
+    rw (p.1, p.2) (second_set_fails (plain_set c.args.phrase) s.channels known s.sets c.in-Combined.combination (shape c.in-Combined.first.now) (shape c.in-Combined.second.now) (ap plain_set c.in-Combined.is) c.in_err-second-in-Combined.field-0.0 c.in_err-second-in-Combined.ensures)
 
 pub set_of_phrase-returns-in_ok-second-in-Combined : goal.set_of_phrase-returns-in_ok-second-in-Combined
 set_of_phrase-returns-in_ok-second-in-Combined g t c =

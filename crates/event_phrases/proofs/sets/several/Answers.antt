@@ -25,7 +25,7 @@ returns-in_err-more g c =
     let s = g.G.GlobalScope.scope c.args.scope.now.global.now in
     let gives = gives_by s.channels (within s (map input c.args.scope.now.inputs.items)).known c.args.extent in
     let p = err_from_is_err_and c.from_residual.result c.from_residual.ensures.1 in
-    rw (p.1, p.2) (several_fails s.channels gives c.args.trees.now c.in_err-more.field-0.0.kind c.loop-tree.tree-index c.tree-item.result c.loop-tree.set (masked s.channels (together gives (syntaxes (shapes c.args.trees.now)))) c.loop-tree.invariant (omega arith) c.tree-item.is c.in_err-more.ensures)
+    rw (p.1, p.2) (several_fails s.channels gives c.args.trees.now c.in_err-more.field-0.0 c.loop-tree.tree-index c.tree-item.result c.loop-tree.set (masked s.channels (together gives (syntaxes (shapes c.args.trees.now)))) c.loop-tree.invariant (omega arith) c.tree-item.is c.in_err-more.ensures)
 
 pub returns : goal.returns
 returns g c =

@@ -3,9 +3,9 @@ use Rattle.values.specs.Tables.{table}
 use Rattle.declared_names.specs.View.{entries}
 use Rattle.script.specs.Standing.{events_by}
 use Rattle.script.specs.Tables.{said}
-use Rattle.declared_names.proofs.FaultKinds.{only_memory}
 use Rattle.script.proofs.Denoting.{no_root, bodies_with}
 use Rattle.script.proofs.NamedSets.{sets_lie}
+use Rattle.syntax.proofs.FaultKinds.{only_memory}
 use Rattle.script.proofs.reading.bodies_of.Goals as goal
 
 pub returns-then-not-is_process-clause-only : goal.returns-then-not-is_process-clause-only
@@ -31,4 +31,4 @@ returns-in-Memory-clause-only g c = λ ps a.
 pub returns-clause-only : goal.returns-clause-only
 returns-clause-only g c = λ ps a.
     let n = c.args.names.now in
-    absurd (c.in_default.not-Memory (only_memory c.in-Err.error.kind ps (c.in-Err.ensures.only ps (bodies_with n.sigma.alphabet (table n.known) (entries n.entries) c.args.root.now (events_by (said c.in_ok-sets.sets)) ps c.in_ok-sets.ensures.stand a))))
+    absurd (c.in_default.not-Memory (only_memory c.in-Err.error ps (c.in-Err.ensures.only ps (bodies_with n.sigma.alphabet (table n.known) (entries n.entries) c.args.root.now (events_by (said c.in_ok-sets.sets)) ps c.in_ok-sets.ensures.stand a))))

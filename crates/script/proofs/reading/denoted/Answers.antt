@@ -6,14 +6,14 @@ use Rattle.values.specs.Channels.{Declares}
 use Rattle.values.specs.Tables.{table}
 use Rattle.declared_names.specs.View.{entries}
 use Rattle.denotation.proofs.Unique.{one_spec}
-use Rattle.declared_names.proofs.FaultKinds.{only_memory}
 use Rattle.script.proofs.Denoting.{bodies_closed, bodies_denote, denoted_bodies, declares_so}
+use Rattle.syntax.proofs.FaultKinds.{only_memory}
 use Rattle.script.proofs.reading.denoted.Goals as goal
 
 pub returns-in_err-declared-clause-only : goal.returns-in_err-declared-clause-only
 returns-in_err-declared-clause-only g c = λ spec d.
     let p = err_from_is_err_and c.from_residual.result c.from_residual.ensures.1 in
-    rw (p.1, p.2) (only_memory c.in_err-declared.field-0.0.kind (d.entries, d.known, spec.alphabet) (c.in_err-declared.ensures.only d.entries d.known spec.alphabet d.declares))
+    rw (p.1, p.2) (only_memory c.in_err-declared.field-0.0 (d.entries, d.known, spec.alphabet) (c.in_err-declared.ensures.only d.entries d.known spec.alphabet d.declares))
 
 pub returns-in_err-bodies-clause-only : goal.returns-in_err-bodies-clause-only
 returns-in_err-bodies-clause-only g c = λ spec d.
@@ -23,7 +23,7 @@ returns-in_err-bodies-clause-only g c = λ spec d.
     declares_so t c.args.root.now (entries c.in_ok-declared.declared.entries) (table c.in_ok-declared.declared.known) c.in_ok-declared.declared.alphabet c.in_ok-declared.ensures.found (entries n.entries) (table n.known) n.sigma.alphabet
     (ap entries c.in_ok-names.ensures.entries) (ap table c.in_ok-names.ensures.known) c.in_ok-names.ensures.alphabet in
     let p = err_from_is_err_and c.from_residual-in_err-bodies.result c.from_residual-in_err-bodies.ensures.1 in
-    rw (p.1, p.2) (only_memory c.in_err-bodies.field-0.0.kind spec.bodies (c.in_err-bodies.ensures.only spec.bodies (denoted_bodies t c.args.root.now (entries n.entries) (table n.known) n.sigma.alphabet so spec d).1))
+    rw (p.1, p.2) (only_memory c.in_err-bodies.field-0.0 spec.bodies (c.in_err-bodies.ensures.only spec.bodies (denoted_bodies t c.args.root.now (entries n.entries) (table n.known) n.sigma.alphabet so spec d).1))
 
 pub new-requires : goal.new-requires
 new-requires g c =

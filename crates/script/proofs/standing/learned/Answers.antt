@@ -20,4 +20,4 @@ pub returns-in_default : goal.returns-in_default
 returns-in_default g c =
     let n = c.args.names.now in
     learns_same n.sigma.alphabet (table n.known) (entries n.entries) (said c.args.sets) c.args.name.now
-    (settled_fault n.sigma.alphabet (table n.known) (entries n.entries) c.in-Err.error.kind (said c.args.sets) c.args.name.now c.in_default.not-Memory c.in-Err.ensures)
+    (settled_fault n.sigma.alphabet (table n.known) (entries n.entries) c.in-Err.error (said c.args.sets) c.args.name.now c.in_default.not-Memory c.in-Err.ensures)

@@ -6,19 +6,20 @@ use Rattle.tokens.specs.Lexeme.{lexeme, lexemes}
 use Rattle.syntax.specs.Grammar.{Syntax}
 use Rattle.syntax.specs.Parsing.{◌>>=◌, reader, may_open, climb, others, row, Found, Row}
 use Rattle.syntax.specs.View.{shape, shapes}
-use Rattle.syntax.proofs.Branches.{fails_deep, fails_by, gives_as, inside_fails, inside_reads, others_stop, others_done, others_next, others_fail, node_is, node_fails, grown_is, grown_fails, climb_ends, climb_high, climb_turn, climb_shut}
+use Rattle.syntax.proofs.Branches.{gives_as, inside_fails, inside_reads, others_stop, others_done, others_next, others_fail, node_is, node_fails, grown_is, grown_fails, climb_ends, climb_high, climb_turn, climb_shut}
+use Rattle.syntax.proofs.FaultKinds.{fails_none, fails_on}
 use Rattle.syntax.proofs.ReadSteps.{read_climbs, read_fails, row_ends, row_turn}
 use Rattle.syntax.proofs.Steps.{reads_no_layer, reads_no_room}
 use Rattle.syntax.proofs.reading.+reading.Goals as goal
 
 pub climb-returns-then-turns-eq0-clause-read : goal.climb-returns-then-turns-eq0-clause-read
 climb-returns-then-turns-eq0-clause-read g t c =
-    fails_deep c.too_deep.result.kind _ c.too_deep.ensures
+    fails_none c.too_deep.result _
     (climb_high (reader c.args.limits.brackets (c.args.limits.room - 1) 4) (may_open c.args.limits.brackets) c.args.limits.room c.args.limit c.args.turns c.args.left.height (shape c.args.left.tree) (lexemes c.args.tokens.now) c.in-Some.operator (lexemes c.in-Some.rest.now) c.args.left.is_height c.in-Some.ensures c.then-turns-eq0.either)
 
 pub climb-returns-then-not-may_begin-clause-read : goal.climb-returns-then-not-may_begin-clause-read
 climb-returns-then-not-may_begin-clause-read g t c =
-    fails_deep c.too_deep-then-not-may_begin.result.kind _ c.too_deep-then-not-may_begin.ensures
+    fails_none c.too_deep-then-not-may_begin.result _
     (climb_shut (reader c.args.limits.brackets (c.args.limits.room - 1) 4) (may_open c.args.limits.brackets) c.args.limits.room c.args.limit c.args.turns c.args.left.height (shape c.args.left.tree) (lexemes c.args.tokens.now) c.in-Some.operator (lexemes c.in-Some.rest.now) c.args.left.is_height c.in-Some.ensures c.if-turns-eq0.false c.if-left-limits.false c.if-not-may_begin.ensures)
 
 pub climb-returns-in_err-grown-in-Some-clause-read : goal.climb-returns-in_err-grown-in-Some-clause-read
@@ -26,7 +27,7 @@ climb-returns-in_err-grown-in-Some-clause-read g t c =
     let read = reader c.args.limits.brackets (c.args.limits.room - 1) 4 in
     let p = err_from_is_err_and c.from_residual.result c.from_residual.ensures.1 in
     rw (p.1, p.2)
-    (fails_by c.in_err-grown-in-Some.field-0.0.kind _ _
+    (fails_on c.in_err-grown-in-Some.field-0.0 _ _
     (λ e. climb_turn read (may_open c.args.limits.brackets) c.args.limits.room c.args.limit c.args.turns c.args.left.height (shape c.args.left.tree) (lexemes c.args.tokens.now) c.in-Some.operator (lexemes c.in-Some.rest.now) c.args.left.is_height c.in-Some.ensures c.if-turns-eq0.false c.if-left-limits.false c.if-not-may_begin.ensures
     ∙ ap (λ (o : Option Found). o >>= λ y. climb read (may_open c.args.limits.brackets) c.args.limits.room c.args.limit (c.args.turns - 1) y.0 y.1) e)
     c.in_err-grown-in-Some.ensures.read)
@@ -48,7 +49,7 @@ grown-returns-in_err-parts-2-clause-read g t c =
     let p = err_from_is_err_and c.from_residual-in_err-parts-2.result c.from_residual-in_err-parts-2.ensures.1 in
     let one : shapes c.in_ok-parts.parts.trees.items ≡ shape c.args.left.tree ∷ [] = c.in_ok-parts.ensures.0 ∙ ap (λ (xs : List Syntax). xs ++ shape c.args.left.tree ∷ []) c.in_ok-new.ensures.0 in
     rw (p.1, p.2)
-    (grown_fails c.in_err-parts-2.field-0.0.kind (reader c.args.limits.brackets (c.args.limits.room - 1) 4) (may_open c.args.limits.brackets) c.args.operator (shape c.args.left.tree) (lexemes c.args.tokens.now) c.behind.result.now (shapes c.in_ok-parts.parts.trees.items) c.behind.ensures.pieces one c.in_err-parts-2.ensures.read)
+    (grown_fails c.in_err-parts-2.field-0.0 (reader c.args.limits.brackets (c.args.limits.room - 1) 4) (may_open c.args.limits.brackets) c.args.operator (shape c.args.left.tree) (lexemes c.args.tokens.now) c.behind.result.now (shapes c.in_ok-parts.parts.trees.items) c.behind.ensures.pieces one c.in_err-parts-2.ensures.read)
 
 pub grown-returns-clause-read : goal.grown-returns-clause-read
 grown-returns-clause-read g t c =
@@ -59,7 +60,7 @@ pub node-returns-in_err-parts-2-clause-read : goal.node-returns-in_err-parts-2-c
 node-returns-in_err-parts-2-clause-read g t c =
     let p = err_from_is_err_and c.from_residual-in_err-parts-2.result c.from_residual-in_err-parts-2.ensures.1 in
     rw (p.1, p.2)
-    (node_fails c.in_err-parts-2.field-0.0.kind (reader c.args.limits.brackets c.args.limits.room c.args.limits.layers) (may_open c.args.limits.brackets) c.args.fields c.args.form c.turned-form.result (lexemes c.args.tokens.now) (lexemes c.in_ok-parts.rest.now) c.front.result.now c.back.result.now (shapes c.in_ok-none.none.trees.items) (shapes c.in_ok-parts.parts.trees.items) c.front.ensures.pieces c.in_ok-none.ensures.0 c.in_ok-parts.ensures.read c.turned-form.ensures c.back.ensures.pieces c.in_err-parts-2.ensures.read)
+    (node_fails c.in_err-parts-2.field-0.0 (reader c.args.limits.brackets c.args.limits.room c.args.limits.layers) (may_open c.args.limits.brackets) c.args.fields c.args.form c.turned-form.result (lexemes c.args.tokens.now) (lexemes c.in_ok-parts.rest.now) c.front.result.now c.back.result.now (shapes c.in_ok-none.none.trees.items) (shapes c.in_ok-parts.parts.trees.items) c.front.ensures.pieces c.in_ok-none.ensures.0 c.in_ok-parts.ensures.read c.turned-form.ensures c.back.ensures.pieces c.in_err-parts-2.ensures.read)
 
 pub node-returns-clause-read : goal.node-returns-clause-read
 node-returns-clause-read g t c =
@@ -79,7 +80,7 @@ others-returns-in_err-one-in-Some-clause-read g t c =
     let item = reader c.args.limits.brackets c.args.limits.room c.args.limits.layers c.args.place c.args.kind in
     let p = err_from_is_err_and c.from_residual.result c.from_residual.ensures.1 in
     rw (p.1, p.2)
-    (fails_by c.in_err-one-in-Some.field-0.0.kind _ _
+    (fails_on c.in_err-one-in-Some.field-0.0 _ _
     (λ e. ap (λ (k : ℕ). others item c.args.start k (shapes c.args.front.trees.items) (lexemes c.args.tokens.now)) (length-map c.args.tokens.now lexeme)
     ∙ sym c.loop.invariant.read
     ∙ others_fail item c.args.start (L - c.loop.counter) (shapes c.loop.parts.trees.items) (lexemes c.loop.rest.now) (lexemes c.in-Some.begin.now) c.loop.parts.greedy (omega (arith, c.loop-test.true)) c.loop.parts.is_greedy c.in-Some.ensures e)
@@ -95,7 +96,7 @@ others-returns-clause-read g t c =
 
 pub part-returns-then-limits-eq0-clause-read : goal.part-returns-then-limits-eq0-clause-read
 part-returns-then-limits-eq0-clause-read g t c =
-    fails_deep c.too_deep.result.kind _ c.too_deep.ensures
+    fails_none c.too_deep.result _
     (inside_fails c.args.limits.brackets c.args.limits.room c.args.limits.layers c.args.place c.args.kind (lexemes c.args.tokens.now) c.in-Inside.is c.if-limits-eq0.true)
 
 pub part-returns-else-limits-eq0-clause-read : goal.part-returns-else-limits-eq0-clause-read
@@ -122,7 +123,7 @@ pub row-returns-in_err-parts-in-len1-up-clause-read : goal.row-returns-in_err-pa
 row-returns-in_err-parts-in-len1-up-clause-read g t c =
     let p = err_from_is_err_and c.from_residual.result c.from_residual.ensures.1 in
     rw (p.1, p.2)
-    (fails_by c.in_err-parts-in-len1-up.field-0.0.kind _ _
+    (fails_on c.in_err-parts-in-len1-up.field-0.0 _ _
     (λ e. row_turn (reader c.args.limits.brackets c.args.limits.room c.args.limits.layers) (may_open c.args.limits.brackets) c.args.pieces.now _ (shapes c.args.parts.trees.items) (lexemes c.args.tokens.now) c.in-len1-up.len_at_least ∙ ap (λ (o : Option Row). o >>= λ y. row (reader c.args.limits.brackets c.args.limits.room c.args.limits.layers) (may_open c.args.limits.brackets) (take (length c.args.pieces.now - 1) (drop 1 c.args.pieces.now)) y.0 y.1) e)
     c.in_err-parts-in-len1-up.ensures.read)
 
@@ -139,17 +140,17 @@ read-returns-then-not-may_begin_with-clause-read g t c =
 
 pub read-returns-then-limits-eq0-clause-read : goal.read-returns-then-limits-eq0-clause-read
 read-returns-then-limits-eq0-clause-read g t c =
-    fails_deep c.too_deep.result.kind _ c.too_deep.ensures (reads_no_room c.args.limits.brackets c.args.limits.room c.args.limits.layers c.args.kind (lexemes c.args.tokens.now) c.if-limits-eq0.true)
+    fails_none c.too_deep.result _ (reads_no_room c.args.limits.brackets c.args.limits.room c.args.limits.layers c.args.kind (lexemes c.args.tokens.now) c.if-limits-eq0.true)
 
 pub read-returns-then-limits-eq0-2-clause-read : goal.read-returns-then-limits-eq0-2-clause-read
 read-returns-then-limits-eq0-2-clause-read g t c =
-    fails_deep c.too_deep-then-limits-eq0-2.result.kind _ c.too_deep-then-limits-eq0-2.ensures (reads_no_layer c.args.limits.brackets c.args.limits.room c.args.limits.layers c.args.kind (lexemes c.args.tokens.now) c.if-limits-eq0-2.true)
+    fails_none c.too_deep-then-limits-eq0-2.result _ (reads_no_layer c.args.limits.brackets c.args.limits.room c.args.limits.layers c.args.kind (lexemes c.args.tokens.now) c.if-limits-eq0-2.true)
 
 pub read-returns-in_err-first-clause-read : goal.read-returns-in_err-first-clause-read
 read-returns-in_err-first-clause-read g t c =
     let p = err_from_is_err_and c.from_residual.result c.from_residual.ensures.1 in
     rw (p.1, p.2)
-    (fails_by c.in_err-first.field-0.0.kind _ _ (read_fails c.args.limits.brackets c.args.limits.room c.args.limits.layers c.args.kind (lexemes c.args.tokens.now) c.if-limits-eq0.false c.if-limits-eq0-2.false) c.in_err-first.ensures.read)
+    (fails_on c.in_err-first.field-0.0 _ _ (read_fails c.args.limits.brackets c.args.limits.room c.args.limits.layers c.args.kind (lexemes c.args.tokens.now) c.if-limits-eq0.false c.if-limits-eq0-2.false) c.in_err-first.ensures.read)
 
 pub read-returns-in-Phrase-clause-read : goal.read-returns-in-Phrase-clause-read
 read-returns-in-Phrase-clause-read g t c =

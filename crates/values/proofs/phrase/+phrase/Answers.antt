@@ -15,7 +15,7 @@ use Rattle.values.proofs.phrase.+phrase.Goals as goal
 pub each_stands_for-returns-in_err-stands_for : goal.each_stands_for-returns-in_err-stands_for
 each_stands_for-returns-in_err-stands_for g t c =
     let p = err_from_is_err_and c.from_residual-in_err-stands_for.result c.from_residual-in_err-stands_for.ensures.1 in
-    rw (p.1, p.2) (parts_fail (behind (table c.args.known.now) (map input c.args.inputs.now)) c.in_err-stands_for.field-0.0.kind c.args.trees.now c.loop-tree.tree-index c.tree-item.result c.loop-tree.worths.items (worths_in (behind (table c.args.known.now) (map input c.args.inputs.now)) (syntaxes (shapes c.args.trees.now))) c.loop-tree.invariant (omega arith) c.tree-item.is c.in_err-stands_for.ensures)
+    rw (p.1, p.2) (parts_fail (behind (table c.args.known.now) (map input c.args.inputs.now)) c.in_err-stands_for.field-0.0 c.args.trees.now c.loop-tree.tree-index c.tree-item.result c.loop-tree.worths.items (worths_in (behind (table c.args.known.now) (map input c.args.inputs.now)) (syntaxes (shapes c.args.trees.now))) c.loop-tree.invariant (omega arith) c.tree-item.is c.in_err-stands_for.ensures)
 
 pub each_stands_for-loop-tree-preserved : goal.each_stands_for-loop-tree-preserved
 each_stands_for-loop-tree-preserved g t c =
@@ -28,7 +28,7 @@ each_stands_for-returns g t c =
 pub conditional-returns-in_err-truth-in-len3 : goal.conditional-returns-in_err-truth-in-len3
 conditional-returns-in_err-truth-in-len3 g t c =
     let p = err_from_is_err_and c.from_residual.result c.from_residual.ensures.1 in
-    rw (p.1, p.2) (if_fails (behind (table c.args.known.now) (map input c.args.inputs.now)) c.args.parts.now c.condition-item.result c.first-item.result c.second-item.result (omega arith) c.condition-item.is c.first-item.is c.second-item.is c.in_err-truth-in-len3.field-0.0.kind c.in_err-truth-in-len3.ensures)
+    rw (p.1, p.2) (if_fails (behind (table c.args.known.now) (map input c.args.inputs.now)) c.args.parts.now c.condition-item.result c.first-item.result c.second-item.result (omega arith) c.condition-item.is c.first-item.is c.second-item.is c.in_err-truth-in-len3.field-0.0 c.in_err-truth-in-len3.ensures)
 
 pub conditional-returns-then-truth : goal.conditional-returns-then-truth
 conditional-returns-then-truth g t c =
@@ -41,7 +41,7 @@ conditional-returns-else-truth g t c =
 pub connected-returns-in_err-truth-in-len2 : goal.connected-returns-in_err-truth-in-len2
 connected-returns-in_err-truth-in-len2 g t c =
     let p = err_from_is_err_and c.from_residual.result c.from_residual.ensures.1 in
-    rw (p.1, p.2) (first_fails (behind (table c.args.known.now) (map input c.args.inputs.now)) c.args.sides.now c.args.decisive c.first-item.result c.second-item.result (omega arith) c.first-item.is c.second-item.is c.in_err-truth-in-len2.field-0.0.kind c.in_err-truth-in-len2.ensures)
+    rw (p.1, p.2) (first_fails (behind (table c.args.known.now) (map input c.args.inputs.now)) c.args.sides.now c.args.decisive c.first-item.result c.second-item.result (omega arith) c.first-item.is c.second-item.is c.in_err-truth-in-len2.field-0.0 c.in_err-truth-in-len2.ensures)
 
 pub connected-returns-then-truth-decisive : goal.connected-returns-then-truth-decisive
 connected-returns-then-truth-decisive g t c =
@@ -50,7 +50,7 @@ connected-returns-then-truth-decisive g t c =
 pub connected-returns-in_err-other-in-len2 : goal.connected-returns-in_err-other-in-len2
 connected-returns-in_err-other-in-len2 g t c =
     let p = err_from_is_err_and c.from_residual-in_err-other-in-len2.result c.from_residual-in_err-other-in-len2.ensures.1 in
-    rw (p.1, p.2) (second_fails (behind (table c.args.known.now) (map input c.args.inputs.now)) c.args.sides.now c.args.decisive c.first-item.result c.second-item.result (omega arith) c.first-item.is c.second-item.is c.in_err-other-in-len2.field-0.0.kind c.in_ok-truth-in-len2.truth c.in_ok-truth-in-len2.ensures c.if-truth-decisive.false c.in_err-other-in-len2.ensures)
+    rw (p.1, p.2) (second_fails (behind (table c.args.known.now) (map input c.args.inputs.now)) c.args.sides.now c.args.decisive c.first-item.result c.second-item.result (omega arith) c.first-item.is c.second-item.is c.in_err-other-in-len2.field-0.0 c.in_ok-truth-in-len2.truth c.in_ok-truth-in-len2.ensures c.if-truth-decisive.false c.in_err-other-in-len2.ensures)
 
 pub connected-returns-in_ok-other-in-len2 : goal.connected-returns-in_ok-other-in-len2
 connected-returns-in_ok-other-in-len2 g t c =
@@ -59,7 +59,7 @@ connected-returns-in_ok-other-in-len2 g t c =
 pub stands_for-returns-in_err-worths-in-None : goal.stands_for-returns-in_err-worths-in-None
 stands_for-returns-in_err-worths-in-None g t c =
     let p = err_from_is_err_and c.from_residual-in_err-worths-in-None.result c.from_residual-in_err-worths-in-None.ensures.1 in
-    rw (p.1, p.2) (node_fails c.in_err-worths-in-None.field-0.0.kind (behind (table c.args.known.now) (map input c.args.inputs.now)) c.args.tree.now c.in-Node.line c.in-Node.form c.in-Node.parts c.deref-in-None.result.now c.in-Node.is c.deref-in-None.ensures.value c.in-None.ensures c.in_err-worths-in-None.ensures)
+    rw (p.1, p.2) (node_fails c.in_err-worths-in-None.field-0.0 (behind (table c.args.known.now) (map input c.args.inputs.now)) c.args.tree.now c.in-Node.line c.in-Node.form c.in-Node.parts c.deref-in-None.result.now c.in-Node.is c.deref-in-None.ensures.value c.in-None.ensures c.in_err-worths-in-None.ensures)
 
 pub stands_for-returns-in-Some-Condition : goal.stands_for-returns-in-Some-Condition
 stands_for-returns-in-Some-Condition g t c =

@@ -9,7 +9,7 @@ loop-worth-init g c = listed_start c.args.worths.items c.new-set.result.keys c.n
 pub returns-in_err-value : goal.returns-in_err-value
 returns-in_err-value g c =
     let p = err_from_is_err_and c.from_residual-in_err-value.result c.from_residual-in_err-value.ensures.1 in
-    rw (p.1, p.2) (listed_fails c.in_err-value.field-0.0.kind c.loop-worth.worths.items c.pop.new.self.items c.in-Some.worth c.loop-worth.set.keys _ c.loop-worth.invariant c.in-Some.ensures.items c.in_err-value.ensures)
+    rw (p.1, p.2) (listed_fails c.in_err-value.field-0.0 c.loop-worth.worths.items c.pop.new.self.items c.in-Some.worth c.loop-worth.set.keys _ c.loop-worth.invariant c.in-Some.ensures.items c.in_err-value.ensures)
 
 pub loop-worth-preserved : goal.loop-worth-preserved
 loop-worth-preserved g c = listed_more c.loop-worth.worths.items c.pop.new.self.items c.in-Some.worth c.loop-worth.set.keys c.insert.new.self.keys c.in_ok-value.value _ c.loop-worth.invariant c.in-Some.ensures.items c.in_ok-value.ensures c.in_ok-_added.ensures.keys
