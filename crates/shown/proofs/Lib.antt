@@ -6,3 +6,4 @@ pub mod Showing
 pub mod Sending
 pub mod OneList
 pub mod OneText
+pub mod Kept

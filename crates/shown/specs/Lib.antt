@@ -5,6 +5,8 @@ pub mod Findings
 pub mod Coverage
 pub mod Shows
 -- Steps of the program.
+pub mod Remarks
+pub mod Said
 pub mod Tallies
 pub mod Slots
 pub mod Steps

@@ -4,22 +4,15 @@ use Rattle.std.specs.Io.KnownBytes.{Appends}
 use Rattle.std.specs.List.{flat_map}
 use Rattle.alphabet.specs.declared.events.Event.{Event}
 use Rattle.alphabet.specs.EventSets.{Set}
-use Rattle.alphabet.specs.Channels.{Channel, event_count}
+use Rattle.alphabet.specs.Channels.{event_count}
 use Rattle.term.specs.Proc.{bodies_of}
 use Rattle.term.specs.Specs.{Specified}
 use Rattle.history.specs.declared.entry.Entry.{Entry}
 use Rattle.history.specs.Entries.{events}
-use Rattle.shown.specs.declared.options.Format.{Format}
 use Rattle.shown.specs.declared.options.Options.{Options}
-use Rattle.shown.specs.Lines.{expected, finding_text, offered}
 use Rattle.shown.specs.Findings.{HasNext, ShowsEntry}
 use Rattle.shown.specs.Shows.{OneForEach}
 use Rattle.shown.specs.Slots.{CountAll}
-
--- these texts are what is said of an event that was rejected where these could have come, and of a refusal where these are the
--- acceptances
-abbrev pub IsSaid : Format → List Channel → Set → List ℕ → List Set → List ℕ → Type 0
-IsSaid format cs X text Xs text' = (text ≡ finding_text format cs (expected X)) × (text' ≡ finding_text format cs (offered Xs))
 
 -- the text, the trace and, where coverage is wanted, the counts are those of these entries
 pub record IsShown (options : Options) (spec : Specified) (h : List Entry) (text : List ℕ) (trace : List Event) (accepted rejected : List ℕ) (possible : List Set) : Type 0 where

@@ -8,7 +8,7 @@ ghost use Rattle.history.specs.Entries.{events};
 ghost use Rattle.monitor.specs.Monitors.{MeetsNone};
 ghost use Rattle.shown.specs.Lines.{Finding, finding_text};
 ghost use Rattle.shown.specs.Findings.{Finds, HasLine, ShowsEntry};
-ghost use Rattle.shown.specs.Steps.{IsSaid};
+ghost use Rattle.shown.specs.Said.{IsSaid};
 
 use crate::lines::{put_accepted, put_head, put_report};
 use crate::options::{Format, Options};
@@ -27,8 +27,8 @@ fn put_finding<A: Allocator + Copy>(
     entry: &Entry,
     format: Format,
 ) -> Result<(), AllocError>
-    requires { IsSaid format monitor.now.spec.alphabet said.old.next said.old.expected.items said.old.acceptances.items said.old.offered.items }
-    ensures said { OnOk result (IsSaid format monitor.now.spec.alphabet said.new.next said.new.expected.items said.new.acceptances.items said.new.offered.items) }
+    requires { IsSaid format monitor.now.spec.alphabet said.old }
+    ensures said { OnOk result (IsSaid format monitor.now.spec.alphabet said.new) }
     ensures finding { (before : List entry_type) → monitor.now.trace ≡ events before →
         OnOk result ((finding : Finding) × Finds (bodies_of monitor.now.spec.bodies) before entry.now.verdict entry.now.report finding
         × (text.new.items ≡ text.old.items ++ finding_text format monitor.now.spec.alphabet finding)) }
@@ -40,7 +40,8 @@ fn put_finding<A: Allocator + Copy>(
     if let Report::Event(_) = entry.report {
         return put_said_expected(text, said, alphabet, monitor.next(), format);
     }
-    put_said_offered(text, said, alphabet, monitor.acceptances(alloc)?, format)
+    let acceptances = monitor.acceptances(alloc)?;
+    put_said_offered(text, said, alphabet, &acceptances, format)
 }
 
 /// Appends the line of the entry at this place, which comes after the monitor's trace.
@@ -53,8 +54,8 @@ fn put_entry<A: Allocator + Copy>(
     entry: &Entry,
     format: Format,
 ) -> Result<(), AllocError>
-    requires { IsSaid format monitor.now.spec.alphabet said.old.next said.old.expected.items said.old.acceptances.items said.old.offered.items }
-    ensures said { OnOk result (IsSaid format monitor.now.spec.alphabet said.new.next said.new.expected.items said.new.acceptances.items said.new.offered.items) }
+    requires { IsSaid format monitor.now.spec.alphabet said.old }
+    ensures said { OnOk result (IsSaid format monitor.now.spec.alphabet said.new) }
     ensures line { (before : List entry_type) → monitor.now.trace ≡ events before → place ≡ suc (length before) →
         OnOk result ((line : List ℕ) × HasLine format monitor.now.spec before entry.now line × (text.new.items ≡ text.old.items ++ line)) }
 {
@@ -74,8 +75,8 @@ pub(crate) fn put_part<A: Allocator + Copy>(
     entry: &Entry,
     options: Options,
 ) -> Result<(), AllocError>
-    requires { IsSaid options.format monitor.now.spec.alphabet said.old.next said.old.expected.items said.old.acceptances.items said.old.offered.items }
-    ensures said { OnOk result (IsSaid options.format monitor.now.spec.alphabet said.new.next said.new.expected.items said.new.acceptances.items said.new.offered.items) }
+    requires { IsSaid options.format monitor.now.spec.alphabet said.old }
+    ensures said { OnOk result (IsSaid options.format monitor.now.spec.alphabet said.new) }
     ensures part { (before : List entry_type) → monitor.now.trace ≡ events before → place ≡ suc (length before) →
         OnOk result ((part : List ℕ) × ShowsEntry options monitor.now.spec before entry.now part × (text.new.items ≡ text.old.items ++ part)) }
 {

@@ -8,6 +8,7 @@ mod laws;
 mod lines;
 mod names;
 mod options;
+mod remarks;
 mod said;
 mod tally;
 mod whole;

@@ -6,7 +6,8 @@ ghost use Rattle.term.specs.Limits.{NoLimit, Opening};
 ghost use Rattle.term.specs.Proc.{bodies_of};
 ghost use Rattle.history.specs.Legal.{IsJudged};
 ghost use Rattle.shown.specs.Shows.{Writes};
-ghost use Rattle.shown.specs.Steps.{IsSaid, IsSent, IsShown};
+ghost use Rattle.shown.specs.Said.{IsSaid};
+ghost use Rattle.shown.specs.Steps.{IsSent, IsShown};
 
 use crate::coverage::{Counts, count_entry, put_coverage};
 use crate::entries::{follow, put_part, refused};
@@ -84,11 +85,11 @@ fn show_entry<A: Allocator + Copy>(
 ) -> Result<(), AllocError>
     requires within { index < length history.now }
     requires judged { IsJudged (bodies_of monitor.old.spec.bodies) history.now }
-    requires said { IsSaid options.format monitor.old.spec.alphabet said.old.next said.old.expected.items said.old.acceptances.items said.old.offered.items }
+    requires said { IsSaid options.format monitor.old.spec.alphabet said.old }
     requires shown { (sent : List ℕ) × IsShown options monitor.old.spec (take index history.now) (sent ++ text.old.items) monitor.old.trace
         counts.old.accepted.items counts.old.rejected.items counts.old.possible }
     ensures spec { monitor.new.spec ≡ monitor.old.spec }
-    ensures said { OnOk result (IsSaid options.format monitor.old.spec.alphabet said.new.next said.new.expected.items said.new.acceptances.items said.new.offered.items) }
+    ensures said { OnOk result (IsSaid options.format monitor.old.spec.alphabet said.new) }
     ensures shown { (sent : List ℕ) → IsShown options monitor.old.spec (take index history.now) (sent ++ text.old.items) monitor.old.trace
         counts.old.accepted.items counts.old.rejected.items counts.old.possible
         → OnOk result (IsShown options monitor.old.spec (take (index + 1) history.now) (sent ++ text.new.items) monitor.new.trace
@@ -121,7 +122,7 @@ fn show_entries<A: Allocator + Copy, W: Write>(
     output: &mut W,
 ) -> Result<(), ShowError>
     requires judged { IsJudged (bodies_of monitor.old.spec.bodies) history.now }
-    requires said { IsSaid options.format monitor.old.spec.alphabet said.old.next said.old.expected.items said.old.acceptances.items said.old.offered.items }
+    requires said { IsSaid options.format monitor.old.spec.alphabet said.old }
     requires shown { IsShown options monitor.old.spec [] text.old.items monitor.old.trace
         counts.old.accepted.items counts.old.rejected.items counts.old.possible }
     ensures spec { monitor.new.spec ≡ monitor.old.spec }
@@ -147,7 +148,7 @@ fn put_whole<A: Allocator + Copy, W: Write>(
     output: &mut W,
 ) -> Result<(), ShowError>
     requires judged { IsJudged (bodies_of monitor.old.spec.bodies) history.now }
-    requires said { IsSaid options.format monitor.old.spec.alphabet said.old.next said.old.expected.items said.old.acceptances.items said.old.offered.items }
+    requires said { IsSaid options.format monitor.old.spec.alphabet said.old }
     requires shown { IsShown options monitor.old.spec [] text.old.items monitor.old.trace
         counts.old.accepted.items counts.old.rejected.items counts.old.possible }
     ensures { OnOk result (Writes options monitor.old.spec history.now (W.contents output.old) (W.contents output.new) text.new.items) }
@@ -173,7 +174,7 @@ fn fill<A: Allocator + Copy, W: Write>(
     requires empty { text.old.items ≡ [] }
     ensures { OnOk result (Writes options monitor.old.spec history.now (W.contents output.old) (W.contents output.new) text.new.items) }
 {
-    let mut said = Said::new(alloc, monitor.spec().alphabet(), options.format)?;
+    let mut said = Said::new(alloc);
     match Counts::new(alloc, monitor.spec().alphabet().len()) {
         Ok(mut counts) => {
             let put = put_whole(
@@ -225,7 +226,7 @@ fn make_text<A: Allocator + Copy, W: Write>(
 ///
 /// Costs what judging the history costs; with coverage, a step more for each binary digit that an entry changes of the counts of
 /// what could come, for all events together; and for each rejected refusal its acceptances. It keeps 64 KiB of the text and a
-/// line, at its end the coverage; beside that, what was said of the last rejected event and of the last rejected refusal.
+/// line, at its end the coverage; beside that, what was said of rejected reports, as long as that is less than 16 MiB.
 pub fn show<A: Allocator + Copy, W: Write>(
     alloc: A,
     spec: Spec<A>,

@@ -6,7 +6,7 @@ use Rattle.term.specs.Proc.{bodies_of, root}
 use Rattle.term.specs.Meaning.{Trace}
 use Rattle.shown.specs.Lines.{accepted, expected}
 use Rattle.shown.specs.Findings.{HasNext}
-use Rattle.shown.specs.Steps.{IsSaid}
+use Rattle.shown.specs.Said.{IsSaid}
 use Rattle.shown.proofs.EntryLines.{found, finds_accepted, finds_expected}
 use Rattle.shown.proofs.entries.put_finding.Goals as goal
 
@@ -19,12 +19,12 @@ returns-then-entry-clause-finding g c before is =
 pub put_said_expected-requires : goal.put_said_expected-requires
 put_said_expected-requires g c =
     let same = c.alphabet-alphabet.ensures ∙ ap (λ s. s.alphabet) c.spec.ensures in
-    subst (λ (cs : List Channel). IsSaid c.args.format cs c.args.said.now.next c.args.said.now.expected.items c.args.said.now.acceptances.items c.args.said.now.offered.items) (sym same) c.requires
+    subst (λ (cs : List Channel). IsSaid c.args.format cs c.args.said.now) (sym same) c.requires
 
 pub returns-in-Event-clause-said : goal.returns-in-Event-clause-said
 returns-in-Event-clause-said g c =
     let same = c.alphabet-alphabet.ensures ∙ ap (λ s. s.alphabet) c.spec.ensures in
-    subst (λ (cs : List Channel). OnOk c.put_said_expected.result (IsSaid c.args.format cs c.put_said_expected.new.said.next c.put_said_expected.new.said.expected.items c.put_said_expected.new.said.acceptances.items c.put_said_expected.new.said.offered.items)) same c.put_said_expected.ensures.said
+    subst (λ (cs : List Channel). OnOk c.put_said_expected.result (IsSaid c.args.format cs c.put_said_expected.new.said)) same c.put_said_expected.ensures.said
 
 pub returns-in-Event-clause-finding : goal.returns-in-Event-clause-finding
 returns-in-Event-clause-finding g c before is =
