@@ -20,7 +20,7 @@ use Rattle.declarations.specs.Sigma.{enter_declaration, KeepDeclared}
 use Rattle.declared_names.proofs.Chains.{bind_some, some_same}
 use Rattle.declared_names.proofs.Scripts.{parts_declared, parts_none}
 use Rattle.declarations.proofs.Entire.{entire}
-use Rattle.syntax.proofs.FaultKinds.{fails_none, fails_on}
+use Rattle.syntax.proofs.Failing.{fails_none, fails_on}
 use Rattle.declarations.proofs.Meanings.{keeps}
 
 -- ---- the declarations of a script

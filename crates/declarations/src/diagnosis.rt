@@ -99,7 +99,7 @@ fn diagnosed_channels<'a, A: Allocator + Copy>(
 }
 
 /// The alphabet of these declarations, whose names are among the entries. A fault is told where it is met first.
-#[tactic(auto, using(syntax::proofs::FaultKinds::fails_too))]
+#[tactic(auto, using(syntax::proofs::Failing::fails_too))]
 pub(crate) fn told_alphabet<'a, A: Allocator + Copy>(
     alloc: A,
     entries: &Entries<'a, A>,

@@ -8,7 +8,7 @@ use Rattle.values.specs.Values.{◌>>=◌}
 use Rattle.values.specs.Names.{Entry}
 use Rattle.values.specs.View.{Fails}
 use Rattle.declared_names.specs.Steps.{only_of, two_of, three_of}
-use Rattle.syntax.proofs.FaultKinds.{fails_on}
+use Rattle.syntax.proofs.Failing.{fails_on}
 use Rattle.declared_names.specs.Entering.{put_channels, put_fielded, put_typed, put_defined, put_parametric, put_form}
 
 module _ (k : Unread) (es : List Entry) (f : Form) (ts : Syntaxes) where

@@ -9,7 +9,7 @@ use Rattle.values.specs.View.{Fails}
 use Rattle.declared_names.specs.Steps.{steps}
 use Rattle.declared_names.specs.Entering.{script_parts, put_declaration, distinct_entries}
 use Rattle.declared_names.proofs.Entered.{entered}
-use Rattle.syntax.proofs.FaultKinds.{fails_on}
+use Rattle.syntax.proofs.Failing.{fails_on}
 use Rattle.declared_names.proofs.Chains.{some_same}
 
 pub parts_declared : (t : Syntax) (ts : Syntaxes) → script_parts t ≡ Some ts → declared t ≡ declared_by_all ts

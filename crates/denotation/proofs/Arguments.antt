@@ -20,7 +20,7 @@ use Rattle.event_phrases.proofs.Scopes.{hidden, seen}
 use Rattle.denotation.specs.Denotes.{paired}
 use Rattle.denotation.specs.Phrases.{is_for_all, takes, arguments}
 use Rattle.denotation.specs.Forms.{calling}
-use Rattle.syntax.proofs.FaultKinds.{fails_on}
+use Rattle.syntax.proofs.Failing.{fails_on}
 use Rattle.denotation.specs.Making.{Count, Made, refer, make_called_with, make_phrase}
 
 -- ---- lists that grow at their end

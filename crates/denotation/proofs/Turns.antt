@@ -15,7 +15,7 @@ use Rattle.event_phrases.proofs.FirstValues.{led_fits_is}
 use Rattle.event_phrases.proofs.Options.{bind_same, fails_at, step}
 use Rattle.denotation.specs.Branches.{FoundFit, make_fit, make_first_fit, make_fits}
 use Rattle.denotation.specs.Making.{Count, Made, AllMade, FoundBranch, make_behind, make_branches, make_one, branches_behind, put, spend}
-use Rattle.syntax.proofs.FaultKinds.{fails_on}
+use Rattle.syntax.proofs.Failing.{fails_on}
 use Rattle.denotation.proofs.Prefixes.{branch_is}
 
 abbrev some_all : AllMade → Option AllMade

@@ -13,7 +13,7 @@ use Rattle.denotation.specs.Forms.{generator_of}
 use Rattle.denotation.specs.Making.{Count, Made, AllMade, branches_behind, make_for_each, make_over}
 use Rattle.denotation.specs.Parts.{generator_values}
 use Rattle.denotation.specs.Walks.{Visit, opens, fails, stands, behind_each, behind_found, visits, make_visits, with_made, first_scope}
-use Rattle.syntax.proofs.FaultKinds.{fails_on}
+use Rattle.syntax.proofs.Failing.{fails_on}
 use Rattle.denotation.proofs.Replications.{by_generator, generated_is}
 
 abbrev some_all : AllMade → Option AllMade

@@ -17,7 +17,7 @@ use Rattle.event_phrases.specs.EventForms.{within_by, begin_by, whole_by, chosen
 use Rattle.tokens.specs.declared.unread.Unread.{Unread}
 use Rattle.values.specs.View.{Fails}
 use Rattle.event_phrases.proofs.Options.{some_is, some_truth, fails_at}
-use Rattle.syntax.proofs.FaultKinds.{fails_on}
+use Rattle.syntax.proofs.Failing.{fails_on}
 use Rattle.event_phrases.proofs.Shapes.{list_forth}
 
 abbrev some_values : Values → Option Values

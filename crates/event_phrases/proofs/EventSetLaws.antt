@@ -28,7 +28,7 @@ use Rattle.event_phrases.proofs.Scopes.{hidden, seen}
 use Rattle.event_phrases.specs.View.{row}
 use Rattle.event_phrases.proofs.EventNumbers.{drop_item, drop_none, none_below}
 use Rattle.event_phrases.proofs.SetsBelow.{below_same, inside_is, is_in, member_is, is_below, has_is}
-use Rattle.syntax.proofs.FaultKinds.{fails_on}
+use Rattle.syntax.proofs.Failing.{fails_on}
 use Rattle.event_phrases.proofs.Options.{some_truth}
 
 abbrev some_set : Set → Option Set

@@ -16,7 +16,7 @@ use Rattle.event_phrases.specs.Leading.{Fit, before_more, first_fit, fit_or, lea
 use Rattle.event_phrases.specs.Scopes.{Scope}
 use Rattle.event_phrases.proofs.EventLaws.{value_so, no_value}
 use Rattle.event_phrases.proofs.EventNumbers.{drop_item, drop_none}
-use Rattle.syntax.proofs.FaultKinds.{fails_on}
+use Rattle.syntax.proofs.Failing.{fails_on}
 use Rattle.event_phrases.proofs.Scopes.{field_fits}
 
 abbrev fits_or_not : Bool → Scope → Fitting

@@ -3,7 +3,7 @@ use Rattle.std.proofs.Common.{◌≡◌, Bool, Option, Some, None, refl, ap}
 use Rattle.tokens.specs.declared.unread.Unread.{Unread}
 use Rattle.values.specs.Values.{◌>>=◌}
 use Rattle.values.specs.View.{Fails}
-use Rattle.syntax.proofs.FaultKinds.{fails_on}
+use Rattle.syntax.proofs.Failing.{fails_on}
 
 pub some_is : {A : Type 0} {x y : A} → Some x ≡ Some y → x ≡ y
 some_is h = cc

@@ -13,7 +13,7 @@ use Rattle.event_phrases.specs.Prefixes.{all_pass, fields_pass, scopes_after}
 use Rattle.event_phrases.specs.Scopes.{Scope, with_input, values_by}
 use Rattle.event_phrases.specs.Uses.{chosen_values, field_passes}
 use Rattle.event_phrases.proofs.EventNumbers.{drop_item, drop_none}
-use Rattle.syntax.proofs.FaultKinds.{fails_on}
+use Rattle.syntax.proofs.Failing.{fails_on}
 use Rattle.event_phrases.proofs.Unused.{ended}
 
 -- ---- what passes

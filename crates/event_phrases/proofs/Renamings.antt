@@ -14,7 +14,7 @@ use Rattle.event_phrases.specs.Events.{Beginning, beginning, begins_so, number_i
 use Rattle.event_phrases.specs.EventForms.{behind_pairs, pairs_by}
 use Rattle.event_phrases.specs.Forms.{sides_of}
 use Rattle.event_phrases.proofs.EventLaws.{pair_is}
-use Rattle.syntax.proofs.FaultKinds.{fails_on}
+use Rattle.syntax.proofs.Failing.{fails_on}
 use Rattle.event_phrases.proofs.EventNumbers.{drop_item, drop_none}
 
 abbrev some_pairs : Pairs → Option Pairs

@@ -14,7 +14,7 @@ use Rattle.event_phrases.specs.EventForms.{within_by, values_behind, fits_by}
 use Rattle.event_phrases.specs.Forms.{FieldPhrase, field_of}
 use Rattle.event_phrases.specs.Fitting.{fits_field}
 use Rattle.event_phrases.specs.Scopes.{Scope, with_input, within}
-use Rattle.syntax.proofs.FaultKinds.{fails_on}
+use Rattle.syntax.proofs.Failing.{fails_on}
 use Rattle.event_phrases.proofs.EventLaws.{unless_is, fits_is}
 
 pub hidden : {X : Type 0} (o : Option Worth) (x : Option X) → names_value o ≡ true → unless_value o x ≡ None

@@ -136,7 +136,7 @@ pub(crate) fn beginning<A: Allocator + Copy, G: GlobalScope<A>>(
 
 /// The same, and the fault where it gives none: of the event where its name is no channel's, one of its fields is an input or
 /// it has too many (`WrongFields`), and of a field whose value is none of its set (`OutOfRange`).
-#[tactic(auto, using(syntax::proofs::FaultKinds::fails_too))]
+#[tactic(auto, using(syntax::proofs::Failing::fails_too))]
 pub(crate) fn wanted_beginning<A: Allocator + Copy, G: GlobalScope<A>>(
     alloc: A,
     scope: &Scope<'_, A, G>,

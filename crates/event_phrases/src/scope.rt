@@ -73,7 +73,7 @@ pub(crate) fn told<A: Allocator, G: GlobalScope<A>>(
 }
 
 /// What a phrase means after these inputs, where this is wanted of it; the fault where it means nothing.
-#[tactic(auto, using(syntax::proofs::FaultKinds::fails_too))]
+#[tactic(auto, using(syntax::proofs::Failing::fails_too))]
 pub(crate) fn wanted_worth<A: Allocator + Copy, G: GlobalScope<A>>(
     alloc: A,
     global: &G,
@@ -103,7 +103,7 @@ pub(crate) fn truth<A: Allocator + Copy, G: GlobalScope<A>>(
 }
 
 /// The truth that a condition means, and the fault where it means none.
-#[tactic(auto, using(syntax::proofs::FaultKinds::fails_too))]
+#[tactic(auto, using(syntax::proofs::Failing::fails_too))]
 pub fn wanted_truth<A: Allocator + Copy, G: GlobalScope<A>>(
     alloc: A,
     scope: &Scope<'_, A, G>,

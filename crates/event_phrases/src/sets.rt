@@ -122,7 +122,7 @@ fn set_of_phrase<A: Allocator + Copy, G: GlobalScope<A>>(
 }
 
 /// The set of events that a phrase means, and the fault where it means none.
-#[tactic(auto, using(syntax::proofs::FaultKinds::fails_too))]
+#[tactic(auto, using(syntax::proofs::Failing::fails_too))]
 pub fn wanted_events<A: Allocator + Copy, G: GlobalScope<A>>(
     alloc: A,
     scope: &Scope<'_, A, G>,

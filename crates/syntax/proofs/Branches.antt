@@ -15,8 +15,9 @@ use Rattle.syntax.specs.declared.form.Form.{Form}
 use Rattle.syntax.specs.declared.form.Form.TheVariants as forms
 use Rattle.syntax.specs.Operators.{behind}
 use Rattle.syntax.specs.Grammar.{Syntax, Node, height_of}
-use Rattle.syntax.specs.Parsing.{◌>>=◌, Fails, Gives, Found, Row, Reader, syntaxes, last_is_open, another, others_on, others, row, back, front, turned, node_of, node_on, node, next_operator, may_begin, grown, climb_on, climb, reads, reader}
-use Rattle.syntax.proofs.FaultKinds.{fails_on}
+use Rattle.syntax.specs.Parsing.{◌>>=◌, Found, Row, Reader, syntaxes, last_is_open, another, others_on, others, row, back, front, turned, node_of, node_on, node, next_operator, may_begin, grown, climb_on, climb, reads, reader}
+use Rattle.syntax.specs.Answers.{Fails, Gives}
+use Rattle.syntax.proofs.Failing.{fails_on}
 use Rattle.syntax.proofs.Steps.{inside_none, inside_step}
 
 abbrev pub some_found : Syntax → List Lexeme → Option Found

@@ -15,13 +15,14 @@ use Rattle.syntax.specs.Grammar.{Syntax, Called, Numeral, Node, Syntaxes, NoSynt
 use Rattle.tokens.specs.declared.unread.Unread.{Unread}
 use Rattle.tokens.specs.declared.unread.Unread.TheVariants.{Memory}
 use Rattle.syntax.specs.Script.{IsScript}
-use Rattle.syntax.specs.Parsing.{◌>>=◌, Fails, Found, operand, go_on, read_in, climb, reader, may_open, reads, is_alone, numeral_at, number_at, name_at, may_be_number, ended, whole}
+use Rattle.syntax.specs.Parsing.{◌>>=◌, Found, operand, go_on, read_in, climb, reader, may_open, reads, is_alone, numeral_at, number_at, name_at, may_be_number, ended, whole}
+use Rattle.syntax.specs.Answers.{Fails}
 use Rattle.syntax.proofs.Branches.{some_found}
 use Rattle.syntax.proofs.Climbing.{stops_tighter, climb_stops}
 use Rattle.syntax.proofs.Steps.{reads_suc}
 use Rattle.syntax.proofs.Table.{operator_row}
 use Rattle.syntax.proofs.CompleteBools.{false_true}
-use Rattle.syntax.proofs.FaultKinds.{only_memory}
+use Rattle.syntax.proofs.Failing.{only_memory}
 use Rattle.syntax.proofs.CompleteFollow.{Follows}
 use Rattle.syntax.proofs.CompleteFirst.{is_operation}
 use Rattle.syntax.proofs.CompleteGoal.{rank, is_read_kind, IsRead, Comes, AllRead, edge, spine, start}

@@ -18,7 +18,7 @@ pub mod Forms
 pub mod Lists
 pub mod NextTokens
 pub mod Noded
-pub mod FaultKinds
+pub mod Failing
 pub mod ReadSteps
 pub mod Sound
 pub mod Spelled

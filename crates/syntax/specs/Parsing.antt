@@ -1,5 +1,5 @@
 -- Reading from left to right.
-use Rattle.std.specs.Prelude.{◌≡◌, ℕ, zero, suc, List, [], ◌∷◌, ◌++◌, length, Bool, true, false, not, ◌||◌, ◌&&◌, Option, Some, None, Result, Ok, Err, nat_lt, nat_le, if◌then◌else◌}
+use Rattle.std.specs.Prelude.{◌≡◌, ℕ, zero, suc, List, [], ◌∷◌, ◌++◌, length, Bool, true, false, not, ◌||◌, ◌&&◌, Option, Some, None, nat_lt, nat_le, if◌then◌else◌}
 use denote.Enum.Bare.{sameb}
 use Rattle.tokens.specs.Lexeme.{Lexeme, Name, Number, Kept, Sign}
 use Rattle.tokens.specs.declared.symbol.Symbol.{Symbol}
@@ -8,8 +8,6 @@ use Rattle.tokens.specs.declared.keyword.Keyword.{Keyword}
 use Rattle.tokens.specs.declared.keyword.Keyword.TheVariants as keywords
 use Rattle.tokens.specs.contracts.symbol.Symbol.{the_type as symbol_type}
 use Rattle.tokens.specs.contracts.keyword.Keyword.{the_type as keyword_type}
-use Rattle.tokens.specs.declared.unread.Unread.{Unread}
-use Rattle.tokens.specs.declared.unread.Unread.TheVariants.{Fault, Memory}
 use Rattle.syntax.specs.declared.operator.Operator.{Operator}
 use Rattle.syntax.specs.declared.piece.Sign.{Sign as Signs}
 use Rattle.syntax.specs.declared.piece.Sign.TheVariants as signs
@@ -33,16 +31,6 @@ infixl 10 ◌>>=◌
 abbrev pub ◌>>=◌ : {A B : Type 0} → Option A → (A → Option B) → Option B
 (Some x) >>= f = f x
 None >>= f = None
-
--- a fault is answered only where nothing is wanted; memory may run out anywhere
-abbrev pub Fails : {Y : Type 0} → Unread → Option Y → Type 0
-Fails (Fault error) wanted = wanted ≡ None
-Fails Memory wanted = Unit {0}
-
--- what a call returned, seen by view, is what is wanted, unless memory ran out
-abbrev pub Gives : {X Y : Type 0} → (X → Y) → Result X Unread → Option Y → Type 0
-Gives view (Ok x) wanted = wanted ≡ Some (view x)
-Gives view (Err unread) wanted = Fails unread wanted
 
 -- a part and the tokens after it
 abbrev pub Found : Type 0

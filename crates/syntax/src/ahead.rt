@@ -4,7 +4,8 @@ ghost use Rattle.std.specs.Option.{option_map};
 ghost use Rattle.tokens.specs.Lexeme.{Kept as kept, Sign as signed, lexeme_of_word, lexemes};
 ghost use Rattle.syntax.specs.declared.form.Form.TheVariants.{Channels as channels_form, Set as set_form};
 ghost use Rattle.syntax.specs.declared.piece.Sign.TheVariants.{Symbol as sign_of};
-ghost use Rattle.syntax.specs.Parsing.{Gives, after as after_sign, begins_field as begins_field_of, brace_form, declaration_form as declaration_form_of, defined_form, events_form, field_form as field_form_of, form_at as form_at_of, input_form, is_sign as is_sign_of, keyword_form, named_form, operator_at as operator_at_of, operator_of as operator_of_lexeme, phrase_form as phrase_form_of, symbol_form, tight as tight_of, turned as turned_of, value_form as value_form_of, fields_of as fields_of_kind, is_alone as is_alone_of, may_be_number as may_be_number_of};
+ghost use Rattle.syntax.specs.Parsing.{after as after_sign, begins_field as begins_field_of, brace_form, declaration_form as declaration_form_of, defined_form, events_form, field_form as field_form_of, form_at as form_at_of, input_form, is_sign as is_sign_of, keyword_form, named_form, operator_at as operator_at_of, operator_of as operator_of_lexeme, phrase_form as phrase_form_of, symbol_form, tight as tight_of, turned as turned_of, value_form as value_form_of, fields_of as fields_of_kind, is_alone as is_alone_of, may_be_number as may_be_number_of};
+ghost use Rattle.syntax.specs.Answers.{Gives};
 
 use crate::fault::expected;
 use crate::form::{Form, looseness};

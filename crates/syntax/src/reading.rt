@@ -8,7 +8,8 @@ ghost use Rattle.std.specs.Option.{option_map};
 ghost use Rattle.tokens.specs.Lexeme.{lexemes};
 ghost use Rattle.syntax.specs.Rules.{is_heavy};
 ghost use Rattle.syntax.specs.Grammar.{Syntax, left_fits as left_fits_of, level_in};
-ghost use Rattle.syntax.specs.Parsing.{Gives, another as another_of, climb as climb_of, grown as grown_of, may_begin as may_begin_of, may_open as may_open_of, name_at as name_at_of, next_operator, node as node_of_form, number_at, numeral_at as numeral_at_of, operand as operand_of, others as others_of, reader, reads, row as row_of, step as step_of, whole as whole_of};
+ghost use Rattle.syntax.specs.Parsing.{another as another_of, climb as climb_of, grown as grown_of, may_begin as may_begin_of, may_open as may_open_of, name_at as name_at_of, next_operator, node as node_of_form, number_at, numeral_at as numeral_at_of, operand as operand_of, others as others_of, reader, reads, row as row_of, step as step_of, whole as whole_of};
+ghost use Rattle.syntax.specs.Answers.{Gives};
 ghost use Rattle.syntax.specs.View.{shape, shapes};
 
 use crate::ahead::{

@@ -13,7 +13,7 @@ use Rattle.values.specs.Values.{◌>>=◌}
 use Rattle.values.specs.Worths.{Worth, truth, Known, worth, worths, one, formed, operated, is_comparison, computed, calculated, two_numbers, the_truth, truth_only, condition}
 use Rattle.values.specs.Lazy.{connective}
 use Rattle.values.specs.View.{Fails}
-use Rattle.syntax.proofs.FaultKinds.{fails_on}
+use Rattle.syntax.proofs.Failing.{fails_on}
 use Rattle.values.proofs.Keeps.{chosen, if_is, and_is, or_is}
 
 abbrev some_of : {X : Type 0} → X → Option X

@@ -19,7 +19,7 @@ use Rattle.values.specs.Worths.{Worth as Plain, the_only, the_two, the_value, al
 use Rattle.values.specs.Tables.{known_by, entries}
 use Rattle.values.proofs.ValueSets.{insert_view}
 use Rattle.values.specs.View.{value, worth, Fails}
-use Rattle.syntax.proofs.FaultKinds.{fails_on}
+use Rattle.syntax.proofs.Failing.{fails_on}
 
 pub only_one : {A : Type 0} (ws front : List (Worth A)) (w : Worth A) → length ws ≡ 1 → ws ≡ front ++ w ∷ [] → the_only (map worth ws) ≡ Some (worth w)
 unfolding the_only

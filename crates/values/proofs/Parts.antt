@@ -14,7 +14,7 @@ use Rattle.values.specs.Worths.{Worth as Plain, Known, formed, is_lazy}
 use Rattle.values.specs.Worths.{worth as worth_in, worths as worths_in}
 use Rattle.tokens.specs.declared.unread.Unread.{Unread}
 use Rattle.values.specs.View.{worth, Fails}
-use Rattle.syntax.proofs.FaultKinds.{fails_on}
+use Rattle.syntax.proofs.Failing.{fails_on}
 use Rattle.values.proofs.Keeps.{strict_is}
 
 shapes_row : {A : Type 0} (n : _) (row : Row_of-Tree A n) → row_shapes row ≡ syntaxes (shapes (items-the_row-Tree A n row))

@@ -8,7 +8,7 @@ use Rattle.values.specs.Worths.{Worth as Plain, one, many, truth}
 use Rattle.values.specs.declared.worth.Worth.{Worth}
 use Rattle.values.specs.declared.worth.Worth.TheVariants as worths
 -- what a call fails with and gives
-pub use Rattle.syntax.specs.Parsing.{Fails, Gives}
+pub use Rattle.syntax.specs.Answers.{Fails, Gives}
 
 -- the value
 abbrev pub value : {A : Type 0} → Value A → FieldValue

@@ -10,7 +10,7 @@ use Rattle.event_phrases.specs.View.{listed}
 use Rattle.denotation.specs.Making.{refer as refer_to}
 use Rattle.denotation.specs.View.{count}
 use Rattle.denotation.proofs.Arguments.{bytes, of_call, call_hidden, call_of_none, call_of_others, call_fails, call_so}
-use Rattle.syntax.proofs.FaultKinds.{fails_none}
+use Rattle.syntax.proofs.Failing.{fails_none}
 use Rattle.denotation.proofs.calls.called_with.Goals as goal
 
 pub returns-then-is_value : goal.returns-then-is_value

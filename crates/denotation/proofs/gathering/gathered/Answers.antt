@@ -9,7 +9,7 @@ use Rattle.denotation.specs.View.{key, count}
 use Rattle.denotation.proofs.Progress.{start, one_more, finish, unique, stuck, body_less}
 use Rattle.denotation.proofs.FirstPlaces.{same}
 use Rattle.denotation.proofs.Seen.{seen_root, seen_body}
-use Rattle.syntax.proofs.FaultKinds.{fails_on}
+use Rattle.syntax.proofs.Failing.{fails_on}
 use Rattle.denotation.proofs.gathering.gathered.Goals as goal
 
 pub loop-alloc-init : goal.loop-alloc-init

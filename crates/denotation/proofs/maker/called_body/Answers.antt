@@ -11,7 +11,7 @@ use Rattle.denotation.specs.Making.{make_called}
 use Rattle.denotation.specs.View.{count}
 use Rattle.denotation.proofs.Arguments.{bytes}
 use Rattle.denotation.proofs.Definitions.{no_call, unmatched, matched}
-use Rattle.syntax.proofs.FaultKinds.{fails_none}
+use Rattle.syntax.proofs.Failing.{fails_none}
 use Rattle.denotation.proofs.maker.called_body.Goals as goal
 
 pub returns-in-None : goal.returns-in-None

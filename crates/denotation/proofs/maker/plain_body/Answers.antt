@@ -9,7 +9,7 @@ use Rattle.denotation.specs.Making.{make_body}
 use Rattle.denotation.specs.BodyParts.{make_shallow}
 use Rattle.denotation.specs.View.{count}
 use Rattle.denotation.proofs.Definitions.{no_process, no_definition, body_from}
-use Rattle.syntax.proofs.FaultKinds.{fails_none}
+use Rattle.syntax.proofs.Failing.{fails_none}
 use Rattle.denotation.proofs.maker.plain_body.Goals as goal
 
 pub returns-then-not-is_process : goal.returns-then-not-is_process

@@ -25,7 +25,7 @@ use Rattle.denotation.proofs.Steps.{joined_first, joined_second, joined_so, shar
 use Rattle.denotation.proofs.Replications.{put_behind}
 use Rattle.denotation.proofs.Walks.{no_first, from_first, none_before, walk_end, stands_fails, no_next, next_found, no_process, one_process, not_more}
 use Rattle.denotation.proofs.Turns.{some_fit, some_found, none_behind, fit_fails, none_fits, body_fails, event_fails, event_made, next_turn, last_turn, turn_fails, led_branches}
-use Rattle.syntax.proofs.FaultKinds.{fails_none}
+use Rattle.syntax.proofs.Failing.{fails_none}
 use Rattle.denotation.proofs.making.+making.Goals as goal
 
 pub joined_phrases-process-requires : goal.joined_phrases-process-requires

@@ -5,7 +5,7 @@ use Rattle.values.specs.View.{Gives}
 use Rattle.denotation.specs.Making.{make_replicated}
 use Rattle.denotation.specs.View.{count}
 use Rattle.denotation.proofs.Replications.{no_form, internal_none, internal_some, others_joined}
-use Rattle.syntax.proofs.FaultKinds.{fails_none}
+use Rattle.syntax.proofs.Failing.{fails_none}
 use Rattle.denotation.proofs.replicated.all_joined.Goals as goal
 
 pub returns-in-Sequence : goal.returns-in-Sequence

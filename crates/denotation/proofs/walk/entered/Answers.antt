@@ -6,7 +6,7 @@ use Rattle.values.specs.View.{values}
 use Rattle.denotation.specs.Places.{innermost_first, from_next}
 use Rattle.denotation.specs.Walks.{once_found}
 use Rattle.denotation.proofs.Places.{no_name, set_fails, set_found}
-use Rattle.syntax.proofs.FaultKinds.{fails_none}
+use Rattle.syntax.proofs.Failing.{fails_none}
 use Rattle.denotation.proofs.walk.entered.Goals as goal
 
 pub returns-in-None : goal.returns-in-None

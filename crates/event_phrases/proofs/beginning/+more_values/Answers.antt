@@ -9,7 +9,7 @@ use Rattle.event_phrases.specs.EventForms.{within_by, values_behind}
 use Rattle.event_phrases.specs.Scopes.{within}
 use Rattle.event_phrases.specs.View.{listed}
 use Rattle.event_phrases.proofs.Scopes.{no_fields, no_sets, one_value, value_fails, no_items, first_item, rest_is}
-use Rattle.syntax.proofs.FaultKinds.{fails_none}
+use Rattle.syntax.proofs.Failing.{fails_none}
 use Rattle.event_phrases.proofs.beginning.+more_values.Goals as goal
 
 pub returns-in-empty : goal.returns-in-empty

@@ -6,7 +6,7 @@ use Rattle.event_phrases.specs.Events.{beginning}
 use Rattle.event_phrases.specs.Scopes.{within}
 use Rattle.event_phrases.specs.View.{listed}
 use Rattle.event_phrases.proofs.EventLaws.{begins_not, begin_none, begin_fails, begin_made}
-use Rattle.syntax.proofs.FaultKinds.{fails_none}
+use Rattle.syntax.proofs.Failing.{fails_none}
 use Rattle.event_phrases.proofs.beginning.beginning.Goals as goal
 
 pub returns-in-None : goal.returns-in-None

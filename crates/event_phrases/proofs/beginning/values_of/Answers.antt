@@ -6,7 +6,7 @@ use Rattle.event_phrases.specs.EventForms.{within_by}
 use Rattle.event_phrases.specs.Scopes.{within}
 use Rattle.event_phrases.specs.View.{listed}
 use Rattle.event_phrases.proofs.EventLaws.{too_many}
-use Rattle.syntax.proofs.FaultKinds.{fails_none}
+use Rattle.syntax.proofs.Failing.{fails_none}
 use Rattle.event_phrases.proofs.beginning.values_of.Goals as goal
 
 pub returns-then-fields-sets : goal.returns-then-fields-sets

@@ -7,7 +7,7 @@ use Rattle.event_phrases.specs.Events.{whole_event}
 use Rattle.event_phrases.specs.Scopes.{within}
 use Rattle.event_phrases.specs.View.{listed}
 use Rattle.event_phrases.proofs.EventLaws.{whole_unchosen, whole_not, whole_none, whole_lacks, whole_fails, whole_made}
-use Rattle.syntax.proofs.FaultKinds.{fails_none}
+use Rattle.syntax.proofs.Failing.{fails_none}
 use Rattle.event_phrases.proofs.beginning.whole_event.Goals as goal
 
 pub returns-in_err-inner : goal.returns-in_err-inner

@@ -7,7 +7,7 @@ use Rattle.event_phrases.specs.Prefixes.{prefix_parts}
 use Rattle.event_phrases.specs.Scopes.{within}
 use Rattle.event_phrases.specs.View.{listed}
 use Rattle.event_phrases.proofs.PrefixParts.{no_event, no_channel, other_count, field_fails, parts_found}
-use Rattle.syntax.proofs.FaultKinds.{fails_none}
+use Rattle.syntax.proofs.Failing.{fails_none}
 use Rattle.event_phrases.proofs.fields.prefix_of.Goals as goal
 
 pub returns-in-None-clause-parts : goal.returns-in-None-clause-parts

@@ -6,7 +6,7 @@ use Rattle.values.specs.View.{Gives, value}
 use Rattle.event_phrases.specs.Scopes.{within}
 use Rattle.event_phrases.specs.View.{listed}
 use Rattle.event_phrases.proofs.FieldSteps.{led_no_fields, led_no_sets, led_no_values, led_other, led_same}
-use Rattle.syntax.proofs.FaultKinds.{fails_none}
+use Rattle.syntax.proofs.Failing.{fails_none}
 use Rattle.event_phrases.proofs.leading.+led_fitting.Goals as goal
 
 pub returns-in-empty-fields : goal.returns-in-empty-fields

@@ -5,7 +5,7 @@ use Rattle.values.specs.View.{value}
 use Rattle.event_phrases.specs.Scopes.{within}
 use Rattle.event_phrases.specs.View.{listed}
 use Rattle.event_phrases.proofs.FieldSteps.{fit_done, fit_no_sets, fit_no_values, fit_sets_left, fit_values_left}
-use Rattle.syntax.proofs.FaultKinds.{fails_none}
+use Rattle.syntax.proofs.Failing.{fails_none}
 use Rattle.event_phrases.proofs.prefix.+fitting.Goals as goal
 
 pub returns-in-empty-values : goal.returns-in-empty-values

@@ -7,7 +7,7 @@ use Rattle.event_phrases.specs.View.{beginning, listed, row}
 use Rattle.values.specs.View.{value}
 use Rattle.event_phrases.proofs.Renamings.{image_of, pairs_behind, pair_more, pair_less, no_image, pairs_end}
 use Rattle.event_phrases.proofs.renaming.pairs_from.Goals as goal
-use Rattle.syntax.proofs.FaultKinds.{fails_none}
+use Rattle.syntax.proofs.Failing.{fails_none}
 use Rattle.event_phrases.proofs.renaming.pairs_from.Goals.{then-begins_so+in_ok-wanted+in-Some+in_ok-push-in-Some, else-begins_so}
 
 pub overflow_cast-target : goal.overflow_cast-target

@@ -8,7 +8,7 @@ use Rattle.event_phrases.specs.EventForms.{behind_pairs}
 use Rattle.event_phrases.specs.Scopes.{within}
 use Rattle.event_phrases.specs.View.{beginning}
 use Rattle.event_phrases.proofs.Renamings.{no_pair, left_fails, right_fails, pair_made}
-use Rattle.syntax.proofs.FaultKinds.{fails_none}
+use Rattle.syntax.proofs.Failing.{fails_none}
 use Rattle.event_phrases.proofs.renaming.pairs_with.Goals as goal
 
 pub returns-in-None : goal.returns-in-None

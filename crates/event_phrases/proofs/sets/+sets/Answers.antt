@@ -11,7 +11,7 @@ use Rattle.event_phrases.specs.Forms.{tall, sets_tall}
 use Rattle.event_phrases.specs.Shapes.{plain_set}
 use Rattle.event_phrases.proofs.EventLaws.{event_set_is}
 use Rattle.event_phrases.proofs.EventSetLaws.{no_set, inside_tall, chosen_tall, combined_tall, inside_set, hidden_set, seen_set, nothing_set, everything_set, several_set, condition_fails, first_chosen, second_chosen, first_set_fails, second_set_fails, both_sets}
-use Rattle.syntax.proofs.FaultKinds.{fails_none}
+use Rattle.syntax.proofs.Failing.{fails_none}
 use Rattle.event_phrases.proofs.sets.+sets.Goals as goal
 
 pub event_set-returns-in-Some : goal.event_set-returns-in-Some

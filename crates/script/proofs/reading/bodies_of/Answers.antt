@@ -5,7 +5,7 @@ use Rattle.script.specs.Standing.{events_by}
 use Rattle.script.specs.Tables.{said}
 use Rattle.script.proofs.Denoting.{no_root, bodies_with}
 use Rattle.script.proofs.NamedSets.{sets_lie}
-use Rattle.syntax.proofs.FaultKinds.{only_memory}
+use Rattle.syntax.proofs.Failing.{only_memory}
 use Rattle.script.proofs.reading.bodies_of.Goals as goal
 
 pub returns-then-not-is_process-clause-only : goal.returns-then-not-is_process-clause-only

@@ -7,7 +7,7 @@ use Rattle.values.specs.Tables.{table}
 use Rattle.declared_names.specs.View.{entries}
 use Rattle.denotation.proofs.Unique.{one_spec}
 use Rattle.script.proofs.Denoting.{bodies_closed, bodies_denote, denoted_bodies, declares_so}
-use Rattle.syntax.proofs.FaultKinds.{only_memory}
+use Rattle.syntax.proofs.Failing.{only_memory}
 use Rattle.script.proofs.reading.denoted.Goals as goal
 
 pub returns-in_err-declared-clause-only : goal.returns-in_err-declared-clause-only

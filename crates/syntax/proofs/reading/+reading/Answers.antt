@@ -7,7 +7,7 @@ use Rattle.syntax.specs.Grammar.{Syntax}
 use Rattle.syntax.specs.Parsing.{◌>>=◌, reader, may_open, climb, others, row, Found, Row}
 use Rattle.syntax.specs.View.{shape, shapes}
 use Rattle.syntax.proofs.Branches.{gives_as, inside_fails, inside_reads, others_stop, others_done, others_next, others_fail, node_is, node_fails, grown_is, grown_fails, climb_ends, climb_high, climb_turn, climb_shut}
-use Rattle.syntax.proofs.FaultKinds.{fails_none, fails_on}
+use Rattle.syntax.proofs.Failing.{fails_none, fails_on}
 use Rattle.syntax.proofs.ReadSteps.{read_climbs, read_fails, row_ends, row_turn}
 use Rattle.syntax.proofs.Steps.{reads_no_layer, reads_no_room}
 use Rattle.syntax.proofs.reading.+reading.Goals as goal
