@@ -1,7 +1,7 @@
 -- Turns over the values of an input, where a channel has no event.
 use Rattle.std.proofs.Common.{◌≡◌, ℕ, ◌+◌, ◌<◌, ◌≤◌, List, [], ◌∷◌, length, map, drop, get_or, filter, false, cond, Option, Some, None, Result, Ok, Err, MatchResult, refl, sym, ap, subst, ◌∙◌}
 use Rattle.tokens.specs.declared.unread.Unread.{Unread}
-use Rattle.tokens.specs.declared.unread.Unread.TheVariants as kinds
+use Rattle.tokens.specs.declared.unread.Unread.TheVariants.{Memory}
 use Rattle.values.specs.Names.{is_constant, meaning}
 use Rattle.values.specs.Values.{◌>>=◌, Name, is_among}
 use Rattle.values.specs.View.{Fails}
@@ -36,7 +36,7 @@ module _ {R X : Type 0} (view : R → X) (test : X → Option (Unit {0})) (rs : 
 
 -- ---- what is looked at after an input
 
-pub looked_so : {T : Type 0} (r : Result T Unread) (x : Option (Unit {0})) (each : Scope → Option (Unit {0})) (after : Scope → T → Option (Unit {0})) (s : Scope) → x ≡ each s → MatchResult r (λ o. (s : Scope) → each s ≡ after s o) (λ e. e.kind ≡ kinds.Memory) → MatchResult r (λ o. x ≡ after s o) (λ e. Fails e.kind x)
+pub looked_so : {T : Type 0} (r : Result T Unread) (x : Option (Unit {0})) (each : Scope → Option (Unit {0})) (after : Scope → T → Option (Unit {0})) (s : Scope) → x ≡ each s → MatchResult r (λ o. (s : Scope) → each s ≡ after s o) (λ e. e ≡ Memory) → MatchResult r (λ o. x ≡ after s o) (λ e. Fails e x)
 looked_so (Ok o) x each after s h k = h ∙ k s
 looked_so (Err e) x each after s h k = subst (λ k. Fails k x) (sym k) tt
 

@@ -8,5 +8,5 @@ use Rattle.declarations.proofs.declared.fitting_entries.Goals as goal
 pub returns-in-Ok : goal.returns-in-Ok
 returns-in-Ok g c = subst (λ o. Gives entries c.fitting.result o) (entries_found (shape c.args.tree.now) (entries c.in-Ok.entries) c.in-Ok.ensures) c.fitting.ensures
 
-pub returns-in_default : goal.returns-in_default
-returns-in_default g c = other_fails c.in-Err.error c.fault_of_names.result (shape c.args.tree.now) c.in-Err.ensures c.in_default.not-Memory
+pub returns-in-Err-Fault : goal.returns-in-Err-Fault
+returns-in-Err-Fault g c = other_fails c.fault_of_names.result (shape c.args.tree.now) c.in-Err-Fault.ensures

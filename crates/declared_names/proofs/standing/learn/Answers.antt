@@ -3,7 +3,7 @@ use Rattle.values.specs.Names.{same_name}
 use Rattle.values.specs.Tables.{table}
 use Rattle.values.specs.View.{worth}
 use Rattle.declared_names.specs.View.{entries}
-use Rattle.declared_names.proofs.Learning.{settled_known, settled_fault, learns_more, learns_same}
+use Rattle.declared_names.proofs.Learning.{settled_known, settled_none, learns_more, learns_same}
 use Rattle.declared_names.proofs.standing.learn.Goals as goal
 
 pub returns-then-has : goal.returns-then-has
@@ -15,6 +15,6 @@ returns-in_ok-insert-in-Ok g c =
     learns_more (entries c.args.entries.now) (table c.args.known.now) (table c.insert.new.self) c.args.name.now (worth c.in-Ok.worth) c.requires (sym c.has.ensures ∙ c.if-has.false) c.in-Ok.ensures
     (λ m. c.in_ok-insert-in-Ok.ensures.inserted m ∙ ap (λ x. cond (same_name m x) (Some (worth c.in-Ok.worth)) (table c.args.known.now m)) c.in_ok-from_slice-in-Ok.ensures.items)
 
-pub returns-in_default : goal.returns-in_default
-returns-in_default g c =
-    learns_same (entries c.args.entries.now) (table c.args.known.now) c.args.name.now (settled_fault c.in-Err.error (entries c.args.entries.now) (table c.args.known.now) c.args.name.now c.in_default.not-Memory c.in-Err.ensures)
+pub returns-in-Err-Fault : goal.returns-in-Err-Fault
+returns-in-Err-Fault g c =
+    learns_same (entries c.args.entries.now) (table c.args.known.now) c.args.name.now (settled_none (entries c.args.entries.now) (table c.args.known.now) c.args.name.now c.in-Err-Fault.ensures)

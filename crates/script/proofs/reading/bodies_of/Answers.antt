@@ -1,11 +1,10 @@
-use Rattle.std.proofs.Common.{sym, ◌∙◌}
+use Rattle.std.proofs.Common.{◌≡◌, None, Some, sym, ◌∙◌}
 use Rattle.values.specs.Tables.{table}
 use Rattle.declared_names.specs.View.{entries}
 use Rattle.script.specs.Standing.{events_by}
 use Rattle.script.specs.Tables.{said}
 use Rattle.script.proofs.Denoting.{no_root, bodies_with}
 use Rattle.script.proofs.NamedSets.{sets_lie}
-use Rattle.syntax.proofs.Failing.{only_memory}
 use Rattle.script.proofs.reading.bodies_of.Goals as goal
 
 pub returns-then-not-is_process-clause-only : goal.returns-then-not-is_process-clause-only
@@ -23,12 +22,7 @@ returns-in-Ok-clause-only g c = λ ps a.
     let n = c.args.names.now in
     c.in-Ok.ensures.only ps (bodies_with n.sigma.alphabet (table n.known) (entries n.entries) c.args.root.now (events_by (said c.in_ok-sets.sets)) ps c.in_ok-sets.ensures.stand a)
 
-pub returns-in-Memory-clause-only : goal.returns-in-Memory-clause-only
-returns-in-Memory-clause-only g c = λ ps a.
+pub returns-in-Err-Fault-clause-only : goal.returns-in-Err-Fault-clause-only
+returns-in-Err-Fault-clause-only g c = λ ps a.
     let n = c.args.names.now in
-    c.in-Err.ensures.only ps (bodies_with n.sigma.alphabet (table n.known) (entries n.entries) c.args.root.now (events_by (said c.in_ok-sets.sets)) ps c.in_ok-sets.ensures.stand a)
-
-pub returns-clause-only : goal.returns-clause-only
-returns-clause-only g c = λ ps a.
-    let n = c.args.names.now in
-    absurd (c.in_default.not-Memory (only_memory c.in-Err.error ps (c.in-Err.ensures.only ps (bodies_with n.sigma.alphabet (table n.known) (entries n.entries) c.args.root.now (events_by (said c.in_ok-sets.sets)) ps c.in_ok-sets.ensures.stand a))))
+    absurd (let none : None ≡ Some ps = sym (c.in-Err-Fault.ensures.only ps (bodies_with n.sigma.alphabet (table n.known) (entries n.entries) c.args.root.now (events_by (said c.in_ok-sets.sets)) ps c.in_ok-sets.ensures.stand a)) in cc)

@@ -2,7 +2,7 @@ use Rattle.std.proofs.Common.{sym, ◌∙◌}
 use Rattle.values.specs.Tables.{table}
 use Rattle.declared_names.specs.View.{entries}
 use Rattle.script.specs.Tables.{said}
-use Rattle.script.proofs.Learning.{settled_known, settled_fault, learns_more, learns_same}
+use Rattle.script.proofs.Learning.{settled_known, settled_none, learns_more, learns_same}
 use Rattle.script.proofs.standing.learned.Goals as goal
 
 pub returns-then-has : goal.returns-then-has
@@ -16,8 +16,8 @@ returns-in_ok-with-in-Ok g c =
     let n = c.args.names.now in
     learns_more n.sigma.alphabet (table n.known) (entries n.entries) (said c.args.sets) (said c.in_ok-with-in-Ok.field-0) c.args.name.now c.in-Ok.set c.requires (sym c.has.ensures ∙ c.if-has.false) c.in-Ok.ensures c.in_ok-with-in-Ok.ensures
 
-pub returns-in_default : goal.returns-in_default
-returns-in_default g c =
+pub returns-in-Err-Fault : goal.returns-in-Err-Fault
+returns-in-Err-Fault g c =
     let n = c.args.names.now in
     learns_same n.sigma.alphabet (table n.known) (entries n.entries) (said c.args.sets) c.args.name.now
-    (settled_fault n.sigma.alphabet (table n.known) (entries n.entries) c.in-Err.error (said c.args.sets) c.args.name.now c.in_default.not-Memory c.in-Err.ensures)
+    (settled_none n.sigma.alphabet (table n.known) (entries n.entries) (said c.args.sets) c.args.name.now c.in-Err-Fault.ensures)
