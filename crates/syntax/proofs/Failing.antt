@@ -1,5 +1,6 @@
 -- Why something isn't read: a fault is answered only where nothing is wanted.
 use Rattle.std.proofs.Common.{◌≡◌, Option, Some, None, refl, sym, subst}
+use Rattle.tokens.specs.declared.error.ScriptError.{ScriptError}
 use Rattle.tokens.specs.declared.unread.Unread.{Unread}
 use Rattle.tokens.specs.declared.unread.Unread.TheVariants.{Fault, Memory}
 use Rattle.syntax.specs.Answers.{Fails}
@@ -9,6 +10,10 @@ module _ {X : Type 0} where
   pub fails_none : (e : Unread) (o : Option X) → o ≡ None → Fails e o
   fails_none (Fault f) o h = h
   fails_none Memory o h = tt
+
+  -- nothing is wanted where a fault is answered
+  pub none_wanted : (e : Unread) (f : ScriptError) (o : Option X) → e ≡ Fault f → Fails e o → o ≡ None
+  none_wanted e f o is h = subst (λ e. Fails e o) is h
 
   -- where something is wanted only memory fails
   pub only_memory : (e : Unread) (x : X) → Fails e (Some x) → e ≡ Memory

@@ -1,5 +1,6 @@
 use Rattle.std.proofs.Common.{Some, cond, sym, ap, ◌∙◌}
-use Rattle.values.specs.Names.{same_name}
+use Rattle.syntax.proofs.Failing.{none_wanted}
+use Rattle.values.specs.Names.{next_known, same_name}
 use Rattle.values.specs.Tables.{table}
 use Rattle.values.specs.View.{worth}
 use Rattle.declared_names.specs.View.{entries}
@@ -17,4 +18,6 @@ returns-in_ok-insert-in-Ok g c =
 
 pub returns-in-Err-Fault : goal.returns-in-Err-Fault
 returns-in-Err-Fault g c =
-    learns_same (entries c.args.entries.now) (table c.args.known.now) c.args.name.now (settled_none (entries c.args.entries.now) (table c.args.known.now) c.args.name.now c.in-Err-Fault.ensures)
+    let es = entries c.args.entries.now in
+    let f = table c.args.known.now in
+    learns_same es f c.args.name.now (settled_none es f c.args.name.now (none_wanted c.in-Err-Fault.field-0 c.in-Err-Fault.field-0-0 (next_known es f c.args.name.now) c.in-Err-Fault.field-0-is c.in-Err-Fault.ensures))

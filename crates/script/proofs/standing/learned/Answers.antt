@@ -2,6 +2,9 @@ use Rattle.std.proofs.Common.{sym, ◌∙◌}
 use Rattle.values.specs.Tables.{table}
 use Rattle.declared_names.specs.View.{entries}
 use Rattle.script.specs.Tables.{said}
+use Rattle.event_phrases.specs.Events.{masked}
+use Rattle.script.specs.Standing.{events_by, next_events}
+use Rattle.syntax.proofs.Failing.{none_wanted}
 use Rattle.script.proofs.Learning.{settled_known, settled_none, learns_more, learns_same}
 use Rattle.script.proofs.standing.learned.Goals as goal
 
@@ -19,5 +22,8 @@ returns-in_ok-with-in-Ok g c =
 pub returns-in-Err-Fault : goal.returns-in-Err-Fault
 returns-in-Err-Fault g c =
     let n = c.args.names.now in
-    learns_same n.sigma.alphabet (table n.known) (entries n.entries) (said c.args.sets) c.args.name.now
-    (settled_none n.sigma.alphabet (table n.known) (entries n.entries) (said c.args.sets) c.args.name.now c.in-Err-Fault.ensures)
+    let cs = n.sigma.alphabet in
+    let f = said c.args.sets in
+    learns_same cs (table n.known) (entries n.entries) f c.args.name.now
+    (settled_none cs (table n.known) (entries n.entries) f c.args.name.now
+    (none_wanted c.in-Err-Fault.field-0 c.in-Err-Fault.field-0-0 (masked cs (next_events cs (table n.known) (entries n.entries) (events_by f) c.args.name.now)) c.in-Err-Fault.field-0-is c.in-Err-Fault.ensures))
