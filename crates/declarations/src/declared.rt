@@ -18,7 +18,7 @@ use declared_names::{
 };
 use std::alloc::Allocator;
 use syntax::Tree;
-use tokens::{Unread, fault};
+use tokens::Unread;
 use values::Known;
 
 /// What a script declares.

@@ -7,7 +7,7 @@ use crate::sight::{Found, Sight, worth_here};
 use declared_names::{Answer, Entries, Meaning, answer_of};
 use std::alloc::{AllocError, Allocator};
 use syntax::Tree;
-use tokens::{Unread, fault};
+use tokens::Unread;
 use values::{Input, Known};
 
 /// The name that is all of the phrase, if it is one.

@@ -6,7 +6,7 @@ use declared_names::{Meaning, is_process_form};
 use std::alloc::{AllocError, Allocator};
 use std::mem::replace;
 use syntax::{Form, Operator, Tree};
-use tokens::ScriptErrorKind;
+use tokens::Unread;
 use values::{Input, Worth, stands_for};
 
 /// What is still to be done, by the places of names.

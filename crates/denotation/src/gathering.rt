@@ -11,7 +11,7 @@ use event_phrases::GlobalScope;
 use indexmap::IndexSet;
 use std::alloc::Allocator;
 use term::Term;
-use tokens::{Unread, fault};
+use tokens::Unread;
 
 /// The most nodes that all bodies have together.
 const NODE_LIMIT: usize = 65_536;

@@ -18,7 +18,7 @@ use crate::row::Row;
 use alphabet::EventSet;
 use std::alloc::Allocator;
 use syntax::Tree;
-use tokens::{Unread, fault};
+use tokens::Unread;
 use values::{Input, Known, Value};
 
 /// The values of a field, in order.

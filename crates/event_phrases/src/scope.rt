@@ -13,7 +13,7 @@ ghost use Rattle.event_phrases.specs.View.{listed};
 use crate::global_scope::{GlobalScope, Set, Wanted};
 use std::alloc::{AllocError, Allocator};
 use syntax::Tree;
-use tokens::{Unread, fault};
+use tokens::Unread;
 use values::{Input, Value, Values, Worth, is_value, stands_for, the_set, the_truth, the_value};
 
 /// The scope of a phrase: what is known of the script, and the inputs before the phrase.

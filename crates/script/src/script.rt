@@ -13,7 +13,7 @@ use declarations::{
 use event_phrases::{GlobalScope, Row, Set, Wanted};
 use std::alloc::Allocator;
 use syntax::Tree;
-use tokens::{Unread, fault};
+use tokens::Unread;
 use values::{Input, Known};
 
 /// What is known of a script's names, with the named sets of events that were found.
