@@ -87,10 +87,12 @@ fn diagnosed_channels<'a, A: Allocator + Copy>(
 {
     match error {
         Unread::Memory => error,
-        Unread::Fault(ScriptError {
-            kind: ScriptErrorKind::TooManyEvents,
-            ..
-        }) => error,
+        Unread::Fault(
+            ScriptError {
+                kind: ScriptErrorKind::TooManyEvents,
+                ..
+            },
+        ) => error,
         Unread::Fault(_) => match channels_fault(alloc, entries, known, declarations) {
             Ok(()) => error,
             Err(found) => found,
@@ -241,11 +243,7 @@ pub fn fault_of_channel<'a, A: Allocator>(
 
 /// What is wrong with a call on this line of a name that is no definition with so many parameters: what is reported of a name that
 /// isn't declared, else `Expected`.
-pub fn fault_of_call<'a, A: Allocator>(
-    entries: &Entries<'a, A>,
-    name: &[u8],
-    line: u32,
-) -> Unread {
+pub fn fault_of_call<'a, A: Allocator>(entries: &Entries<'a, A>, name: &[u8], line: u32) -> Unread {
     match entries.get(name) {
         Some(_) => fault(line, ScriptErrorKind::Expected),
         None => undeclared(name, line),

@@ -72,7 +72,7 @@ pub(crate) fn worth_here<A: Allocator + Copy>(
     stands_for(&sight.alloc, sight.known, sight.inputs, phrase)
 }
 
-/// The truth that a phrase stands for after the inputs, if it is one. 
+/// The truth that a phrase stands for after the inputs, if it is one.
 pub(crate) fn truth_here<A: Allocator + Copy>(
     sight: &Sight<'_, '_, A>,
     phrase: &Tree<A>,

@@ -14,7 +14,9 @@ ghost use Rattle.declared_names.specs.Steps.{steps};
 ghost use Rattle.declarations.specs.Sigma.{add_field, enter, enter_name, enter_names, enter_channels, enter_fielded, enter_form, enter_declaration, AreParted, KeepNames, KeepList, KeepParts, KeepDeclared};
 
 use alphabet::{Alphabet, AlphabetError, Field, Value as FieldValue};
-use declared_names::{Part, name_list, no_parts, only_part, part_of, set_list, two_parts, worth_alone};
+use declared_names::{
+    Part, name_list, no_parts, only_part, part_of, set_list, two_parts, worth_alone,
+};
 use std::alloc::{AllocError, Allocator};
 use syntax::{Form, Tree};
 use tokens::{ScriptErrorKind, Unread, fault};

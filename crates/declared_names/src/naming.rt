@@ -104,10 +104,7 @@ fn push_name<A: Allocator + Copy>(
 }
 
 /// The names in a list of names.
-fn names_in<A: Allocator + Copy>(
-    alloc: A,
-    parts: &[Tree<A>],
-) -> Result<Vec<Vec<u8, A>, A>, Unread>
+fn names_in<A: Allocator + Copy>(alloc: A, parts: &[Tree<A>]) -> Result<Vec<Vec<u8, A>, A>, Unread>
     ensures { Gives (λ v. map (λ n. n.items) v.items) result (steps add_name [] (syntaxes (shapes parts.now))) }
 {
     let mut names = Vec::new(alloc);

@@ -50,10 +50,7 @@ pub fn only_part<A: Allocator>(parts: &[Tree<A>], line: u32) -> Result<&Tree<A>,
 
 /// The two parts; `Expected` on this line where there is another number of parts.
 #[tactic(auto, using(crate::proofs::Shapes::are_two, crate::proofs::Shapes::not_two))]
-pub fn two_parts<A: Allocator>(
-    parts: &[Tree<A>],
-    line: u32,
-) -> Result<(&Tree<A>, &Tree<A>), Unread>
+pub fn two_parts<A: Allocator>(parts: &[Tree<A>], line: u32) -> Result<(&Tree<A>, &Tree<A>), Unread>
     ensures { Gives {Y = Syntax × Syntax} (λ p. (shape p.0.now, shape p.1.now)) result (two_of (syntaxes (shapes parts.now))) }
 {
     match parts {

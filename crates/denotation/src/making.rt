@@ -28,7 +28,9 @@ use crate::simple::{called, skip, stop};
 use crate::walk::{Place, first_place, next_place};
 use crate::work::Work;
 use event_phrases::forms::event_parts;
-use event_phrases::{GlobalScope, Prefix, Scope, next_fitting, prefix_of, two_sets, wanted_events, wanted_truth};
+use event_phrases::{
+    GlobalScope, Prefix, Scope, next_fitting, prefix_of, two_sets, wanted_events, wanted_truth,
+};
 use std::alloc::Allocator;
 use syntax::Tree;
 use term::Term;

@@ -17,10 +17,7 @@ use tokens::{ScriptErrorKind, Unread, fault};
 
 /// `STOP`, where there is room for it.
 #[tactic(auto, unfolding(crate::specs::Making::make_phrase))]
-pub(crate) fn stop<A: Allocator>(
-    work: Work<A>,
-    line: u32,
-) -> Result<(Term<A>, Work<A>), Unread>
+pub(crate) fn stop<A: Allocator>(work: Work<A>, line: u32) -> Result<(Term<A>, Work<A>), Unread>
     ensures { (s : ScopeOf) → Gives (λ x. (proc x.0, count x.1)) result (make_phrase stops s (count work)) }
 {
     let work = spent(work, 1, line)?;
@@ -29,10 +26,7 @@ pub(crate) fn stop<A: Allocator>(
 
 /// `SKIP`, where there is room for it.
 #[tactic(auto, unfolding(crate::specs::Making::make_phrase))]
-pub(crate) fn skip<A: Allocator>(
-    work: Work<A>,
-    line: u32,
-) -> Result<(Term<A>, Work<A>), Unread>
+pub(crate) fn skip<A: Allocator>(work: Work<A>, line: u32) -> Result<(Term<A>, Work<A>), Unread>
     ensures { (s : ScopeOf) → Gives (λ x. (proc x.0, count x.1)) result (make_phrase skips s (count work)) }
 {
     let work = spent(work, 1, line)?;

@@ -26,11 +26,7 @@ pub(crate) struct Work<A: Allocator> {
 
 /// The same with so many nodes less to be made; `TooLarge` where there is no room for them.
 #[tactic(auto, unfolding(crate::specs::Making::spend, crate::specs::Making::room_left))]
-pub(crate) fn spent<A: Allocator>(
-    work: Work<A>,
-    nodes: usize,
-    line: u32,
-) -> Result<Work<A>, Unread>
+pub(crate) fn spent<A: Allocator>(work: Work<A>, nodes: usize, line: u32) -> Result<Work<A>, Unread>
     ensures { Gives (λ w. count w) result (spend nodes (count work)) }
 {
     let Work { met, room } = work;

@@ -51,11 +51,7 @@ fn bodies_of<'a, A: Allocator + Copy>(
 }
 
 /// The specification that the script with this tree denotes for the root.
-fn denoted<A: Allocator + Copy>(
-    alloc: A,
-    tree: &Tree<A>,
-    root: &[u8],
-) -> Result<Spec<A>, Unread>
+fn denoted<A: Allocator + Copy>(alloc: A, tree: &Tree<A>, root: &[u8]) -> Result<Spec<A>, Unread>
     requires { IsTrue (has_names (shape tree.now)) }
     ensures found { IfOk result (λ spec. Denotes (shape tree.now) root.now spec) }
     ensures only { (spec : Specified) → Denotes (shape tree.now) root.now spec → MatchResult result (λ s. s ≡ spec) (λ e. e ≡ unread.Memory) }

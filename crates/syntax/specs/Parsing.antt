@@ -1,5 +1,5 @@
 -- Reading from left to right.
-use Rattle.std.specs.Prelude.{◌≡◌, ℕ, zero, suc, List, [], ◌∷◌, ◌++◌, length, Bool, true, false, not, ◌||◌, ◌&&◌, Option, Some, None, nat_lt, nat_le, if◌then◌else◌}
+use Rattle.std.specs.Prelude.{ℕ, zero, suc, List, [], ◌∷◌, ◌++◌, length, Bool, true, false, not, ◌||◌, ◌&&◌, Option, Some, None, nat_lt, nat_le, if◌then◌else◌}
 use denote.Enum.Bare.{sameb}
 use Rattle.tokens.specs.Lexeme.{Lexeme, Name, Number, Kept, Sign}
 use Rattle.tokens.specs.declared.symbol.Symbol.{Symbol}

@@ -54,10 +54,7 @@ fn begins_with<A: Allocator>(tokens: &[Token<A>], symbol: Symbol) -> bool
 }
 
 /// The tokens after a sign that must stand first.
-pub(crate) fn after<A: Allocator>(
-    tokens: &[Token<A>],
-    sign: Sign,
-) -> Result<&[Token<A>], Unread>
+pub(crate) fn after<A: Allocator>(tokens: &[Token<A>], sign: Sign) -> Result<&[Token<A>], Unread>
     ensures { Gives (λ x. lexemes x.now) result (after_sign sign (lexemes tokens.now)) }
 {
     match past(tokens, sign) {

@@ -27,11 +27,7 @@ fn at_end(unread: Unread, end: u32) -> Unread
 }
 
 /// The fault of tokens that are no script: one that names what CSPM has and this profile leaves out, where that is why.
-fn explained<A: Allocator + Clone + Drop>(
-    alloc: &A,
-    tokens: &[Token<A>],
-    unread: Unread,
-) -> Unread
+fn explained<A: Allocator + Clone + Drop>(alloc: &A, tokens: &[Token<A>], unread: Unread) -> Unread
     ensures { unread ≡ Memory → result ≡ Memory }
 {
     match unread {

@@ -119,10 +119,7 @@ fn range_with<A: Allocator + Clone>(
 }
 
 #[tactic(auto, unfolding(crate::specs::Worths::union_with))]
-fn union_with<A: Allocator + Clone>(
-    worths: Vec<Worth<A>, A>,
-    line: u32,
-) -> Result<Worth<A>, Unread>
+fn union_with<A: Allocator + Clone>(worths: Vec<Worth<A>, A>, line: u32) -> Result<Worth<A>, Unread>
     ensures { Gives worth_of result (union_with_of (map worth_of worths.items)) }
 {
     let (first, second) = two_sets(worths, line)?;
@@ -132,10 +129,7 @@ fn union_with<A: Allocator + Clone>(
 }
 
 #[tactic(auto, unfolding(crate::specs::Worths::intersection_with))]
-fn intersection_with<A: Allocator>(
-    worths: Vec<Worth<A>, A>,
-    line: u32,
-) -> Result<Worth<A>, Unread>
+fn intersection_with<A: Allocator>(worths: Vec<Worth<A>, A>, line: u32) -> Result<Worth<A>, Unread>
     ensures { Gives worth_of result (intersection_with_of (map worth_of worths.items)) }
 {
     let (first, second) = two_sets(worths, line)?;
@@ -144,10 +138,7 @@ fn intersection_with<A: Allocator>(
 }
 
 #[tactic(auto, unfolding(crate::specs::Worths::difference_with))]
-fn difference_with<A: Allocator>(
-    worths: Vec<Worth<A>, A>,
-    line: u32,
-) -> Result<Worth<A>, Unread>
+fn difference_with<A: Allocator>(worths: Vec<Worth<A>, A>, line: u32) -> Result<Worth<A>, Unread>
     ensures { Gives worth_of result (difference_with_of (map worth_of worths.items)) }
 {
     let (first, second) = two_sets(worths, line)?;
