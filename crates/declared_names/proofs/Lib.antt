@@ -4,6 +4,7 @@ pub mod Loops
 pub mod Tables
 pub mod Entered
 pub mod FormFaults
+pub mod Searching
 pub mod Learning
 pub mod ParameterNames
 pub mod Scripts

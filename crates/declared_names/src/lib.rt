@@ -11,6 +11,7 @@ mod order;
 mod parameters;
 mod part;
 mod processes;
+mod search;
 mod standing;
 mod told;
 
@@ -19,8 +20,8 @@ pub use faults::fault_of_names;
 pub use law::trees_have_names;
 pub use named::has_names;
 pub use naming::{declarations_of, distinct_entries, name_list, set_list};
-pub use order::places_by_use;
 pub use parameters::parameters_fit;
 pub use part::{Part, no_parts, only_part, part_of, two_parts, worth_alone};
 pub use processes::{Answer, answer_of, is_process_form};
+pub use search::{Learner, learn_names};
 pub use standing::table_of_names;

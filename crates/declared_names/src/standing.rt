@@ -1,14 +1,14 @@
 //! What the declared names stand for.
-ghost use Rattle.std.specs.Prelude.{IfOk, OnOk};
+ghost use Rattle.std.specs.Prelude.{IfOk, is_some};
 ghost use Rattle.values.specs.Names.{worth_of as worth_of_meaning, next_known, IsReached, Stands};
 ghost use Rattle.values.specs.Tables.{table};
 ghost use Rattle.values.specs.View.{Gives, worth as worth_of};
 ghost use Rattle.declared_names.specs.View.{entries as entries_of, meaning_of};
-ghost use Rattle.declared_names.specs.Standing.{Learns, LearnsAll};
+ghost use Rattle.declared_names.specs.Standing.{IsSettled};
 
 use crate::entries::{Entries, Entry, Meaning};
-use crate::order::places_by_use;
 use crate::part::worth_alone;
+use crate::search::{Learner, learn_names};
 use std::alloc::{AllocError, Allocator};
 use tokens::{ScriptErrorKind, Unread, fault};
 use values::{Known, Value, Worth, constant_set};
@@ -51,94 +51,47 @@ fn next_worth<'a, A: Allocator + Copy>(
     }
 }
 
-/// Learns what the name stands for, and returns whether that is new; a name whose definition is at fault stands for nothing.
-fn learn<'a, A: Allocator + Copy>(
+/// The definitions of the declared names, by which it is learned what these mean.
+#[derive(Drop)]
+struct Definitions<'a, A: Allocator> {
     alloc: A,
-    entries: &Entries<'a, A>,
-    known: &mut Known<A>,
-    name: &[u8],
-) -> Result<bool, AllocError>
-    requires { IsReached (entries_of entries.now) (table known.old) }
-    ensures { IfOk result (λ new. Learns (entries_of entries.now) (table known.old) (table known.new) new name.now) }
-{
-    if known.has(name) {
-        return Ok(false);
-    }
-    match next_worth(alloc, entries, known, name) {
-        Ok(worth) => {
-            known.insert(Vec::from_slice(alloc, name)?, worth)?;
-            Ok(true)
-        }
-        Err(Unread::Fault(_)) => Ok(false),
-        Err(Unread::Memory) => Err(AllocError),
-    }
+    entries: &'a Entries<'a, A>,
 }
 
-/// Looks at each name, and returns whether anything new was learned.
-fn learn_all<'a, A: Allocator + Copy>(
-    alloc: A,
-    entries: &Entries<'a, A>,
-    known: &mut Known<A>,
-) -> Result<bool, AllocError>
-    requires { IsReached (entries_of entries.now) (table known.old) }
-    ensures { IfOk result (λ new. LearnsAll (entries_of entries.now) (table known.old) (table known.new) new) }
-{
-    let mut any = false;
-    for place in 0..entries.len() {
-        if let Some(name) = entries.name_at(place) {
-            let new = learn(alloc, entries, known, name)?;
-            any = any || new;
-        }
-    }
-    Ok(any)
-}
+impl<'a, A: Allocator + Copy> Learner<Known<A>> for Definitions<'a, A> {
+    ghost knows = { λ known name. is_some (table known name) };
 
-/// Looks at the names at these places.
-fn learn_in_order<'a, A: Allocator + Copy>(
-    alloc: A,
-    entries: &Entries<'a, A>,
-    known: &mut Known<A>,
-    places: &[usize],
-) -> Result<(), AllocError>
-    requires { IsReached (entries_of entries.now) (table known.old) }
-    ensures { OnOk result (IsReached (entries_of entries.now) (table known.new)) }
-{
-    for place in places {
-        if let Some(name) = entries.name_at(*place) {
-            let _new = learn(alloc, entries, known, name)?;
-        }
-    }
-    Ok(())
-}
+    ghost reached = { λ definitions known. IsReached (entries_of definitions.entries.now) (table known) };
 
-/// Looks at all names until nothing is learned.
-fn settle<'a, A: Allocator + Copy>(
-    alloc: A,
-    entries: &Entries<'a, A>,
-    known: &mut Known<A>,
-) -> Result<(), AllocError>
-    requires { IsReached (entries_of entries.now) (table known.old) }
-    ensures { OnOk result (Stands (entries_of entries.now) (table known.new)) }
-{
-    loop {
-        let new = learn_all(alloc, entries, known)?;
-        if !new {
-            return Ok(());
+    ghost settled = { λ definitions known name. IsSettled (entries_of definitions.entries.now) (table known) name };
+
+    fn learn(&self, known: &mut Known<A>, name: &[u8]) -> Result<bool, AllocError> {
+        if known.has(name) {
+            return Ok(false);
+        }
+        match next_worth(self.alloc, self.entries, known, name) {
+            Ok(worth) => {
+                known.insert(Vec::from_slice(self.alloc, name)?, worth)?;
+                Ok(true)
+            }
+            Err(Unread::Fault(_)) => Ok(false),
+            Err(Unread::Memory) => Err(AllocError),
         }
     }
 }
 
-/// What the declared names mean. A definition is looked at when what it uses is known, so mostly once; one that
-/// means nothing is looked at twice, up to where it is at fault.
+/// What the declared names mean.
 pub fn table_of_names<'a, A: Allocator + Copy>(
     alloc: A,
     entries: &Entries<'a, A>,
 ) -> Result<Known<A>, AllocError>
     ensures { IfOk result (λ k. Stands (entries_of entries.now) (table k)) }
 {
-    let places = places_by_use(alloc, entries)?;
     let mut known = Known::new(alloc);
-    learn_in_order(alloc, entries, &mut known, &places)?;
-    settle(alloc, entries, &mut known)?;
+    let definitions = Definitions {
+        alloc,
+        entries: &*entries,
+    };
+    learn_names(alloc, entries, &definitions, &mut known)?;
     Ok(known)
 }
