@@ -6,5 +6,4 @@ pub mod Entering
 pub mod Naming
 pub mod Processes
 pub mod Told
--- Steps of the program.
 pub mod Standing

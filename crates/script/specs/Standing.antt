@@ -1,5 +1,5 @@
 -- How what names of sets of events mean is found: one name after the other, until no definition says more.
-use Rattle.std.specs.Prelude.{◌≡◌, ℕ, ◌+◌, ◌<◌, List, [], ◌∷◌, length, Bool, true, false, is_some, Option, Some, if◌then◌else◌, slice_get}
+use Rattle.std.specs.Prelude.{◌≡◌, ℕ, List, Option, Some}
 use Rattle.std.specs.Option.{option_map}
 use Rattle.alphabet.specs.Channels.{Channel}
 use Rattle.alphabet.specs.EventSets.{Set, has}
@@ -27,22 +27,3 @@ AreReached cs known es f = (n : Name) (S : Set) → f n ≡ Some S → (k : ℕ)
 -- the definition of this name says no more than these sets do
 abbrev pub IsSettled : List Channel → Known → List Entry → KnownSets → Name → Type 0
 IsSettled cs known es f n = (A : Events) → next_events cs known es (events_by f) n ≡ Some A → f n ≡ Some (set_of cs A)
-
--- how many names have no set
-unfoldable pub lacking : List Entry → KnownSets → ℕ
-lacking [] f = 0
-lacking (e ∷ es) f = (if is_some (f e.0) then 0 else 1) + lacking es f
-
--- A look at the definition of a name: the second sets have what it says, or they are the first ones, to which the definition adds nothing.
-abbrev pub Learns : List Channel → Known → List Entry → KnownSets → KnownSets → Bool → Name → Type 0
-Learns cs known es f g true n = AreReached cs known es g × (lacking es g < lacking es f)
-Learns cs known es f g false n = (g ≡ f) × IsSettled cs known es f n
-
--- a look at the first names, so many
-abbrev pub LearnsFirst : List Channel → Known → List Entry → KnownSets → KnownSets → Bool → ℕ → Type 0
-LearnsFirst cs known es f g true i = AreReached cs known es g × (lacking es g < lacking es f)
-LearnsFirst cs known es f g false i = (g ≡ f) × ((j : ℕ) (e : Entry) → j < i → slice_get es j ≡ Some e → IsSettled cs known es f e.0)
-
--- a look at all names
-abbrev pub LearnsAll : List Channel → Known → List Entry → KnownSets → KnownSets → Bool → Type 0
-LearnsAll cs known es f g b = LearnsFirst cs known es f g b (length es)

@@ -1,12 +1,11 @@
 -- What is known of a script in memory as plain values.
-use Rattle.std.specs.Prelude.{ℕ, Bool}
 use Rattle.values.specs.Values.{Name}
 use Rattle.values.specs.Tables.{table}
 use Rattle.declared_names.specs.View.{entries}
 use Rattle.event_phrases.specs.Scopes.{Scope}
 use Rattle.script.specs.declared.names.Names.{Names}
 use Rattle.script.specs.declared.script.Script.{Script}
-use Rattle.script.specs.Standing.{KnownSets, events_by, AreReached, Learns, LearnsFirst, LearnsAll}
+use Rattle.script.specs.Standing.{KnownSets, events_by, AreReached, IsSettled}
 use Rattle.script.specs.Tables.{said}
 
 -- these names, where the names of sets of events mean this
@@ -20,11 +19,6 @@ scope s = scope_with s.names.now (said s.sets.now)
 abbrev pub AreReachedBy : {A : Type 0} → Names A → KnownSets → Type 0
 AreReachedBy n = AreReached n.sigma.alphabet (table n.known) (entries n.entries)
 
-abbrev pub LearnsOf : {A : Type 0} → Names A → KnownSets → KnownSets → Bool → Name → Type 0
-LearnsOf n = Learns n.sigma.alphabet (table n.known) (entries n.entries)
-
-abbrev pub LearnsFirstOf : {A : Type 0} → Names A → KnownSets → KnownSets → Bool → ℕ → Type 0
-LearnsFirstOf n = LearnsFirst n.sigma.alphabet (table n.known) (entries n.entries)
-
-abbrev pub LearnsAllOf : {A : Type 0} → Names A → KnownSets → KnownSets → Bool → Type 0
-LearnsAllOf n = LearnsAll n.sigma.alphabet (table n.known) (entries n.entries)
+-- the definition of this name says no more than these sets do
+abbrev pub IsSettledBy : {A : Type 0} → Names A → KnownSets → Name → Type 0
+IsSettledBy n = IsSettled n.sigma.alphabet (table n.known) (entries n.entries)

@@ -61,7 +61,7 @@ pub(crate) fn fields_by_name<A: Allocator + Copy>(
     let mut table = Table::new(alloc);
     for number in (0..alphabet.channels()).rev() {
         if let Some((name, fields)) = alphabet.channel(number) {
-            table = table.with(name, sets_of(alloc, fields)?)?;
+            table.insert(name, sets_of(alloc, fields)?)?;
         }
     }
     Ok(table)

@@ -1,5 +1,5 @@
 //! Which sets of events names mean.
-ghost use Rattle.std.specs.Prelude.{IfOk};
+ghost use Rattle.std.specs.Prelude.{IfOk, is_some};
 ghost use Rattle.event_phrases.specs.Events.{EventsStand, event_set, masked};
 ghost use Rattle.syntax.specs.View.{shape};
 ghost use Rattle.values.specs.Tables.{table};
@@ -7,13 +7,13 @@ ghost use Rattle.values.specs.View.{Gives};
 ghost use Rattle.declared_names.specs.View.{entries as entries_of};
 ghost use Rattle.script.specs.Standing.{events_by, next_events};
 ghost use Rattle.script.specs.Tables.{said};
-ghost use Rattle.script.specs.View.{AreReachedBy, LearnsOf, LearnsAllOf};
+ghost use Rattle.script.specs.View.{AreReachedBy, IsSettledBy};
 
 use crate::names::Names;
 use crate::script::Script;
 use crate::table::Table;
 use alphabet::EventSet;
-use declared_names::places_by_use;
+use declared_names::{Learner, learn_names};
 use event_phrases::set_of_events;
 use std::alloc::{AllocError, Allocator};
 use syntax::Tree;
@@ -50,90 +50,36 @@ fn next_set<'a, A: Allocator + Copy>(
     }
 }
 
-/// The table with the set that the name means, and whether it has learned that; a name whose definition is at fault or
-/// is none of a set of events means none.
-fn learned<'a, A: Allocator + Copy>(
+/// The definitions of a script's names, by which it is learned which sets of events these mean.
+#[derive(Drop)]
+struct Definitions<'a, A: Allocator> {
     alloc: A,
-    names: &Names<'a, A>,
-    sets: Table<EventSet, A>,
-    name: &[u8],
-) -> Result<(Table<EventSet, A>, bool), AllocError>
-    requires { AreReachedBy names.now (said sets) }
-    ensures { IfOk result (λ r. LearnsOf names.now (said sets) (said r.0) r.1 name.now) }
-{
-    if sets.has(name) {
-        return Ok((sets, false));
-    }
-    match next_set(alloc, names, &sets, name) {
-        Ok(set) => Ok((sets.with(name, set)?, true)),
-        Err(Unread::Fault(_)) => Ok((sets, false)),
-        Err(Unread::Memory) => Err(AllocError),
-    }
+    names: &'a Names<'a, A>,
 }
 
-/// The table after a look at each name, and whether it has learned of any.
-fn learned_all<'a, A: Allocator + Copy>(
-    alloc: A,
-    names: &Names<'a, A>,
-    sets: Table<EventSet, A>,
-) -> Result<(Table<EventSet, A>, bool), AllocError>
-    requires { AreReachedBy names.now (said sets) }
-    ensures { IfOk result (λ r. LearnsAllOf names.now (said sets) (said r.0) r.1) }
-{
-    let mut sets = sets;
-    let mut any = false;
-    for place in 0..names.entries.len() {
-        if let Some(name) = names.entries.name_at(place) {
-            let (next, new) = learned(alloc, names, sets, name)?;
-            sets = next;
-            any = any || new;
+impl<'a, A: Allocator + Copy> Learner<Table<EventSet, A>> for Definitions<'a, A> {
+    ghost knows = { λ sets name. is_some (said sets name) };
+
+    ghost reached = { λ definitions sets. AreReachedBy definitions.names.now (said sets) };
+
+    ghost settled = { λ definitions sets name. IsSettledBy definitions.names.now (said sets) name };
+
+    fn learn(&self, sets: &mut Table<EventSet, A>, name: &[u8]) -> Result<bool, AllocError> {
+        if sets.has(name) {
+            return Ok(false);
         }
-    }
-    Ok((sets, any))
-}
-
-/// The table after a look at the names at these places.
-fn learned_in_order<'a, A: Allocator + Copy>(
-    alloc: A,
-    names: &Names<'a, A>,
-    sets: Table<EventSet, A>,
-    places: &[usize],
-) -> Result<Table<EventSet, A>, AllocError>
-    requires { AreReachedBy names.now (said sets) }
-    ensures { IfOk result (λ t. AreReachedBy names.now (said t)) }
-{
-    let mut sets = sets;
-    for place in places {
-        if let Some(name) = names.entries.name_at(*place) {
-            let (next, _new) = learned(alloc, names, sets, name)?;
-            sets = next;
-        }
-    }
-    Ok(sets)
-}
-
-/// The sets that the names mean, from a table that says nothing else: looks at all names until nothing is learned.
-fn settled<'a, A: Allocator + Copy>(
-    alloc: A,
-    names: &Names<'a, A>,
-    sets: Table<EventSet, A>,
-) -> Result<Table<EventSet, A>, AllocError>
-    requires { AreReachedBy names.now (said sets) }
-    ensures stand { IfOk result (λ t. EventsStand names.now.sigma.alphabet (table names.now.known) (entries_of names.now.entries) (events_by (said t))) }
-    ensures reached { IfOk result (λ t. AreReachedBy names.now (said t)) }
-{
-    let mut sets = sets;
-    loop {
-        let (next, new) = learned_all(alloc, names, sets)?;
-        sets = next;
-        if !new {
-            return Ok(sets);
+        match next_set(self.alloc, self.names, sets, name) {
+            Ok(set) => {
+                sets.insert(name, set)?;
+                Ok(true)
+            }
+            Err(Unread::Fault(_)) => Ok(false),
+            Err(Unread::Memory) => Err(AllocError),
         }
     }
 }
 
-/// The sets of events that the names mean. A definition is looked at when the sets that it uses are known, so mostly
-/// once; one that is none of a set of events is looked at twice, up to the first form in it that no set has.
+/// The sets of events that the names mean.
 pub(crate) fn named_sets<'a, A: Allocator + Copy>(
     alloc: A,
     names: &Names<'a, A>,
@@ -141,7 +87,11 @@ pub(crate) fn named_sets<'a, A: Allocator + Copy>(
     ensures stand { IfOk result (λ t. EventsStand names.now.sigma.alphabet (table names.now.known) (entries_of names.now.entries) (events_by (said t))) }
     ensures reached { IfOk result (λ t. AreReachedBy names.now (said t)) }
 {
-    let places = places_by_use(alloc, &names.entries)?;
-    let sets = learned_in_order(alloc, names, Table::new(alloc), &places)?;
-    settled(alloc, names, sets)
+    let mut sets = Table::new(alloc);
+    let definitions = Definitions {
+        alloc,
+        names: &*names,
+    };
+    learn_names(alloc, &names.entries, &definitions, &mut sets)?;
+    Ok(sets)
 }

@@ -1,5 +1,5 @@
 //! Tables of names.
-ghost use Rattle.std.specs.Prelude.{◌≡◌, ℕ, List, Some, None, is_some, IfOk, if◌then◌else◌};
+ghost use Rattle.std.specs.Prelude.{◌≡◌, ℕ, List, Some, None, is_some, OnOk, if◌then◌else◌};
 ghost use Rattle.std.specs.Option.{option_map};
 ghost use Rattle.values.specs.Names.{same_name};
 ghost use Rattle.script.specs.Tables.{said};
@@ -26,14 +26,13 @@ impl<V: Drop, A: Allocator + Copy> Table<V, A> {
         }
     }
 
-    /// The table where the name means this value.
-    pub(crate) fn with(self, name: &[u8], value: V) -> Result<Table<V, A>, AllocError>
-        ensures { IfOk result (λ t. (other : List ℕ) → said t other ≡ (if same_name other name.now then Some value else said self other)) }
+    /// Says that the name means this value.
+    pub(crate) fn insert(&mut self, name: &[u8], value: V) -> Result<(), AllocError>
+        ensures { OnOk result ((other : List ℕ) → said self.new other ≡ (if same_name other name.now then Some value else said self.old other)) }
     {
-        let mut entries = self.entries;
-        let name = Vec::from_slice(*entries.allocator(), name)?;
-        let _old = entries.insert(name, value)?;
-        Ok(Table { entries })
+        let name = Vec::from_slice(*self.entries.allocator(), name)?;
+        let _old = self.entries.insert(name, value)?;
+        Ok(())
     }
 }
 

@@ -1,4 +1,4 @@
-use Rattle.std.proofs.Common.{Some, cond, is_some, refl, sym, ap, ◌∙◌}
+use Rattle.std.proofs.Common.{Some, cond, refl, sym, ap, ◌∙◌}
 use Rattle.syntax.proofs.Failing.{none_wanted}
 use Rattle.values.specs.Names.{next_known, same_name}
 use Rattle.values.specs.Values.{Name}
