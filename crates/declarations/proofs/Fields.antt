@@ -9,12 +9,14 @@ use Rattle.std.specs.declared.cmp.Ordering.TheVariants.{Less, Equal, Greater}
 use Rattle.alphabet.specs.declared.field_value.Value.{Value as FieldStored}
 use Rattle.alphabet.specs.Channels.{FieldValue, number, constant, Values, is_below, is_rising}
 use Rattle.alphabet.specs.Stored.{value_of, field_of}
-use Rattle.syntax.specs.Grammar.{Syntaxes, NoSyntax, MoreSyntax}
+use Rattle.tokens.specs.declared.unread.Unread.{Unread}
+use Rattle.syntax.specs.Grammar.{Syntax, Syntaxes, NoSyntax, MoreSyntax}
+use Rattle.syntax.proofs.Failing.{fails_on}
 use Rattle.values.specs.declared.value.Value.{Value}
 use Rattle.values.specs.Values.{◌>>=◌, value_cmp}
 use Rattle.values.specs.Worths.{Worth, Known, worth, the_set}
 use Rattle.values.specs.Channels.{fields_of}
-use Rattle.values.specs.View.{value}
+use Rattle.values.specs.View.{Fails, value}
 use Rattle.declared_names.specs.Steps.{steps}
 use Rattle.declarations.specs.Sigma.{add_field}
 use Rattle.declared_names.proofs.Chains.{both, left, right}
@@ -73,6 +75,22 @@ pushed_rising fs new f vs h e a b = ap (list_all is_rising) (pushed_field fs new
 
 abbrev some_fields : List Values → Option (List Values)
 some_fields fs = Some fs
+
+abbrev added_to : List Values → Option Worth → Option (List Values)
+added_to front o = o >>= λ w. the_set w >>= λ vs. some_fields (front ++ vs ∷ [])
+
+pub field_added : (known : Known) (front all : List Values) (t : Syntax) (w : Worth) (vs : Values) → worth known t ≡ Some w → the_set w ≡ Some vs → all ≡ front ++ vs ∷ [] → add_field known front t ≡ Some all
+unfolding add_field
+field_added known front all t w vs a b c = ap (added_to front) a ∙ ap (λ o. o >>= λ vs. some_fields (front ++ vs ∷ [])) b ∙ ap some_fields (sym c)
+
+-- nothing is added where the phrase stands for nothing, or for no set
+pub worth_fails : (k : Unread) (known : Known) (front : List Values) (t : Syntax) → Fails k (worth known t) → Fails k (add_field known front t)
+unfolding add_field
+worth_fails k known front t h = fails_on k (worth known t) (add_field known front t) (ap (added_to front)) h
+
+pub set_fails : (k : Unread) (known : Known) (front : List Values) (t : Syntax) (w : Worth) → worth known t ≡ Some w → Fails k (the_set w) → Fails k (add_field known front t)
+unfolding add_field
+set_fails k known front t w e h = fails_on k (the_set w) (add_field known front t) (λ n. ap (added_to front) e ∙ ap (λ o. o >>= λ vs. some_fields (front ++ vs ∷ [])) n) h
 
 pub added_fields : (known : Known) (front : List Values) (ts : Syntaxes) → steps (add_field known) front ts ≡ (fields_of known ts >>= λ fs. Some (front ++ fs))
 unfolding steps add_field fields_of

@@ -10,7 +10,7 @@ use Rattle.syntax.specs.Grammar.{Syntax, Called, Numeral, Node, Syntaxes, NoSynt
 use Rattle.values.specs.Values.{◌>>=◌, Name}
 use Rattle.values.specs.Worths.{Worth, Known}
 use Rattle.values.specs.Names.{Meaning, channel, datatype, constant_name, definition, parametric, is_constant, Entry, same_name, names_of, listed_names, field_sets, entries_of, declared_by, declared_by_all, meaning, are_distinct, worth_of, known_in, Stands}
-use Rattle.declared_names.specs.Naming.{has_names, have_names}
+use Rattle.declared_names.specs.LanguageNames.{has_names, have_names}
 use Rattle.declarations.specs.Passing.{all_pass, pass}
 use Rattle.declared_names.specs.Steps.{only_of, two_of}
 use Rattle.declared_names.specs.Entering.{list_parts}

@@ -1,7 +1,7 @@
 -- What is found is what a script declares.
 use Rattle.std.proofs.Common.{◌≡◌, ◌≤◌, List, [], Bool, true, false, cond, Option, Some, None, refl, sym, ap, subst, ◌∙◌, arith}
 use Rattle.std.proofs.lemmas.Bool.{ltb-true, ltb-false}
-use Rattle.std.specs.Prelude.{nat_lt}
+use Rattle.std.specs.Prelude.{nat_lt, Result, Ok, Err, IfOk}
 use Rattle.std.specs.List.{list_all}
 use Rattle.alphabet.specs.Channels.{Channel, event_count}
 use Rattle.tokens.specs.declared.unread.Unread.{Unread}
@@ -11,9 +11,9 @@ use Rattle.values.specs.Values.{◌>>=◌, Name}
 use Rattle.values.specs.Worths.{Worth, Known}
 use Rattle.values.specs.Names.{Entry, declared, are_distinct, have_parameters, Stands}
 use Rattle.values.specs.Channels.{channels_of, Declares}
-use Rattle.values.specs.View.{Fails}
+use Rattle.values.specs.View.{Fails, Gives}
 use Rattle.declared_names.specs.Steps.{steps}
-use Rattle.declared_names.specs.Naming.{has_names, have_names}
+use Rattle.declared_names.specs.LanguageNames.{has_names, have_names}
 use Rattle.declared_names.specs.Entering.{script_parts, distinct_entries}
 use Rattle.declarations.specs.Fitting.{fitting, fitting_entries}
 use Rattle.declarations.specs.Sigma.{enter_declaration, KeepDeclared}
@@ -154,3 +154,17 @@ channels_fail k t ts es fs f g cs p d q e s h = fails_some k (steps (enter_decla
 
 pub same_all : (es fs : List Entry) (f g : Known) (cs ds : List Channel) → es ≡ fs → f ≡ g → cs ≡ ds → (let a : Option (List Entry × Known × List Channel) = Some (es, f, cs) in let b : Option (List Entry × Known × List Channel) = Some (fs, g, ds) in a ≡ b)
 same_all es fs f g cs ds a b c = λ i. Some (a i, b i, c i)
+
+-- ---- where the channels are entered over names and what they mean
+
+module _ (t : Syntax) (ts : Syntaxes) (es : List Entry) (f : Known) where
+  pub found_in : (r : Result (List Channel) Unread) → script_parts t ≡ Some ts → fitting_entries t ≡ Some es → Stands es f → Gives (λ cs. cs) r (steps (enter_declaration f) [] ts) → IfOk r (λ cs. Declares t es f cs)
+  found_in (Ok cs) p e s h = found t ts es f cs p e s h
+  found_in (Err k) p e s h = tt
+
+  pub found_only : (r : Result (List Channel) Unread) → script_parts t ≡ Some ts → fitting_entries t ≡ Some es → Stands es f → Gives (λ cs. cs) r (steps (enter_declaration f) [] ts)
+      → (fs : List Entry) (g : Known) (ds : List Channel) → Declares t fs g ds → Gives {Y = List Entry × Known × List Channel} (λ cs. (es, f, cs)) r (Some (fs, g, ds))
+  found_only (Ok cs) p e s h fs g ds d =
+      let r = declares_channels t ts fs es g f ds d p e s in
+      same_all fs es g f ds cs (sym r.0) (sym r.1) (some_same (sym r.2 ∙ h))
+  found_only (Err k) p e s h fs g ds d = channels_fail k t ts fs es g f ds _ d p e s h

@@ -1,17 +1,17 @@
 //! What a script declares.
-ghost use Rattle.std.specs.Prelude.{List, Some, IfOk, IsTrue};
+ghost use Rattle.std.specs.Prelude.{◌≡◌, List, Some, IfOk, IsTrue};
 ghost use Rattle.alphabet.specs.Channels.{Channel};
 ghost use Rattle.syntax.specs.View.{shape};
 ghost use Rattle.values.specs.Channels.{Declares};
-ghost use Rattle.values.specs.Names.{Entry};
+ghost use Rattle.values.specs.Names.{Entry, Stands};
 ghost use Rattle.values.specs.Tables.{table};
 ghost use Rattle.values.specs.View.{Gives};
 ghost use Rattle.values.specs.Worths.{Known as Knowledge};
-ghost use Rattle.declared_names.specs.Naming.{has_names};
+ghost use Rattle.declared_names.specs.LanguageNames.{has_names};
 ghost use Rattle.declared_names.specs.View.{entries as entries_of};
 ghost use Rattle.declarations.specs.Fitting.{fitting as fitting_of, fitting_entries as fitting_entries_of};
 
-use crate::diagnosis::told_alphabet;
+use crate::diagnosis::declared_alphabet;
 use alphabet::Alphabet;
 use declared_names::{
     Entries, declarations_of, distinct_entries, fault_of_names, parameters_fit, table_of_names,
@@ -33,14 +33,14 @@ pub struct Declared<'a, A: Allocator> {
 }
 
 /// The names, where the parameters are in order.
-#[tactic(auto, using(crate::proofs::Whole::fit_same, crate::proofs::Whole::unfit_fails))]
 fn fitting<'a, A: Allocator + Copy>(
     entries: Entries<'a, A>,
     tree: &'a Tree<A>,
 ) -> Result<Entries<'a, A>, Unread>
     ensures { Gives entries_of result (fitting_of (entries_of entries.entry)) }
 {
-    if parameters_fit(&entries)? {
+    let fit = parameters_fit(&entries)?;
+    if fit {
         Ok(entries)
     } else {
         Err(fault_of_names(tree))
@@ -61,12 +61,52 @@ fn fitting_entries<'a, A: Allocator + Copy>(
     }
 }
 
+/// The channels of the script with this tree, whose names are these entries and mean this.
+fn alphabet_of_script<'a, A: Allocator + Copy>(
+    alloc: A,
+    entries: &Entries<'a, A>,
+    known: &Known<A>,
+    tree: &Tree<A>,
+) -> Result<Alphabet<A>, Unread>
+    requires named { IsTrue (has_names (shape tree.now)) }
+    requires entered { fitting_entries_of (shape tree.now) ≡ Some (entries_of entries.now) }
+    requires stands { Stands (entries_of entries.now) (table known.now) }
+    ensures found { IfOk result (λ cs. Declares (shape tree.now) (entries_of entries.now) (table known.now) cs) }
+    ensures only { (es : List Entry) (meant : Knowledge) (cs : List Channel) → Declares (shape tree.now) es meant cs
+        → Gives {Y = List Entry × Knowledge × List Channel} (λ ds. (entries_of entries.now, table known.now, ds)) result (Some (es, meant, cs)) }
+{
+    let declarations = declarations_of(tree)?;
+    declared_alphabet(alloc, entries, known, declarations)
+}
+
+/// What the names of the script with this tree mean, which are these entries, and its channels.
+fn known_with_alphabet<'a, A: Allocator + Copy>(
+    alloc: A,
+    entries: &Entries<'a, A>,
+    tree: &Tree<A>,
+) -> Result<(Known<A>, Alphabet<A>), Unread>
+    requires named { IsTrue (has_names (shape tree.now)) }
+    requires entered { fitting_entries_of (shape tree.now) ≡ Some (entries_of entries.now) }
+    ensures found { IfOk result (λ p. Declares (shape tree.now) (entries_of entries.now) (table p.0) p.1) }
+    ensures only { (es : List Entry) (meant : Knowledge) (cs : List Channel) → Declares (shape tree.now) es meant cs
+        → Gives {Y = List Entry × Knowledge × List Channel} (λ p. (entries_of entries.now, table p.0, p.1)) result (Some (es, meant, cs)) }
+{
+    let known = table_of_names(alloc, entries)?;
+    match alphabet_of_script(alloc, entries, &known, tree) {
+        Ok(alphabet) => Ok((known, alphabet)),
+        Err(error) => {
+            drop(known);
+            Err(error)
+        }
+    }
+}
+
 /// What the script with this tree declares. Each name in the tree is a name of the language.
 ///
 /// Tells the first fault in its names, in text order: `Redeclared` where a name is declared for the second time, or a parameter
 /// for the second time in its list, and `Unsupported` at a parameter with the name of a constant; else, for the first channel
 /// that is at fault, the first fault in the sets of its fields and in the definitions that they need, or `TooManyEvents` at
-/// its name where there would be more than 256 events. `Memory` is reported on line 1.
+/// its name where there would be more than 256 events. `Memory` is reported where it runs out.
 ///
 /// Costs a turn for each name and each use of one, and what it takes to find what each named number and set means,
 /// once: also of those that nothing uses.
@@ -82,11 +122,12 @@ pub fn declare<'a, A: Allocator + Copy>(
         → Gives {Y = List Entry × Knowledge × List Channel} (λ d. (entries_of d.entries, table d.known, d.alphabet)) result (Some (es, known, cs)) }
 {
     let entries = fitting_entries(alloc, tree)?;
-    let known = table_of_names(alloc, &entries)?;
-    let alphabet = told_alphabet(alloc, &entries, &known, declarations_of(tree)?)?;
-    Ok(Declared {
-        entries,
-        known,
-        alphabet,
-    })
+    match known_with_alphabet(alloc, &entries, tree) {
+        Ok((known, alphabet)) => Ok(Declared {
+            entries,
+            known,
+            alphabet,
+        }),
+        Err(error) => Err(error),
+    }
 }

@@ -12,7 +12,7 @@ ghost use Rattle.declared_names.specs.Steps.{steps};
 use crate::found::{seen_behind, seen_of};
 use crate::kinds::{Kind, Wanted};
 use crate::phrase_kinds::{event_in_set, kind_of};
-use crate::sight::{kind_of_name, undeclared, worth_here};
+use crate::sight::{as_evaluated, kind_of_name, undeclared};
 use crate::sigma::alphabet_of;
 use alphabet::Alphabet;
 use declared_names::{Entries, Meaning, Part, part_of, worth_alone};
@@ -32,6 +32,24 @@ fn field_fault<'a, A: Allocator + Copy>(
     kind_of(&sight, phrase, Wanted::Values, phrase.line())
 }
 
+/// The fault in the set of a field, if it has one.
+fn set_fault<'a, A: Allocator + Copy>(
+    alloc: A,
+    entries: &Entries<'a, A>,
+    known: &Known<A>,
+    set: &Tree<A>,
+) -> Result<(), Unread> {
+    match worth_alone(alloc, known, set) {
+        Ok(Worth::Many(_)) => Ok(()),
+        Ok(Worth::One(_) | Worth::Truth(_)) => Err(fault(set.line(), ScriptErrorKind::Expected)),
+        Err(Unread::Memory) => Err(Unread::Memory),
+        Err(own) => match field_fault(alloc, entries, known, set) {
+            Ok(_) => Err(own),
+            Err(error) => Err(error),
+        },
+    }
+}
+
 /// The fault in the first of the sets of fields that has one.
 fn fields_fault<'a, A: Allocator + Copy>(
     alloc: A,
@@ -39,21 +57,9 @@ fn fields_fault<'a, A: Allocator + Copy>(
     known: &Known<A>,
     sets: &Tree<A>,
 ) -> Result<(), Unread> {
-    let Part::Node(_, sets) = part_of(sets) else {
-        return Ok(());
-    };
-    for set in sets {
-        match worth_alone(alloc, known, set) {
-            Ok(Worth::Many(_)) => {}
-            Ok(Worth::One(_) | Worth::Truth(_)) => {
-                return Err(fault(set.line(), ScriptErrorKind::Expected));
-            }
-            Err(own) => {
-                if let Unread::Fault(_) = own {
-                    field_fault(alloc, entries, known, set)?;
-                }
-                return Err(own);
-            }
+    if let Part::Node(_, sets) = part_of(sets) {
+        for set in sets {
+            set_fault(alloc, entries, known, set)?;
         }
     }
     Ok(())
@@ -100,9 +106,9 @@ fn diagnosed_channels<'a, A: Allocator + Copy>(
     }
 }
 
-/// The alphabet of these declarations, whose names are among the entries. A fault is told where it is met first.
+/// The alphabet of these declarations, whose names are among the entries. Of a fault the one that is met first is reported.
 #[tactic(auto, using(syntax::proofs::Failing::fails_too))]
-pub(crate) fn told_alphabet<'a, A: Allocator + Copy>(
+pub(crate) fn declared_alphabet<'a, A: Allocator + Copy>(
     alloc: A,
     entries: &Entries<'a, A>,
     known: &Known<A>,
@@ -189,10 +195,7 @@ fn kind_behind_inputs<'a, A: Allocator + Copy>(
 ) -> Result<Kind, Unread> {
     let sight = seen_behind(alloc, entries, known, inputs, phrase, true)?;
     let kind = kind_of(&sight, phrase, wanted, phrase.line())?;
-    if kind == Kind::Values {
-        worth_here(&sight, phrase)?;
-    }
-    Ok(kind)
+    as_evaluated(&sight, phrase, kind)
 }
 
 /// What is reported of an event phrase after these inputs that gives no channel and first values of its fields.

@@ -1,9 +1,9 @@
 //! What definitions are found to be.
 
 use crate::kinds::{Kind, Wanted};
-use crate::needs::{needs_of_name, needs_of_phrase};
+use crate::needs::{Names, needs_of_name, needs_of_phrase};
 use crate::phrase_kinds::{kind_of, without_conditions};
-use crate::sight::{Found, Sight, worth_here};
+use crate::sight::{Found, Sight, as_evaluated};
 use declared_names::{Answer, Entries, Meaning, answer_of};
 use std::alloc::{AllocError, Allocator};
 use syntax::Tree;
@@ -97,10 +97,7 @@ fn kind_of_body<'a, A: Allocator + Copy>(
         return Ok(kind);
     }
     let kind = kind_of(sight, phrase, Wanted::Anything, phrase.line())?;
-    if kind == Kind::Values {
-        worth_here(sight, phrase)?;
-    }
-    Ok(kind)
+    as_evaluated(sight, phrase, kind)
 }
 
 /// What is found of the definition at this place.
@@ -117,40 +114,44 @@ fn found_at<'a, A: Allocator + Copy>(sight: &Sight<'_, 'a, A>, place: usize) -> 
     }
 }
 
-/// The same with what is found of the definitions at these places, one after the other.
-fn looked_into<'s, 'a, A: Allocator + Copy>(
-    sight: Sight<'s, 'a, A>,
-    places: &[usize],
-) -> Sight<'s, 'a, A> {
-    let mut sight = sight;
+/// Looks into the definitions at these places, one after the other.
+fn look_into<'a, A: Allocator + Copy>(sight: &mut Sight<'_, 'a, A>, places: &[usize]) {
     for place in places {
-        let found = found_at(&sight, *place);
+        let found = found_at(sight, *place);
         if let Some(cell) = sight.found.get_mut(*place) {
             *cell = found;
         }
     }
-    sight
 }
 
 /// Nothing found yet.
 fn nothing_found<'s, 'a, A: Allocator + Copy>(
-    alloc: A,
-    entries: &'s Entries<'a, A>,
-    known: &'s Known<A>,
+    names: &Names<'s, 'a, A>,
     has_events: bool,
 ) -> Result<Sight<'s, 'a, A>, AllocError> {
-    let mut found = Vec::new(alloc);
-    for _ in 0..entries.len() {
+    let mut found = Vec::new(names.alloc);
+    for _ in 0..names.entries.len() {
         found.push(Found::Nothing)?;
     }
     Ok(Sight {
-        alloc,
-        entries,
-        known,
+        alloc: names.alloc,
+        entries: names.entries,
+        known: names.known,
         inputs: &[],
         has_events,
         found,
     })
+}
+
+/// What can be seen without inputs, with what is found of the definitions at these places.
+fn seen_with<'s, 'a, A: Allocator + Copy>(
+    names: &Names<'s, 'a, A>,
+    places: &[usize],
+    has_events: bool,
+) -> Result<Sight<'s, 'a, A>, AllocError> {
+    let mut sight = nothing_found(names, has_events)?;
+    look_into(&mut sight, places);
+    Ok(sight)
 }
 
 /// What can be seen after these inputs, with what is found of the definitions that the phrase needs.
@@ -162,9 +163,14 @@ pub(crate) fn seen_behind<'s, 'a, A: Allocator + Copy>(
     phrase: &Tree<A>,
     has_events: bool,
 ) -> Result<Sight<'s, 'a, A>, AllocError> {
-    let sight = nothing_found(alloc, entries, known, has_events)?;
-    let places = needs_of_phrase(&sight, inputs, phrase)?;
-    let mut sight = looked_into(sight, &places);
+    let names = Names {
+        alloc,
+        entries,
+        known,
+        inputs,
+    };
+    let places = needs_of_phrase(&names, phrase)?;
+    let mut sight = seen_with(&names, &places, has_events)?;
     sight.inputs = inputs;
     Ok(sight)
 }
@@ -176,7 +182,12 @@ pub(crate) fn seen_of<'s, 'a, A: Allocator + Copy>(
     known: &'s Known<A>,
     name: &[u8],
 ) -> Result<Sight<'s, 'a, A>, AllocError> {
-    let sight = nothing_found(alloc, entries, known, true)?;
-    let places = needs_of_name(&sight, name)?;
-    Ok(looked_into(sight, &places))
+    let names = Names {
+        alloc,
+        entries,
+        known,
+        inputs: &[],
+    };
+    let places = needs_of_name(&names, name)?;
+    seen_with(&names, &places, true)
 }

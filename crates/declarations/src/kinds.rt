@@ -103,9 +103,56 @@ fn is_set_form(form: Form) -> bool {
     )
 }
 
-/// Whether a phrase of this form can be what is wanted. It is no name, no call and no condition, which say it by more than
-/// their form.
+/// How phrases of a form are looked into.
+#[derive(Clone, Copy)]
+pub(crate) enum Look {
+    /// The phrase in brackets is looked into.
+    Inside,
+    Branch,
+    Members,
+    Sets,
+    Productions,
+    /// The sides of `and` or `or`, of which the first one decides where it is this truth.
+    Connected(bool),
+    Compared,
+    /// Each of the parts is to be what is wanted.
+    Each(Wanted),
+    /// The form says what it is, or the names in it.
+    Alone,
+}
+
+/// How phrases with this operator are looked into.
+fn look_of_operator(operator: Operator) -> Look {
+    match operator {
+        Operator::And => Look::Connected(false),
+        Operator::Or => Look::Connected(true),
+        Operator::Equal | Operator::NotEqual => Look::Compared,
+        _ => Look::Each(Wanted::Number),
+    }
+}
+
+/// How phrases of this form are looked into.
+pub(crate) fn look_of(form: Form) -> Look {
+    match form {
+        Form::Brackets => Look::Inside,
+        Form::If => Look::Branch,
+        Form::Set => Look::Members,
+        Form::Union | Form::Intersection | Form::Difference => Look::Sets,
+        Form::Productions => Look::Productions,
+        Form::Range | Form::Negation | Form::NegativeNumber => Look::Each(Wanted::Number),
+        Form::True | Form::False | Form::Not => Look::Each(Wanted::Truth),
+        Form::Operation(operator) if is_number_form(form) || is_truth_form(form) => {
+            look_of_operator(operator)
+        }
+        _ => Look::Alone,
+    }
+}
+
+/// Whether a phrase of this form can be what is wanted. Names, calls and conditions say it by more than their form.
 pub(crate) fn takes_form(wanted: Wanted, form: Form) -> bool {
+    if matches!(form, Form::Brackets | Form::If | Form::Event | Form::Call) {
+        return true;
+    }
     match wanted {
         Wanted::Anything => true,
         Wanted::Number | Wanted::Value | Wanted::Member => is_number_form(form),

@@ -1,14 +1,14 @@
 //! What phrases are, or the first fault that is met when their parts are looked into from the left.
 
-use crate::kinds::{Kind, Wanted, is_number_form, is_truth_form, takes, takes_form};
+use crate::kinds::{Kind, Look, Wanted, look_of, takes, takes_form};
 use crate::sight::{
-    Sight, field_sets, is_in, kind_of_call, kind_of_event, kind_of_events, kind_of_worth,
-    truth_here, worth_here,
+    Sight, as_evaluated, field_sets, in_set, kind_of_call, kind_of_event, kind_of_events,
+    kind_of_worth, truth_here, worth_here,
 };
 use declared_names::is_process_form;
 use std::alloc::Allocator;
-use syntax::{Form, Operator, Tree};
-use tokens::{ScriptError, ScriptErrorKind, Unread, fault};
+use syntax::{Form, Tree};
+use tokens::{ScriptErrorKind, Unread, fault};
 
 /// What a phrase is that means a set of values, or the fault of one that means nothing.
 fn ended(own: Option<Unread>) -> Result<Kind, Unread> {
@@ -55,51 +55,100 @@ struct Spot {
     own: Option<Unread>,
 }
 
-/// What evaluation says of a phrase: its kind, its fault, or neither where its parts are to be looked into.
-enum Told {
+/// What evaluation says of a phrase.
+enum Evaluation {
     Is(Kind),
-    Fault(ScriptError),
-    Nothing,
+    /// Its parts are to be looked into. This is reported where they are as they should be; none where it means a set.
+    Unclear(Option<Unread>),
 }
 
 /// What evaluation says of the phrase. A condition isn't evaluated as a whole, since its parts say more; nor is what is made
 /// of two sets, since that is costly and says nothing but that it is too large.
-fn told_of<A: Allocator + Copy>(
+fn evaluation_of<A: Allocator + Copy>(
     sight: &Sight<'_, '_, A>,
     phrase: &Tree<A>,
-) -> Result<Told, Unread> {
+) -> Result<Evaluation, Unread> {
     if let Tree::Node { form, .. } = phrase {
         if matches!(
             form,
             Form::Brackets | Form::If | Form::Union | Form::Intersection | Form::Difference
         ) {
-            return Ok(Told::Nothing);
+            return Ok(Evaluation::Unclear(None));
         }
     }
     match worth_here(sight, phrase) {
         Ok(worth) => match kind_of_worth(&worth) {
-            Kind::Nothing => Ok(Told::Nothing),
-            kind => Ok(Told::Is(kind)),
+            Kind::Nothing => Ok(Evaluation::Unclear(None)),
+            kind => Ok(Evaluation::Is(kind)),
         },
-        Err(Unread::Fault(own)) => Ok(Told::Fault(own)),
         Err(Unread::Memory) => Err(Unread::Memory),
+        Err(own) => Ok(Evaluation::Unclear(Some(own))),
     }
 }
 
 /// What is reported where this fault is met after the phrase, which is of this kind: a set of values that is too large is met
 /// first.
-fn told_behind<A: Allocator + Copy>(
+fn fault_after<A: Allocator + Copy>(
     sight: &Sight<'_, '_, A>,
     phrase: &Tree<A>,
     kind: Kind,
     error: Unread,
 ) -> Unread {
-    if kind == Kind::Values {
-        if let Err(own) = worth_here(sight, phrase) {
-            return own;
+    match as_evaluated(sight, phrase, kind) {
+        Ok(_) => error,
+        Err(own) => own,
+    }
+}
+
+/// The kind of the phrase, where it is wanted of it on this line.
+fn as_wanted_of<A: Allocator + Copy>(
+    sight: &Sight<'_, '_, A>,
+    phrase: &Tree<A>,
+    wanted: Wanted,
+    kind: Kind,
+    line: u32,
+) -> Result<Kind, Unread> {
+    match as_wanted(wanted, kind, line) {
+        Ok(kind) => Ok(kind),
+        Err(error) => Err(fault_after(sight, phrase, kind, error)),
+    }
+}
+
+/// What is made of two sets of these kinds; else the fault that is met first: the first one is too large, or the second one is, or
+/// they are of different sorts.
+fn as_both<A: Allocator + Copy>(
+    sight: &Sight<'_, '_, A>,
+    left: &Tree<A>,
+    first: Kind,
+    right: &Tree<A>,
+    second: Kind,
+) -> Result<Kind, Unread> {
+    match kind_of_both(first, second) {
+        Some(kind) => Ok(kind),
+        None => {
+            let error = fault(right.line(), ScriptErrorKind::Expected);
+            let error = fault_after(sight, right, second, error);
+            Err(fault_after(sight, left, first, error))
         }
     }
-    error
+}
+
+/// What a phrase is that is looked into no further than its own names: a call, an event, a set that its form names, or a process.
+fn kind_alone<A: Allocator + Copy>(
+    sight: &Sight<'_, '_, A>,
+    form: Form,
+    parts: &[Tree<A>],
+    line: u32,
+) -> Result<Kind, Unread> {
+    match form {
+        Form::Event => kind_of_event(sight, parts, line),
+        Form::Call => kind_of_call(sight, parts, line),
+        Form::EmptySet => Ok(Kind::Nothing),
+        Form::NoProductions => Ok(Kind::Events),
+        Form::Events => kind_of_events(sight, line),
+        _ if is_process_form(form) => Ok(Kind::Process),
+        _ => Err(fault(line, ScriptErrorKind::Expected)),
+    }
 }
 
 /// What the phrase is, which is wanted on this line; else the fault that is met first.
@@ -110,26 +159,21 @@ pub(crate) fn kind_of<A: Allocator + Copy>(
     wanted: Wanted,
     outer: u32,
 ) -> Result<Kind, Unread> {
-    let own = match told_of(sight, phrase)? {
-        Told::Is(kind) => return as_wanted(wanted, kind, outer),
-        Told::Fault(own) => Some(Unread::Fault(own)),
-        Told::Nothing => None,
-    };
-    match phrase {
-        Tree::Node { line, form, parts } => {
-            let spot = Spot {
-                wanted,
-                outer,
-                line: *line,
-                own,
-            };
-            let kind = kind_of_form(sight, *form, parts, spot)?;
-            match as_wanted(wanted, kind, outer) {
-                Ok(kind) => Ok(kind),
-                Err(error) => Err(told_behind(sight, phrase, kind, error)),
+    match evaluation_of(sight, phrase)? {
+        Evaluation::Is(kind) => as_wanted(wanted, kind, outer),
+        Evaluation::Unclear(own) => match phrase {
+            Tree::Node { line, form, parts } => {
+                let spot = Spot {
+                    wanted,
+                    outer,
+                    line: *line,
+                    own,
+                };
+                let kind = kind_of_form(sight, *form, parts, spot)?;
+                as_wanted_of(sight, phrase, wanted, kind, outer)
             }
-        }
-        Tree::Name { .. } | Tree::Number { .. } => ended(own),
+            Tree::Name { .. } | Tree::Number { .. } => ended(own),
+        },
     }
 }
 
@@ -141,25 +185,32 @@ fn kind_of_form<A: Allocator + Copy>(
     parts: &[Tree<A>],
     spot: Spot,
 ) -> Result<Kind, Unread> {
-    match form {
-        Form::Brackets => match parts {
-            [inner] => kind_of(sight, inner, spot.wanted, spot.outer),
-            _ => ended(spot.own),
-        },
-        Form::If => kind_of_branch(sight, parts, spot),
-        Form::Event => kind_of_event(sight, parts, spot.line),
-        Form::Call => kind_of_call(sight, parts, spot.line),
-        _ if !takes_form(spot.wanted, form) => Err(fault(spot.outer, ScriptErrorKind::Expected)),
-        Form::Set => kind_of_members(sight, parts, spot.own),
-        Form::Union | Form::Intersection | Form::Difference => kind_of_sets(sight, parts, spot.own),
-        Form::EmptySet => Ok(Kind::Nothing),
-        Form::NoProductions => Ok(Kind::Events),
-        Form::Events => kind_of_events(sight, spot.line),
-        Form::Productions => kind_of_productions(sight, parts),
-        _ if form == Form::Range || is_number_form(form) => numbers(sight, parts, spot.own),
-        _ if is_truth_form(form) => kind_of_truth(sight, form, parts, spot.own),
-        _ if is_process_form(form) => Ok(Kind::Process),
-        _ => Err(fault(spot.line, ScriptErrorKind::Expected)),
+    if !takes_form(spot.wanted, form) {
+        return Err(fault(spot.outer, ScriptErrorKind::Expected));
+    }
+    match look_of(form) {
+        Look::Inside => kind_inside(sight, parts, spot),
+        Look::Branch => kind_of_branch(sight, parts, spot),
+        Look::Members => kind_of_members(sight, parts, spot.own),
+        Look::Sets => kind_of_sets(sight, parts, spot.own),
+        Look::Productions => kind_of_productions(sight, parts),
+        Look::Connected(decisive) => connected(sight, decisive, parts, spot.own),
+        Look::Compared => compared(sight, parts, spot.own),
+        Look::Each(wanted) => each(sight, wanted, parts, spot.own),
+        Look::Alone => kind_alone(sight, form, parts, spot.line),
+    }
+}
+
+/// What the phrase in brackets is.
+#[cycle(kinds)]
+fn kind_inside<A: Allocator + Copy>(
+    sight: &Sight<'_, '_, A>,
+    parts: &[Tree<A>],
+    spot: Spot,
+) -> Result<Kind, Unread> {
+    match parts {
+        [inner] => kind_of(sight, inner, spot.wanted, spot.outer),
+        _ => ended(spot.own),
     }
 }
 
@@ -192,28 +243,6 @@ fn kind_of_branch<A: Allocator + Copy>(
             }
         }
         _ => ended(spot.own),
-    }
-}
-
-/// What a phrase of this form for a truth is, which evaluation refuses.
-#[cycle(kinds)]
-fn kind_of_truth<A: Allocator + Copy>(
-    sight: &Sight<'_, '_, A>,
-    form: Form,
-    parts: &[Tree<A>],
-    own: Option<Unread>,
-) -> Result<Kind, Unread> {
-    match form {
-        Form::Operation(Operator::And) => connected(sight, false, parts, own),
-        Form::Operation(Operator::Or) => connected(sight, true, parts, own),
-        Form::Operation(Operator::Equal | Operator::NotEqual) => compared(sight, parts, own),
-        Form::Operation(_) => numbers(sight, parts, own),
-        _ => {
-            for part in parts {
-                kind_of(sight, part, Wanted::Truth, part.line())?;
-            }
-            ended(own)
-        }
     }
 }
 
@@ -252,17 +281,35 @@ fn compared<A: Allocator + Copy>(
     ended(own)
 }
 
-/// The first fault in phrases that are to be numbers, or else this one.
+/// The first fault in phrases of each of which this is wanted, or else this one.
 #[cycle(kinds)]
-fn numbers<A: Allocator + Copy>(
+fn each<A: Allocator + Copy>(
     sight: &Sight<'_, '_, A>,
+    wanted: Wanted,
     parts: &[Tree<A>],
     own: Option<Unread>,
 ) -> Result<Kind, Unread> {
     for part in parts {
-        kind_of(sight, part, Wanted::Number, part.line())?;
+        kind_of(sight, part, wanted, part.line())?;
     }
     ended(own)
+}
+
+/// Whether a member of this kind is an event, as it is to be where the first member is one, and not where it isn't.
+fn is_event_as_first<A: Allocator>(
+    sight: &Sight<'_, '_, A>,
+    kind: Kind,
+    first: Option<bool>,
+    line: u32,
+) -> Result<bool, Unread> {
+    let is_event = kind == Kind::Event;
+    if first.unwrap_or(is_event) != is_event {
+        return Err(fault(line, ScriptErrorKind::Expected));
+    }
+    if is_event {
+        kind_of_events(sight, line)?;
+    }
+    Ok(is_event)
 }
 
 /// What a set of these members is.
@@ -275,14 +322,12 @@ fn kind_of_members<A: Allocator + Copy>(
     let mut first = None;
     for member in members {
         let line = member.line();
-        let is_event = kind_of(sight, member, Wanted::Member, line)? == Kind::Event;
-        if *first.get_or_insert(is_event) != is_event {
-            return Err(fault(line, ScriptErrorKind::Expected));
-        }
+        let kind = kind_of(sight, member, Wanted::Member, line)?;
+        let is_event = is_event_as_first(sight, kind, first, line)?;
         if is_event {
-            kind_of_events(sight, line)?;
             event_in_set(sight, member, true)?;
         }
+        first = Some(is_event);
     }
     match first {
         Some(true) => Ok(Kind::Events),
@@ -303,6 +348,25 @@ fn kind_of_productions<A: Allocator + Copy>(
     Ok(Kind::Events)
 }
 
+/// The sets of the fields of an event phrase with this name and these fields in a set; as a member it is a whole event.
+fn sets_of_event<'a, A: Allocator + Copy>(
+    sight: &Sight<'_, 'a, A>,
+    name: &Tree<A>,
+    fields: &[Tree<A>],
+    is_member: bool,
+    line: u32,
+) -> Result<&'a [Tree<A>], Unread> {
+    let sets = field_sets(sight, name, line)?;
+    if fields.iter().any(is_input) {
+        return Err(fault(line, ScriptErrorKind::Expected));
+    }
+    if fields.len() == sets.len() || (!is_member && fields.len() < sets.len()) {
+        Ok(sets)
+    } else {
+        Err(fault(line, ScriptErrorKind::WrongFields))
+    }
+}
+
 /// Looks into an event phrase in a set; as a member it is a whole event.
 #[cycle(kinds)]
 pub(crate) fn event_in_set<A: Allocator + Copy>(
@@ -313,27 +377,20 @@ pub(crate) fn event_in_set<A: Allocator + Copy>(
     let Tree::Node { line, form, parts } = phrase else {
         return Ok(());
     };
-    match parts.as_slice() {
-        [inner] if *form == Form::Brackets => event_in_set(sight, inner, is_member),
-        [condition, first, second] if *form == Form::If => {
+    match (*form, parts.as_slice()) {
+        (Form::Brackets, [inner]) => event_in_set(sight, inner, is_member),
+        (Form::If, [condition, first, second]) => {
             if decided(sight, condition)? {
                 event_in_set(sight, first, is_member)
             } else {
                 event_in_set(sight, second, is_member)
             }
         }
-        [first, fields @ ..] => {
-            let sets = field_sets(sight, first, *line)?;
-            let fits = fields.len() == sets.len() || (!is_member && fields.len() < sets.len());
-            if fields.iter().any(is_input) {
-                return Err(fault(*line, ScriptErrorKind::Expected));
-            }
-            if !fits {
-                return Err(fault(*line, ScriptErrorKind::WrongFields));
-            }
+        (_, [first, fields @ ..]) => {
+            let sets = sets_of_event(sight, first, fields, is_member, *line)?;
             values_in_sets(sight, parts, sets)
         }
-        [] => Ok(()),
+        (_, []) => Ok(()),
     }
 }
 
@@ -351,9 +408,7 @@ fn values_in_sets<A: Allocator + Copy>(
         if let Tree::Node { parts, .. } = part {
             if let [value] = parts.as_slice() {
                 kind_of(sight, value, Wanted::Value, value.line())?;
-                if !is_in(sight, value, sets.get(set))? {
-                    return Err(fault(value.line(), ScriptErrorKind::OutOfRange));
-                }
+                in_set(sight, value, sets.get(set))?;
             }
         }
     }
@@ -371,17 +426,9 @@ fn kind_of_sets<A: Allocator + Copy>(
         return ended(own);
     };
     let first = kind_of(sight, left, Wanted::Set, left.line())?;
-    let second = match kind_of(sight, right, Wanted::Set, right.line()) {
-        Ok(kind) => kind,
-        Err(error) => return Err(told_behind(sight, left, first, error)),
-    };
-    match kind_of_both(first, second) {
-        Some(kind) => Ok(kind),
-        None => {
-            let error = fault(right.line(), ScriptErrorKind::Expected);
-            let error = told_behind(sight, right, second, error);
-            Err(told_behind(sight, left, first, error))
-        }
+    match kind_of(sight, right, Wanted::Set, right.line()) {
+        Ok(second) => as_both(sight, left, first, right, second),
+        Err(error) => Err(fault_after(sight, left, first, error)),
     }
 }
 
@@ -394,9 +441,9 @@ pub(crate) fn without_conditions<'t, A: Allocator + Copy>(
     let Tree::Node { form, parts, .. } = phrase else {
         return Ok(phrase);
     };
-    match parts.as_slice() {
-        [inner] if *form == Form::Brackets => without_conditions(sight, inner),
-        [condition, first, second] if *form == Form::If => {
+    match (*form, parts.as_slice()) {
+        (Form::Brackets, [inner]) => without_conditions(sight, inner),
+        (Form::If, [condition, first, second]) => {
             if decided(sight, condition)? {
                 without_conditions(sight, first)
             } else {

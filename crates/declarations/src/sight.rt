@@ -72,6 +72,18 @@ pub(crate) fn worth_here<A: Allocator + Copy>(
     stands_for(&sight.alloc, sight.known, sight.inputs, phrase)
 }
 
+/// The kind, of a phrase that is of it; the fault of a set of values that is too large.
+pub(crate) fn as_evaluated<A: Allocator + Copy>(
+    sight: &Sight<'_, '_, A>,
+    phrase: &Tree<A>,
+    kind: Kind,
+) -> Result<Kind, Unread> {
+    if kind == Kind::Values {
+        worth_here(sight, phrase)?;
+    }
+    Ok(kind)
+}
+
 /// The truth that a phrase stands for after the inputs, if it is one.
 pub(crate) fn truth_here<A: Allocator + Copy>(
     sight: &Sight<'_, '_, A>,
@@ -206,7 +218,7 @@ pub(crate) fn field_sets<'a, A: Allocator + Copy>(
 }
 
 /// Whether the phrase means a value of the set.
-pub(crate) fn is_in<A: Allocator + Copy>(
+fn is_in<A: Allocator + Copy>(
     sight: &Sight<'_, '_, A>,
     value: &Tree<A>,
     set: Option<&Tree<A>>,
@@ -220,5 +232,18 @@ pub(crate) fn is_in<A: Allocator + Copy>(
     match worth_alone(sight.alloc, sight.known, set)? {
         Worth::Many(set) => Ok(set.contains(&value)),
         Worth::One(_) | Worth::Truth(_) => Ok(false),
+    }
+}
+
+/// Looks whether the phrase means a value of the set; it is out of range where it doesn't.
+pub(crate) fn in_set<A: Allocator + Copy>(
+    sight: &Sight<'_, '_, A>,
+    value: &Tree<A>,
+    set: Option<&Tree<A>>,
+) -> Result<(), Unread> {
+    if is_in(sight, value, set)? {
+        Ok(())
+    } else {
+        Err(fault(value.line(), ScriptErrorKind::OutOfRange))
     }
 }

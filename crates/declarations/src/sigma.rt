@@ -33,7 +33,6 @@ fn field_value<A: Allocator>(value: Value<A>) -> FieldValue<A>
 }
 
 /// The values of a set, in their order.
-#[tactic(auto, using(crate::proofs::Fields::field_start, crate::proofs::Fields::field_more, crate::proofs::Fields::field_end, crate::proofs::Fields::rising))]
 fn in_order<A: Allocator + Copy>(alloc: A, set: Values<A>) -> Result<Field<A>, AllocError>
     ensures same { IfOk result (λ f. field_of f ≡ values_of set) }
     ensures rising { is_rising (values_of set) ≡ true }
@@ -46,27 +45,25 @@ fn in_order<A: Allocator + Copy>(alloc: A, set: Values<A>) -> Result<Field<A>, A
     Ok(field)
 }
 
-/// The fields and the values of one more.
-#[tactic(auto, unfolding(crate::specs::Sigma::add_field), using(crate::proofs::Fields::pushed_field, crate::proofs::Fields::pushed_rising))]
-fn with_field<A: Allocator + Copy>(
+/// Appends the values of one more field.
+fn push_field<A: Allocator + Copy>(
     alloc: A,
     known: &Known<A>,
-    fields: Vec<Field<A>, A>,
+    fields: &mut Vec<Field<A>, A>,
     set: &Tree<A>,
-) -> Result<Vec<Field<A>, A>, Unread>
-    requires { list_all is_rising (map field_of fields.items) ≡ true }
-    ensures fields { Gives (λ v. map field_of v.items) result (add_field (table known.now) (map field_of fields.items) (shape set.now)) }
-    ensures rising { IfOk result (λ v. list_all is_rising (map field_of v.items) ≡ true) }
+) -> Result<(), Unread>
+    requires { list_all is_rising (map field_of fields.old.items) ≡ true }
+    ensures fields { Gives (λ _. map field_of fields.new.items) result (add_field (table known.now) (map field_of fields.old.items) (shape set.now)) }
+    ensures rising { IfOk result (λ _. list_all is_rising (map field_of fields.new.items) ≡ true) }
 {
-    let mut fields = fields;
     let worth = worth_alone(alloc, known, set)?;
     let values = the_set(worth, set.line())?;
     fields.push(in_order(alloc, values)?)?;
-    Ok(fields)
+    Ok(())
 }
 
 /// The values of the fields with these sets.
-#[tactic(auto, using(declared_names::proofs::Loops::all_start, declared_names::proofs::Loops::all_more, declared_names::proofs::Loops::all_fail, declared_names::proofs::Loops::all_end))]
+#[tactic(auto, using(declared_names::proofs::Loops::all_start))]
 fn fields_of<A: Allocator + Copy>(
     alloc: A,
     known: &Known<A>,
@@ -77,26 +74,25 @@ fn fields_of<A: Allocator + Copy>(
 {
     let mut fields = Vec::new(alloc);
     for set in sets {
-        fields = with_field(alloc, known, fields, set)?;
+        push_field(alloc, known, &mut fields, set)?;
     }
     Ok(fields)
 }
 
-/// The alphabet and a channel of this name.
-fn with_channel<A: Allocator + Copy>(
-    alphabet: Alphabet<A>,
+/// Adds a channel of this name.
+fn add_channel<A: Allocator + Copy>(
+    alphabet: &mut Alphabet<A>,
     name: &[u8],
     line: u32,
     fields: &[Field<A>],
-) -> Result<Alphabet<A>, Unread>
+) -> Result<(), Unread>
     requires named { IsTrue (is_name name.now) }
     requires in_order { IsTrue (list_all is_field (map field_of fields.now)) }
-    requires apart { IsTrue (are_apart (alphabet ++ channel_of name.now fields.now ∷ [])) }
-    ensures { Gives (λ a. a) result (enter alphabet (channel_of name.now fields.now)) }
+    requires apart { IsTrue (are_apart (alphabet.old ++ channel_of name.now fields.now ∷ [])) }
+    ensures { Gives (λ _. alphabet.new) result (enter alphabet.old (channel_of name.now fields.now)) }
 {
-    let mut alphabet = alphabet;
     match alphabet.declare(name, fields) {
-        Ok(()) => Ok(alphabet),
+        Ok(()) => Ok(()),
         Err(AlphabetError::Redeclared) => Err(fault(line, ScriptErrorKind::Redeclared)),
         Err(AlphabetError::TooManyEvents) => Err(fault(line, ScriptErrorKind::TooManyEvents)),
         Err(AlphabetError::Memory) => Err(Unread::Memory),
@@ -105,134 +101,147 @@ fn with_channel<A: Allocator + Copy>(
 
 /// The same of a name in a list.
 #[tactic(auto, unfolding(crate::specs::Sigma::enter_name))]
-fn with_channel_of<A: Allocator + Copy>(
-    alphabet: Alphabet<A>,
+fn add_channel_of<A: Allocator + Copy>(
+    alphabet: &mut Alphabet<A>,
     name: &Tree<A>,
     fields: &[Field<A>],
-) -> Result<Alphabet<A>, Unread>
-    requires { AreParted alphabet (MoreSyntax (shape name.now) NoSyntax) (map field_of fields.now) }
-    ensures { Gives (λ a. a) result (enter_name (map field_of fields.now) alphabet (shape name.now)) }
+) -> Result<(), Unread>
+    requires { AreParted alphabet.old (MoreSyntax (shape name.now) NoSyntax) (map field_of fields.now) }
+    ensures { Gives (λ _. alphabet.new) result (enter_name (map field_of fields.now) alphabet.old (shape name.now)) }
 {
     match part_of(name) {
-        Part::Name(text) => with_channel(alphabet, text, name.line(), fields),
+        Part::Name(text) => add_channel(alphabet, text, name.line(), fields),
         _ => Err(fault(name.line(), ScriptErrorKind::Expected)),
     }
 }
 
-/// The alphabet and channels of these names with these fields.
-#[tactic(auto, using(declared_names::proofs::Loops::all_start, declared_names::proofs::Loops::all_more, declared_names::proofs::Loops::all_fail, declared_names::proofs::Loops::all_end))]
-fn with_channels<A: Allocator + Copy>(
-    alphabet: Alphabet<A>,
+/// Adds channels of these names with these fields.
+fn add_channels<A: Allocator + Copy>(
+    alphabet: &mut Alphabet<A>,
     names: &[Tree<A>],
     fields: &[Field<A>],
-) -> Result<Alphabet<A>, Unread>
-    requires { AreParted alphabet (syntaxes (shapes names.now)) (map field_of fields.now) }
-    ensures { Gives (λ a. a) result (steps (enter_name (map field_of fields.now)) alphabet (syntaxes (shapes names.now))) }
+) -> Result<(), Unread>
+    requires { AreParted alphabet.old (syntaxes (shapes names.now)) (map field_of fields.now) }
+    ensures { Gives (λ _. alphabet.new) result (steps (enter_name (map field_of fields.now)) alphabet.old (syntaxes (shapes names.now))) }
 {
-    let mut alphabet = alphabet;
     for name in names {
-        alphabet = with_channel_of(alphabet, name, fields)?;
+        add_channel_of(alphabet, name, fields)?;
     }
-    Ok(alphabet)
+    Ok(())
 }
 
-/// The alphabet and channels of these names with fields of these sets, which are found once.
-fn with_names<A: Allocator + Copy>(
+/// Adds channels of these names with fields of these sets, which are found once.
+fn add_names<A: Allocator + Copy>(
     alloc: A,
     known: &Known<A>,
-    alphabet: Alphabet<A>,
+    alphabet: &mut Alphabet<A>,
     names: &[Tree<A>],
     sets: &[Tree<A>],
-) -> Result<Alphabet<A>, Unread>
-    requires { KeepNames (table known.now) alphabet (syntaxes (shapes names.now)) }
-    ensures { Gives (λ a. a) result (enter_names (table known.now) (syntaxes (shapes sets.now)) alphabet (syntaxes (shapes names.now))) }
+) -> Result<(), Unread>
+    requires { KeepNames (table known.now) alphabet.old (syntaxes (shapes names.now)) }
+    ensures { Gives (λ _. alphabet.new) result (enter_names (table known.now) (syntaxes (shapes sets.now)) alphabet.old (syntaxes (shapes names.now))) }
 {
     if names.is_empty() {
-        return Ok(alphabet);
+        return Ok(());
     }
     let fields = fields_of(alloc, known, sets)?;
-    with_channels(alphabet, names, &fields)
+    add_channels(alphabet, names, &fields)
 }
 
 /// The same of a list of names.
 #[tactic(auto, unfolding(crate::specs::Sigma::enter_channels))]
-fn with_list<A: Allocator + Copy>(
+fn add_list<A: Allocator + Copy>(
     alloc: A,
     known: &Known<A>,
-    alphabet: Alphabet<A>,
+    alphabet: &mut Alphabet<A>,
     names: &Tree<A>,
     sets: &[Tree<A>],
-) -> Result<Alphabet<A>, Unread>
-    requires { KeepList (table known.now) alphabet (shape names.now) }
-    ensures { Gives (λ a. a) result (enter_channels (table known.now) alphabet (shape names.now) (syntaxes (shapes sets.now))) }
+) -> Result<(), Unread>
+    requires { KeepList (table known.now) alphabet.old (shape names.now) }
+    ensures { Gives (λ _. alphabet.new) result (enter_channels (table known.now) alphabet.old (shape names.now) (syntaxes (shapes sets.now))) }
 {
     let names = name_list(names)?;
-    with_names(alloc, known, alphabet, names, sets)
+    add_names(alloc, known, alphabet, names, sets)
 }
 
 /// The same where the sets stand in this part.
 #[tactic(auto, unfolding(crate::specs::Sigma::enter_fielded))]
-fn with_fielded<A: Allocator + Copy>(
+fn add_fielded<A: Allocator + Copy>(
     alloc: A,
     known: &Known<A>,
-    alphabet: Alphabet<A>,
+    alphabet: &mut Alphabet<A>,
     names: &Tree<A>,
     sets: &Tree<A>,
-) -> Result<Alphabet<A>, Unread>
-    requires { KeepList (table known.now) alphabet (shape names.now) }
-    ensures { Gives (λ a. a) result (enter_fielded (table known.now) alphabet (shape names.now) (shape sets.now)) }
+) -> Result<(), Unread>
+    requires { KeepList (table known.now) alphabet.old (shape names.now) }
+    ensures { Gives (λ _. alphabet.new) result (enter_fielded (table known.now) alphabet.old (shape names.now) (shape sets.now)) }
 {
     let sets = set_list(sets)?;
-    with_list(alloc, known, alphabet, names, sets)
+    add_list(alloc, known, alphabet, names, sets)
 }
 
-/// The alphabet and the channels of a declaration of this form.
+/// Adds the channels of a declaration of this form.
 #[tactic(auto, unfolding(crate::specs::Sigma::enter_form))]
-fn with_form<A: Allocator + Copy>(
+fn add_form<A: Allocator + Copy>(
     alloc: A,
     known: &Known<A>,
-    alphabet: Alphabet<A>,
+    alphabet: &mut Alphabet<A>,
     form: Form,
     parts: &[Tree<A>],
     line: u32,
-) -> Result<Alphabet<A>, Unread>
-    requires { KeepParts (table known.now) alphabet form (syntaxes (shapes parts.now)) }
-    ensures { Gives (λ a. a) result (enter_form (table known.now) alphabet form (syntaxes (shapes parts.now))) }
+) -> Result<(), Unread>
+    requires { KeepParts (table known.now) alphabet.old form (syntaxes (shapes parts.now)) }
+    ensures { Gives (λ _. alphabet.new) result (enter_form (table known.now) alphabet.old form (syntaxes (shapes parts.now))) }
 {
     match form {
         Form::Channels => {
             let names = only_part(parts, line)?;
-            with_list(alloc, known, alphabet, names, no_parts(parts))
+            add_list(alloc, known, alphabet, names, no_parts(parts))
         }
         Form::ChannelsWithFields => {
             let (names, sets) = two_parts(parts, line)?;
-            with_fielded(alloc, known, alphabet, names, sets)
+            add_fielded(alloc, known, alphabet, names, sets)
         }
-        _ => Ok(alphabet),
+        _ => Ok(()),
     }
 }
 
-/// The alphabet and the channels of a declaration.
+/// Adds the channels of a declaration.
 #[tactic(auto, unfolding(crate::specs::Sigma::enter_declaration))]
-fn with_declaration<A: Allocator + Copy>(
+fn add_declaration<A: Allocator + Copy>(
     alloc: A,
     known: &Known<A>,
-    alphabet: Alphabet<A>,
+    alphabet: &mut Alphabet<A>,
     declaration: &Tree<A>,
-) -> Result<Alphabet<A>, Unread>
-    requires { KeepDeclared (table known.now) alphabet (MoreSyntax (shape declaration.now) NoSyntax) }
-    ensures { Gives (λ a. a) result (enter_declaration (table known.now) alphabet (shape declaration.now)) }
+) -> Result<(), Unread>
+    requires { KeepDeclared (table known.now) alphabet.old (MoreSyntax (shape declaration.now) NoSyntax) }
+    ensures { Gives (λ _. alphabet.new) result (enter_declaration (table known.now) alphabet.old (shape declaration.now)) }
 {
     match part_of(declaration) {
         Part::Node(form, parts) => {
-            with_form(alloc, known, alphabet, form, parts, declaration.line())
+            add_form(alloc, known, alphabet, form, parts, declaration.line())
         }
-        _ => Ok(alphabet),
+        _ => Ok(()),
     }
 }
 
-/// The alphabet of these declarations. The sets of a declaration's fields are found once for all its names.
-#[tactic(auto, using(declared_names::proofs::Loops::all_start, declared_names::proofs::Loops::all_more, declared_names::proofs::Loops::all_fail, declared_names::proofs::Loops::all_end))]
+/// Adds the channels of these declarations. The sets of a declaration's fields are found once for all its names.
+fn add_declarations<A: Allocator + Copy>(
+    alloc: A,
+    known: &Known<A>,
+    alphabet: &mut Alphabet<A>,
+    declarations: &[Tree<A>],
+) -> Result<(), Unread>
+    requires { KeepDeclared (table known.now) alphabet.old (syntaxes (shapes declarations.now)) }
+    ensures { Gives (λ _. alphabet.new) result (steps (enter_declaration (table known.now)) alphabet.old (syntaxes (shapes declarations.now))) }
+{
+    for declaration in declarations {
+        add_declaration(alloc, known, alphabet, declaration)?;
+    }
+    Ok(())
+}
+
+/// The alphabet of these declarations.
 pub(crate) fn alphabet_of<A: Allocator + Copy>(
     alloc: A,
     known: &Known<A>,
@@ -242,8 +251,11 @@ pub(crate) fn alphabet_of<A: Allocator + Copy>(
     ensures { Gives (λ a. a) result (steps (enter_declaration (table known.now)) [] (syntaxes (shapes declarations.now))) }
 {
     let mut alphabet = Alphabet::new(alloc);
-    for declaration in declarations {
-        alphabet = with_declaration(alloc, known, alphabet, declaration)?;
+    match add_declarations(alloc, known, &mut alphabet, declarations) {
+        Ok(()) => Ok(alphabet),
+        Err(error) => {
+            drop(alphabet);
+            Err(error)
+        }
     }
-    Ok(alphabet)
 }

@@ -6,10 +6,8 @@ use Rattle.values.specs.Worths.{Worth, Known}
 use Rattle.values.specs.Names.{Entry, Meaning, same_name, meaning, worth_of, known_in, next_known, IsReached, IsWithin, Stands}
 use Rattle.values.proofs.Named.{later_steps, sound_step, stands_by_steps}
 use Rattle.declared_names.specs.Standing.{IsSettled, SettlesFirst}
-use Rattle.declared_names.proofs.Searching.{place_of, same_self}
-
-some_same : {X : Type 0} {x y : X} → Some x ≡ Some y → x ≡ y
-some_same h = cc
+use Rattle.declared_names.proofs.Chains.{some_same}
+use Rattle.declared_names.proofs.Searching.{place_of, with_value}
 
 -- what is reached is one worth only
 one_worth : (es : List Entry) (n : Name) (v w : Worth) → (j : ℕ) × (known_in es j n ≡ Some v) → (k : ℕ) × (known_in es k n ≡ Some w) → v ≡ w
@@ -33,11 +31,7 @@ settled_known es f n h has w e = by (f n) refl
 pub settled_none : (es : List Entry) (f : Known) (n : Name) → next_known es f n ≡ None → IsSettled es f n
 settled_none es f n h w e = absurd (let x : None ≡ Some w = sym h ∙ e in cc)
 
--- the table with what the definition of a name says
-abbrev with_worth : Known → Name → Worth → Known
-with_worth f n w m = cond (same_name m n) (Some w) (f m)
-
-pub reached_more : (es : List Entry) (f g : Known) (n : Name) (w : Worth) → IsReached es f → next_known es f n ≡ Some w → ((m : Name) → g m ≡ with_worth f n w m) → IsReached es g
+pub reached_more : (es : List Entry) (f g : Known) (n : Name) (w : Worth) → IsReached es f → next_known es f n ≡ Some w → ((m : Name) → g m ≡ with_value f n w m) → IsReached es g
 reached_more es f g n w h e is m u p = by (same_name m n) refl (sym (is m) ∙ p)
   where
     by : (b : Bool) → same_name m n ≡ b → cond b (Some w) (f m) ≡ Some u → (k : ℕ) × (known_in es k m ≡ Some u)
@@ -52,18 +46,6 @@ said es f n w h = by (meaning es n) refl
     by : (o : Option Meaning) → meaning es n ≡ o → (m : Meaning) × (meaning es n ≡ Some m)
     by None p = absurd (let x : None ≡ Some w = sym (ap (λ o. o >>= worth_of f n) p) ∙ h in cc)
     by (Some m) p = (m, p)
-
--- what is known stays known
-pub kept : (f g : Known) (n : Name) (w : Worth) → ((m : Name) → g m ≡ with_worth f n w m) → (m : Name) → is_some (f m) ≡ true → is_some (g m) ≡ true
-kept f g n w is m h = ap is_some (is m) ∙ by (same_name m n) h
-  where
-    by : (b : Bool) → is_some (f m) ≡ true → is_some (cond b (Some w) (f m)) ≡ true
-    by true p = refl
-    by false p = p
-
--- the name is known
-pub added : (f g : Known) (n : Name) (w : Worth) → ((m : Name) → g m ≡ with_worth f n w m) → is_some (g n) ≡ true
-added f g n w is = ap is_some (is n ∙ ap (λ b. cond b (Some w) (f n)) (same_self n))
 
 -- ---- when nothing is learned
 

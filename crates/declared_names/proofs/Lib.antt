@@ -3,12 +3,11 @@ pub mod Shapes
 pub mod Loops
 pub mod Tables
 pub mod Entered
-pub mod FormFaults
+pub mod Forms
 pub mod Searching
 pub mod Learning
 pub mod ParameterNames
 pub mod Scripts
-pub mod TreeNames
 pub mod ProcessNames
 pub mod TextNames
-pub mod ToldNames
+pub mod ProcessAnswers

@@ -30,9 +30,6 @@ module _ {A X : Type 0} (f : X → Syntax → Option X) where
   unfolding steps
   next ts i t x h is = ap (λ xs. steps f x (syntaxes (shapes xs))) (cell ts i t h is)
 
-  pub all_start : (ts : List (Tree A)) (x y : X) → x ≡ y → from ts 0 x ≡ steps f y (syntaxes (shapes ts))
-  all_start ts x y h = ap (λ z. steps f z (syntaxes (shapes ts))) h
-
   pub all_more : (ts : List (Tree A)) (i : ℕ) (t : Tree A) (x y : X) (whole : Option X) → from ts i x ≡ whole → i < length ts → t ≡ get_or ts i t → f x (shape t) ≡ Some y → from ts (i + 1) y ≡ whole
   all_more ts i t x y whole inv h is got = sym (next ts i t x h is ∙ ap (λ o. o >>= λ y. from ts (i + 1) y) got) ∙ inv
 

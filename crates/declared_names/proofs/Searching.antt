@@ -1,5 +1,5 @@
 -- What is learned of names, one after the other, in a table of any kind.
-use Rattle.std.proofs.Common.{◌≡◌, ℕ, zero, suc, ◌+◌, ◌<◌, ◌≤◌, List, [], ◌∷◌, length, ◌≢◌, Bool, true, false, cond, ◌||◌, Option, Some, None, inl, inr, refl, sym, ap, subst, ◌∙◌, arith}
+use Rattle.std.proofs.Common.{◌≡◌, ℕ, zero, suc, ◌+◌, ◌<◌, ◌≤◌, List, [], ◌∷◌, length, ◌≢◌, Bool, true, false, cond, ◌||◌, Option, Some, None, is_some, inl, inr, refl, sym, ap, subst, ◌∙◌, arith}
 use Rattle.std.specs.Option.{option_map}
 use Rattle.std.proofs.lemmas.Bool.Decides.{eqb_tells}
 use Rattle.std.specs.Prelude.{slice_get}
@@ -7,9 +7,7 @@ use Rattle.std.specs.Cmp.Lexicographic.{bytes_decides}
 use Rattle.values.specs.Values.{Name}
 use Rattle.values.specs.Names.{Entry, Meaning, same_name, meaning}
 use Rattle.declared_names.specs.Standing.{lacking, Keeps, Learns, SettlesFirst, LearnsFirst}
-
-some_same : {X : Type 0} {x y : X} → Some x ≡ Some y → x ≡ y
-some_same h = cc
+use Rattle.declared_names.proofs.Chains.{some_same}
 
 pub same_self : (n : Name) → same_name n n ≡ true
 same_self n = (bytes_decides n n).1 refl
@@ -38,6 +36,26 @@ place_of (e ∷ es) n m h = by (same_name n e.0) refl h (λ q. place_of es n m q
     by false s q rec =
         let (j, d, p, r, lt) = rec q in
         (suc j, d, p, r, omega (arith, lt))
+
+-- ---- a table of values of names
+
+-- the table with this value of the name
+abbrev pub with_value : {V : Type 0} → (Name → Option V) → Name → V → Name → Option V
+with_value f n v m = cond (same_name m n) (Some v) (f m)
+
+-- what is known stays known
+pub kept : {V : Type 0} (f g : Name → Option V) (n : Name) (v : V) → ((m : Name) → g m ≡ with_value f n v m) → (m : Name) → is_some (f m) ≡ true → is_some (g m) ≡ true
+kept f g n v is m h = ap is_some (is m) ∙ by (same_name m n) h
+  where
+    by : (b : Bool) → is_some (f m) ≡ true → is_some (cond b (Some v) (f m)) ≡ true
+    by true p = refl
+    by false p = p
+
+-- the name is known
+pub added : {V : Type 0} (f g : Name → Option V) (n : Name) (v : V) → ((m : Name) → g m ≡ with_value f n v m) → is_some (g n) ≡ true
+added f g n v is = ap is_some (is n ∙ ap (λ b. cond b (Some v) (f n)) (same_self n))
+
+-- ---- one name after the other
 
 module _ {T : Type 0} (knows : T → Name → Bool) where
   lacking_same : (es : List Entry) (f g : T) → Keeps knows f g → lacking knows es g ≤ lacking knows es f
@@ -75,9 +93,6 @@ module _ {T : Type 0} (knows : T → Name → Bool) (Reached : T → Type 0) (Se
   pub reached_then : (f g : T) (b : Bool) (n : Name) → Reached f → Learns knows Reached Settled f g b n → Reached g
   reached_then f g true n h l = l.0
   reached_then f g false n h l = subst Reached (sym l.0) h
-
-  pub first_none : (es : List Entry) (f : T) → LearnsFirst knows Reached Settled es f f false 0
-  first_none es f = (refl, λ j e h. absurd (omega (arith, h)))
 
   settled_more : (es : List Entry) (f : T) (i : ℕ) (e : Entry) → SettlesFirst Settled es f i → slice_get es i ≡ Some e → Settled f e.0 → SettlesFirst Settled es f (i + 1)
   settled_more es f i e below at here j d lt p = elim (eqb_tells j i) [

@@ -1,11 +1,10 @@
 -- A tree and one level of it.
-use Rattle.std.proofs.Common.{◌≡◌, ◌≢◌, ℕ, List, [], ◌∷◌, map, length, drop, get_or, Option, Some, None, Vec, refl, sym, ap, ap₂, ◌∙◌, arith}
+use Rattle.std.proofs.Common.{◌≡◌, ◌≢◌, ℕ, List, [], ◌∷◌, map, length, drop, get_or, Some, None, Vec, refl, sym, ap, ◌∙◌, arith}
 use Rattle.syntax.specs.declared.form.Form.{Form}
 use Rattle.syntax.specs.declared.tree.Tree.{Tree, Node as TreeNode}
-use Rattle.syntax.specs.Grammar.{Node}
+use Rattle.syntax.specs.Grammar.{Syntax, Node, NoSyntax, MoreSyntax}
 use Rattle.syntax.specs.Parsing.{syntaxes}
 use Rattle.syntax.specs.View.{shape, shapes}
-use Rattle.syntax.specs.Grammar.{Syntax}
 use Rattle.values.specs.declared.input.Input.{Input}
 use Rattle.values.specs.Worths.{Known, worth}
 use Rattle.values.specs.Tables.{input, behind}
@@ -17,11 +16,26 @@ node_part tree line form v ts h is = ap shape h ∙ node_shape line form v ∙ a
 
 -- ---- lists of parts
 
+pub one_tree : {A : Type 0} (ts : List (Tree A)) (t : Tree A) → length ts ≡ 1 → t ≡ get_or ts 0 t → syntaxes (shapes ts) ≡ MoreSyntax (shape t) NoSyntax
+one_tree [] t h k = absurd (omega (arith, h))
+one_tree (u ∷ []) t h k = ap (λ x. MoreSyntax (shape x) NoSyntax) (sym k)
+one_tree (u ∷ v ∷ us) t h k = absurd (omega (arith, h))
+
+pub two_trees : {A : Type 0} (ts : List (Tree A)) (t u : Tree A) → length ts ≡ 2 → t ≡ get_or ts 0 t → u ≡ get_or ts 1 u → syntaxes (shapes ts) ≡ MoreSyntax (shape t) (MoreSyntax (shape u) NoSyntax)
+two_trees [] t u h k l = absurd (omega (arith, h))
+two_trees (x ∷ ys) t u h k l =
+    let one : length ys ≡ 1 = omega (arith, h) in
+    ap (λ xs. MoreSyntax (shape x) xs) (one_tree ys u one l) ∙ ap (λ a. MoreSyntax (shape a) (MoreSyntax (shape u) NoSyntax)) (sym k)
+
+pub three_trees : {A : Type 0} (ts : List (Tree A)) (t u v : Tree A) → length ts ≡ 3 → t ≡ get_or ts 0 t → u ≡ get_or ts 1 u → v ≡ get_or ts 2 v → syntaxes (shapes ts) ≡ MoreSyntax (shape t) (MoreSyntax (shape u) (MoreSyntax (shape v) NoSyntax))
+three_trees [] t u v h k l m = absurd (omega (arith, h))
+three_trees (x ∷ ys) t u v h k l m =
+    let two : length ys ≡ 2 = omega (arith, h) in
+    ap (λ xs. MoreSyntax (shape x) xs) (two_trees ys u v two l m) ∙ ap (λ a. MoreSyntax (shape a) (MoreSyntax (shape u) (MoreSyntax (shape v) NoSyntax))) (sym k)
+
 pub is_only : {A : Type 0} (ts : List (Tree A)) (t : Tree A) → length ts ≡ 1 → t ≡ get_or ts 0 t → only_of (syntaxes (shapes ts)) ≡ Some (shape t)
 unfolding only_of
-is_only [] t h k = absurd (omega (arith, h))
-is_only (u ∷ []) t h k = ap (λ x. let o : Option Syntax = Some (shape x) in o) (sym k)
-is_only (u ∷ v ∷ us) t h k = absurd (omega (arith, h))
+is_only ts t h k = ap only_of (one_tree ts t h k)
 
 pub not_only : {A : Type 0} (ts : List (Tree A)) → (length ts ≢ 1) → only_of (syntaxes (shapes ts)) ≡ None
 unfolding only_of
@@ -31,10 +45,7 @@ not_only (u ∷ v ∷ us) n = refl
 
 pub are_two : {A : Type 0} (ts : List (Tree A)) (t u : Tree A) → length ts ≡ 2 → t ≡ get_or ts 0 t → u ≡ get_or ts 1 u → two_of (syntaxes (shapes ts)) ≡ Some (shape t, shape u)
 unfolding two_of
-are_two [] t u h k l = absurd (omega (arith, h))
-are_two (x ∷ []) t u h k l = absurd (omega (arith, h))
-are_two (x ∷ y ∷ []) t u h k l = ap₂ (λ a b. let o : Option (Syntax × Syntax) = Some (shape a, shape b) in o) (sym k) (sym l)
-are_two (x ∷ y ∷ z ∷ us) t u h k l = absurd (omega (arith, h))
+are_two ts t u h k l = ap two_of (two_trees ts t u h k l)
 
 pub not_two : {A : Type 0} (ts : List (Tree A)) → (length ts ≢ 2) → two_of (syntaxes (shapes ts)) ≡ None
 unfolding two_of
@@ -42,16 +53,6 @@ not_two [] n = refl
 not_two (x ∷ []) n = refl
 not_two (x ∷ y ∷ []) n = absurd (n refl)
 not_two (x ∷ y ∷ z ∷ us) n = refl
-
-pub are_three : {A : Type 0} (ts : List (Tree A)) (t u v : Tree A) → length ts ≡ 3 → t ≡ get_or ts 0 t → u ≡ get_or ts 1 u → v ≡ get_or ts 2 v → three_of (syntaxes (shapes ts)) ≡ Some (shape t, shape u, shape v)
-unfolding three_of
-are_three [] t u v h k l m = absurd (omega (arith, h))
-are_three (x ∷ []) t u v h k l m = absurd (omega (arith, h))
-are_three (x ∷ y ∷ []) t u v h k l m = absurd (omega (arith, h))
-are_three (x ∷ y ∷ z ∷ []) t u v h k l m =
-    ap₂ (λ a b. let o : Option (Syntax × Syntax × Syntax) = Some (shape a, shape b, shape z) in o) (sym k) (sym l)
-    ∙ ap (λ c. let o : Option (Syntax × Syntax × Syntax) = Some (shape t, shape u, shape c) in o) (sym m)
-are_three (x ∷ y ∷ z ∷ w ∷ us) t u v h k l m = absurd (omega (arith, h))
 
 pub not_three : {A : Type 0} (ts : List (Tree A)) → (length ts ≢ 3) → three_of (syntaxes (shapes ts)) ≡ None
 unfolding three_of

@@ -4,7 +4,7 @@ use Rattle.std.proofs.lemmas.List.{map-append}
 use Rattle.std.proofs.lemmas.List.Quantifiers.{position-Some}
 use Rattle.std.specs.List.{position}
 use Rattle.std.specs.Option.{option_map}
-use Rattle.std.specs.Prelude.{nat_eq, MatchOption}
+use Rattle.std.specs.Prelude.{nat_eq, slice_get, MatchOption}
 use Rattle.std.specs.Map.{lookup}
 use Rattle.std.specs.Cmp.Lexicographic.{pointwise, bytes_decides}
 use Rattle.indexmap.specs.IndexMap.{insert_entry}
@@ -18,7 +18,7 @@ use Rattle.declared_names.specs.declared.entries.Meaning.{Meaning}
 use Rattle.declared_names.specs.declared.entries.Meaning.TheVariants.{Datatype}
 use Rattle.declared_names.specs.Stored.{meaning_of, Stored, listed}
 use Rattle.declared_names.specs.Entering.{has_name}
-use Rattle.declared_names.specs.Told.{name_in}
+use Rattle.declared_names.specs.ProcessAnswers.{name_in}
 
 abbrev finds : {A : Type 0} → Name → Vec ℕ A → Bool
 finds n k = pointwise nat_eq n k.items
@@ -40,6 +40,17 @@ is_there {A = A} (e ∷ es) n = by (pointwise nat_eq n e.0.items) (is_there es n
     by : (b : Bool) → is_some (lookup (λ (k : Vec ℕ A). pointwise nat_eq n k.items) es) ≡ has_name (listed es) n → is_some (cond b (Some e.1) (lookup (λ (k : Vec ℕ A). pointwise nat_eq n k.items) es)) ≡ (b || has_name (listed es) n)
     by true h = refl
     by false h = h
+
+-- what stands at a place
+pub meaning_at : {A : Type 0} (es : Stored A) (i : ℕ) (o : Option (Vec ℕ A × Entry A)) → o ≡ slice_get es i → option_map (λ (e : Vec ℕ A × Entry A). meaning_of e.1.meaning) o ≡ option_map (λ e. e.1) (slice_get (listed es) i)
+meaning_at {A = A} [] i o h = ap (option_map (λ (e : Vec ℕ A × Entry A). meaning_of e.1.meaning)) h
+meaning_at {A = A} (e ∷ es) zero o h = ap (option_map (λ (e : Vec ℕ A × Entry A). meaning_of e.1.meaning)) h
+meaning_at (e ∷ es) (suc i) o h = meaning_at es i o h
+
+pub name_at : {A : Type 0} (es : Stored A) (i : ℕ) (o : Option (Vec ℕ A × Entry A)) → o ≡ slice_get es i → option_map (λ (e : Vec ℕ A × Entry A). e.0.items) o ≡ option_map (λ e. e.0) (slice_get (listed es) i)
+name_at {A = A} [] i o h = ap (option_map (λ (e : Vec ℕ A × Entry A). e.0.items)) h
+name_at {A = A} (e ∷ es) zero o h = ap (option_map (λ (e : Vec ℕ A × Entry A). e.0.items)) h
+name_at (e ∷ es) (suc i) o h = name_at es i o h
 
 -- the place of a name
 at_key : {A : Type 0} (es : Stored A) (i : ℕ) (d : Vec ℕ A) → i < length (map (λ (e : Vec ℕ A × Entry A). e.0) es) → name_in (listed es) i ≡ Some ((get_or (map (λ (e : Vec ℕ A × Entry A). e.0) es) i d).items)

@@ -16,7 +16,7 @@ use Rattle.syntax.specs.declared.operator.Operator.TheVariants as operators
 use Rattle.syntax.specs.Operators.{opening, behind}
 use Rattle.syntax.specs.Grammar.{Syntax, Called, Numeral, Node, Syntaxes, NoSyntax, MoreSyntax, spell_part, flat, spell, Fits, FitAll}
 use Rattle.syntax.specs.Script.{HasTree}
-use Rattle.declared_names.specs.Naming.{has_names, have_names}
+use Rattle.declared_names.specs.LanguageNames.{has_names, have_names}
 use Rattle.declared_names.proofs.Chains.{left, right, both}
 
 -- ---- names of tokens

@@ -3,7 +3,7 @@ pub mod Stored
 pub mod View
 pub mod Steps
 pub mod Entering
-pub mod Naming
+pub mod LanguageNames
 pub mod Processes
-pub mod Told
+pub mod ProcessAnswers
 pub mod Standing

@@ -1,6 +1,6 @@
 //! The declared names.
 ghost use Rattle.declared_names.specs.Stored.{listed};
-ghost use Rattle.declared_names.specs.Told.{AreAnswers};
+ghost use Rattle.declared_names.specs.ProcessAnswers.{AreAnswers};
 
 use indexmap::IndexMap;
 use std::alloc::Allocator;

@@ -1,8 +1,7 @@
 //! Which fault is reported of the names that a script declares. No contract says it.
 
+use crate::entering::name_list;
 use crate::entries::Hashing;
-use crate::naming::name_list;
-use crate::part::{Part, part_of};
 use indexmap::IndexSet;
 use std::alloc::Allocator;
 use syntax::{Form, Tree};
@@ -10,17 +9,30 @@ use tokens::{ScriptErrorKind, Unread, fault};
 
 type Names<'a, A> = IndexSet<&'a [u8], Hashing, A>;
 
+/// Puts the name among the names; whether it wasn't there.
+fn put_name<'a, A: Allocator + Copy>(
+    names: &mut Names<'a, A>,
+    name: &'a Tree<A>,
+) -> Result<bool, Unread> {
+    match name {
+        Tree::Name { text, .. } => {
+            let new = names.insert(text.as_slice())?;
+            Ok(new)
+        }
+        _ => Ok(true),
+    }
+}
+
 /// Puts the name among the names; `Redeclared` where it is there.
 fn put_new<'a, A: Allocator + Copy>(
     names: &mut Names<'a, A>,
     name: &'a Tree<A>,
 ) -> Result<(), Unread> {
-    if let Part::Name(text) = part_of(name) {
-        if !names.insert(text)? {
-            return Err(fault(name.line(), ScriptErrorKind::Redeclared));
-        }
+    if put_name(names, name)? {
+        Ok(())
+    } else {
+        Err(fault(name.line(), ScriptErrorKind::Redeclared))
     }
-    Ok(())
 }
 
 /// Puts these among the names; `Redeclared` at the first one that stands for the second time.
@@ -34,19 +46,33 @@ fn put_all_new<'a, A: Allocator + Copy>(
     Ok(())
 }
 
+/// Puts these among the names, whether they are there or not.
+fn put_each<'a, A: Allocator + Copy>(
+    names: &mut Names<'a, A>,
+    more: &'a [Tree<A>],
+) -> Result<(), Unread> {
+    for name in more {
+        let _new = put_name(names, name)?;
+    }
+    Ok(())
+}
+
 /// Puts the names of the constants that this declares among the names, if it declares some.
 fn put_constants<'a, A: Allocator + Copy>(
     names: &mut Names<'a, A>,
     declaration: &'a Tree<A>,
 ) -> Result<(), Unread> {
-    if let Part::Node(Form::Datatype, [_, constants]) = part_of(declaration) {
-        for constant in name_list(constants)? {
-            if let Part::Name(text) = part_of(constant) {
-                let _new = names.insert(text)?;
-            }
-        }
+    match declaration {
+        Tree::Node {
+            form: Form::Datatype,
+            parts,
+            ..
+        } => match parts.as_slice() {
+            [_, constants] => put_each(names, name_list(constants)?),
+            _ => Ok(()),
+        },
+        _ => Ok(()),
     }
-    Ok(())
 }
 
 /// Looks at a parameter behind these: `Redeclared` where it is one of them, `Unsupported` where it has the name of a constant.
@@ -56,9 +82,9 @@ fn look_at_parameter<'a, A: Allocator + Copy>(
     parameter: &'a Tree<A>,
 ) -> Result<(), Unread> {
     put_new(earlier, parameter)?;
-    match part_of(parameter) {
-        Part::Name(text) if constants.contains(text) => {
-            Err(fault(parameter.line(), ScriptErrorKind::Unsupported))
+    match parameter {
+        Tree::Name { line, text } if constants.contains(text.as_slice()) => {
+            Err(fault(*line, ScriptErrorKind::Unsupported))
         }
         _ => Ok(()),
     }
@@ -78,6 +104,50 @@ fn look_at_parameters<'a, A: Allocator + Copy>(
     Ok(())
 }
 
+/// Puts the names in this list among the names; `Redeclared` at the first one that stands for the second time.
+fn put_listed<'a, A: Allocator + Copy>(
+    names: &mut Names<'a, A>,
+    list: &'a Tree<A>,
+) -> Result<(), Unread> {
+    put_all_new(names, name_list(list)?)
+}
+
+/// Puts the names of a datatype and its constants among the names.
+fn put_datatype<'a, A: Allocator + Copy>(
+    names: &mut Names<'a, A>,
+    name: &'a Tree<A>,
+    constants: &'a Tree<A>,
+) -> Result<(), Unread> {
+    put_new(names, name)?;
+    put_listed(names, constants)
+}
+
+/// Puts the names of a declaration of this form with two parts among the names.
+fn put_two<'a, A: Allocator + Copy>(
+    names: &mut Names<'a, A>,
+    form: Form,
+    first: &'a Tree<A>,
+    second: &'a Tree<A>,
+) -> Result<(), Unread> {
+    match form {
+        Form::ChannelsWithFields => put_listed(names, first),
+        Form::Datatype => put_datatype(names, first, second),
+        _ => put_new(names, first),
+    }
+}
+
+/// Puts the name of a definition with parameters among the names; its first fault, or that of its parameters.
+fn put_parametric<'a, A: Allocator + Copy>(
+    alloc: A,
+    constants: &Names<'a, A>,
+    names: &mut Names<'a, A>,
+    name: &'a Tree<A>,
+    parameters: &'a Tree<A>,
+) -> Result<(), Unread> {
+    put_new(names, name)?;
+    look_at_parameters(alloc, constants, name_list(parameters)?)
+}
+
 /// Puts those of a declaration among the names; its first fault, where its names or parameters have one.
 fn put_declared<'a, A: Allocator + Copy>(
     alloc: A,
@@ -85,23 +155,13 @@ fn put_declared<'a, A: Allocator + Copy>(
     names: &mut Names<'a, A>,
     declaration: &'a Tree<A>,
 ) -> Result<(), Unread> {
-    let Part::Node(form, parts) = part_of(declaration) else {
+    let Tree::Node { form, parts, .. } = declaration else {
         return Ok(());
     };
-    match parts {
-        [name, parameters, _] => {
-            put_new(names, name)?;
-            look_at_parameters(alloc, constants, name_list(parameters)?)
-        }
-        [first, second] => match form {
-            Form::ChannelsWithFields => put_all_new(names, name_list(first)?),
-            Form::Datatype => {
-                put_new(names, first)?;
-                put_all_new(names, name_list(second)?)
-            }
-            _ => put_new(names, first),
-        },
-        [channels] => put_all_new(names, name_list(channels)?),
+    match parts.as_slice() {
+        [name, parameters, _] => put_parametric(alloc, constants, names, name, parameters),
+        [first, second] => put_two(names, *form, first, second),
+        [channels] => put_listed(names, channels),
         _ => Ok(()),
     }
 }

@@ -2,7 +2,7 @@
 ghost use Rattle.std.specs.Prelude.{◌≡◌, ℕ, List, true};
 ghost use Rattle.syntax.specs.Grammar.{Syntax};
 ghost use Rattle.syntax.specs.Script.{HasTree};
-ghost use Rattle.declared_names.specs.Naming.{has_names};
+ghost use Rattle.declared_names.specs.LanguageNames.{has_names};
 
 /// The names in the tree of a text are names of the language.
 pub fn trees_have_names()

@@ -3,7 +3,6 @@
 
 use crate::entries::{Entries, Meaning};
 use std::alloc::{AllocError, Allocator};
-use std::mem::replace;
 use syntax::Tree;
 
 /// What is still to be done, by the places of names.
@@ -17,10 +16,11 @@ enum Turn {
 
 /// Whether the place is met for the first time; it has been met from then on.
 fn is_first(met: &mut [bool], place: usize) -> bool {
-    match met.get_mut(place) {
-        Some(met) => !replace(met, true),
-        None => false,
+    if place < met.len() && !met[place] {
+        met[place] = true;
+        return true;
     }
+    false
 }
 
 /// Puts the names that the phrase uses on the stack, to be met, the first one on top.
@@ -37,8 +37,8 @@ fn push_names<'a, A: Allocator>(
         }
         Tree::Number { .. } => {}
         Tree::Node { parts, .. } => {
-            for part in parts.iter().rev() {
-                push_names(entries, part, stack)?;
+            for place in (0..parts.len()).rev() {
+                push_names(entries, &parts[place], stack)?;
             }
         }
     }

@@ -1,5 +1,5 @@
 //! Whether the parameters of definitions are as they have to be.
-ghost use Rattle.std.specs.Prelude.{◌≡◌, map, IfOk};
+ghost use Rattle.std.specs.Prelude.{◌≡◌, [], map, IfOk};
 ghost use Rattle.std.specs.List.{list_all};
 ghost use Rattle.values.specs.Names.{meaning as meaning_in, is_constant as is_constant_of, are_parameters as are_parameters_of, have_parameters as have_parameters_of};
 ghost use Rattle.declared_names.specs.View.{entries as entries_of, meaning_of};
@@ -22,14 +22,16 @@ fn is_constant<'a, A: Allocator>(entries: &Entries<'a, A>, name: &[u8]) -> bool
     }
 }
 
-/// Whether these names can be parameters: none stands twice, and none is a constant's.
-fn are_parameters<'a, A: Allocator + Copy>(
+/// Puts these names into the set, which is empty, up to the first one that can't be a parameter, since it stands there or is a
+/// constant's; whether there is no such name.
+fn put_parameters<'a, 'n, A: Allocator + Copy>(
     entries: &Entries<'a, A>,
-    names: &[Vec<u8, A>],
+    earlier: &mut IndexSet<&'n [u8], Hashing, A>,
+    names: &'n [Vec<u8, A>],
 ) -> Result<bool, AllocError>
+    requires { earlier.old.keys ≡ [] }
     ensures { IfOk result (λ b. b ≡ are_parameters_of (entries_of entries.now) (map (λ n. n.items) names.now)) }
 {
-    let mut earlier: IndexSet<&[u8], Hashing, A> = IndexSet::new(*entries.table.allocator());
     for name in names {
         let text = name.as_slice();
         if is_constant(entries, text) {
@@ -41,6 +43,17 @@ fn are_parameters<'a, A: Allocator + Copy>(
         }
     }
     Ok(true)
+}
+
+/// Whether these names can be parameters: none stands twice, and none is a constant's.
+fn are_parameters<'a, A: Allocator + Copy>(
+    entries: &Entries<'a, A>,
+    names: &[Vec<u8, A>],
+) -> Result<bool, AllocError>
+    ensures { IfOk result (λ b. b ≡ are_parameters_of (entries_of entries.now) (map (λ n. n.items) names.now)) }
+{
+    let mut earlier = IndexSet::new(*entries.table.allocator());
+    put_parameters(entries, &mut earlier, names)
 }
 
 /// Whether the parameters of what a name is declared as are as they have to be, if it has any.

@@ -6,7 +6,7 @@ ghost use Rattle.syntax.specs.View.{shape, shapes};
 ghost use Rattle.values.specs.Tables.{table};
 ghost use Rattle.values.specs.View.{Gives, worth as worth_of};
 ghost use Rattle.values.specs.Worths.{worth as worth_in};
-ghost use Rattle.declared_names.specs.Steps.{only_of, three_of, two_of};
+ghost use Rattle.declared_names.specs.Steps.{only_of, two_of};
 ghost use Rattle.declared_names.specs.View.{part_shape};
 
 use std::alloc::Allocator;
@@ -26,7 +26,6 @@ pub enum Part<'a, A: Allocator> {
 }
 
 /// What the tree is. Looks at one level, and copies nothing.
-#[tactic(auto, using(crate::proofs::Shapes::node_part))]
 pub fn part_of<A: Allocator>(tree: &Tree<A>) -> Part<'_, A>
     ensures { shape tree.now ≡ part_shape result }
 {
@@ -38,7 +37,6 @@ pub fn part_of<A: Allocator>(tree: &Tree<A>) -> Part<'_, A>
 }
 
 /// The only part; `Expected` on this line where there is another number of parts.
-#[tactic(auto, using(crate::proofs::Shapes::is_only, crate::proofs::Shapes::not_only))]
 pub fn only_part<A: Allocator>(parts: &[Tree<A>], line: u32) -> Result<&Tree<A>, Unread>
     ensures { Gives (λ t. shape t.now) result (only_of (syntaxes (shapes parts.now))) }
 {
@@ -49,26 +47,11 @@ pub fn only_part<A: Allocator>(parts: &[Tree<A>], line: u32) -> Result<&Tree<A>,
 }
 
 /// The two parts; `Expected` on this line where there is another number of parts.
-#[tactic(auto, using(crate::proofs::Shapes::are_two, crate::proofs::Shapes::not_two))]
 pub fn two_parts<A: Allocator>(parts: &[Tree<A>], line: u32) -> Result<(&Tree<A>, &Tree<A>), Unread>
     ensures { Gives {Y = Syntax × Syntax} (λ p. (shape p.0.now, shape p.1.now)) result (two_of (syntaxes (shapes parts.now))) }
 {
     match parts {
         [first, second] => Ok((first, second)),
-        _ => Err(fault(line, ScriptErrorKind::Expected)),
-    }
-}
-
-/// The three parts; `Expected` on this line where there is another number of parts.
-#[tactic(auto, using(crate::proofs::Shapes::are_three, crate::proofs::Shapes::not_three))]
-pub(crate) fn three_parts<A: Allocator>(
-    parts: &[Tree<A>],
-    line: u32,
-) -> Result<(&Tree<A>, &Tree<A>, &Tree<A>), Unread>
-    ensures { Gives {Y = Syntax × Syntax × Syntax} (λ p. (shape p.0.now, shape p.1.now, shape p.2.now)) result (three_of (syntaxes (shapes parts.now))) }
-{
-    match parts {
-        [first, second, third] => Ok((first, second, third)),
         _ => Err(fault(line, ScriptErrorKind::Expected)),
     }
 }

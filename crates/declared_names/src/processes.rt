@@ -63,21 +63,21 @@ pub fn is_process_form(form: Form) -> bool
 }
 
 /// Whether an event phrase with these parts may be a process: it may, where it is the bare name of one.
-#[tactic(auto, using(crate::proofs::ProcessNames::one_name, crate::proofs::ProcessNames::one_number, crate::proofs::ProcessNames::one_node, crate::proofs::ProcessNames::not_one))]
 fn answer_of_event<A: Allocator>(parts: &[Tree<A>]) -> Answer<'_>
     ensures { (name : Name → Bool) → is_process_by name (Node Event (syntaxes (shapes parts.now))) ≡ says name result }
 {
     match parts {
         [part] => match part_of(part) {
             Part::Name(name) => Answer::SameAs(name),
-            Part::Number(_) | Part::Node(_, _) => Answer::Known(false),
+            Part::Number(_) => Answer::Known(false),
+            Part::Node(_, _) => Answer::Known(false),
         },
         _ => Answer::Known(false),
     }
 }
 
 /// Whether the phrase may be a process, as far as it says so itself: looks through brackets, and at no definition.
-#[tactic(auto, unfolding(values::specs::Names::is_process_by), using(crate::proofs::ProcessNames::inside, crate::proofs::ProcessNames::not_inside, crate::proofs::ProcessNames::by_event, crate::proofs::ProcessNames::by_form))]
+#[tactic(auto, unfolding(values::specs::Names::is_process_by))]
 pub fn answer_of<A: Allocator>(phrase: &Tree<A>) -> Answer<'_>
     ensures { (name : Name → Bool) → is_process_by name (shape phrase.now) ≡ says name result }
 {
@@ -129,7 +129,6 @@ impl<'a, A: Allocator> Entries<'a, A> {
     /// Whether the name may be one of a process: of a definition without parameters whose body has a form that may be one, or
     /// is the name of one. Names that lead to each other in a circle are those of processes.
     /// Costs a look-up by its hash.
-    #[tactic(auto, using(crate::proofs::ProcessNames::undeclared))]
     pub fn is_process(&self, name: &[u8]) -> bool
         ensures { result ≡ is_process_of (entries_of self.now) name.now }
     {

@@ -9,7 +9,7 @@ use Rattle.event_phrases.proofs.Options.{bind_assoc}
 use Rattle.denotation.specs.Bodies.{Key, Body, stop, skip, ext, int, par, names, numbered, half, halved_in, halved}
 use Rattle.denotation.specs.Phrases.{some_internal}
 use Rattle.denotation.specs.Denotes.{place, with_keys, nodes}
-use Rattle.denotation.specs.Making.{Count, room_left, size_of, sizes_of, told, all_told, made, all_made, half_of, halved_within, halved_over, halved_nodes, make_halved, make_internal}
+use Rattle.denotation.specs.Making.{Count, room_left, size_of, sizes_of, numbered_after, all_numbered_after, made, all_made, half_of, halved_within, halved_over, halved_nodes, make_halved, make_internal}
 use Rattle.denotation.proofs.Rooms.{some_made, some_all, rooms, none_is, spend_then}
 
 -- ---- the parts of a list
@@ -106,16 +106,16 @@ module _ (join : Body → Body → Body) (none : Body) (f : Proc → Proc → Pr
   unfolding all_made made make_halved
   one_is w bs =
       let ks = with_keys w.0 (flat_map names bs) in
-      let x = all_told w.0 bs in
+      let x = all_numbered_after w.0 bs in
       bind_assoc (room_left (sizes_of bs) w.1) (λ r. some_all x ks r) (λ x. make_halved f empty x)
       ∙ (λ i. room_left (sizes_of bs) w.1 >>= λ r. spend_then (halved_nodes x) (ks, r) (λ u. Some (halved_over f empty x, u)) i)
       ∙ rooms (sizes_of bs) (halved_nodes x) w.1 (λ r. some_made (halved_over f empty x) ks r)
       ∙ (λ i. room_left (size i) w.1 >>= λ r. some_made (paid i) (with_keys w.0 (sym (names_halves bs) i)) r)
     where
-      size : sizes_of bs + halved_nodes (all_told w.0 bs) ≡ size_of (halved join none bs)
+      size : sizes_of bs + halved_nodes (all_numbered_after w.0 bs) ≡ size_of (halved join none bs)
       size = ap (λ n. sizes_of bs + n) (map_nodes _ bs) ∙ sym (size_halves bs)
 
-      paid : halved_over f empty (all_told w.0 bs) ≡ told w.0 (halved join none bs)
+      paid : halved_over f empty (all_numbered_after w.0 bs) ≡ numbered_after w.0 (halved join none bs)
       paid = numbered_halves (place (with_keys w.0 (flat_map names bs))) bs ∙ ap (λ ns. numbered (place (with_keys w.0 ns)) (halved join none bs)) (sym (names_halves bs))
 
   halves_are : (w : Count) (B : Option (List Body)) → (all_made w B >>= λ x. make_halved f empty x) ≡ made w (B >>= λ bs. Some (halved join none bs))
@@ -145,6 +145,6 @@ internal_is w (Some []) = ap (λ o. o >>= λ x. make_internal x.0 x.1) (sym (non
 internal_is w (Some (b ∷ bs)) =
     let all = b ∷ bs in
     let ks = with_keys w.0 (flat_map names all) in
-    bind_assoc (room_left (sizes_of all) w.1) (λ r. some_all (all_told w.0 all) ks r) (λ x. make_internal x.0 x.1)
-    ∙ sym (bind_assoc (room_left (sizes_of all) w.1) (λ r. some_all (all_told w.0 all) ks r) (λ x. make_halved procs.int procs.stop x))
+    bind_assoc (room_left (sizes_of all) w.1) (λ r. some_all (all_numbered_after w.0 all) ks r) (λ x. make_internal x.0 x.1)
+    ∙ sym (bind_assoc (room_left (sizes_of all) w.1) (λ r. some_all (all_numbered_after w.0 all) ks r) (λ x. make_halved procs.int procs.stop x))
     ∙ halved_int w all

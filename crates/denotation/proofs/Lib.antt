@@ -2,7 +2,7 @@ pub mod Examples
 pub mod Reached
 pub mod Unique
 pub mod Keys
-pub mod Told
+pub mod Numbered
 pub mod Rooms
 pub mod HalvesMade
 pub mod OverMade

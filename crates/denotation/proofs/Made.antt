@@ -20,9 +20,9 @@ use Rattle.event_phrases.specs.Scopes.{Scope, within, events_by}
 use Rattle.denotation.specs.Phrases.{with_branch, branches, prefixed, renamed, alphabetised, takes, arguments, called_with, over, denoted, denoted_form}
 use Rattle.denotation.specs.Denotes.{place, with_keys, nodes, body_by, paired, called_by, body_of}
 use Rattle.denotation.specs.declared.forms.Join.TheVariants as joins
-use Rattle.denotation.specs.Making.{Count, Made, AllMade, FoundBranch, room_left, spend, size_of, sizes_of, told, all_told, made, all_made, make_choice, make_stop, refer, put, make_behind, make_branch, make_branches, make_prefixed, make_one, make_above, make_two, make_renamed, make_alphabetised, make_replicated, make_called_with, make, make_form, shallow, make_by, make_called, make_body}
+use Rattle.denotation.specs.Making.{Count, Made, AllMade, FoundBranch, room_left, spend, size_of, sizes_of, numbered_after, all_numbered_after, made, all_made, make_choice, make_stop, refer, put, make_behind, make_branch, make_branches, make_prefixed, make_one, make_above, make_two, make_renamed, make_alphabetised, make_replicated, make_called_with, make, make_form, shallow, make_by, make_called, make_body}
 use Rattle.denotation.proofs.Keys.{keys_append}
-use Rattle.denotation.proofs.Told.{stays}
+use Rattle.denotation.proofs.Numbered.{stays}
 use Rattle.denotation.proofs.Rooms.{some_made, some_all, rooms, spend_then, stop_is, skip_is, none_is, make_stop_is, refer_is, hidden_is, test_is}
 use Rattle.denotation.proofs.HalvesMade.{external_is, interleaving_is, internal_is}
 use Rattle.denotation.proofs.OverMade.{over_is}
@@ -59,12 +59,12 @@ pub one_is : (f : Proc → Proc) (g : Body → Body) (w : Count) (a : Body) → 
 unfolding made
 one_is f g w a hn hk hs =
     let ks = with_keys w.0 (names a) in
-    bind_assoc (room_left (size_of a) w.1) (λ r. some_made (told w.0 a) ks r) (make_one f)
-    ∙ (λ i. room_left (size_of a) w.1 >>= λ r. spend_then 1 (ks, r) (λ u. Some (f (told w.0 a), u)) i)
-    ∙ rooms (size_of a) 1 w.1 (λ r. some_made (f (told w.0 a)) ks r)
+    bind_assoc (room_left (size_of a) w.1) (λ r. some_made (numbered_after w.0 a) ks r) (make_one f)
+    ∙ (λ i. room_left (size_of a) w.1 >>= λ r. spend_then 1 (ks, r) (λ u. Some (f (numbered_after w.0 a), u)) i)
+    ∙ rooms (size_of a) 1 w.1 (λ r. some_made (f (numbered_after w.0 a)) ks r)
     ∙ (λ i. room_left (sym hs i) w.1 >>= λ r. some_made (pay i) (with_keys w.0 (sym hk i)) r)
   where
-    pay : f (told w.0 a) ≡ told w.0 (g a)
+    pay : f (numbered_after w.0 a) ≡ numbered_after w.0 (g a)
     pay = sym (hn (place (with_keys w.0 (names a)))) ∙ ap (λ ns. numbered (place (with_keys w.0 ns)) (g a)) (sym hk)
 
 -- n nodes above two bodies
@@ -72,7 +72,7 @@ module _ (n : ℕ) (f : Proc → Proc → Proc) (g : Body → Body → Body)
     (hn : (h : Key → ℕ) (a b : Body) → numbered h (g a b) ≡ f (numbered h a) (numbered h b))
     (hk : (a b : Body) → names (g a b) ≡ names a ++ names b)
     (hs : (a b : Body) → size_of (g a b) ≡ size_of a + (size_of b + n)) where
-  pay : (ks : List Key) (a b : Body) → f (told ks a) (told (with_keys ks (names a)) b) ≡ told ks (g a b)
+  pay : (ks : List Key) (a b : Body) → f (numbered_after ks a) (numbered_after (with_keys ks (names a)) b) ≡ numbered_after ks (g a b)
   pay ks a b =
       ap₂ f (sym (stays a ks (names b))) (ap (λ ls. numbered (place ls) b) (sym (keys_append ks (names a) (names b))))
       ∙ sym (hn (place (with_keys ks (names a ++ names b))) a b) ∙ ap (λ ns. numbered (place (with_keys ks ns)) (g a b)) (sym (hk a b))
@@ -82,9 +82,9 @@ module _ (n : ℕ) (f : Proc → Proc → Proc) (g : Body → Body → Body)
   above_is w a b =
       let ks = with_keys w.0 (names a) in
       let ls = with_keys ks (names b) in
-      let x = f (told w.0 a) (told ks b) in
-      bind_assoc (room_left (size_of a) w.1) (λ r. some_made (told w.0 a) ks r) (λ x. made x.1 (Some b) >>= make_above n f x)
-      ∙ (λ i. room_left (size_of a) w.1 >>= λ r. bind_assoc (room_left (size_of b) r) (λ q. some_made (told ks b) ls q) (make_above n f (told w.0 a, (ks, r))) i)
+      let x = f (numbered_after w.0 a) (numbered_after ks b) in
+      bind_assoc (room_left (size_of a) w.1) (λ r. some_made (numbered_after w.0 a) ks r) (λ x. made x.1 (Some b) >>= make_above n f x)
+      ∙ (λ i. room_left (size_of a) w.1 >>= λ r. bind_assoc (room_left (size_of b) r) (λ q. some_made (numbered_after ks b) ls q) (make_above n f (numbered_after w.0 a, (ks, r))) i)
       ∙ (λ i. room_left (size_of a) w.1 >>= λ r. room_left (size_of b) r >>= λ q. spend_then n (ls, q) (λ u. Some (x, u)) i)
       ∙ (λ i. room_left (size_of a) w.1 >>= λ r. rooms (size_of b) n r (λ r. some_made x ls r) i)
       ∙ rooms (size_of a) (size_of b + n) w.1 (λ r. some_made x ls r)
@@ -160,13 +160,13 @@ unfolding made all_made numbered names nodes some_branch
 front_is w a b bs =
     let ks = with_keys w.0 (names b) in
     let ls = with_keys ks (flat_map names bs) in
-    let x = procs.prefix a (told w.0 b) ∷ all_told ks bs in
+    let x = procs.prefix a (numbered_after w.0 b) ∷ all_numbered_after ks bs in
     let others = λ (x : FoundBranch). all_made x.1 (Some bs) >>= λ y. Some (put x.0 y.0, y.1) in
-    ap (λ o. o >>= others) (bind_assoc (room_left (size_of b) w.1) (λ r. some_made (told w.0 b) ks r) (λ p. spend 1 p.1 >>= λ u. some_branch a p.0 u))
-    ∙ bind_assoc (room_left (size_of b) w.1) (λ r. spend 1 (ks, r) >>= λ u. some_branch a (told w.0 b) u) others
-    ∙ (λ i. room_left (size_of b) w.1 >>= λ r. spend_then 1 (ks, r) (λ u. some_branch a (told w.0 b) u) i >>= others)
-    ∙ (λ i. room_left (size_of b) w.1 >>= λ r. bind_assoc (room_left 1 r) (λ q. some_branch a (told w.0 b) (ks, q)) others i)
-    ∙ (λ i. room_left (size_of b) w.1 >>= λ r. room_left 1 r >>= λ q. bind_assoc (room_left (sizes_of bs) q) (λ z. some_all (all_told ks bs) ls z) (λ y. Some (procs.prefix a (told w.0 b) ∷ y.0, y.1)) i)
+    ap (λ o. o >>= others) (bind_assoc (room_left (size_of b) w.1) (λ r. some_made (numbered_after w.0 b) ks r) (λ p. spend 1 p.1 >>= λ u. some_branch a p.0 u))
+    ∙ bind_assoc (room_left (size_of b) w.1) (λ r. spend 1 (ks, r) >>= λ u. some_branch a (numbered_after w.0 b) u) others
+    ∙ (λ i. room_left (size_of b) w.1 >>= λ r. spend_then 1 (ks, r) (λ u. some_branch a (numbered_after w.0 b) u) i >>= others)
+    ∙ (λ i. room_left (size_of b) w.1 >>= λ r. bind_assoc (room_left 1 r) (λ q. some_branch a (numbered_after w.0 b) (ks, q)) others i)
+    ∙ (λ i. room_left (size_of b) w.1 >>= λ r. room_left 1 r >>= λ q. bind_assoc (room_left (sizes_of bs) q) (λ z. some_all (all_numbered_after ks bs) ls z) (λ y. Some (procs.prefix a (numbered_after w.0 b) ∷ y.0, y.1)) i)
     ∙ (λ i. room_left (size_of b) w.1 >>= λ r. rooms 1 (sizes_of bs) r (λ r. some_all x ls r) i)
     ∙ rooms (size_of b) (1 + sizes_of bs) w.1 (λ r. some_all x ls r)
     ∙ (λ i. room_left (size i) w.1 >>= λ r. some_all (paid i) (keys i) r)
@@ -177,7 +177,7 @@ front_is w a b bs =
     keys : with_keys (with_keys w.0 (names b)) (flat_map names bs) ≡ with_keys w.0 (flat_map names (prefix a b ∷ bs))
     keys = sym (keys_append w.0 (names b) (flat_map names bs))
 
-    paid : (procs.prefix a (told w.0 b) ∷ all_told (with_keys w.0 (names b)) bs) ≡ all_told w.0 (prefix a b ∷ bs)
+    paid : (procs.prefix a (numbered_after w.0 b) ∷ all_numbered_after (with_keys w.0 (names b)) bs) ≡ all_numbered_after w.0 (prefix a b ∷ bs)
     paid = ap₂ (λ p ps. procs.prefix a p ∷ ps) (sym (stays b w.0 (flat_map names bs))) (ap (λ ls. map (numbered (place ls)) bs) keys)
 
 abbrev turned : Count → Option FoundBranch → Option (List Body) → Option AllMade

@@ -13,9 +13,9 @@ use Rattle.event_phrases.proofs.Options.{bind_none, bind_assoc}
 use Rattle.denotation.specs.Bodies.{Body, names, numbered}
 use Rattle.denotation.specs.Phrases.{for_each, generated, over}
 use Rattle.denotation.specs.Denotes.{place, with_keys, nodes}
-use Rattle.denotation.specs.Making.{Count, Made, AllMade, room_left, size_of, sizes_of, told, all_told, made, all_made, make_for_each, make_generated, make_over}
+use Rattle.denotation.specs.Making.{Count, Made, AllMade, room_left, size_of, sizes_of, numbered_after, all_numbered_after, made, all_made, make_for_each, make_generated, make_over}
 use Rattle.denotation.proofs.Keys.{keys_append}
-use Rattle.denotation.proofs.Told.{all_stay}
+use Rattle.denotation.proofs.Numbered.{all_stay}
 use Rattle.denotation.proofs.Rooms.{some_made, some_all, rooms, none_is}
 
 -- ---- lists of bodies
@@ -30,7 +30,7 @@ single_is : (w : Count) (o : Option Body) → (made w o >>= λ p. Some (p.0 ∷ 
 unfolding made all_made nodes
 single_is w None = refl
 single_is w (Some b) =
-    bind_assoc (room_left (size_of b) w.1) (λ r. some_made (told w.0 b) (with_keys w.0 (names b)) r) (λ p. some_all (p.0 ∷ []) p.1.0 p.1.1)
+    bind_assoc (room_left (size_of b) w.1) (λ r. some_made (numbered_after w.0 b) (with_keys w.0 (names b)) r) (λ p. some_all (p.0 ∷ []) p.1.0 p.1.1)
     ∙ (λ i. room_left (size i) w.1 >>= λ r. some_all (numbered (place (with_keys w.0 (keys i))) b ∷ []) (with_keys w.0 (keys i)) r)
   where
     size : size_of b ≡ sizes_of (b ∷ [])
@@ -48,16 +48,16 @@ unfolding all_made
 both_are w ps qs =
     let ks = with_keys w.0 (flat_map names ps) in
     let ls = with_keys ks (flat_map names qs) in
-    let x = all_told w.0 ps ++ all_told ks qs in
-    bind_assoc (room_left (sizes_of ps) w.1) (λ r. some_all (all_told w.0 ps) ks r) (λ x. all_made x.1 (Some qs) >>= λ y. some_all (x.0 ++ y.0) y.1.0 y.1.1)
-    ∙ (λ i. room_left (sizes_of ps) w.1 >>= λ r. bind_assoc (room_left (sizes_of qs) r) (λ q. some_all (all_told ks qs) ls q) (λ y. some_all (all_told w.0 ps ++ y.0) y.1.0 y.1.1) i)
+    let x = all_numbered_after w.0 ps ++ all_numbered_after ks qs in
+    bind_assoc (room_left (sizes_of ps) w.1) (λ r. some_all (all_numbered_after w.0 ps) ks r) (λ x. all_made x.1 (Some qs) >>= λ y. some_all (x.0 ++ y.0) y.1.0 y.1.1)
+    ∙ (λ i. room_left (sizes_of ps) w.1 >>= λ r. bind_assoc (room_left (sizes_of qs) r) (λ q. some_all (all_numbered_after ks qs) ls q) (λ y. some_all (all_numbered_after w.0 ps ++ y.0) y.1.0 y.1.1) i)
     ∙ rooms (sizes_of ps) (sizes_of qs) w.1 (λ r. some_all x ls r)
     ∙ (λ i. room_left (sym (sizes_append ps qs) i) w.1 >>= λ r. some_all (paid i) (keys i) r)
   where
     keys : with_keys (with_keys w.0 (flat_map names ps)) (flat_map names qs) ≡ with_keys w.0 (flat_map names (ps ++ qs))
     keys = sym (keys_append w.0 (flat_map names ps) (flat_map names qs)) ∙ ap (with_keys w.0) (sym (flat_map-append names ps qs))
 
-    paid : (all_told w.0 ps ++ all_told (with_keys w.0 (flat_map names ps)) qs) ≡ all_told w.0 (ps ++ qs)
+    paid : (all_numbered_after w.0 ps ++ all_numbered_after (with_keys w.0 (flat_map names ps)) qs) ≡ all_numbered_after w.0 (ps ++ qs)
     paid =
         ap₂ (λ xs ys. xs ++ ys) (sym (all_stay ps w.0 (flat_map names qs))) (ap (λ ls. map (numbered (place ls)) qs) (sym (keys_append w.0 (flat_map names ps) (flat_map names qs))))
         ∙ sym (map-append (numbered (place (with_keys w.0 (flat_map names ps ++ flat_map names qs)))) ps qs)

@@ -10,9 +10,9 @@ use Rattle.values.specs.Values.{◌>>=◌}
 use Rattle.denotation.specs.Bodies.{Key, Body, stop, skip, prefix, ext, int, seq, par, hide, ren, intr, name, names, numbered}
 use Rattle.event_phrases.specs.Scopes.{Scope}
 use Rattle.denotation.specs.Denotes.{body_of, place, with_keys, met, nodes, Reached}
-use Rattle.denotation.specs.Making.{Count, Made, size_of, sizes_of, told, made, shallow, make_body, Gathered}
+use Rattle.denotation.specs.Making.{Count, Made, size_of, sizes_of, numbered_after, made, shallow, make_body, Gathered}
 use Rattle.denotation.proofs.Keys.{keys_append}
-use Rattle.denotation.proofs.Told.{stays, same_depth, same_nodes}
+use Rattle.denotation.proofs.Numbered.{stays, same_depth, same_nodes}
 use Rattle.denotation.proofs.Rooms.{split, room_enough, room_less}
 use Rattle.denotation.proofs.Made.{body_is}
 use Rattle.event_phrases.proofs.Options.{some_is}
@@ -23,7 +23,7 @@ use Rattle.denotation.proofs.Reached.{get_or_view, get_front, keys_grow, met_fro
 
 -- what was made is the body, with numbers given as it is met
 pub record Is (w : Count) (x : Made) (b : Body) : Type 0 where
-  pub numbers : x.0 ≡ told w.0 b
+  pub numbers : x.0 ≡ numbered_after w.0 b
   pub met : x.1.0 ≡ with_keys w.0 (names b)
   pub room : x.1.1 + size_of b ≡ w.1
   pub deep : depth x.0 ≤ 200
@@ -48,27 +48,27 @@ sound_by w None x h = absurd (no_some h)
 sound_by w (Some b) x h = split _ (size_of b) w.1 enough (λ a. absurd (no_some (sym (ap (λ o. (o >>= λ r. given r) >>= shallow) (room_less (size_of b) w.1 a)) ∙ h)))
   where
     given : ℕ → Option Made
-    given r = Some (told w.0 b, (with_keys w.0 (names b), r))
+    given r = Some (numbered_after w.0 b, (with_keys w.0 (names b), r))
 
     enough : size_of b ≤ w.1 → (c : Body) × (Some b ≡ Some c) × Is w x c
     enough a =
-        let s = shallow_some (told w.0 b, (with_keys w.0 (names b), w.1 - size_of b)) x (sym (ap (λ o. (o >>= λ r. given r) >>= shallow) (room_enough (size_of b) w.1 a)) ∙ h) in
+        let s = shallow_some (numbered_after w.0 b, (with_keys w.0 (names b), w.1 - size_of b)) x (sym (ap (λ o. (o >>= λ r. given r) >>= shallow) (room_enough (size_of b) w.1 a)) ∙ h) in
         let z : w.1 - size_of b ≡ x.1.1 = ap (λ (x : Made). x.1.1) s.0 in
         (b, refl, record { numbers = ap (λ (x : Made). x.0) (sym s.0); met = ap (λ (x : Made). x.1.0) (sym s.0); room = omega (arith, z, a); deep = subst (λ (x : Made). depth x.0 ≤ 200) s.0 s.1 })
 
 pub body_sound : (s : Scope) (k : Key) (w : Count) (x : Made) → make_body s k w ≡ Some x → (b : Body) × (body_of s k ≡ Some b) × Is w x b
 body_sound s k w x h = sound_by w (body_of s k) x (sym (body_is s k w) ∙ h)
 
-complete_by : (w : Count) (b : Body) → size_of b ≤ w.1 → depth (told w.0 b) ≤ 200 → (x : Made) × ((made w (Some b) >>= shallow) ≡ Some x)
+complete_by : (w : Count) (b : Body) → size_of b ≤ w.1 → depth (numbered_after w.0 b) ≤ 200 → (x : Made) × ((made w (Some b) >>= shallow) ≡ Some x)
 unfolding made
 complete_by w b h d =
-    let x : Made = (told w.0 b, (with_keys w.0 (names b), w.1 - size_of b)) in
+    let x : Made = (numbered_after w.0 b, (with_keys w.0 (names b), w.1 - size_of b)) in
     (x, ap (λ o. (o >>= λ r. given r) >>= shallow) (room_enough (size_of b) w.1 h) ∙ shallow_enough x d)
   where
     given : ℕ → Option Made
-    given r = Some (told w.0 b, (with_keys w.0 (names b), r))
+    given r = Some (numbered_after w.0 b, (with_keys w.0 (names b), r))
 
-pub body_complete : (s : Scope) (k : Key) (w : Count) (b : Body) → body_of s k ≡ Some b → size_of b ≤ w.1 → depth (told w.0 b) ≤ 200 → (x : Made) × (make_body s k w ≡ Some x)
+pub body_complete : (s : Scope) (k : Key) (w : Count) (b : Body) → body_of s k ≡ Some b → size_of b ≤ w.1 → depth (numbered_after w.0 b) ≤ 200 → (x : Made) × (make_body s k w ≡ Some x)
 body_complete s k w b h l d =
     let r = complete_by w b l d in
     (r.0, body_is s k w ∙ ap (λ o. made w o >>= shallow) h ∙ r.1)
@@ -233,6 +233,6 @@ module _ (s : Scope) (root : Key) (ps : List Proc) (keys : List Key) (room : ℕ
       let l : length qs ≡ length d.bodies = ap length d.numbers ∙ length-map d.bodies _ in
       let deep : depth (get_or qs n procs.stop) ≤ 200 = All-get_or (λ p. depth p ≤ 200) qs n procs.stop (omega (arith, a, l)) d.deep in
       let it : get_or qs n procs.stop ≡ numbered (place d.keys) b = ap (λ xs. get_or xs n procs.stop) d.numbers ∙ get_or_view (numbered (place d.keys)) d.bodies n procs.stop stop a in
-      let same : depth (get_or qs n procs.stop) ≡ depth (told keys b) = ap depth it ∙ same_depth (place d.keys) (place (with_keys keys (names b))) b in
+      let same : depth (get_or qs n procs.stop) ≡ depth (numbered_after keys b) = ap depth it ∙ same_depth (place d.keys) (place (with_keys keys (names b))) b in
       let (x, f) = body_complete s (get_or keys n root) (keys, room) b c (omega (arith, z, all, k, d.large, p.left)) (omega (arith, deep, same)) in
       no_some (sym e ∙ f)

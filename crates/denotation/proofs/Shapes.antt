@@ -81,3 +81,34 @@ pub phrase_less : {X : Type 0} (view : X → Phrase) (o : Option X) (t : Syntax)
 unfolding phrase_of
 phrase_less view None t f ts n h = tt
 phrase_less view (Some x) t f ts n h = less t (view x) (ap (λ o. o >>= λ n. form_phrase n.0 n.1) (sym n) ∙ sym h)
+
+-- ---- what is no phrase for a process
+
+pub no_operation : (op : Operator) (ts : List Syntax) → (op ≡ operators.Prefix → ⊥) → (op ≡ operators.Sequence → ⊥) → (op ≡ operators.Interrupt → ⊥) → (op ≡ operators.ExternalChoice → ⊥) → (op ≡ operators.InternalChoice → ⊥) → (op ≡ operators.Interleaving → ⊥) → (op ≡ operators.Sharing → ⊥) → (op ≡ operators.Alphabetised → ⊥) → (op ≡ operators.Hiding → ⊥) → (op ≡ operators.Renaming → ⊥) → (op ≡ operators.Guard → ⊥) → operation_phrase op ts ≡ None
+unfolding operation_phrase
+no_operation operators.Prefix ts a b c d e f g h i j k = absurd (a refl)
+no_operation operators.Sequence ts a b c d e f g h i j k = absurd (b refl)
+no_operation operators.Interrupt ts a b c d e f g h i j k = absurd (c refl)
+no_operation operators.ExternalChoice ts a b c d e f g h i j k = absurd (d refl)
+no_operation operators.InternalChoice ts a b c d e f g h i j k = absurd (e refl)
+no_operation operators.Interleaving ts a b c d e f g h i j k = absurd (f refl)
+no_operation operators.Sharing ts a b c d e f g h i j k = absurd (g refl)
+no_operation operators.Alphabetised ts a b c d e f g h i j k = absurd (h refl)
+no_operation operators.Hiding ts a b c d e f g h i j k = absurd (i refl)
+no_operation operators.Renaming ts a b c d e f g h i j k = absurd (j refl)
+no_operation operators.Guard ts a b c d e f g h i j k = absurd (k refl)
+no_operation op ts a b c d e f g h i j k = refl
+
+pub no_form : (f : Form) (ts : List Syntax) → (f ≡ forms.Stop → ⊥) → (f ≡ forms.Skip → ⊥) → (f ≡ forms.Event → ⊥) → (f ≡ forms.Brackets → ⊥) → ((op : Operator) → f ≡ forms.Operation op → ⊥) → (f ≡ forms.If → ⊥) → (f ≡ forms.Call → ⊥) → (f ≡ forms.ReplicatedExternal → ⊥) → (f ≡ forms.ReplicatedInternal → ⊥) → (f ≡ forms.ReplicatedInterleaving → ⊥) → form_phrase f ts ≡ None
+unfolding form_phrase
+no_form forms.Stop ts a b c d e l g h i j = absurd (a refl)
+no_form forms.Skip ts a b c d e l g h i j = absurd (b refl)
+no_form forms.Event ts a b c d e l g h i j = absurd (c refl)
+no_form forms.Brackets ts a b c d e l g h i j = absurd (d refl)
+no_form (forms.Operation op) ts a b c d e l g h i j = absurd (e op refl)
+no_form forms.If ts a b c d e l g h i j = absurd (l refl)
+no_form forms.Call ts a b c d e l g h i j = absurd (g refl)
+no_form forms.ReplicatedExternal ts a b c d e l g h i j = absurd (h refl)
+no_form forms.ReplicatedInternal ts a b c d e l g h i j = absurd (i refl)
+no_form forms.ReplicatedInterleaving ts a b c d e l g h i j = absurd (j refl)
+no_form f ts a b c d e l g h i j = refl

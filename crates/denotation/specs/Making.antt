@@ -52,20 +52,20 @@ abbrev pub sizes_of : List Body → ℕ
 sizes_of bs = nodes (map (numbered (λ k. 0)) bs)
 
 -- the process with the numbers that it gives to definitions which weren't met before
-abbrev pub told : List Key → Body → Proc
-told ks b = numbered (place (with_keys ks (names b))) b
+abbrev pub numbered_after : List Key → Body → Proc
+numbered_after ks b = numbered (place (with_keys ks (names b))) b
 
-abbrev pub all_told : List Key → List Body → List Proc
-all_told ks bs = map (numbered (place (with_keys ks (flat_map names bs)))) bs
+abbrev pub all_numbered_after : List Key → List Body → List Proc
+all_numbered_after ks bs = map (numbered (place (with_keys ks (flat_map names bs)))) bs
 
 -- what is made of a body, if there is one and there is room for it
 unfoldable pub made : Count → Option Body → Option Made
 made w None = None
-made w (Some b) = room_left (size_of b) w.1 >>= λ r. Some (told w.0 b, (with_keys w.0 (names b), r))
+made w (Some b) = room_left (size_of b) w.1 >>= λ r. Some (numbered_after w.0 b, (with_keys w.0 (names b), r))
 
 unfoldable pub all_made : Count → Option (List Body) → Option AllMade
 all_made w None = None
-all_made w (Some bs) = room_left (sizes_of bs) w.1 >>= λ r. Some (all_told w.0 bs, (with_keys w.0 (flat_map names bs), r))
+all_made w (Some bs) = room_left (sizes_of bs) w.1 >>= λ r. Some (all_numbered_after w.0 bs, (with_keys w.0 (flat_map names bs), r))
 
 -- ---- lists joined two and two
 

@@ -43,9 +43,9 @@ pub(crate) fn called_with<A: Allocator + Copy, G: GlobalScope<A>>(
     name: &[u8],
     arguments: &[Tree<A>],
     line: u32,
-    work: Work<A>,
-) -> Result<(Term<A>, Work<A>), Unread>
-    ensures { Gives (λ x. (proc x.0, count x.1)) result (make_phrase (calling name.now (shapes arguments.now)) (within (G.scope scope.now.global.now) (map input scope.now.inputs.items)) (count work)) }
+    work: &mut Work<A>,
+) -> Result<Term<A>, Unread>
+    ensures { Gives (λ t. (proc t, count work.new)) result (make_phrase (calling name.now (shapes arguments.now)) (within (G.scope scope.now.global.now) (map input scope.now.inputs.items)) (count work.old)) }
 {
     if scope.is_value(name) {
         return Err(fault(line, ScriptErrorKind::Expected));

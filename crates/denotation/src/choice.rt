@@ -8,7 +8,7 @@ ghost use Rattle.denotation.specs.View.{count};
 
 use crate::forms::Join;
 use crate::joining::joined;
-use crate::work::{Work, spent};
+use crate::work::{Work, spend_nodes};
 use std::alloc::{AllocError, Allocator};
 use term::Term;
 use tokens::Unread;
@@ -64,15 +64,15 @@ pub(crate) fn halved_within<A: Allocator + Copy>(
     alloc: A,
     join: Join,
     terms: Vec<Term<A>, A>,
-    work: Work<A>,
+    work: &mut Work<A>,
     line: u32,
-) -> Result<(Term<A>, Work<A>), Unread>
-    ensures { Gives (λ x. (proc x.0, count x.1)) result (make_halved (join_of join) (none_of join) (map proc terms.items, count work)) }
+) -> Result<Term<A>, Unread>
+    ensures { Gives (λ t. (proc t, count work.new)) result (make_halved (join_of join) (none_of join) (map proc terms.items, count work.old)) }
 {
     let nodes = nodes_of_halved(&terms);
-    let work = spent(work, nodes, line)?;
+    spend_nodes(work, nodes, line)?;
     let term = halved(alloc, join, terms)?;
-    Ok((term, work))
+    Ok(term)
 }
 
 /// The choice over the terms, where there is room for its nodes.
@@ -80,10 +80,10 @@ pub(crate) fn halved_within<A: Allocator + Copy>(
 pub(crate) fn chosen<A: Allocator + Copy>(
     alloc: A,
     terms: Vec<Term<A>, A>,
-    work: Work<A>,
+    work: &mut Work<A>,
     line: u32,
-) -> Result<(Term<A>, Work<A>), Unread>
-    ensures { Gives (λ x. (proc x.0, count x.1)) result (make_choice (map proc terms.items, count work)) }
+) -> Result<Term<A>, Unread>
+    ensures { Gives (λ t. (proc t, count work.new)) result (make_choice (map proc terms.items, count work.old)) }
 {
     halved_within(alloc, Join::External, terms, work, line)
 }

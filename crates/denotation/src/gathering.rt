@@ -1,20 +1,69 @@
 //! The bodies of what is reached from a root.
-ghost use Rattle.std.specs.Prelude.{Some, List, IfOk, map, []};
+ghost use Rattle.std.specs.Prelude.{◌≡◌, ◌∷◌, ◌<◌, Some, List, IfOk, length, get_or, map, []};
 ghost use Rattle.term.specs.Proc.{Proc, proc};
 ghost use Rattle.values.specs.View.{Gives};
-ghost use Rattle.denotation.specs.Making.{Gathered};
+ghost use Rattle.denotation.specs.Bodies.{Key};
+ghost use Rattle.denotation.specs.Making.{Gathered, make_body};
+ghost use Rattle.denotation.specs.View.{count, key};
 
 use crate::call::Call;
 use crate::maker::body;
 use crate::work::Work;
 use event_phrases::GlobalScope;
 use indexmap::IndexSet;
-use std::alloc::Allocator;
+use std::alloc::{AllocError, Allocator};
 use term::Term;
 use tokens::Unread;
 
 /// The most nodes that all bodies have together.
 const NODE_LIMIT: usize = 65_536;
+
+/// Nothing but the root is met, and no nodes are made.
+fn begun<A: Allocator + Copy>(alloc: A, root: &[u8]) -> Result<Work<A>, AllocError>
+    ensures { IfOk result (λ w. count w ≡ ((root.now, []) ∷ [], 65536)) }
+{
+    let first = Call {
+        name: Vec::from_slice(alloc, root)?,
+        arguments: Vec::new(alloc),
+    };
+    let mut met = IndexSet::new(alloc);
+    let _new = met.insert(first)?;
+    Ok(Work {
+        met,
+        room: NODE_LIMIT,
+    })
+}
+
+/// The body of the definition that was met with this number.
+fn numbered_body<A: Allocator + Copy, G: GlobalScope<A>>(
+    alloc: A,
+    global: &G,
+    number: usize,
+    work: &mut Work<A>,
+) -> Result<Term<A>, Unread>
+    requires { number < length work.old.met.keys }
+    ensures { (k : Key) → Gives (λ t. (proc t, count work.new)) result (make_body (G.scope global.now) (get_or (map key work.old.met.keys) number k) (count work.old)) }
+{
+    let call = work.met[number].try_clone(alloc)?;
+    body(alloc, global, &call, work)
+}
+
+/// The bodies of what is reached, where nothing but the root is met yet.
+fn bodies<A: Allocator + Copy, G: GlobalScope<A>>(
+    alloc: A,
+    global: &G,
+    work: &mut Work<A>,
+) -> Result<Vec<Term<A>, A>, Unread>
+    ensures found { (root : Key) → count work.old ≡ (root ∷ [], 65536) → IfOk result (λ v. Gathered (G.scope global.now) root (map proc v.items)) }
+    ensures only { (root : Key) → count work.old ≡ (root ∷ [], 65536) → (ps : List Proc) → Gathered (G.scope global.now) root ps → Gives (λ v. map proc v.items) result (Some ps) }
+{
+    let mut terms = Vec::new(alloc);
+    while terms.len() < work.met.len() {
+        let term = numbered_body(alloc, global, terms.len(), work)?;
+        terms.push(term)?;
+    }
+    Ok(terms)
+}
 
 /// The bodies of what is reached from the root, by their numbers: definitions are numbered as they are met, where the
 /// root is read first and then each body in the order of these numbers. A definition with
@@ -33,22 +82,6 @@ pub fn gathered<A: Allocator + Copy, G: GlobalScope<A>>(
     // These are given, unless memory runs out, and no others are bodies of what is reached.
     ensures only { (ps : List Proc) → Gathered (G.scope global.now) (root.now, []) ps → Gives (λ v. map proc v.items) result (Some ps) }
 {
-    let first = Call {
-        name: Vec::from_slice(alloc, root)?,
-        arguments: Vec::new(alloc),
-    };
-    let mut met = IndexSet::new(alloc);
-    let _new = met.insert(first)?;
-    let mut work = Work {
-        met,
-        room: NODE_LIMIT,
-    };
-    let mut terms = Vec::new(alloc);
-    while terms.len() < work.met.len() {
-        let call = work.met[terms.len()].try_clone(alloc)?;
-        let (term, next) = body(alloc, global, &call, work)?;
-        work = next;
-        terms.push(term)?;
-    }
-    Ok(terms)
+    let mut work = begun(alloc, root)?;
+    bodies(alloc, global, &mut work)
 }

@@ -9,7 +9,7 @@ ghost use Rattle.values.specs.View.{Gives};
 ghost use Rattle.event_phrases.specs.Scopes.{within};
 ghost use Rattle.event_phrases.specs.View.{listed};
 ghost use Rattle.denotation.specs.Denotes.{paired};
-ghost use Rattle.denotation.specs.Making.{make_body, make_called, shallow};
+ghost use Rattle.denotation.specs.Making.{Count, make_body, make_called, shallow};
 ghost use Rattle.denotation.specs.BodyParts.{make_shallow};
 ghost use Rattle.denotation.specs.View.{count, key};
 
@@ -28,16 +28,13 @@ const DEEPEST: u64 = 200;
 
 /// The same, unless the term is too deep.
 #[tactic(auto, unfolding(crate::specs::Making::shallow))]
-fn unless_deep<A: Allocator>(
-    made: (Term<A>, Work<A>),
-    line: u32,
-) -> Result<(Term<A>, Work<A>), Unread>
-    ensures { Gives (λ x. (proc x.0, count x.1)) result (shallow (proc made.0, count made.1)) }
+fn unless_deep<A: Allocator>(term: Term<A>, line: u32) -> Result<Term<A>, Unread>
+    ensures { (w : Count) → Gives (λ t. (proc t, w)) result (shallow (proc term, w)) }
 {
-    if made.0.depth() > DEEPEST {
+    if term.depth() > DEEPEST {
         return Err(fault(line, ScriptErrorKind::TooDeep));
     }
-    Ok(made)
+    Ok(term)
 }
 
 /// The term made of a definition's body in this scope: `TooDeep` with the line of the definition's name where it is deeper
@@ -46,12 +43,12 @@ fn body_within<'a, A: Allocator + Copy, G: GlobalScope<A>>(
     alloc: A,
     scope: &Scope<'a, A, G>,
     tree: &'a Tree<A>,
-    work: Work<A>,
-) -> Result<(Term<A>, Work<A>), Unread>
-    ensures { Gives (λ x. (proc x.0, count x.1)) result (make_shallow (shape tree.now) (within (G.scope scope.now.global.now) (map input scope.now.inputs.items)) (count work)) }
+    work: &mut Work<A>,
+) -> Result<Term<A>, Unread>
+    ensures { Gives (λ t. (proc t, count work.new)) result (make_shallow (shape tree.now) (within (G.scope scope.now.global.now) (map input scope.now.inputs.items)) (count work.old)) }
 {
-    let made = process(alloc, scope, tree, work)?;
-    unless_deep(made, scope.line)
+    let term = process(alloc, scope, tree, work)?;
+    unless_deep(term, scope.line)
 }
 
 /// The term made of the body of the definition without parameters that has this name: `NoSuchProcess` where there is no such
@@ -60,9 +57,9 @@ fn plain_body<A: Allocator + Copy, G: GlobalScope<A>>(
     alloc: A,
     global: &G,
     name: &[u8],
-    work: Work<A>,
-) -> Result<(Term<A>, Work<A>), Unread>
-    ensures { Gives (λ x. (proc x.0, count x.1)) result (make_body (G.scope global.now) (name.now, []) (count work)) }
+    work: &mut Work<A>,
+) -> Result<Term<A>, Unread>
+    ensures { Gives (λ t. (proc t, count work.new)) result (make_body (G.scope global.now) (name.now, []) (count work.old)) }
 {
     if !global.is_process(name) {
         return Err(fault(1, ScriptErrorKind::NoSuchProcess));
@@ -108,9 +105,9 @@ fn called_body<A: Allocator + Copy, G: GlobalScope<A>>(
     global: &G,
     name: &[u8],
     arguments: &[Value<A>],
-    work: Work<A>,
-) -> Result<(Term<A>, Work<A>), Unread>
-    ensures { Gives (λ x. (proc x.0, count x.1)) result (make_called (G.scope global.now) (meaning (G.scope global.now).entries name.now) (listed arguments.now) (count work)) }
+    work: &mut Work<A>,
+) -> Result<Term<A>, Unread>
+    ensures { Gives (λ t. (proc t, count work.new)) result (make_called (G.scope global.now) (meaning (G.scope global.now).entries name.now) (listed arguments.now) (count work.old)) }
 {
     match global.with_parameters(name) {
         None => Err(fault(1, ScriptErrorKind::NoSuchProcess)),
@@ -134,9 +131,9 @@ pub(crate) fn body<A: Allocator + Copy, G: GlobalScope<A>>(
     alloc: A,
     global: &G,
     call: &Call<A>,
-    work: Work<A>,
-) -> Result<(Term<A>, Work<A>), Unread>
-    ensures { Gives (λ x. (proc x.0, count x.1)) result (make_body (G.scope global.now) (key call.now) (count work)) }
+    work: &mut Work<A>,
+) -> Result<Term<A>, Unread>
+    ensures { Gives (λ t. (proc t, count work.new)) result (make_body (G.scope global.now) (key call.now) (count work.old)) }
 {
     if call.arguments.is_empty() {
         plain_body(alloc, global, &call.name, work)

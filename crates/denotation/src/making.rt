@@ -43,23 +43,23 @@ fn next_branch<'a, A: Allocator + Copy, G: GlobalScope<A>>(
     scope: &Scope<'a, A, G>,
     prefix: &Prefix<'a, A>,
     from: usize,
-    work: Work<A>,
-) -> Result<(Option<(usize, Term<A>)>, Work<A>), Unread>
-    ensures branch { Gives (λ x. (option_map (λ p. (p.0, proc p.1, drop (suc p.0) (events_of (G.scope scope.now.global.now).channels))) x.0, count x.1)) result (make_first_fit (led_fits prefix.now.channel.now (listed prefix.now.leading.items) (shapes prefix.now.fields.now) (map (λ v. listed v.items) prefix.now.sets.now) (within (G.scope scope.now.global.now) (map input scope.now.inputs.items))) (make (shape prefix.now.then.now)) from (drop from (events_of (G.scope scope.now.global.now).channels)) (count work)) }
-    ensures number { IfOk result (λ x. IfSome x.0 (λ p. (from ≤ p.0) × (p.0 < 256))) }
+    work: &mut Work<A>,
+) -> Result<Option<(usize, Term<A>)>, Unread>
+    ensures branch { Gives (λ o. (option_map (λ p. (p.0, proc p.1, drop (suc p.0) (events_of (G.scope scope.now.global.now).channels))) o, count work.new)) result (make_first_fit (led_fits prefix.now.channel.now (listed prefix.now.leading.items) (shapes prefix.now.fields.now) (map (λ v. listed v.items) prefix.now.sets.now) (within (G.scope scope.now.global.now) (map input scope.now.inputs.items))) (make (shape prefix.now.then.now)) from (drop from (events_of (G.scope scope.now.global.now).channels)) (count work.old)) }
+    ensures number { IfOk result (λ o. IfSome o (λ p. (from ≤ p.0) × (p.0 < 256))) }
 {
     let found = next_fitting(alloc, scope, prefix, from)?;
     match found {
-        None => Ok((None, work)),
+        None => Ok(None),
         Some((number, inputs)) => {
             let inner = Scope {
                 global: scope.global,
                 inputs,
                 line: scope.line,
             };
-            let (term, work) = process(alloc, &inner, prefix.then, work)?;
-            let (term, work) = behind_event(alloc, number, term, work, scope.line)?;
-            Ok((Some((number, term)), work))
+            let term = process(alloc, &inner, prefix.then, work)?;
+            let term = behind_event(alloc, number, term, work, scope.line)?;
+            Ok(Some((number, term)))
         }
     }
 }
@@ -70,18 +70,16 @@ fn branches<'a, A: Allocator + Copy, G: GlobalScope<A>>(
     alloc: A,
     scope: &Scope<'a, A, G>,
     prefix: &Prefix<'a, A>,
-    work: Work<A>,
-) -> Result<(Vec<Term<A>, A>, Work<A>), Unread>
-    ensures { Gives (λ x. (map proc x.0.items, count x.1)) result (make_fits (led_fits prefix.now.channel.now (listed prefix.now.leading.items) (shapes prefix.now.fields.now) (map (λ v. listed v.items) prefix.now.sets.now) (within (G.scope scope.now.global.now) (map input scope.now.inputs.items))) (make (shape prefix.now.then.now)) 0 (events_of (G.scope scope.now.global.now).channels) (count work)) }
+    work: &mut Work<A>,
+) -> Result<Vec<Term<A>, A>, Unread>
+    ensures { Gives (λ v. (map proc v.items, count work.new)) result (make_fits (led_fits prefix.now.channel.now (listed prefix.now.leading.items) (shapes prefix.now.fields.now) (map (λ v. listed v.items) prefix.now.sets.now) (within (G.scope scope.now.global.now) (map input scope.now.inputs.items))) (make (shape prefix.now.then.now)) 0 (events_of (G.scope scope.now.global.now).channels) (count work.old)) }
 {
     let mut terms = Vec::new(alloc);
-    let mut work = work;
     let mut from = 0;
     loop {
-        let (found, left) = next_branch(alloc, scope, prefix, from, work)?;
-        work = left;
+        let found = next_branch(alloc, scope, prefix, from, work)?;
         match found {
-            None => return Ok((terms, work)),
+            None => return Ok(terms),
             Some((number, term)) => {
                 terms.push(term)?;
                 from = number + 1;
@@ -97,12 +95,12 @@ fn prefixed<'a, A: Allocator + Copy, G: GlobalScope<A>>(
     scope: &Scope<'a, A, G>,
     event: &'a Tree<A>,
     then: &'a Tree<A>,
-    work: Work<A>,
-) -> Result<(Term<A>, Work<A>), Unread>
-    ensures { Gives (λ x. (proc x.0, count x.1)) result (make_prefixed (within (G.scope scope.now.global.now) (map input scope.now.inputs.items)) (shape event.now) (make (shape then.now)) (count work)) }
+    work: &mut Work<A>,
+) -> Result<Term<A>, Unread>
+    ensures { Gives (λ t. (proc t, count work.new)) result (make_prefixed (within (G.scope scope.now.global.now) (map input scope.now.inputs.items)) (shape event.now) (make (shape then.now)) (count work.old)) }
 {
     let prefix = prefix_of(alloc, scope, event, then)?;
-    let (terms, work) = branches(alloc, scope, &prefix, work)?;
+    let terms = branches(alloc, scope, &prefix, work)?;
     chosen(alloc, terms, work, scope.line)
 }
 
@@ -114,12 +112,12 @@ fn joined_phrases<'a, A: Allocator + Copy, G: GlobalScope<A>>(
     join: Join,
     first: &'a Tree<A>,
     second: &'a Tree<A>,
-    work: Work<A>,
-) -> Result<(Term<A>, Work<A>), Unread>
-    ensures { Gives (λ x. (proc x.0, count x.1)) result (make_phrase (joined join (shape first.now) (shape second.now)) (within (G.scope scope.now.global.now) (map input scope.now.inputs.items)) (count work)) }
+    work: &mut Work<A>,
+) -> Result<Term<A>, Unread>
+    ensures { Gives (λ t. (proc t, count work.new)) result (make_phrase (joined join (shape first.now) (shape second.now)) (within (G.scope scope.now.global.now) (map input scope.now.inputs.items)) (count work.old)) }
 {
-    let (first, work) = process(alloc, scope, first, work)?;
-    let (second, work) = process(alloc, scope, second, work)?;
+    let first = process(alloc, scope, first, work)?;
+    let second = process(alloc, scope, second, work)?;
     joined_within(alloc, join, first, second, work, scope.line)
 }
 
@@ -131,13 +129,13 @@ fn sharing_phrases<'a, A: Allocator + Copy, G: GlobalScope<A>>(
     first: &'a Tree<A>,
     set: &'a Tree<A>,
     second: &'a Tree<A>,
-    work: Work<A>,
-) -> Result<(Term<A>, Work<A>), Unread>
-    ensures { Gives (λ x. (proc x.0, count x.1)) result (make_phrase (sharing (shape first.now) (shape set.now) (shape second.now)) (within (G.scope scope.now.global.now) (map input scope.now.inputs.items)) (count work)) }
+    work: &mut Work<A>,
+) -> Result<Term<A>, Unread>
+    ensures { Gives (λ t. (proc t, count work.new)) result (make_phrase (sharing (shape first.now) (shape set.now) (shape second.now)) (within (G.scope scope.now.global.now) (map input scope.now.inputs.items)) (count work.old)) }
 {
-    let (first, work) = process(alloc, scope, first, work)?;
+    let first = process(alloc, scope, first, work)?;
     let set = wanted_events(alloc, scope, set)?;
-    let (second, work) = process(alloc, scope, second, work)?;
+    let second = process(alloc, scope, second, work)?;
     shared(alloc, set, first, second, work, scope.line)
 }
 
@@ -149,14 +147,14 @@ fn alphabetised_phrases<'a, A: Allocator + Copy, G: GlobalScope<A>>(
     first: &'a Tree<A>,
     sets: (&'a Tree<A>, &'a Tree<A>),
     second: &'a Tree<A>,
-    work: Work<A>,
-) -> Result<(Term<A>, Work<A>), Unread>
-    ensures { Gives (λ x. (proc x.0, count x.1)) result (make_phrase (alphabetised (shape first.now) (shape sets.entry.0.now) (shape sets.entry.1.now) (shape second.now)) (within (G.scope scope.now.global.now) (map input scope.now.inputs.items)) (count work)) }
+    work: &mut Work<A>,
+) -> Result<Term<A>, Unread>
+    ensures { Gives (λ t. (proc t, count work.new)) result (make_phrase (alphabetised (shape first.now) (shape sets.entry.0.now) (shape sets.entry.1.now) (shape second.now)) (within (G.scope scope.now.global.now) (map input scope.now.inputs.items)) (count work.old)) }
 {
-    let (first, work) = process(alloc, scope, first, work)?;
+    let first = process(alloc, scope, first, work)?;
     let sets = two_sets(alloc, scope, sets.0, sets.1)?;
-    let (second, work) = process(alloc, scope, second, work)?;
-    alphabetised_within(alloc, scope, sets, (first, second), work)
+    let second = process(alloc, scope, second, work)?;
+    alphabetised_within(alloc, scope, sets, first, second, work)
 }
 
 /// `P \ A`
@@ -166,11 +164,11 @@ fn hiding_phrase<'a, A: Allocator + Copy, G: GlobalScope<A>>(
     scope: &Scope<'a, A, G>,
     tree: &'a Tree<A>,
     set: &'a Tree<A>,
-    work: Work<A>,
-) -> Result<(Term<A>, Work<A>), Unread>
-    ensures { Gives (λ x. (proc x.0, count x.1)) result (make_phrase (hiding (shape tree.now) (shape set.now)) (within (G.scope scope.now.global.now) (map input scope.now.inputs.items)) (count work)) }
+    work: &mut Work<A>,
+) -> Result<Term<A>, Unread>
+    ensures { Gives (λ t. (proc t, count work.new)) result (make_phrase (hiding (shape tree.now) (shape set.now)) (within (G.scope scope.now.global.now) (map input scope.now.inputs.items)) (count work.old)) }
 {
-    let (term, work) = process(alloc, scope, tree, work)?;
+    let term = process(alloc, scope, tree, work)?;
     let set = wanted_events(alloc, scope, set)?;
     hidden(alloc, set, term, work, scope.line)
 }
@@ -182,11 +180,11 @@ fn renaming_phrase<'a, A: Allocator + Copy, G: GlobalScope<A>>(
     scope: &Scope<'a, A, G>,
     tree: &'a Tree<A>,
     pairs: &'a [Tree<A>],
-    work: Work<A>,
-) -> Result<(Term<A>, Work<A>), Unread>
-    ensures { Gives (λ x. (proc x.0, count x.1)) result (make_phrase (renaming (shape tree.now) (shapes pairs.now)) (within (G.scope scope.now.global.now) (map input scope.now.inputs.items)) (count work)) }
+    work: &mut Work<A>,
+) -> Result<Term<A>, Unread>
+    ensures { Gives (λ t. (proc t, count work.new)) result (make_phrase (renaming (shape tree.now) (shapes pairs.now)) (within (G.scope scope.now.global.now) (map input scope.now.inputs.items)) (count work.old)) }
 {
-    let (term, work) = process(alloc, scope, tree, work)?;
+    let term = process(alloc, scope, tree, work)?;
     renamed_by(alloc, scope, pairs, term, work)
 }
 
@@ -197,9 +195,9 @@ fn conditional_phrase<'a, A: Allocator + Copy, G: GlobalScope<A>>(
     scope: &Scope<'a, A, G>,
     condition: &'a Tree<A>,
     trees: (&'a Tree<A>, &'a Tree<A>),
-    work: Work<A>,
-) -> Result<(Term<A>, Work<A>), Unread>
-    ensures { Gives (λ x. (proc x.0, count x.1)) result (make_phrase (conditional (shape condition.now) (shape trees.entry.0.now) (shape trees.entry.1.now)) (within (G.scope scope.now.global.now) (map input scope.now.inputs.items)) (count work)) }
+    work: &mut Work<A>,
+) -> Result<Term<A>, Unread>
+    ensures { Gives (λ t. (proc t, count work.new)) result (make_phrase (conditional (shape condition.now) (shape trees.entry.0.now) (shape trees.entry.1.now)) (within (G.scope scope.now.global.now) (map input scope.now.inputs.items)) (count work.old)) }
 {
     let holds = wanted_truth(alloc, scope, condition)?;
     if holds {
@@ -216,9 +214,9 @@ fn guarded_phrase<'a, A: Allocator + Copy, G: GlobalScope<A>>(
     scope: &Scope<'a, A, G>,
     condition: &'a Tree<A>,
     then: &'a Tree<A>,
-    work: Work<A>,
-) -> Result<(Term<A>, Work<A>), Unread>
-    ensures { Gives (λ x. (proc x.0, count x.1)) result (make_phrase (guarded (shape condition.now) (shape then.now)) (within (G.scope scope.now.global.now) (map input scope.now.inputs.items)) (count work)) }
+    work: &mut Work<A>,
+) -> Result<Term<A>, Unread>
+    ensures { Gives (λ t. (proc t, count work.new)) result (make_phrase (guarded (shape condition.now) (shape then.now)) (within (G.scope scope.now.global.now) (map input scope.now.inputs.items)) (count work.old)) }
 {
     let holds = wanted_truth(alloc, scope, condition)?;
     if holds {
@@ -228,20 +226,20 @@ fn guarded_phrase<'a, A: Allocator + Copy, G: GlobalScope<A>>(
     }
 }
 
-/// One more term, which is made of this phrase.
+/// Appends the term that is made of this phrase.
 #[cycle(making)]
-fn with_process<'a, A: Allocator + Copy, G: GlobalScope<A>>(
+fn put_process<'a, A: Allocator + Copy, G: GlobalScope<A>>(
     alloc: A,
     scope: &Scope<'a, A, G>,
     tree: &'a Tree<A>,
-    made: (Vec<Term<A>, A>, Work<A>),
-) -> Result<(Vec<Term<A>, A>, Work<A>), Unread>
-    ensures { Gives (λ x. (map proc x.0.items, count x.1)) result (with_made (map proc made.0.items) (make (shape tree.now) (within (G.scope scope.now.global.now) (map input scope.now.inputs.items)) (count made.1))) }
+    terms: &mut Vec<Term<A>, A>,
+    work: &mut Work<A>,
+) -> Result<(), Unread>
+    ensures { Gives (λ _. (map proc terms.new.items, count work.new)) result (with_made (map proc terms.old.items) (make (shape tree.now) (within (G.scope scope.now.global.now) (map input scope.now.inputs.items)) (count work.old))) }
 {
-    let (mut terms, work) = made;
-    let (term, work) = process(alloc, scope, tree, work)?;
+    let term = process(alloc, scope, tree, work)?;
     terms.push(term)?;
-    Ok((terms, work))
+    Ok(())
 }
 
 /// The terms made of this phrase in the first place and in those after it.
@@ -251,27 +249,24 @@ fn over<'a, A: Allocator + Copy, G: GlobalScope<A>>(
     scope: &Scope<'a, A, G>,
     first: Option<Place<'a, A>>,
     then: &'a Tree<A>,
-    work: Work<A>,
-) -> Result<(Vec<Term<A>, A>, Work<A>), Unread>
-    ensures { Gives (λ x. (map proc x.0.items, count x.1)) result (make_visits (make (shape then.now)) (from_scope (G.scope scope.now.global.now) first.entry) (count work)) }
+    work: &mut Work<A>,
+) -> Result<Vec<Term<A>, A>, Unread>
+    ensures { Gives (λ v. (map proc v.items, count work.new)) result (make_visits (make (shape then.now)) (from_scope (G.scope scope.now.global.now) first.entry) (count work.old)) }
 {
     let mut at = first;
     let mut terms = Vec::new(alloc);
-    let mut work = work;
     while let Some(Place { inputs, outer, .. }) = at {
         let inner = Scope {
             global: scope.global,
             inputs,
             line: scope.line,
         };
-        let (more, left) = with_process(alloc, &inner, then, (terms, work))?;
-        terms = more;
-        work = left;
+        put_process(alloc, &inner, then, &mut terms, work)?;
         let Scope { inputs, .. } = inner;
         let next = next_place(alloc, scope, inputs, outer)?;
         at = next;
     }
-    Ok((terms, work))
+    Ok(terms)
 }
 
 /// `[] x:A, y:B @ P` and the like on this line, where the form is its generators and P.
@@ -282,12 +277,12 @@ fn replicated_phrase<'a, A: Allocator + Copy, G: GlobalScope<A>>(
     join: Join,
     form: (&'a [Tree<A>], &'a Tree<A>),
     line: u32,
-    work: Work<A>,
-) -> Result<(Term<A>, Work<A>), Unread>
-    ensures { Gives (λ x. (proc x.0, count x.1)) result (make_phrase (replicated join (shapes form.entry.0.now) (shape form.entry.1.now)) (within (G.scope scope.now.global.now) (map input scope.now.inputs.items)) (count work)) }
+    work: &mut Work<A>,
+) -> Result<Term<A>, Unread>
+    ensures { Gives (λ t. (proc t, count work.new)) result (make_phrase (replicated join (shapes form.entry.0.now) (shape form.entry.1.now)) (within (G.scope scope.now.global.now) (map input scope.now.inputs.items)) (count work.old)) }
 {
     let first = first_place(alloc, scope, form.0)?;
-    let (terms, work) = over(alloc, scope, first, form.1, work)?;
+    let terms = over(alloc, scope, first, form.1, work)?;
     all_joined(alloc, join, terms, work, scope.line, line)
 }
 
@@ -298,9 +293,9 @@ fn made<'a, A: Allocator + Copy, G: GlobalScope<A>>(
     scope: &Scope<'a, A, G>,
     phrase: Phrase<'a, A>,
     line: u32,
-    work: Work<A>,
-) -> Result<(Term<A>, Work<A>), Unread>
-    ensures { Gives (λ x. (proc x.0, count x.1)) result (make_phrase (plain phrase.entry) (within (G.scope scope.now.global.now) (map input scope.now.inputs.items)) (count work)) }
+    work: &mut Work<A>,
+) -> Result<Term<A>, Unread>
+    ensures { Gives (λ t. (proc t, count work.new)) result (make_phrase (plain phrase.entry) (within (G.scope scope.now.global.now) (map input scope.now.inputs.items)) (count work.old)) }
 {
     match phrase {
         Phrase::Stop => stop(work, scope.line),
@@ -341,9 +336,9 @@ pub(crate) fn process<'a, A: Allocator + Copy, G: GlobalScope<A>>(
     alloc: A,
     scope: &Scope<'a, A, G>,
     tree: &'a Tree<A>,
-    work: Work<A>,
-) -> Result<(Term<A>, Work<A>), Unread>
-    ensures { Gives (λ x. (proc x.0, count x.1)) result (make (shape tree.now) (within (G.scope scope.now.global.now) (map input scope.now.inputs.items)) (count work)) }
+    work: &mut Work<A>,
+) -> Result<Term<A>, Unread>
+    ensures { Gives (λ t. (proc t, count work.new)) result (make (shape tree.now) (within (G.scope scope.now.global.now) (map input scope.now.inputs.items)) (count work.old)) }
 {
     match process_phrase(tree) {
         Some(phrase) => made(alloc, scope, phrase, tree.line(), work),

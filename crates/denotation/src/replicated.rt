@@ -42,11 +42,11 @@ pub(crate) fn all_joined<A: Allocator + Copy>(
     alloc: A,
     join: Join,
     terms: Vec<Term<A>, A>,
-    work: Work<A>,
+    work: &mut Work<A>,
     body: u32,
     line: u32,
-) -> Result<(Term<A>, Work<A>), Unread>
-    ensures { Gives (λ x. (proc x.0, count x.1)) result (make_replicated join (map proc terms.items, count work)) }
+) -> Result<Term<A>, Unread>
+    ensures { Gives (λ t. (proc t, count work.new)) result (make_replicated join (map proc terms.items, count work.old)) }
 {
     match join {
         Join::Sequence | Join::Interrupt => Err(fault(line, ScriptErrorKind::Expected)),

@@ -9,7 +9,7 @@ ghost use Rattle.event_phrases.specs.Scopes.{Scope as ScopeOf, within};
 ghost use Rattle.denotation.specs.View.{count};
 
 use crate::call::Call;
-use crate::work::{Work, refer, spent};
+use crate::work::{Work, refer, spend_nodes};
 use event_phrases::{GlobalScope, Scope};
 use std::alloc::Allocator;
 use term::Term;
@@ -17,20 +17,20 @@ use tokens::{ScriptErrorKind, Unread, fault};
 
 /// `STOP`, where there is room for it.
 #[tactic(auto, unfolding(crate::specs::Making::make_phrase))]
-pub(crate) fn stop<A: Allocator>(work: Work<A>, line: u32) -> Result<(Term<A>, Work<A>), Unread>
-    ensures { (s : ScopeOf) → Gives (λ x. (proc x.0, count x.1)) result (make_phrase stops s (count work)) }
+pub(crate) fn stop<A: Allocator>(work: &mut Work<A>, line: u32) -> Result<Term<A>, Unread>
+    ensures { (s : ScopeOf) → Gives (λ t. (proc t, count work.new)) result (make_phrase stops s (count work.old)) }
 {
-    let work = spent(work, 1, line)?;
-    Ok((Term::Stop, work))
+    spend_nodes(work, 1, line)?;
+    Ok(Term::Stop)
 }
 
 /// `SKIP`, where there is room for it.
 #[tactic(auto, unfolding(crate::specs::Making::make_phrase))]
-pub(crate) fn skip<A: Allocator>(work: Work<A>, line: u32) -> Result<(Term<A>, Work<A>), Unread>
-    ensures { (s : ScopeOf) → Gives (λ x. (proc x.0, count x.1)) result (make_phrase skips s (count work)) }
+pub(crate) fn skip<A: Allocator>(work: &mut Work<A>, line: u32) -> Result<Term<A>, Unread>
+    ensures { (s : ScopeOf) → Gives (λ t. (proc t, count work.new)) result (make_phrase skips s (count work.old)) }
 {
-    let work = spent(work, 1, line)?;
-    Ok((Term::Skip, work))
+    spend_nodes(work, 1, line)?;
+    Ok(Term::Skip)
 }
 
 /// The definition with this name, on this line.
@@ -40,9 +40,9 @@ pub(crate) fn called<A: Allocator + Copy, G: GlobalScope<A>>(
     scope: &Scope<'_, A, G>,
     name: &[u8],
     line: u32,
-    work: Work<A>,
-) -> Result<(Term<A>, Work<A>), Unread>
-    ensures { Gives (λ x. (proc x.0, count x.1)) result (make_phrase (called_by name.now) (within (G.scope scope.now.global.now) (map input scope.now.inputs.items)) (count work)) }
+    work: &mut Work<A>,
+) -> Result<Term<A>, Unread>
+    ensures { Gives (λ t. (proc t, count work.new)) result (make_phrase (called_by name.now) (within (G.scope scope.now.global.now) (map input scope.now.inputs.items)) (count work.old)) }
 {
     if scope.is_value(name) {
         return Err(fault(line, ScriptErrorKind::Expected));

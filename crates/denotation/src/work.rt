@@ -24,48 +24,47 @@ pub(crate) struct Work<A: Allocator> {
     pub(crate) room: usize,
 }
 
-/// The same with so many nodes less to be made; `TooLarge` where there is no room for them.
+/// Takes so many nodes of those that may still be made; `TooLarge` where there is no room for them.
 #[tactic(auto, unfolding(crate::specs::Making::spend, crate::specs::Making::room_left))]
-pub(crate) fn spent<A: Allocator>(work: Work<A>, nodes: usize, line: u32) -> Result<Work<A>, Unread>
-    ensures { Gives (λ w. count w) result (spend nodes (count work)) }
+pub(crate) fn spend_nodes<A: Allocator>(
+    work: &mut Work<A>,
+    nodes: usize,
+    line: u32,
+) -> Result<(), Unread>
+    ensures { Gives (λ _. count work.new) result (spend nodes (count work.old)) }
 {
-    let Work { met, room } = work;
-    if room < nodes {
+    if work.room < nodes {
         return Err(fault(line, ScriptErrorKind::TooLarge));
     }
-    Ok(Work {
-        met,
-        room: room - nodes,
-    })
+    work.room -= nodes;
+    Ok(())
 }
 
 /// The number of a definition with these values, which is the next one where it wasn't met before. Costs one look-up by its hash.
 fn numbered<A: Allocator>(
-    met: IndexSet<Call<A>, Hashing, A>,
+    met: &mut IndexSet<Call<A>, Hashing, A>,
     call: Call<A>,
-) -> Result<(usize, IndexSet<Call<A>, Hashing, A>), AllocError>
-    ensures keys { IfOk result (λ x. with_key (map key met.keys) (key call) ≡ map key x.1.keys) }
-    ensures number { IfOk result (λ x. place (with_key (map key met.keys) (key call)) (key call) ≡ x.0) }
+) -> Result<usize, AllocError>
+    ensures keys { IfOk result (λ n. with_key (map key met.old.keys) (key call) ≡ map key met.new.keys) }
+    ensures number { IfOk result (λ n. place (with_key (map key met.old.keys) (key call)) (key call) ≡ n) }
 {
-    let mut met = met;
     let (number, _) = met.insert_full(call)?;
-    Ok((number, met))
+    Ok(number)
 }
 
 /// The name of a definition with these values, by its number.
 #[tactic(auto, unfolding(crate::specs::Making::refer, crate::specs::Making::spend, crate::specs::Making::room_left))]
 pub(crate) fn refer<A: Allocator>(
     call: Call<A>,
-    work: Work<A>,
+    work: &mut Work<A>,
     line: u32,
-) -> Result<(Term<A>, Work<A>), Unread>
-    ensures { Gives (λ x. (proc x.0, count x.1)) result (refer_to (key call) (count work)) }
+) -> Result<Term<A>, Unread>
+    ensures { Gives (λ t. (proc t, count work.new)) result (refer_to (key call) (count work.old)) }
 {
-    let Work { met, room } = work;
-    if room < 1 {
+    if work.room < 1 {
         return Err(fault(line, ScriptErrorKind::TooLarge));
     }
-    let (number, met) = numbered(met, call)?;
-    let room = room - 1;
-    Ok((Term::Name(number), Work { met, room }))
+    let number = numbered(&mut work.met, call)?;
+    work.room -= 1;
+    Ok(Term::Name(number))
 }

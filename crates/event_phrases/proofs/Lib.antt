@@ -14,5 +14,9 @@ pub mod Passing
 pub mod Mentions
 pub mod PrefixParts
 pub mod FirstValues
+mod NodeParts
+mod FormParts
+mod SetForms
+mod Copies
 mod FieldSteps
 mod RowSteps

@@ -13,7 +13,7 @@ ghost use Rattle.event_phrases.specs.View.{beginning as beginning_of, listed};
 use crate::forms::{FieldPhrase, branches, event_parts, field, in_brackets};
 use crate::global_scope::{GlobalScope, Set, Wanted};
 use crate::row::Row;
-use crate::scope::{Scope, told, truth, worth};
+use crate::scope::{Scope, reported_fault, truth, worth};
 use std::alloc::Allocator;
 use syntax::Tree;
 use tokens::{ScriptErrorKind, Unread, fault};
@@ -66,7 +66,6 @@ pub(crate) fn given<A: Allocator + Copy, G: GlobalScope<A>>(
 }
 
 /// The values before, and after them those that the fields give, each of which is one of its field's.
-#[tactic(auto, unfolding(crate::specs::EventForms::within_by), using(crate::proofs::Scopes::not_within))]
 fn more_values<A: Allocator + Copy, G: GlobalScope<A>>(
     alloc: A,
     scope: &Scope<'_, A, G>,
@@ -95,7 +94,6 @@ fn more_values<A: Allocator + Copy, G: GlobalScope<A>>(
 }
 
 /// The values that the fields give, each of which is one of its field's.
-#[tactic(auto, using(crate::proofs::EventLaws::too_many, crate::proofs::Scopes::from_none))]
 fn values_of<A: Allocator + Copy, G: GlobalScope<A>>(
     alloc: A,
     scope: &Scope<'_, A, G>,
@@ -146,7 +144,13 @@ pub(crate) fn wanted_beginning<A: Allocator + Copy, G: GlobalScope<A>>(
 {
     match beginning(alloc, scope, tree) {
         Ok(row) => Ok(row),
-        Err(error) => Err(told(scope.global, &scope.inputs, tree, Wanted::Beginning, error)),
+        Err(error) => Err(reported_fault(
+            scope.global,
+            &scope.inputs,
+            tree,
+            Wanted::Beginning,
+            error,
+        )),
     }
 }
 

@@ -23,7 +23,6 @@ pub(crate) fn beginning_so<A: Allocator>(events: &[Row<A>], first: &Row<A>) -> E
 }
 
 /// The number of the event with this channel and these values.
-#[tactic(auto, using(crate::proofs::EventNumbers::number_start, crate::proofs::EventNumbers::number_next, crate::proofs::EventNumbers::number_found, crate::proofs::EventNumbers::number_end))]
 pub(crate) fn number_of<A: Allocator>(events: &[Row<A>], wanted: &Row<A>) -> Option<usize>
     ensures number { result ≡ number_in (map row events.now) (beginning wanted.now) }
     ensures below { IfSome result (λ n. n < length events.now) }

@@ -56,7 +56,7 @@ pub(crate) enum FieldPhrase<'a, A: Allocator> {
 }
 
 /// The form and the parts of a node. A name and a number have none.
-#[tactic(auto, unfolding(crate::specs::Forms::node_of), using(crate::proofs::Shapes::node_parts))]
+#[tactic(auto, unfolding(crate::specs::Forms::node_of))]
 pub fn node<A: Allocator>(tree: &Tree<A>) -> Option<(Form, &[Tree<A>])>
     ensures { option_map (λ n. (n.0, shapes n.1.now)) result ≡ node_of (shape tree.now) }
 {
@@ -80,7 +80,6 @@ pub fn name<A: Allocator>(tree: &Tree<A>) -> Option<&[u8]>
 }
 
 /// The first part and those after it.
-#[tactic(auto, unfolding(crate::specs::Forms::first_of))]
 pub fn first<A: Allocator>(parts: &[Tree<A>]) -> Option<(&Tree<A>, &[Tree<A>])>
     ensures { option_map (λ p. (shape p.0.now, shapes p.1.now)) result ≡ first_of (shapes parts.now) }
 {
@@ -91,76 +90,69 @@ pub fn first<A: Allocator>(parts: &[Tree<A>]) -> Option<(&Tree<A>, &[Tree<A>])>
 }
 
 /// The only part, where there is one and no more.
-#[tactic(auto, unfolding(crate::specs::Forms::one_of, crate::specs::Forms::if_none))]
 pub fn one<A: Allocator>(parts: &[Tree<A>]) -> Option<&Tree<A>>
     ensures { option_map (λ t. shape t.now) result ≡ one_of (shapes parts.now) }
 {
     match parts {
-        [] => None,
-        [only, rest @ ..] => match rest {
-            [] => Some(only),
-            [_, ..] => None,
-        },
+        [only] => Some(only),
+        _ => None,
     }
 }
 
 /// The two parts, where there are as many.
-#[tactic(auto, unfolding(crate::specs::Forms::two_of))]
 pub fn two<A: Allocator>(parts: &[Tree<A>]) -> Option<(&Tree<A>, &Tree<A>)>
     ensures { option_map (λ p. (shape p.0.now, shape p.1.now)) result ≡ two_of (shapes parts.now) }
 {
     match parts {
-        [] => None,
-        [first, rest @ ..] => Some((first, one(rest)?)),
+        [first, second] => Some((first, second)),
+        _ => None,
     }
 }
 
 /// The three parts, where there are as many.
-#[tactic(auto, unfolding(crate::specs::Forms::three_of))]
 pub fn three<A: Allocator>(parts: &[Tree<A>]) -> Option<(&Tree<A>, &Tree<A>, &Tree<A>)>
     ensures { option_map (λ p. (shape p.0.now, shape p.1.now, shape p.2.now)) result ≡ three_of (shapes parts.now) }
 {
     match parts {
-        [] => None,
-        [first, rest @ ..] => {
-            let (second, third) = two(rest)?;
-            Some((first, second, third))
-        }
+        [first, second, third] => Some((first, second, third)),
+        _ => None,
     }
 }
 
 /// The four parts, where there are as many.
-#[tactic(auto, unfolding(crate::specs::Forms::four_of))]
 pub fn four<A: Allocator>(parts: &[Tree<A>]) -> Option<(&Tree<A>, &Tree<A>, &Tree<A>, &Tree<A>)>
     ensures { option_map (λ p. (shape p.0.now, shape p.1.now, shape p.2.now, shape p.3.now)) result ≡ four_of (shapes parts.now) }
 {
     match parts {
-        [] => None,
-        [first, rest @ ..] => {
-            let (second, third, fourth) = three(rest)?;
-            Some((first, second, third, fourth))
-        }
+        [first, second, third, fourth] => Some((first, second, third, fourth)),
+        _ => None,
     }
 }
 
 /// Two sets that are combined so.
-#[tactic(auto, unfolding(crate::specs::Forms::combined_phrase))]
 fn combined<A: Allocator>(combination: Combination, parts: &[Tree<A>]) -> Option<SetPhrase<'_, A>>
     ensures { option_map plain_set result ≡ combined_phrase combination (shapes parts.now) }
 {
-    let (first, second) = two(parts)?;
-    Some(SetPhrase::Combined(combination, first, second))
+    match parts {
+        [first, second] => Some(SetPhrase::Combined(combination, first, second)),
+        _ => None,
+    }
 }
 
 /// The set of events that this form with these parts is a phrase for.
-#[tactic(auto, unfolding(crate::specs::Forms::set_form, crate::specs::Forms::if_none))]
 fn event_set_form<A: Allocator>(form: Form, parts: &[Tree<A>]) -> Option<SetPhrase<'_, A>>
     ensures { option_map plain_set result ≡ set_form form (shapes parts.now) }
 {
     match form {
-        Form::Brackets => Some(SetPhrase::Inside(one(parts)?)),
-        Form::Event => Some(SetPhrase::Called(name(one(parts)?)?)),
-        Form::EmptySet => match parts {
+        Form::Brackets => match parts {
+            [inner] => Some(SetPhrase::Inside(inner)),
+            _ => None,
+        },
+        Form::Event => match parts {
+            [only] => Some(SetPhrase::Called(name(only)?)),
+            _ => None,
+        },
+        Form::EmptySet | Form::NoProductions => match parts {
             [] => Some(SetPhrase::Nothing),
             [_, ..] => None,
         },
@@ -168,19 +160,15 @@ fn event_set_form<A: Allocator>(form: Form, parts: &[Tree<A>]) -> Option<SetPhra
             [] => Some(SetPhrase::Everything),
             [_, ..] => None,
         },
-        Form::NoProductions => match parts {
-            [] => Some(SetPhrase::Nothing),
-            [_, ..] => None,
-        },
         Form::Productions => Some(SetPhrase::Several(Extent::Beginnings, parts)),
         Form::Set => Some(SetPhrase::Several(Extent::Events, parts)),
         Form::Union => combined(Combination::Union, parts),
         Form::Intersection => combined(Combination::Intersection, parts),
         Form::Difference => combined(Combination::Difference, parts),
-        Form::If => {
-            let (condition, first, second) = three(parts)?;
-            Some(SetPhrase::Chosen(condition, first, second))
-        }
+        Form::If => match parts {
+            [condition, first, second] => Some(SetPhrase::Chosen(condition, first, second)),
+            _ => None,
+        },
         _ => None,
     }
 }
@@ -202,10 +190,10 @@ pub fn event_parts<A: Allocator>(tree: &Tree<A>) -> Option<(&[u8], &[Tree<A>])>
 {
     let (form, parts) = node(tree)?;
     match form {
-        Form::Event => {
-            let (channel, fields) = first(parts)?;
-            Some((name(channel)?, fields))
-        }
+        Form::Event => match parts {
+            [] => None,
+            [channel, fields @ ..] => Some((name(channel)?, fields)),
+        },
         _ => None,
     }
 }
@@ -254,12 +242,18 @@ fn field_by<A: Allocator>(form: Form, parts: &[Tree<A>]) -> Option<FieldPhrase<'
     ensures { option_map plain_field result ≡ field_form form (shapes parts.now) }
 {
     match form {
-        Form::Dotted | Form::Output => Some(FieldPhrase::Given(one(parts)?)),
-        Form::Input => Some(FieldPhrase::Input(name(one(parts)?)?)),
-        Form::RestrictedInput => {
-            let (input, set) = two(parts)?;
-            Some(FieldPhrase::InputFrom(name(input)?, set))
-        }
+        Form::Dotted | Form::Output => match parts {
+            [value] => Some(FieldPhrase::Given(value)),
+            _ => None,
+        },
+        Form::Input => match parts {
+            [input] => Some(FieldPhrase::Input(name(input)?)),
+            _ => None,
+        },
+        Form::RestrictedInput => match parts {
+            [input, set] => Some(FieldPhrase::InputFrom(name(input)?, set)),
+            _ => None,
+        },
         _ => None,
     }
 }

@@ -57,7 +57,7 @@ pub(crate) fn worth<A: Allocator + Copy, G: GlobalScope<A>>(
 }
 
 /// The fault that is reported of a phrase after these inputs which isn't what is wanted for this error; out of memory stays as it is.
-pub(crate) fn told<A: Allocator, G: GlobalScope<A>>(
+pub(crate) fn reported_fault<A: Allocator, G: GlobalScope<A>>(
     global: &G,
     inputs: &[Input<A>],
     tree: &Tree<A>,
@@ -85,7 +85,7 @@ pub(crate) fn wanted_worth<A: Allocator + Copy, G: GlobalScope<A>>(
 {
     match worth(alloc, global, inputs, tree) {
         Ok(worth) => Ok(worth),
-        Err(error) => Err(told(global, inputs, tree, wanted, error)),
+        Err(error) => Err(reported_fault(global, inputs, tree, wanted, error)),
     }
 }
 
@@ -113,7 +113,7 @@ pub fn wanted_truth<A: Allocator + Copy, G: GlobalScope<A>>(
 {
     match truth(alloc, scope, tree) {
         Ok(truth) => Ok(truth),
-        Err(error) => Err(told(scope.global, &scope.inputs, tree, Wanted::Truth, error)),
+        Err(error) => Err(reported_fault(scope.global, &scope.inputs, tree, Wanted::Truth, error)),
     }
 }
 
@@ -158,7 +158,6 @@ pub(crate) fn push_input<A: Allocator + Copy>(
 }
 
 /// The scope after an input with this name and this value.
-#[tactic(auto, using(crate::proofs::Scopes::behind_input))]
 pub fn behind_input<'a, A: Allocator + Copy, G: GlobalScope<A>>(
     alloc: A,
     scope: &Scope<'a, A, G>,

@@ -15,7 +15,7 @@ use crate::beginning::{beginning, whole_event};
 use crate::events::beginning_so;
 use crate::forms::{Combination, Extent, SetPhrase, set_phrase};
 use crate::global_scope::{GlobalScope, Wanted};
-use crate::scope::{Scope, told, truth};
+use crate::scope::{Scope, reported_fault, truth};
 use alphabet::EventSet;
 use std::alloc::Allocator;
 use syntax::Tree;
@@ -132,7 +132,7 @@ pub fn wanted_events<A: Allocator + Copy, G: GlobalScope<A>>(
 {
     match event_set(alloc, scope, tree) {
         Ok(set) => Ok(set),
-        Err(error) => Err(told(scope.global, &scope.inputs, tree, Wanted::Events, error)),
+        Err(error) => Err(reported_fault(scope.global, &scope.inputs, tree, Wanted::Events, error)),
     }
 }
 

@@ -1,5 +1,5 @@
 -- Lists that are made item by item, and texts that grow.
-use Rattle.std.proofs.Common.{◌≡◌, ℕ, zero, suc, ◌+◌, ◌-◌, ◌<◌, ◌≤◌, List, [], ◌∷◌, ◌++◌, map, length, take, drop, replicate, get_or, slice_get, Some, Result, Ok, Err, OnOk, refl, sym, ap, ap₂, ◌∙◌, append_assoc, append-nil, arith}
+use Rattle.std.proofs.Common.{◌≡◌, ℕ, zero, suc, ◌+◌, ◌-◌, ◌<◌, ◌≤◌, List, [], ◌∷◌, ◌++◌, map, length, take, drop, replicate, get_or, slice_get, Some, Result, Ok, Err, OnOk, refl, sym, subst, ap, ap₂, ◌∙◌, append_assoc, append-nil, arith}
 use Rattle.std.proofs.lemmas.Option.{none-some, same_Some}
 use Rattle.std.proofs.lemmas.List.{replicate-append-replicate, take_all}
 use Rattle.std.proofs.lemmas.Grind.{flat_map-append}
@@ -57,6 +57,14 @@ behind_item between text start now new vs i v d h e is more =
     ∙ append_assoc start (flat_map (λ w. between ++ text w) (take i vs)) (between ++ text v)
     ∙ ap (λ t. start ++ t) (sym (flat_next (λ w. between ++ text w) vs i v (got vs i v d h e)))
 
+-- no item yet
+pub none_yet : {X : Type 0} (f : X → List ℕ) (start : List ℕ) (xs : List X) → start ≡ start ++ flat_map f (take 0 xs)
+none_yet f start xs = sym (append-nil start)
+
+-- all items
+pub all_put : {X : Type 0} (f : X → List ℕ) (start now : List ℕ) (xs : List X) (i : ℕ) → length xs ≤ i → now ≡ start ++ flat_map f (take i xs) → now ≡ start ++ flat_map f xs
+all_put f start now xs i h is = is ∙ ap (λ ys. start ++ flat_map f ys) (take_all i xs h)
+
 -- the next one of a list
 pub next_item : {X : Type 0} (f : X → List ℕ) (start now new : List ℕ) (xs : List X) (i : ℕ) (x : X) → slice_get xs i ≡ Some x →
     now ≡ start ++ flat_map f (take i xs) → new ≡ now ++ f x → new ≡ start ++ flat_map f (take (i + 1) xs)
@@ -97,11 +105,12 @@ fields_put start (f ∷ fs) h = append_assoc start (32 ∷ 58 ∷ 32 ∷ []) (jo
 
 -- ---- pairs within Sigma
 
-pub pair_first : (n : ℕ) (p : ℕ × ℕ) (R : Pairs) → PairsInSigma n (p ∷ R) → (p.0 < n) × (p.1 < n)
-pair_first n p R l = l 0 p (omega arith)
-
-pub pairs_rest : (n : ℕ) (p : ℕ × ℕ) (R : Pairs) → PairsInSigma n (p ∷ R) → PairsInSigma n R
+pairs_rest : (n : ℕ) (p : ℕ × ℕ) (R : Pairs) → PairsInSigma n (p ∷ R) → PairsInSigma n R
 pairs_rest n p R l k d h = l (suc k) d (omega arith)
+
+pub others_within : (n : ℕ) (R : Pairs) → 1 ≤ length R → PairsInSigma n R → PairsInSigma n (take (length R - 1) (drop 1 R))
+others_within n [] h l = absurd (omega arith)
+others_within n (p ∷ R) h l = subst (λ (qs : Pairs). PairsInSigma n qs) (sym (rest_is p R)) (pairs_rest n p R l)
 
 -- ---- primes
 
@@ -116,6 +125,10 @@ flat_range f k =
     sym (flat_seen f (λ y. y) (range_with_len 0 (k + 1))) ∙ ap (flat_map (λ y. y)) (map-range_with_len_more f 0 k k (omega arith))
     ∙ flat_map-append (λ y. y) (map f (range_with_len 0 k)) (f k ∷ [])
     ∙ ap₂ (λ a b. a ++ b) (flat_seen f (λ y. y) (range_with_len 0 k)) (append-nil (f k))
+
+-- the items with all numbers
+pub all_numbers : (f : ℕ → List ℕ) (start now : List ℕ) (k n : ℕ) → k ≡ n → now ≡ start ++ flat_map f (range_with_len 0 k) → now ≡ start ++ flat_map f (range_with_len 0 n)
+all_numbers f start now k n same is = is ∙ ap (λ (j : ℕ). start ++ flat_map f (range_with_len 0 j)) same
 
 -- the item with the next number
 pub next_number : (f : ℕ → List ℕ) (start now new : List ℕ) (k : ℕ) → now ≡ start ++ flat_map f (range_with_len 0 k) → new ≡ now ++ f k → new ≡ start ++ flat_map f (range_with_len 0 (k + 1))

@@ -96,7 +96,6 @@ fn put_other_pairs<A: Allocator, B: Allocator>(
 }
 
 /// Appends the pairs of a renaming with commas between them.
-#[tactic(auto, using(crate::proofs::Lists::pairs_rest, crate::proofs::Lists::pair_first))]
 fn put_pairs<A: Allocator, B: Allocator>(
     text: &mut Vec<u8, B>,
     alphabet: &Alphabet<A>,

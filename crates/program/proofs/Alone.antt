@@ -20,11 +20,11 @@ use Rattle.shared.proofs.Beginnings.{begins_self}
 use Rattle.shared.proofs.Histories.{calls-le}
 use Rattle.shared.specs.Fault.{Fault as SessionFault}
 use Rattle.shared.specs.Fault.TheVariants as session
-use Rattle.shared.specs.Told.{SeatTold}
+use Rattle.shared.specs.View.{SeatView}
 use Rattle.shared.specs.Faults.{Answers as Explains, closes as closing}
 use Rattle.shared.specs.Seats.{Answered, Refused, AllTold, receipts}
 use Rattle.shared.proofs.Calls.{calls_all, calls-longer}
-use Rattle.seats.specs.Faults.{told_as}
+use Rattle.seats.specs.Faults.{reported_as}
 use Rattle.seats.specs.Judges as seat
 use Rattle.wire.specs.declared.answers.Receipt.{Receipt}
 use Rattle.wire.specs.declared.answers.Status.{Status}
@@ -39,21 +39,21 @@ use Rattle.program.specs.Courses.{Course, begun, Adds, Leaves, IsWhy, closes, Re
 use Rattle.program.specs.Conversations.{no_answers, Conversed}
 
 -- what the seat has seen, as a course
-abbrev course : SeatTold → Course
+abbrev course : SeatView → Course
 course s = record { history = s.seen; closed = s.closed }
 
 -- its own reports begin its calls in what it has seen
-abbrev IsOwn : SeatTold → Type 0
+abbrev IsOwn : SeatView → Type 0
 IsOwn s = StartsWith (calls s.seen s.seat) s.mine
 
 -- it has seen no more than its own reports
-abbrev IsAlone : SeatTold → Type 0
+abbrev IsAlone : SeatView → Type 0
 IsAlone s = length s.seen ≤ length s.mine
 
-own_le : (s : SeatTold) → IsOwn s → length s.mine ≤ length s.seen
+own_le : (s : SeatView) → IsOwn s → length s.mine ≤ length s.seen
 own_le s own = omega (arith, ap length own.1, length-append s.mine own.0, calls-le s.seen s.seat)
 
-own_all : (s : SeatTold) → IsOwn s → IsAlone s → calls s.seen s.seat ≡ s.mine
+own_all : (s : SeatView) → IsOwn s → IsAlone s → calls s.seen s.seat ≡ s.mine
 own_all s own alone = calls_all (calls s.seen s.seat) s.mine own (omega (arith, ap length own.1, length-append s.mine own.0, calls-le s.seen s.seat, alone))
 
 -- a list that begins with another and isn't longer is the other
@@ -62,27 +62,27 @@ same_as whole part begins le = calls_all whole part begins (omega (arith, ap len
 
 -- ---- what goes on from each line to the next
 
-looked_on : (old new : SeatTold) → StartsWith new.seen old.seen → new.seat ≡ old.seat → new.mine ≡ old.mine → IsOwn old → IsOwn new
+looked_on : (old new : SeatView) → StartsWith new.seen old.seen → new.seat ≡ old.seat → new.mine ≡ old.mine → IsOwn old → IsOwn new
 looked_on old new begins seat mine own =
     subst (λ (k : ℕ). StartsWith (calls new.seen k) new.mine) (sym seat)
     (subst (λ (l : List Entry). StartsWith (calls new.seen old.seat) l) (sym mine) (calls-longer old.seat new.seen old.seen old.mine begins own))
 
-answered_on : (B : ℕ → Proc) (old new : SeatTold) (r : Report) (v : Bool) (p : ℕ) → Answered B old new r v p → IsOwn new
+answered_on : (B : ℕ → Proc) (old new : SeatView) (r : Report) (v : Bool) (p : ℕ) → Answered B old new r v p → IsOwn new
 answered_on B old new r v p a =
     subst (λ (k : ℕ). StartsWith (calls new.seen k) new.mine) (sym a.seat)
     (subst (λ (l : List Entry). StartsWith (calls new.seen old.seat) l) a.own (begins_self (calls new.seen old.seat)))
 
-reported_on : (B : ℕ → Proc) (old new : SeatTold) (r : Report) (answer : Result Receipt Fault) → IsOwn old → seat.Reports B old r answer new → IsOwn new
+reported_on : (B : ℕ → Proc) (old new : SeatView) (r : Report) (answer : Result Receipt Fault) → IsOwn old → seat.Reports B old r answer new → IsOwn new
 reported_on B old new r (Ok receipt) own h = answered_on B old new r receipt.verdict receipt.place h
 reported_on B old new r (Err fault) own h = let a = h.2 in looked_on old new a.begins a.seat a.same own
 
 -- ---- what holds of each line since it holds at the end
 
 -- what the seat has seen stays where its own reports do
-stays : (old new : SeatTold) → StartsWith new.seen old.seen → new.mine ≡ old.mine → IsOwn old → IsAlone new → new.seen ≡ old.seen
+stays : (old new : SeatView) → StartsWith new.seen old.seen → new.mine ≡ old.mine → IsOwn old → IsAlone new → new.seen ≡ old.seen
 stays old new begins mine own alone = same_as new.seen old.seen begins (omega (arith, alone, ap length mine, own_le old own))
 
-looked_alone : (old new : SeatTold) → StartsWith new.seen old.seen → new.mine ≡ old.mine → IsAlone new → IsAlone old
+looked_alone : (old new : SeatView) → StartsWith new.seen old.seen → new.mine ≡ old.mine → IsAlone new → IsAlone old
 looked_alone old new begins mine alone = omega (arith, alone, ap length mine, ap length begins.1, length-append old.seen begins.0)
 
 judged_as : (B : ℕ → Proc) (before seen : List Entry) (e : Entry) (r : Report) (v : Bool) → before ≡ seen → e.report ≡ r → e.verdict ≡ v
@@ -92,7 +92,7 @@ judged_as B before seen e r v same report verdict h =
     (subst (λ (x : Report). IsTrue e.verdict ↔ Verdict B (events seen) x) report
     (subst (λ (l : List Entry). IsTrue e.verdict ↔ Verdict B (events l) e.report) same h))
 
-answered_back : (B : ℕ → Proc) (old new : SeatTold) (r : Report) (receipt : Receipt) → IsOwn old → IsAlone new → Answered B old new r receipt.verdict receipt.place
+answered_back : (B : ℕ → Proc) (old new : SeatView) (r : Report) (receipt : Receipt) → IsOwn old → IsAlone new → Answered B old new r receipt.verdict receipt.place
     → IsAlone old × Adds B (course old) r receipt (course new)
 answered_back B old new r receipt own alone a =
     let seen : length new.seen ≡ length a.before + 1 = omega (arith, ap length a.ends, length-append a.before (a.entry ∷ [])) in
@@ -113,7 +113,7 @@ answered_back B old new r receipt own alone a =
       },
     )
 
-closes_as : (f : SessionFault) → closing f ≡ closes (told_as f)
+closes_as : (f : SessionFault) → closing f ≡ closes (reported_as f)
 closes_as session.Depth = refl
 closes_as session.States = refl
 closes_as session.Seats = refl
@@ -124,7 +124,7 @@ closes_as (session.Journal e) = refl
 closes_as (session.Closed e) = refl
 closes_as session.Memory = refl
 
-why_as : (B : ℕ → Proc) (h : List Entry) (k : ℕ) (mine : List Entry) (r : Report) (f : SessionFault) → calls h k ≡ mine → Explains B h k mine r f → IsWhy B h r (told_as f)
+why_as : (B : ℕ → Proc) (h : List Entry) (k : ℕ) (mine : List Entry) (r : Report) (f : SessionFault) → calls h k ≡ mine → Explains B h k mine r f → IsWhy B h r (reported_as f)
 why_as B h k mine r session.Depth all e = e
 why_as B h k mine r session.States all e = e
 why_as B h k mine r session.Seats all e = e
@@ -135,8 +135,8 @@ why_as B h k mine r (session.Journal x) all e = tt
 why_as B h k mine r (session.Closed x) all e = tt
 why_as B h k mine r session.Memory all e = tt
 
-refused_back : (B : ℕ → Proc) (old new : SeatTold) (r : Report) (f : SessionFault) → IsOwn old → IsAlone new → Refused B old new r f
-    → IsAlone old × Leaves B (course old) r (told_as f) (course new)
+refused_back : (B : ℕ → Proc) (old new : SeatView) (r : Report) (f : SessionFault) → IsOwn old → IsAlone new → Refused B old new r f
+    → IsAlone old × Leaves B (course old) r (reported_as f) (course new)
 refused_back B old new r f own alone a =
     let same : new.seen ≡ old.seen = stays old new a.begins a.same own alone in
     let before = looked_alone old new a.begins a.same alone in
@@ -149,17 +149,17 @@ refused_back B old new r f own alone a =
       },
     )
 
-reported_back : (B : ℕ → Proc) (old new : SeatTold) (r : Report) (answer : Result Receipt Fault) → IsOwn old → IsAlone new → seat.Reports B old r answer new
+reported_back : (B : ℕ → Proc) (old new : SeatView) (r : Report) (answer : Result Receipt Fault) → IsOwn old → IsAlone new → seat.Reports B old r answer new
     → IsAlone old × Reports B (course old) r answer (course new)
 reported_back B old new r (Ok receipt) own alone h = answered_back B old new r receipt own alone h
 reported_back B old new r (Err fault) own alone h =
     let b = refused_back B old new r h.0 own alone h.2 in
     (b.0, subst (λ (x : Fault). Leaves B (course old) r x (course new)) (sym h.1) b.1)
 
-same_course : (old new : SeatTold) → new.seen ≡ old.seen → new.closed ≡ old.closed → course new ≡ course old
+same_course : (old new : SeatView) → new.seen ≡ old.seen → new.closed ≡ old.closed → course new ≡ course old
 same_course old new seen closed = λ i. record { history = seen i; closed = closed i }
 
-status_back : (B : ℕ → Proc) (old new : SeatTold) (s : Status) → IsOwn old → IsAlone new → seat.Statuses B old s new → IsAlone old × Statuses (course old) s (course new)
+status_back : (B : ℕ → Proc) (old new : SeatView) (s : Status) → IsOwn old → IsAlone new → seat.Statuses B old s new → IsAlone old × Statuses (course old) s (course new)
 status_back B old new s own alone h =
     let l = h.looked in
     let same : new.seen ≡ old.seen = stays old new l.begins l.mine own alone in
@@ -169,7 +169,7 @@ status_back B old new s own alone h =
     } in
     (looked_alone old new l.begins l.mine alone, (same_course old new same l.closed, told ∙ ap (λ (x : List Entry). status_of x old.closed) same))
 
-next_back : (B : ℕ → Proc) (old new : SeatTold) (X : Set) → IsOwn old → IsAlone new → seat.Nexts B old X new → IsAlone old × Nexts B (course old) X (course new)
+next_back : (B : ℕ → Proc) (old new : SeatView) (X : Set) → IsOwn old → IsAlone new → seat.Nexts B old X new → IsAlone old × Nexts B (course old) X (course new)
 next_back B old new X own alone h =
     let l = h.looked in
     let same : new.seen ≡ old.seen = stays old new l.begins l.mine own alone in (
@@ -191,7 +191,7 @@ carried B = record {
 
 -- Of a seat that had reported nothing and knew of no closing, where the final history begins with all that it has seen and has as many
 -- entries as it has reports.
-pub conversed : (spec : Specified) (first last : SeatTold) (tally : Tally) (left rest old new : Option (List ℕ)) (result : Result End WireError) (h : List Entry)
+pub conversed : (spec : Specified) (first last : SeatView) (tally : Tally) (left rest old new : Option (List ℕ)) (result : Result End WireError) (h : List Entry)
     → first.mine ≡ [] → first.closed ≡ false → StartsWith h last.seen → length h ≡ length last.mine
     → Serves (LineReplies (seat.Reports (bodies_of spec.bodies)) (seat.Statuses (bodies_of spec.bodies)) (seat.Nexts (bodies_of spec.bodies)) spec.alphabet)
     (noted first no_answers) (noted last tally) left rest old new result
@@ -200,9 +200,9 @@ conversed spec first last tally left rest old new result h mine closed begins co
     let B = bodies_of spec.bodies in
     let Says = LineReplies (seat.Reports B) (seat.Statuses B) (seat.Nexts B) spec.alphabet in
     let Other = LineReplies (Reports B) Statuses (Nexts B) spec.alphabet in
-    let P : Noted SeatTold → Type 0 = λ n. IsOwn n.judge in
-    let Q : Noted SeatTold → Type 0 = λ n. IsAlone n.judge in
-    let f : Noted SeatTold → Noted Course = λ n. noted (course n.judge) n.tally in
+    let P : Noted SeatView → Type 0 = λ n. IsOwn n.judge in
+    let Q : Noted SeatView → Type 0 = λ n. IsAlone n.judge in
+    let f : Noted SeatView → Noted Course = λ n. noted (course n.judge) n.tally in
     let by = lines_carried (seat.Reports B) (seat.Statuses B) (seat.Nexts B) (Reports B) Statuses (Nexts B) course IsOwn IsAlone (carried B) spec.alphabet in
     let own : IsOwn first = (calls first.seen first.seat, ap (λ (l : List Entry). l ++ calls first.seen first.seat) (sym mine)) in
     let alone : IsAlone last = omega (arith, ap length begins.1, length-append last.seen begins.0, count) in
@@ -217,10 +217,10 @@ conversed spec first last tally left rest old new result h mine closed begins co
     }
 
 -- where a number is answered at the end, the only share has all reports
-pub told_alone : (answer : Option ℕ) (h opening : List Entry) (ps : List SeatTold) (p : SeatTold) → ps ≡ p ∷ [] → opening ≡ [] → IsSome answer
+pub told_alone : (answer : Option ℕ) (h opening : List Entry) (ps : List SeatView) (p : SeatView) → ps ≡ p ∷ [] → opening ≡ [] → IsSome answer
     → IfSome answer (λ n. (length h ≡ length opening + n) × (n ≡ receipts ps)) → IfSome answer (λ n. AllTold h ps)
     → StartsWith h p.seen × (length h ≡ length p.mine)
 told_alone (Some n) h opening ps p is none some counted told =
-    let t : AllTold h (p ∷ []) = subst (λ (l : List SeatTold). AllTold h l) is told in
-    (t.0, omega (arith, counted.0, counted.1, ap length none, ap receipts is, sum_by-cons (λ (s : SeatTold). length s.mine) p []))
+    let t : AllTold h (p ∷ []) = subst (λ (l : List SeatView). AllTold h l) is told in
+    (t.0, omega (arith, counted.0, counted.1, ap length none, ap receipts is, sum_by-cons (λ (s : SeatView). length s.mine) p []))
 told_alone None h opening ps p is none some counted told = absurd (cc)

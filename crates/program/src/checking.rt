@@ -9,8 +9,8 @@ ghost use Rattle.script.specs.Reading.{IsRead};
 ghost use Rattle.shared.specs.SessionFaults.{IsMemory};
 ghost use Rattle.shared.specs.Replays.{IsUnopened};
 ghost use Rattle.shared.specs.Scripts.{IsUnbegun};
-ghost use Rattle.shared.specs.SessionTold.{IsFor};
-ghost use Rattle.shared.specs.Told.{SeatTold};
+ghost use Rattle.shared.specs.SessionView.{IsFor};
+ghost use Rattle.shared.specs.View.{SeatView};
 ghost use Rattle.seats.specs.Judges.{Reports, Statuses, Nexts};
 ghost use Rattle.wire.specs.Replies.{LineReplies, noted};
 ghost use Rattle.wire.specs.Talks.{Serves};
@@ -68,7 +68,7 @@ fn hear<R: Wait, D: Disk, A: Allocator + Copy + Drop, N: Naming, T: Source, W: S
 ) -> Option<Talk>
     requires alphabet { alphabet.now ≡ N.spec.alphabet }
     requires none { shares.old.items ≡ [] }
-    ensures serves { IfSome result (λ t. (first : SeatTold) × (last : SeatTold) × (first.mine ≡ []) × (first.closed ≡ false) × (shares.new.items ≡ last ∷ [])
+    ensures serves { IfSome result (λ t. (first : SeatView) × (last : SeatView) × (first.mine ≡ []) × (first.closed ≡ false) × (shares.new.items ≡ last ∷ [])
         × Serves (LineReplies (Reports (bodies_of N.spec.bodies)) (Statuses (bodies_of N.spec.bodies)) (Nexts (bodies_of N.spec.bodies)) N.spec.alphabet)
         (noted first no_answers) (noted last t.tally)
         (T.left reader.old) (T.left reader.new) (W.contents writer.old) (W.contents writer.new) t.end) }

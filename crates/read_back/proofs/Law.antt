@@ -6,7 +6,7 @@ use Rattle.syntax.specs.Grammar.{Syntax, Called, Numeral, Node, Syntaxes}
 use Rattle.syntax.specs.Script.{HasTree}
 use Rattle.values.specs.Values.{Name}
 use Rattle.values.specs.Names.{Entry, declared, declared_by_all}
-use Rattle.declared_names.specs.Naming.{has_names, have_names}
+use Rattle.declared_names.specs.LanguageNames.{has_names, have_names}
 use Rattle.declarations.proofs.Meanings.{AreNamed, named}
 use Rattle.declared_names.proofs.TextNames.{texts_have_names}
 use Rattle.denotation.specs.Denotes.{Denotes}

@@ -12,7 +12,7 @@
 
 ghost use Rattle.std.specs.Prelude.{◌≡◌, IfSome};
 ghost use Rattle.journal.specs.Reports.{AreEvents, IsReport};
-ghost use Rattle.session.specs.Told.{IsReadyFor};
+ghost use Rattle.session.specs.View.{IsReadyFor};
 
 use crate::memory::Memory;
 use alphabet::{Alphabet, EventSet, Report};

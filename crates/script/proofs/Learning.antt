@@ -10,29 +10,13 @@ use Rattle.syntax.specs.Grammar.{Syntax}
 use Rattle.event_phrases.specs.Events.{Events, event_set, events_of, events_in, EventsStand, set_of, masked}
 use Rattle.event_phrases.proofs.EventSetLaws.{masked_none}
 use Rattle.declared_names.specs.Standing.{SettlesFirst}
-use Rattle.declared_names.proofs.Searching.{place_of, same_self}
+use Rattle.declared_names.proofs.Searching.{place_of, with_value}
 use Rattle.script.specs.Standing.{KnownSets, events_by, next_events, AreReached, IsSettled}
 use Rattle.script.proofs.Copies.{some_same}
 use Rattle.script.proofs.NamedSets.{sound_sets, sound_next, one_set, events_stand}
 
 abbrev some_set : Set → Option Set
 some_set S = Some S
-
--- the sets with what the definition of a name says
-abbrev with_set : KnownSets → Name → Set → KnownSets
-with_set f n S m = cond (same_name m n) (Some S) (f m)
-
--- what is known stays known
-pub kept : (f g : KnownSets) (n : Name) (S : Set) → ((m : Name) → g m ≡ with_set f n S m) → (m : Name) → is_some (f m) ≡ true → is_some (g m) ≡ true
-kept f g n S is m h = ap is_some (is m) ∙ by (same_name m n) h
-  where
-    by : (b : Bool) → is_some (f m) ≡ true → is_some (cond b (Some S) (f m)) ≡ true
-    by true p = refl
-    by false p = p
-
--- the name is known
-pub added : (f g : KnownSets) (n : Name) (S : Set) → ((m : Name) → g m ≡ with_set f n S m) → is_some (g n) ≡ true
-added f g n S is = ap is_some (is n ∙ ap (λ b. cond b (Some S) (f n)) (same_self n))
 
 masked_some : (cs : List Channel) (o : Option Events) (S : Set) → masked cs o ≡ Some S → (A : Events) × (o ≡ Some A) × (S ≡ set_of cs A)
 unfolding masked
@@ -65,7 +49,7 @@ module _ (cs : List Channel) (known : Known) (es : List Entry) where
   pub settled_none : (f : KnownSets) (n : Name) → masked cs (next_events cs known es (events_by f) n) ≡ None → IsSettled cs known es f n
   settled_none f n h A e = absurd (let x : None ≡ Some A = sym (masked_none cs (next_events cs known es (events_by f) n) h) ∙ e in cc)
 
-  pub reached_more : (f g : KnownSets) (n : Name) (S : Set) → AreReached cs known es f → masked cs (next_events cs known es (events_by f) n) ≡ Some S → ((m : Name) → g m ≡ with_set f n S m) → AreReached cs known es g
+  pub reached_more : (f g : KnownSets) (n : Name) (S : Set) → AreReached cs known es f → masked cs (next_events cs known es (events_by f) n) ≡ Some S → ((m : Name) → g m ≡ with_value f n S m) → AreReached cs known es g
   reached_more f g n S h e is =
       let (A, a, b) = masked_some cs (next_events cs known es (events_by f) n) S e in
       more A a b

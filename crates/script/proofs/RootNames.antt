@@ -10,7 +10,7 @@ use Rattle.syntax.specs.Grammar.{Syntax, Called, Numeral, Node, Syntaxes, NoSynt
 use Rattle.syntax.specs.Script.{HasTree}
 use Rattle.values.specs.Values.{◌>>=◌, Name}
 use Rattle.values.specs.Names.{Meaning, channel, constant_name, parametric, Entry, same_name, names_of, listed_names, field_sets, channel_entries, datatype_entries, entries_of, declared_by, declared_by_all, declared, meaning, is_process, is_process_in, is_process_meaning}
-use Rattle.declared_names.specs.Naming.{has_names, have_names}
+use Rattle.declared_names.specs.LanguageNames.{has_names, have_names}
 use Rattle.declared_names.proofs.Chains.{bind_some, some_same, left, right, both}
 use Rattle.denotation.specs.Denotes.{Denotes}
 use Rattle.script.specs.Reading.{IsRead}

@@ -2,6 +2,7 @@
 ghost use Rattle.std.specs.Prelude.{◌≡◌, IfOk};
 
 use crate::sigma::{Sigma, sigma_of};
+use alphabet::Alphabet;
 use declarations::Declared;
 use declared_names::{Entries, Meaning};
 use std::alloc::{AllocError, Allocator};
@@ -84,5 +85,15 @@ impl<'a, A: Allocator + Copy> Names<'a, A> {
             },
             None => false,
         }
+    }
+}
+
+impl<'a, A: Allocator> Names<'a, A> {
+    /// The alphabet alone.
+    pub(crate) fn into_alphabet(self) -> Alphabet<A>
+        ensures { result ≡ self.entry.sigma.alphabet }
+    {
+        let Names { sigma, .. } = self;
+        sigma.into_alphabet()
     }
 }

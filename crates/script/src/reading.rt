@@ -8,14 +8,13 @@ ghost use Rattle.tokens.specs.declared.error.ScriptErrorKind.TheVariants.{Memory
 ghost use Rattle.tokens.specs.declared.unread.Unread.TheVariants as unread;
 ghost use Rattle.values.specs.Tables.{table};
 ghost use Rattle.values.specs.View.{Gives};
-ghost use Rattle.declared_names.specs.Naming.{has_names};
+ghost use Rattle.declared_names.specs.LanguageNames.{has_names};
 ghost use Rattle.declared_names.specs.View.{entries as entries_of};
 ghost use Rattle.script.specs.Reading.{AreBodies, IsRead};
 
 use crate::names::{Names, names_of};
 use crate::root::{no_process, root_fault};
 use crate::script::Script;
-use crate::sigma::Sigma;
 use crate::standing::named_sets;
 use declarations::declare;
 use declared_names::trees_have_names;
@@ -58,10 +57,10 @@ fn denoted<A: Allocator + Copy>(alloc: A, tree: &Tree<A>, root: &[u8]) -> Result
 {
     let declared = declare(alloc, tree)?;
     let names = names_of(alloc, declared)?;
-    let bodies = bodies_of(alloc, &names, root)?;
-    let Names { sigma, .. } = names;
-    let Sigma { alphabet, .. } = sigma;
-    Ok(Spec::new(alphabet, bodies))
+    match bodies_of(alloc, &names, root) {
+        Ok(bodies) => Ok(Spec::new(names.into_alphabet(), bodies)),
+        Err(error) => Err(error),
+    }
 }
 
 /// The specification that the text of a script denotes for the root, which is the name of one of its processes; or the first

@@ -89,7 +89,7 @@ pub(crate) fn root_fault<A: Allocator + Copy>(
     alloc: A,
     names: &Names<'_, A>,
     root: &[u8],
-    told: Unread,
+    reported: Unread,
 ) -> Unread {
     let mut name = root;
     for _ in 0..names.entries.len() {
@@ -98,12 +98,12 @@ pub(crate) fn root_fault<A: Allocator + Copy>(
         };
         let phrase = match chosen(alloc, &names.known, body) {
             Ok(Some(phrase)) => phrase,
-            Ok(None) => return told,
+            Ok(None) => return reported,
             Err(refused) => return refused.into(),
         };
         let Some(next) = bare_name(phrase) else {
             return if is_process(phrase) {
-                told
+                reported
             } else {
                 no_process()
             };
@@ -113,5 +113,5 @@ pub(crate) fn root_fault<A: Allocator + Copy>(
         }
         name = next;
     }
-    told
+    reported
 }

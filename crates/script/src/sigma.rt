@@ -43,3 +43,13 @@ pub(crate) fn sigma_of<A: Allocator + Copy>(
         fields,
     })
 }
+
+impl<A: Allocator> Sigma<A> {
+    /// The alphabet alone.
+    pub(crate) fn into_alphabet(self) -> Alphabet<A>
+        ensures { result ≡ self.alphabet }
+    {
+        let Sigma { alphabet, .. } = self;
+        alphabet
+    }
+}

@@ -7,16 +7,16 @@ use Rattle.wire.specs.declared.answers.Fault.{Fault}
 use Rattle.wire.specs.declared.answers.Fault.TheVariants.{Depth, States, Seats, History, Turn, Behind, Reader, Journal, Closed, Memory}
 
 -- of a report
-abbrev pub told_as : SessionFault → Fault
-told_as session.Depth = Depth
-told_as session.States = States
-told_as session.Seats = Seats
-told_as session.History = History
-told_as session.Turn = Turn
-told_as session.Behind = Behind
-told_as (session.Journal e) = Journal
-told_as (session.Closed e) = Closed
-told_as session.Memory = Memory
+abbrev pub reported_as : SessionFault → Fault
+reported_as session.Depth = Depth
+reported_as session.States = States
+reported_as session.Seats = Seats
+reported_as session.History = History
+reported_as session.Turn = Turn
+reported_as session.Behind = Behind
+reported_as (session.Journal e) = Journal
+reported_as (session.Closed e) = Closed
+reported_as session.Memory = Memory
 
 -- why there is no seat
 abbrev pub refused_as : SeatFault → Fault

@@ -9,21 +9,21 @@ use Rattle.shared.specs.Entries.{events, summary_of}
 use Rattle.shared.specs.Legal.{Legal}
 use Rattle.shared.specs.Beginnings.{StartsWith}
 use Rattle.shared.specs.Fault.{Fault as SessionFault}
-use Rattle.shared.specs.Told.{SeatTold}
+use Rattle.shared.specs.View.{SeatView}
 use Rattle.shared.specs.Seats.{Answered, Refused}
 use Rattle.wire.specs.declared.answers.Receipt.{Receipt}
 use Rattle.wire.specs.declared.answers.Status.{Status}
 use Rattle.wire.specs.declared.answers.Fault.{Fault}
-use Rattle.seats.specs.Faults.{told_as}
+use Rattle.seats.specs.Faults.{reported_as}
 
 -- A receipt is of the report's own entry, which ends what the seat has then seen: a legal history that begins with what it had seen.
 -- A fault leaves the seat's own reports as they were, and says why.
-abbrev pub Reports : (ℕ → Proc) → SeatTold → Report → Result Receipt Fault → SeatTold → Type 0
+abbrev pub Reports : (ℕ → Proc) → SeatView → Report → Result Receipt Fault → SeatView → Type 0
 Reports B old report (Ok receipt) new = Answered B old new report receipt.verdict receipt.place
-Reports B old report (Err fault) new = (f : SessionFault) × (fault ≡ told_as f) × Refused B old new report f
+Reports B old report (Err fault) new = (f : SessionFault) × (fault ≡ reported_as f) × Refused B old new report f
 
 -- The seat has seen a legal history that begins with what it had seen, and has reported nothing.
-pub record HasLooked (B : ℕ → Proc) (old new : SeatTold) : Type 0 where
+pub record HasLooked (B : ℕ → Proc) (old new : SeatView) : Type 0 where
   pub legal : Legal B new.seen
   pub begins : StartsWith new.seen old.seen
   pub seat : new.seat ≡ old.seat
@@ -31,7 +31,7 @@ pub record HasLooked (B : ℕ → Proc) (old new : SeatTold) : Type 0 where
   pub closed : new.closed ≡ old.closed
 
 -- the counts are those of what is then seen
-pub record Statuses (B : ℕ → Proc) (old : SeatTold) (status : Status) (new : SeatTold) : Type 0 where
+pub record Statuses (B : ℕ → Proc) (old : SeatView) (status : Status) (new : SeatView) : Type 0 where
   pub looked : HasLooked B old new
   pub judged : status.summary.judged ≡ length new.seen
   pub events_are : status.summary.events ≡ (summary_of new.seen).events
@@ -40,6 +40,6 @@ pub record Statuses (B : ℕ → Proc) (old : SeatTold) (status : Status) (new :
   pub closed : status.closed ≡ old.closed
 
 -- the set has exactly the events that go on from what is then seen, tick among them
-pub record Nexts (B : ℕ → Proc) (old : SeatTold) (set : Set) (new : SeatTold) : Type 0 where
+pub record Nexts (B : ℕ → Proc) (old : SeatView) (set : Set) (new : SeatView) : Type 0 where
   pub looked : HasLooked B old new
   pub are : (x : Event) → IsTrue (member set x) ↔ Trace B root (events new.seen ++ x ∷ [])

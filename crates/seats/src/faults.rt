@@ -1,13 +1,13 @@
 //! The faults of sessions and seats, as the line protocol reports them.
 ghost use Rattle.std.specs.Prelude.{◌≡◌};
-ghost use Rattle.seats.specs.Faults.{told_as, refused_as};
+ghost use Rattle.seats.specs.Faults.{reported_as, refused_as};
 
 use shared::SeatFault;
 use wire::Fault;
 
 /// A session's fault, as the line protocol reports it.
-pub(crate) fn told(fault: shared::Fault) -> Fault
-    ensures { result ≡ told_as fault }
+pub(crate) fn reported(fault: shared::Fault) -> Fault
+    ensures { result ≡ reported_as fault }
 {
     match fault {
         shared::Fault::Depth => Fault::Depth,

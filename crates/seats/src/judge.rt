@@ -6,7 +6,7 @@ ghost use Rattle.wire.specs.Replies.{LineReplies, noted};
 ghost use Rattle.wire.specs.Talks.{Serves};
 ghost use Rattle.seats.specs.Judges.{Reports, Statuses, Nexts};
 
-use crate::faults::told;
+use crate::faults::reported;
 use alphabet::{Alphabet, EventSet, Report};
 use disk::Disk;
 use left_right::Absorb;
@@ -60,7 +60,7 @@ impl<D: Disk, A: Allocator + Copy, N: Naming, R: Wait> Judge for SeatJudge<'_, D
                 verdict: receipt.verdict,
                 place: receipt.place,
             }),
-            Err(fault) => Err(told(fault)),
+            Err(fault) => Err(reported(fault)),
         }
     }
 

@@ -11,7 +11,7 @@ use Rattle.wire.specs.declared.engine.WireError.{WireError}
 use Rattle.wire.specs.Replies.{LineReplies, noted}
 use Rattle.wire.specs.Talks.{Serves}
 use Rattle.shared.specs.declared.fault.SeatFault.{SeatFault}
-use Rattle.shared.specs.Told.{SeatTold}
+use Rattle.shared.specs.View.{SeatView}
 use Rattle.shared.specs.Seats.{AllTold, receipts}
 use Rattle.seats.specs.Faults.{refused_as}
 use Rattle.seats.specs.Judges.{Reports, Statuses, Nexts}
@@ -24,7 +24,7 @@ abbrev pub no_answers : Tally
 no_answers = record { rejected = false; misuse = false; limit = false }
 
 -- a new seat of a session that began with this history: it has seen that, and reported nothing
-abbrev pub IsNewSeat : List Entry → SeatTold → Type 0
+abbrev pub IsNewSeat : List Entry → SeatView → Type 0
 IsNewSeat opening seat = (seat.mine ≡ []) × (seat.closed ≡ false) × StartsWith seat.seen opening
 
 -- this is why there is no seat, as it is reported to a connection
@@ -33,7 +33,7 @@ IsRefusal fault = (why : SeatFault) × (fault ≡ refused_as why)
 
 -- The lines of a connection are answered at a seat of a session of this specification: each `OK n` or `NO n` for a report is the verdict
 -- and the place of that line's own entry, in a legal history that begins with all that the seat had seen.
-abbrev pub IsAnsweredAt : Specified → SeatTold → SeatTold → Tally → Option (List ℕ) → Option (List ℕ) → Option (List ℕ) → Option (List ℕ) → Result End WireError → Type 0
+abbrev pub IsAnsweredAt : Specified → SeatView → SeatView → Tally → Option (List ℕ) → Option (List ℕ) → Option (List ℕ) → Option (List ℕ) → Result End WireError → Type 0
 IsAnsweredAt spec first last tally left rest old new end =
     Serves (LineReplies (Reports (bodies_of spec.bodies)) (Statuses (bodies_of spec.bodies)) (Nexts (bodies_of spec.bodies)) spec.alphabet)
     (noted first no_answers) (noted last tally) left rest old new end
@@ -42,7 +42,7 @@ IsAnsweredAt spec first last tally left rest old new end =
 module _ {L R W : Type 0} (takes : L → R → W → L → Type 0) (fails : L → L → Type 0) (left : R → Option (List ℕ)) (contents : W → Option (List ℕ)) where
   -- The connections of a session of this specification that began with this history: what came of each, in the order in which they were
   -- taken, at a seat of its own, and how the accepting ended.
-  abbrev pub CameTo : L → ℕ → Specified → List Entry → List (Outcome SeatTold) → Bool → Type 0
+  abbrev pub CameTo : L → ℕ → Specified → List Entry → List (Outcome SeatView) → Bool → Type 0
   CameTo accept count spec opening outcomes accept_failed =
       (last : L)
       × InTurn takes (λ reader writer. IsOutcome (IsNewSeat opening) IsRefusal (IsAnsweredAt spec) (left reader) (contents writer)) accept outcomes last
@@ -52,7 +52,7 @@ module _ {L R W : Type 0} (takes : L → R → W → L → Type 0) (fails : L �
   -- known, these are the entries that the history has more than at the opening; it begins with all that each seat has seen, and a seat's
   -- entries in it are those that it was answered for.
   pub record Went (accept : L) (count : ℕ) (spec : Specified) (opening history : List Entry) (endings : List Ending) (accept_failed : Bool) (answered : Option ℕ) : Type 0 where
-    pub outcomes : List (Outcome SeatTold)
+    pub outcomes : List (Outcome SeatView)
     pub came : CameTo accept count spec opening outcomes accept_failed
     pub endings_are : endings ≡ map ending_of outcomes
     pub counted : IfSome answered (λ n. (length history ≡ length opening + n) × (n ≡ receipts (places_of outcomes)))

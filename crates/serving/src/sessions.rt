@@ -5,8 +5,8 @@ ghost use Rattle.std.specs.List.{list_any};
 ghost use Rattle.term.specs.Proc.{bodies_of};
 ghost use Rattle.shared.specs.Legal.{Legal};
 ghost use Rattle.shared.specs.Beginnings.{StartsWith};
-ghost use Rattle.shared.specs.SessionTold.{IsFor};
-ghost use Rattle.shared.specs.Told.{SeatTold};
+ghost use Rattle.shared.specs.SessionView.{IsFor};
+ghost use Rattle.shared.specs.View.{SeatView};
 ghost use Rattle.connections.specs.declared.outcome.Outcome.{Outcome};
 ghost use Rattle.connections.specs.Accounts.{has_rejected, met_limit};
 ghost use Rattle.connections.specs.Outcomes.{ending_of, places_of};
@@ -87,7 +87,7 @@ fn serve_at<D: Disk + Send, N: Naming + Send + Sync, T: Threads + Wait + Sync, L
     requires alphabet { alphabet.now ≡ N.spec.alphabet }
     requires shares { (shares.old.items ≡ []) × (count ≤ vec_capacity shares.old) }
     requires endings { (endings.old.items ≡ []) × (count ≤ vec_capacity endings.old) }
-    ensures served { IfOk result (λ accept_failed. (outcomes : List (Outcome SeatTold))
+    ensures served { IfOk result (λ accept_failed. (outcomes : List (Outcome SeatView))
         × CameTo L.takes L.fails L.Reader.left L.Writer.contents accept count N.spec N.opening outcomes accept_failed
         × (shares.new.items ≡ places_of outcomes) × (endings.new.items ≡ map ending_of outcomes)) }
     ensures memory { IfErr result (λ error. error.1 ≡ accept) }
@@ -130,7 +130,7 @@ fn serve_in<D: Disk + Send, N: Naming + Send + Sync, T: Threads + Wait + Sync, L
     requires alphabet { alphabet.now ≡ N.spec.alphabet }
     requires shares { shares.old.items ≡ [] }
     requires endings { (endings.old.items ≡ []) × (count ≤ vec_capacity endings.old) }
-    ensures served { IfOk result (λ accept_failed. (outcomes : List (Outcome SeatTold))
+    ensures served { IfOk result (λ accept_failed. (outcomes : List (Outcome SeatView))
         × CameTo L.takes L.fails L.Reader.left L.Writer.contents accept count N.spec N.opening outcomes accept_failed
         × (shares.new.items ≡ places_of outcomes) × (endings.new.items ≡ map ending_of outcomes)) }
     ensures memory { IfErr result (λ error. error.1 ≡ accept) }

@@ -7,14 +7,14 @@ use Rattle.session.specs.Version.{Version}
 use Rattle.session.specs.Format.{Recorded, Stands}
 use Rattle.session.specs.Entry.{Entry}
 use Rattle.session.specs.Records.{record_of, records_of, Keeps}
-use Rattle.session.specs.Told.{Told, IsFor}
+use Rattle.session.specs.View.{SessionView, IsFor}
 use Rattle.term.specs.Specs.{Specified}
 use Rattle.term.specs.Proc.{bodies_of}
 use Rattle.session.specs.Legal.{Legal, IsJudged}
 use Rattle.session.proofs.Keeping.{left_open}
 use Rattle.session.specs.Beginnings.{StartsWith}
 use Rattle.session.proofs.Beginnings.{begins_trans, begins_push}
-use Rattle.shared.specs.Told.{SeatTold}
+use Rattle.shared.specs.View.{SeatView}
 use Rattle.shared.specs.Seats.{AllTold}
 use Rattle.shared.specs.Crashes.{StandsForLonger, AllLeft}
 
@@ -41,7 +41,7 @@ crash_leaves s gate version script root cs h part (Some e) keeps begins bytes fi
       }
     ]
 
-pub all_left : {D : Type 0} (state : D → DiskState) (t : Told D) (script root : List ℕ) (ps : List SeatTold) → IsFor state script root t → AllTold t.history ps → AllLeft state t ps
+pub all_left : {D : Type 0} (state : D → DiskState) (t : SessionView D) (script root : List ℕ) (ps : List SeatView) → IsFor state script root t → AllTold t.history ps → AllLeft state t ps
 all_left state t script root [] keeps told = tt
 all_left state t script root (p ∷ ps) keeps told = (
   crash_leaves (state t.journal.disk) t.journal.gate t.journal.version script root t.spec.alphabet t.history p.seen t.failed keeps told.0,

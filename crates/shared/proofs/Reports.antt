@@ -8,7 +8,7 @@ use Rattle.session.specs.Entries.{calls}
 use Rattle.session.specs.Beginnings.{StartsWith}
 use Rattle.session.proofs.Beginnings.{begins_self, begins_trans, begins_push}
 use Rattle.session.specs.declared.fault.Fault.{Fault}
-use Rattle.shared.specs.Told.{SeatTold}
+use Rattle.shared.specs.View.{SeatView}
 use Rattle.shared.specs.Faults.{Answers, closes}
 use Rattle.shared.specs.Seats.{IsEntryOf, Answered, Refused}
 
@@ -25,13 +25,13 @@ if_err P Q (Ok a) f h = tt
 if_err P Q (Err e) f h = f e h
 
 -- the second has the same number and own reports, and has seen no less
-pub record IsLater (old now : SeatTold) : Type 0 where
+pub record IsLater (old now : SeatView) : Type 0 where
   pub seat : now.seat ≡ old.seat
   pub seen : StartsWith now.seen old.seen
   pub mine : now.mine ≡ old.mine
   pub closed : now.closed ≡ old.closed
 
-pub later_same : (old now : SeatTold) → now.seat ≡ old.seat → now.seen ≡ old.seen → now.mine ≡ old.mine → now.closed ≡ old.closed → IsLater old now
+pub later_same : (old now : SeatView) → now.seat ≡ old.seat → now.seen ≡ old.seen → now.mine ≡ old.mine → now.closed ≡ old.closed → IsLater old now
 later_same old now seat seen mine closed = record {
   seat = seat;
   seen = subst (λ (l : List Entry). StartsWith now.seen l) seen (begins_self now.seen);
@@ -39,7 +39,7 @@ later_same old now seat seen mine closed = record {
   closed = closed;
 }
 
-pub answered_later : (B : ℕ → Proc) (old now new : SeatTold) (r : Report) (v : Bool) (p : ℕ) → IsLater old now → Answered B now new r v p → Answered B old new r v p
+pub answered_later : (B : ℕ → Proc) (old now new : SeatView) (r : Report) (v : Bool) (p : ℕ) → IsLater old now → Answered B now new r v p → Answered B old new r v p
 answered_later B old now new r v p later a = record {
   legal = a.legal;
   before = a.before;
@@ -54,7 +54,7 @@ answered_later B old now new r v p later a = record {
   closed = a.closed ∙ later.closed;
 }
 
-pub refused_later : (B : ℕ → Proc) (old now new : SeatTold) (r : Report) (f : Fault) → IsLater old now → Refused B now new r f → Refused B old new r f
+pub refused_later : (B : ℕ → Proc) (old now new : SeatView) (r : Report) (f : Fault) → IsLater old now → Refused B now new r f → Refused B old new r f
 refused_later B old now new r f later a = record {
   legal = a.legal;
   begins = begins_trans old.seen now.seen new.seen later.seen a.begins;
@@ -65,6 +65,6 @@ refused_later B old now new r f later a = record {
 }
 
 -- a history with an entry more begins with what the history before it begins with
-pub answered_begins : (B : ℕ → Proc) (old new : SeatTold) (r : Report) (v : Bool) (p : ℕ) → Answered B old new r v p → StartsWith new.seen old.seen
+pub answered_begins : (B : ℕ → Proc) (old new : SeatView) (r : Report) (v : Bool) (p : ℕ) → Answered B old new r v p → StartsWith new.seen old.seen
 answered_begins B old new r v p a =
     subst (λ (l : List Entry). StartsWith l old.seen) (sym a.ends) (begins_trans old.seen a.before (a.before ++ a.entry ∷ []) a.begins (begins_push a.before a.entry))

@@ -6,7 +6,7 @@ use Rattle.std.proofs.lemmas.List.Filters.{length-filter_both}
 use Rattle.std.proofs.lemmas.Bool.Decides.{nat_tests}
 use Rattle.session.specs.Entry.{Entry}
 use Rattle.session.specs.Entries.{calls}
-use Rattle.shared.specs.Told.{SeatTold}
+use Rattle.shared.specs.View.{SeatView}
 use Rattle.shared.specs.Seats.{IsWithin, AllWithin, AllTold, receipts, apart, is_new}
 use Rattle.shared.proofs.Calls.{calls-append, calls_all}
 
@@ -39,11 +39,11 @@ and_right : (a b : Bool) → (a && b) ≡ true → b ≡ true
 and_right true b h = h
 and_right false b h = absurd cc
 
-calls_sum : List SeatTold → List Entry → ℕ
+calls_sum : List SeatView → List Entry → ℕ
 calls_sum [] xs = 0
 calls_sum (p ∷ ps) xs = length (calls xs p.seat) + calls_sum ps xs
 
-sum_others : (k : ℕ) (ps : List SeatTold) (xs : List Entry) → is_new k ps ≡ true → calls_sum ps (others k xs) ≡ calls_sum ps xs
+sum_others : (k : ℕ) (ps : List SeatView) (xs : List Entry) → is_new k ps ≡ true → calls_sum ps (others k xs) ≡ calls_sum ps xs
 unfolding calls_sum
 sum_others k [] xs new = refl
 sum_others k (p ∷ ps) xs new =
@@ -54,7 +54,7 @@ sum_others k (p ∷ ps) xs new =
     omega (arith, a, b)
 
 -- seats with numbers of their own have no more calls than there are entries
-sum_within : (ps : List SeatTold) (xs : List Entry) → apart ps ≡ true → calls_sum ps xs ≤ length xs
+sum_within : (ps : List SeatView) (xs : List Entry) → apart ps ≡ true → calls_sum ps xs ≤ length xs
 unfolding calls_sum
 sum_within [] xs a = omega arith
 sum_within (p ∷ ps) xs a =
@@ -65,32 +65,32 @@ sum_within (p ∷ ps) xs a =
     let both = length-filter_both (λ (e : Entry). e.seat == p.seat) (λ (e : Entry). not (e.seat == p.seat)) (λ e. refl) xs in
     omega (arith, same, less, both)
 
-own_calls : (o all : List Entry) (p : SeatTold) → IsWithin o all p → calls (o ++ all) p.seat ≡ calls all p.seat
+own_calls : (o all : List Entry) (p : SeatView) → IsWithin o all p → calls (o ++ all) p.seat ≡ calls all p.seat
 own_calls o all p h = calls-append p.seat o all ∙ ap (λ l. l ++ calls all p.seat) h.fresh
 
-own_le : (o all : List Entry) (p : SeatTold) → IsWithin o all p → length p.mine ≤ length (calls all p.seat)
+own_le : (o all : List Entry) (p : SeatView) → IsWithin o all p → length p.mine ≤ length (calls all p.seat)
 own_le o all p h = omega (arith, ap length (own_calls o all p h), ap length h.own.1, length-append p.mine h.own.0)
 
-mine_le : (o all : List Entry) (ps : List SeatTold) → AllWithin o all ps → receipts ps ≤ calls_sum ps all
+mine_le : (o all : List Entry) (ps : List SeatView) → AllWithin o all ps → receipts ps ≤ calls_sum ps all
 unfolding calls_sum
 mine_le o all [] h = omega arith
 mine_le o all (p ∷ ps) h =
     let a = own_le o all p h.0 in
     let b = mine_le o all ps h.1 in
-    let c = sum_by-cons (λ (p : SeatTold). length p.mine) p ps in
+    let c = sum_by-cons (λ (p : SeatView). length p.mine) p ps in
     omega (arith, a, b, c)
 
-told_if : (o all : List Entry) (ps : List SeatTold) → AllWithin o all ps → calls_sum ps all ≤ receipts ps → AllTold (o ++ all) ps
+told_if : (o all : List Entry) (ps : List SeatView) → AllWithin o all ps → calls_sum ps all ≤ receipts ps → AllTold (o ++ all) ps
 unfolding calls_sum
 told_if o all [] h le = tt
 told_if o all (p ∷ ps) h le =
     let a = own_le o all p h.0 in
     let b = mine_le o all ps h.1 in
-    let c = sum_by-cons (λ (p : SeatTold). length p.mine) p ps in
+    let c = sum_by-cons (λ (p : SeatView). length p.mine) p ps in
     let l : length (calls all p.seat) + calls_sum ps all ≤ receipts (p ∷ ps) = le in
     let same : length (calls (o ++ all) p.seat) ≡ length p.mine = omega (arith, a, b, c, l, ap length (own_calls o all p h.0)) in
     let rest : calls_sum ps all ≤ receipts ps = omega (arith, a, b, c, l) in
     (h.0.begins, calls_all _ _ h.0.own same, told_if o all ps h.1 rest)
 
-pub told_all : (o all : List Entry) (ps : List SeatTold) → AllWithin o all ps → apart ps ≡ true → receipts ps ≡ length all → AllTold (o ++ all) ps
+pub told_all : (o all : List Entry) (ps : List SeatView) → AllWithin o all ps → apart ps ≡ true → receipts ps ≡ length all → AllTold (o ++ all) ps
 told_all o all ps h a same = told_if o all ps h (let w = sum_within ps all a in omega (arith, w, same))

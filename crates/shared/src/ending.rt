@@ -3,7 +3,7 @@
 ghost use Rattle.std.specs.Prelude.{◌≡◌, ◌≤◌, ◌<◌, ◌+◌, ◌++◌, ◌∷◌, [], suc, length, true, ℕ, List, IfSome, IsSome};
 ghost use Rattle.term.specs.Proc.{bodies_of};
 ghost use Rattle.session.specs.Legal.{Legal};
-ghost use Rattle.session.specs.Told.{IsFor};
+ghost use Rattle.session.specs.View.{IsFor};
 ghost use Rattle.session.specs.Beginnings.{StartsWith};
 ghost use Rattle.shared.specs.Crashes.{AllLeft};
 ghost use Rattle.shared.specs.Seats.{AllWithin, AllTold, receipts, apart, is_new};

@@ -53,9 +53,9 @@ pub struct Share<N: Naming, A: Allocator> {
 }
 
 impl<N: Naming, A: Allocator> Model for Share<N, A> {
-    ghost use Rattle.shared.specs.Told.{SeatTold};
+    ghost use Rattle.shared.specs.View.{SeatView};
 
-    ghost Value = { SeatTold };
+    ghost Value = { SeatView };
 
     ghost use Rattle.std.specs.Prelude.{◌≡◌, ◌≤◌, ◌++◌, length, [], take};
     ghost use Rattle.session.specs.Entries.{calls, summary_of};

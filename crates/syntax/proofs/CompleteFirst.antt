@@ -98,7 +98,7 @@ field_first m (Node forms.Dotted ts) rest k e = first_sign (FieldFirst m) ts _ _
 field_first m (Node forms.Output ts) rest k e = first_sign (FieldFirst m) ts _ _ rest (output_first m (Node forms.Output ts) _ e)
 field_first m (Node forms.Input ts) rest k e = first_sign (FieldFirst m) ts _ _ rest (input_first m (Node forms.Input ts) _ e)
 field_first m (Node forms.RestrictedInput ts) rest k e = first_sign (FieldFirst m) ts _ _ rest (input_first m (Node forms.RestrictedInput ts) _ e)
-field_first m u rest k e = absurd cc
+field_first m u rest k e = absurd (false_true k)
 
 pub field_some : (u : Syntax) → is_field u ≡ true → 0 < length (flat u)
 unfolding is_field flat rule
@@ -106,7 +106,7 @@ field_some (Node forms.Dotted ts) k = some_sign ts _ _
 field_some (Node forms.Output ts) k = some_sign ts _ _
 field_some (Node forms.Input ts) k = some_sign ts _ _
 field_some (Node forms.RestrictedInput ts) k = some_sign ts _ _
-field_some u k = absurd cc
+field_some u k = absurd (false_true k)
 
 -- ---- declarations
 
@@ -120,7 +120,7 @@ declaration_first (Node forms.ChannelsWithFields ts) rest k h = first_sign Decla
 declaration_first (Node forms.Datatype ts) rest k h = first_sign Declares ts _ _ rest refl
 declaration_first (Node forms.Definition ts) rest k h = first_name Declares ts _ rest (named ts _ h.1) refl
 declaration_first (Node forms.DefinitionWithParameters ts) rest k h = first_name Declares ts _ rest (named ts _ h.1) refl
-declaration_first u rest k h = absurd cc
+declaration_first u rest k h = absurd (false_true k)
 
 pub declaration_some : (u : Syntax) → is_declaration u ≡ true → Fits u → 0 < length (flat u)
 unfolding is_declaration flat rule
@@ -129,7 +129,7 @@ declaration_some (Node forms.ChannelsWithFields ts) k h = some_sign ts _ _
 declaration_some (Node forms.Datatype ts) k h = some_sign ts _ _
 declaration_some (Node forms.Definition ts) k h = some_name ts _ h.1
 declaration_some (Node forms.DefinitionWithParameters ts) k h = some_name ts _ h.1
-declaration_some u k h = absurd cc
+declaration_some u k h = absurd (false_true k)
 
 -- ---- phrases
 

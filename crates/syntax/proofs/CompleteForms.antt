@@ -1,5 +1,5 @@
 -- Which form stands first, where the tokens are those of a node.
-use Rattle.std.proofs.Common.{◌≡◌, ℕ, List, ◌∷◌, ◌++◌, Bool, true, false, cond, Option, Some, None, refl, ap, ◌∙◌, append_assoc}
+use Rattle.std.proofs.Common.{◌≡◌, ℕ, List, ◌∷◌, ◌++◌, Bool, true, false, cond, Option, Some, None, refl, sym, ap, ◌∙◌, append_assoc}
 use Rattle.std.specs.Prelude.{nat_le}
 use Rattle.tokens.specs.Lexeme.{Lexeme, Name, Sign}
 use Rattle.tokens.specs.declared.symbol.Symbol.TheVariants as symbols
@@ -50,7 +50,7 @@ calm_fields (MoreSyntax t ts) rest h e =
 pub event_first : (P : List Lexeme → Type 0) (t : Syntax) (rest : List Lexeme) → is_event t ≡ true → Fits t → ((n : List ℕ) (xs : List Lexeme) → P (Name n ∷ xs)) → P (flat t ++ rest)
 unfolding is_event flat rule
 event_first P (Node forms.Event ts) rest e h p = first_name P ts (further fields.Any) rest (named ts (further fields.Any) h.1) (p _ _)
-event_first P t rest e h p = absurd cc
+event_first P t rest e h p = absurd (false_true e)
 
 pub phrase_begins : (f : Form) (ts : Syntaxes) (rest : List Lexeme) → is_operation f ≡ false → nat_le (form_level f) 16 ≡ true → Fits (Node f ts) → calm rest ≡ true → phrase_form (flat (Node f ts) ++ rest) ≡ some_form (first_form f)
 unfolding form_level flat rule phrase_form keyword_form symbol_form named_form brace_form events_form spell spell_signs spell_part is
@@ -89,8 +89,8 @@ phrase_begins forms.Event ts rest o e h c =
 phrase_begins forms.Call ts rest o e h c =
     let w = named ts _ h.1 in
     first_name (Begins forms.Call) ts _ rest w (first_open (λ (xs : List Lexeme). some_form (named_form xs) ≡ some_form forms.Call) w.others _ _ rest refl)
-phrase_begins (forms.Operation op) ts rest o e h c = absurd cc
-phrase_begins f ts rest o e h c = absurd cc
+phrase_begins (forms.Operation op) ts rest o e h c = absurd (false_true (sym o))
+phrase_begins f ts rest o e h c = absurd (false_true e)
 
 -- ---- what a field gives, fields and declarations
 
@@ -102,7 +102,7 @@ unfolding is_value flat rule value_form
 value_begins forms.NegativeNumber ts rest e h = first_sign (BeginsAs value_form forms.NegativeNumber) ts _ _ rest refl
 value_begins forms.Brackets ts rest e h = first_open (BeginsAs value_form forms.Brackets) ts _ _ rest refl
 value_begins forms.Event ts rest e h = first_name (BeginsAs value_form forms.Event) ts _ rest (named ts (further fields.Any) h.1) refl
-value_begins f ts rest e h = absurd cc
+value_begins f ts rest e h = absurd (false_true e)
 
 input_calm : (n : List ℕ) (toks : List Lexeme) → calm toks ≡ true → input_form (Name n ∷ toks) ≡ forms.Input
 unfolding calm input_form
@@ -135,7 +135,7 @@ field_begins forms.RestrictedInput (MoreSyntax (Node f us) ts) rest e h c = absu
     not_name : is_called (Node f us) ≡ true → ⊥
     not_name e = cc
 field_begins forms.RestrictedInput NoSyntax rest e h c = absurd (false_true h.1)
-field_begins f ts rest e h c = absurd cc
+field_begins f ts rest e h c = absurd (false_true e)
 
 pub declaration_begins : (f : Form) (ts : Syntaxes) (rest : List Lexeme) → is_declaration (Node f ts) ≡ true → Fits (Node f ts) → declaration_form (flat (Node f ts) ++ rest) ≡ some_form (first_form f)
 unfolding is_declaration flat rule declaration_form defined_form
@@ -148,7 +148,7 @@ declaration_begins forms.Definition ts rest e h =
 declaration_begins forms.DefinitionWithParameters ts rest e h =
     let w = named ts _ h.1 in
     first_name (BeginsAs declaration_form forms.DefinitionWithParameters) ts _ rest w (first_open (λ (xs : List Lexeme). some_form (defined_form xs) ≡ some_form forms.DefinitionWithParameters) w.others _ _ rest refl)
-declaration_begins f ts rest e h = absurd cc
+declaration_begins f ts rest e h = absurd (false_true e)
 
 -- ---- the first operand is a node of the form that was found
 

@@ -109,7 +109,7 @@ unfolding shutting wants_shut rule may_stand
 apart_rule forms.Event ts e h n = absurd cc
 apart_rule (forms.Operation op) ts e h n = absurd cc
 apart_rule forms.FieldSets ts e h n = (or_true (is_last ts), h)
-apart_rule f ts e h n = absurd cc
+apart_rule f ts e h n = absurd (false_true n)
 
 -- ---- brackets
 
@@ -149,7 +149,7 @@ opens_rule forms.DefinitionWithParameters ts e h o = inside_nests (rule forms.De
 opens_rule forms.Set ts e h o = absurd cc
 opens_rule forms.Range ts e h o = absurd cc
 opens_rule (forms.Operation op) ts e h o = absurd cc
-opens_rule f ts e h o = absurd cc
+opens_rule f ts e h o = absurd (false_true o)
 
 -- ---- layers
 

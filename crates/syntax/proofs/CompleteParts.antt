@@ -18,7 +18,7 @@ use Rattle.syntax.specs.Parsing.{Found, after, begins_field, another, numeral_at
 use Rattle.syntax.proofs.Branches.{some_found}
 use Rattle.syntax.proofs.Climbing.{Stops}
 use Rattle.syntax.proofs.Table.{operator_row}
-use Rattle.syntax.proofs.CompleteBools.{both_true}
+use Rattle.syntax.proofs.CompleteBools.{both_true, false_true}
 use Rattle.syntax.proofs.CompleteFollow.{declares, Behind, NoSign, Follows, quiet_behind, quiet_phrase, declares_quiet, declares_none, fieldless_dot}
 use Rattle.syntax.proofs.CompleteFirst.{is_operation, leads, rule_first}
 use Rattle.syntax.proofs.CompleteGoal.{AllRead, edge, rank}
@@ -86,7 +86,7 @@ unfolding is_event is_alone numeral_at may_be_number fields_of form_at is_heavy
 event_read_first forms.Event ts i b r n rest read fits high nested layers meets =
     operand_is (reader b r 4) (reader b (suc r) n) (may_open b) kinds.Event forms.Event (flat (Node forms.Event ts) ++ rest) refl refl refl
     ∙ event_node b r fields.Any ts rest read fits (takes_any (Node forms.Event ts)) (omega (arith, high)) nested meets
-event_read_first f ts i b r n rest read fits high nested layers meets = absurd cc
+event_read_first f ts i b r n rest read fits high nested layers meets = absurd (false_true i)
 
 pub value_read_first : (f : Form) (ts : Syntaxes) → is_value (Node f ts) ≡ true → ReadFirst kinds.Value f ts
 unfolding is_value is_alone numeral_at may_be_number fields_of form_at is_heavy form_level below rule leads flat rank takes takes_fields
@@ -97,7 +97,7 @@ value_read_first forms.Brackets ts i b r n rest read fits high nested layers mee
 value_read_first forms.Event (MoreSyntax x NoSyntax) i b r n rest read fits high nested layers meets =
     operand_is (reader b r 4) (reader b (suc r) n) (may_open b) kinds.Value forms.Event (flat (Node forms.Event (MoreSyntax x NoSyntax)) ++ rest) refl (no_number forms.Event (MoreSyntax x NoSyntax) rest refl refl fits) (value_begins forms.Event (MoreSyntax x NoSyntax) rest refl fits)
     ∙ event_node b r fields.None (MoreSyntax x NoSyntax) rest read fits refl (omega (arith, high)) nested meets
-value_read_first f ts i b r n rest read fits high nested layers meets = absurd cc
+value_read_first f ts i b r n rest read fits high nested layers meets = absurd (false_true i)
 
 pub field_read_first : (f : Form) (ts : Syntaxes) → is_field (Node f ts) ≡ true → ReadFirst kinds.Field f ts
 unfolding is_field is_alone numeral_at may_be_number form_at is_heavy below rule rank is_open ending
@@ -109,7 +109,7 @@ field_read_first forms.Input ts i b r n rest read fits high nested layers meets 
     simple_first b r n kinds.Field forms.Input ts rest refl refl refl (field_begins forms.Input ts rest refl fits meets.0) (λ e. absurd cc) read fits high nested tt
 field_read_first forms.RestrictedInput ts i b r n rest read fits high nested layers meets =
     simple_first b r n kinds.Field forms.RestrictedInput ts rest refl refl refl (field_begins forms.RestrictedInput ts rest refl fits meets.0) (λ e. omega (arith, layers)) read fits high nested meets
-field_read_first f ts i b r n rest read fits high nested layers meets = absurd cc
+field_read_first f ts i b r n rest read fits high nested layers meets = absurd (false_true i)
 
 -- ---- generators and pairs
 
@@ -117,7 +117,7 @@ pub generator_read_first : (f : Form) (ts : Syntaxes) → is_generator (Node f t
 unfolding is_generator is_alone numeral_at may_be_number form_at is_heavy below rule rank is_open ending
 generator_read_first forms.Generator ts i b r n rest read fits high nested layers meets =
     simple_first b r n kinds.Generator forms.Generator ts rest refl refl refl refl (λ e. omega (arith, layers)) read fits high nested meets
-generator_read_first f ts i b r n rest read fits high nested layers meets = absurd cc
+generator_read_first f ts i b r n rest read fits high nested layers meets = absurd (false_true i)
 
 no_separator : (s : _) (rest : List Lexeme) → NoSign s rest → NoMore (starts.Behind s) rest
 unfolding another
@@ -127,13 +127,13 @@ pub generators_read_first : (f : Form) (ts : Syntaxes) → is_generators (Node f
 unfolding is_generators is_alone numeral_at may_be_number form_at is_heavy below rule rank is_open ending
 generators_read_first forms.Generators ts i b r n rest read fits high nested layers meets =
     simple_first b r n kinds.Generators forms.Generators ts rest refl refl refl refl (λ e. omega (arith, layers)) read fits high nested (meets.0, (meets.0, no_separator symbols.Comma rest meets.1))
-generators_read_first f ts i b r n rest read fits high nested layers meets = absurd cc
+generators_read_first f ts i b r n rest read fits high nested layers meets = absurd (false_true i)
 
 pub pair_read_first : (f : Form) (ts : Syntaxes) → is_pair (Node f ts) ≡ true → ReadFirst kinds.Pair f ts
 unfolding is_pair is_alone numeral_at may_be_number form_at is_heavy below rule rank is_open ending
 pair_read_first forms.Pair ts i b r n rest read fits high nested layers meets =
     simple_first b r n kinds.Pair forms.Pair ts rest refl refl refl refl (λ e. omega (arith, layers)) read fits high nested meets
-pair_read_first f ts i b r n rest read fits high nested layers meets = absurd cc
+pair_read_first f ts i b r n rest read fits high nested layers meets = absurd (false_true i)
 
 -- ---- declarations and their lists
 
@@ -141,13 +141,13 @@ pub names_read_first : (f : Form) (ts : Syntaxes) → is_names (Node f ts) ≡ t
 unfolding is_names is_alone numeral_at may_be_number form_at is_heavy below rule rank
 names_read_first forms.Names ts i b r n rest read fits high nested layers meets =
     simple_first b r n kinds.Names forms.Names ts rest refl refl refl refl (λ e. omega (arith, layers)) read fits high nested (tt, no_separator symbols.Comma rest meets)
-names_read_first f ts i b r n rest read fits high nested layers meets = absurd cc
+names_read_first f ts i b r n rest read fits high nested layers meets = absurd (false_true i)
 
 pub constants_read_first : (f : Form) (ts : Syntaxes) → is_constants (Node f ts) ≡ true → ReadFirst kinds.Constants f ts
 unfolding is_constants is_alone numeral_at may_be_number form_at is_heavy below rule rank
 constants_read_first forms.Constants ts i b r n rest read fits high nested layers meets =
     simple_first b r n kinds.Constants forms.Constants ts rest refl refl refl refl (λ e. omega (arith, layers)) read fits high nested (tt, no_separator symbols.Bar rest meets)
-constants_read_first f ts i b r n rest read fits high nested layers meets = absurd cc
+constants_read_first f ts i b r n rest read fits high nested layers meets = absurd (false_true i)
 
 undotted : (rest : List Lexeme) → begins_field fields.Any rest ≡ false → begins_field fields.Undotted rest ≡ false
 unfolding begins_field
@@ -171,7 +171,7 @@ unfolding is_field_sets is_alone numeral_at may_be_number form_at is_heavy below
 field_sets_read_first forms.FieldSets ts i b r n rest read fits high nested layers meets =
     let h : Behind fields.Undotted (last_open ts) rest = (meets.0, undotted rest meets.1, meets.2) in
     simple_first b r n kinds.FieldSets forms.FieldSets ts rest refl refl refl refl (λ e. omega (arith, layers)) read fits high nested (h, (h, no_dot rest meets.1))
-field_sets_read_first f ts i b r n rest read fits high nested layers meets = absurd cc
+field_sets_read_first f ts i b r n rest read fits high nested layers meets = absurd (false_true i)
 
 pub declaration_read_first : (f : Form) (ts : Syntaxes) → is_declaration (Node f ts) ≡ true → ReadFirst kinds.Declaration f ts
 unfolding is_declaration is_alone numeral_at may_be_number form_at fields_of is_heavy below rule rank nesting
@@ -187,7 +187,7 @@ declaration_read_first forms.Definition ts i b r n rest read fits high nested la
     simple_first b r n kinds.Declaration forms.Definition ts rest refl refl refl (declaration_begins forms.Definition ts rest refl fits) (λ e. omega (arith, layers)) read fits high nested (quiet_phrase 16 (last_open ts) rest (declares_quiet rest meets))
 declaration_read_first forms.DefinitionWithParameters ts i b r n rest read fits high nested layers meets =
     simple_first b r n kinds.Declaration forms.DefinitionWithParameters ts rest refl refl refl (declaration_begins forms.DefinitionWithParameters ts rest refl fits) (λ e. omega (arith, layers)) read fits high nested (quiet_phrase 16 (last_open ts) rest (declares_quiet rest meets))
-declaration_read_first f ts i b r n rest read fits high nested layers meets = absurd cc
+declaration_read_first f ts i b r n rest read fits high nested layers meets = absurd (false_true i)
 
 abbrev ScriptTail : Bool → List Lexeme → Type 0
 ScriptTail o rest = Tail (rule forms.Script) o rest
@@ -200,4 +200,4 @@ pub script_read_first : (f : Form) (ts : Syntaxes) → is_script (Node f ts) ≡
 unfolding is_script is_alone numeral_at may_be_number form_at is_heavy below rank
 script_read_first forms.Script ts i b r n rest read fits high nested layers meets =
     simple_first b r n kinds.Script forms.Script ts rest refl refl refl refl (λ e. omega (arith, layers)) read fits high nested (subst (ScriptTail (last_open ts)) (sym meets) (script_ends (last_open ts)))
-script_read_first f ts i b r n rest read fits high nested layers meets = absurd cc
+script_read_first f ts i b r n rest read fits high nested layers meets = absurd (false_true i)

@@ -28,7 +28,7 @@ use Rattle.syntax.proofs.Sound.{some_of, only_signs, spell_sign, spell_open}
 use Rattle.syntax.proofs.Branches.{some_found, some_row, others_stop, others_next}
 use Rattle.syntax.proofs.Steps.{may_open_some, inside_step}
 use Rattle.syntax.proofs.Lists.{open_push}
-use Rattle.syntax.proofs.CompleteBools.{true_false, both_true}
+use Rattle.syntax.proofs.CompleteBools.{false_true, true_false, both_true}
 use Rattle.syntax.proofs.CompleteFollow.{no_sign, calm, Follows, closes, closes_follows}
 use Rattle.syntax.proofs.CompleteFirst.{fits_sign, fits_open, field_first, field_some, declaration_first, declaration_some}
 use Rattle.syntax.proofs.CompleteGoal.{rank, is_read_kind, IsRead, AllRead}
@@ -106,7 +106,7 @@ separated : (k : Kind) (start : Start) (o : Bool) (toks : List Lexeme) → separ
 unfolding separates wants_shut calm begins_field
 separated k (starts.Behind s) o toks e shuts = closes_follows k (signs.Symbol s) o toks e
 separated (kinds.Atom fields.Undotted) starts.Dot o toks e shuts = (refl, refl, λ h. absurd (true_false o h (shuts refl)))
-separated k start o toks e shuts = absurd cc
+separated k start o toks e shuts = absurd (false_true e)
 
 continued : (k : Kind) (start : Start) (o : Bool) (u : Syntax) (toks : List Lexeme) → continues k start ≡ true → is k u ≡ true → Fits u → takes_field (fields_at start) u ≡ true → (wants_shut start ≡ true → o ≡ false) → Follows k o (before start ++ (flat u ++ toks))
 unfolding continues wants_shut is begins_field
@@ -131,7 +131,7 @@ found_another kinds.Declaration starts.Any o u toks e kind fits takes shuts = an
     any_more : (xs : List Lexeme) → 0 < length xs → another starts.Any o (xs ++ toks) ≡ some_of (xs ++ toks)
     any_more [] h = absurd (omega (arith, h))
     any_more (x ∷ xs) h = refl
-found_another k start o u toks e kind fits takes shuts = absurd cc
+found_another k start o u toks e kind fits takes shuts = absurd (false_true e)
 
 some_more : (k : Kind) (start : Start) (u : Syntax) → continues k start ≡ true → is k u ≡ true → Fits u → 0 < length (before start ++ flat u)
 unfolding continues separates is
@@ -139,7 +139,7 @@ some_more k (starts.Behind s) u e kind fits = omega arith
 some_more k starts.Dot u e kind fits = omega arith
 some_more kinds.Field (starts.Field m) u e kind fits = field_some u kind
 some_more kinds.Declaration starts.Any u e kind fits = declaration_some u kind fits
-some_more k start u e kind fits = absurd cc
+some_more k start u e kind fits = absurd (false_true e)
 
 -- what behind the last part is no further part
 abbrev pub NoMore : Start → List Lexeme → Type 0

@@ -1,5 +1,5 @@
 -- Parts that grow at their end.
-use Rattle.std.proofs.Common.{◌≡◌, ℕ, List, [], ◌∷◌, ◌++◌, max, Vec, refl, ap, ◌∙◌, arith}
+use Rattle.std.proofs.Common.{◌≡◌, ℕ, List, [], ◌∷◌, ◌++◌, Bool, max, Vec, refl, sym, ap, ◌∙◌, arith}
 use mathlib.Core.Former.{Count}
 use Rattle.syntax.specs.declared.tree.Tree.{Tree, Node as TreeNode, Row_of-Tree, end_of-Tree, more_of-Tree, items-the_row-Tree, items_hidden-the_row-Tree-0}
 use Rattle.syntax.specs.declared.tree.Tree.TheVariants as trees
@@ -20,6 +20,17 @@ pub open_push : (ps : List Syntax) (p : Syntax) → last_is_open (ps ++ p ∷ []
 open_push [] p = refl
 open_push (q ∷ []) p = refl
 open_push (q ∷ u ∷ ps) p = open_push (u ∷ ps) p
+
+-- a list of trees with one more at its end
+module _ {A : Type 0} (front new : List (Tree A)) (t : Tree A) (e : new ≡ front ++ t ∷ []) where
+  pub pushed : shapes new ≡ shapes front ++ shape t ∷ []
+  pushed = ap shapes e ∙ push_shape front t
+
+  pub pushed_height : (h k : ℕ) → h ≡ highest (syntaxes (shapes front)) → k ≡ height_of (shape t) → max h k ≡ highest (syntaxes (shapes new))
+  pushed_height h k i j = omega (arith, i, j, highest_push (shapes front) (shape t), ap (λ (ps : List Syntax). highest (syntaxes ps)) pushed)
+
+  pub pushed_open : (o : Bool) → o ≡ is_open (shape t) → o ≡ last_is_open (shapes new)
+  pushed_open o i = i ∙ sym (ap last_is_open pushed ∙ open_push (shapes front) (shape t))
 
 pub last_open_is : (ps : List Syntax) → last_open (syntaxes ps) ≡ last_is_open ps
 unfolding last_open

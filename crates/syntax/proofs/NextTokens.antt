@@ -5,7 +5,7 @@ use Rattle.std.specs.Prelude.{is_some}
 use Rattle.tokens.specs.declared.token.Token.{Token}
 use Rattle.tokens.specs.declared.token.Word.{Word}
 use Rattle.tokens.specs.declared.token.Word.TheVariants as words
-use Rattle.tokens.specs.Lexeme.{Lexeme, Name, Number, Kept, Sign, lexeme, lexeme_of_word, lexemes}
+use Rattle.tokens.specs.Lexeme.{Lexeme, Name, Kept, Sign, lexeme, lexeme_of_word, lexemes}
 use Rattle.tokens.specs.declared.keyword.Keyword.{Keyword}
 use Rattle.tokens.specs.declared.keyword.Keyword.TheVariants as keywords
 use Rattle.tokens.specs.declared.symbol.Symbol.{Symbol}
@@ -13,16 +13,24 @@ use Rattle.tokens.specs.declared.symbol.Symbol.TheVariants as symbols
 use Rattle.syntax.specs.declared.piece.Sign.TheVariants as signs
 use Rattle.syntax.specs.declared.piece.Fields.{Fields}
 use Rattle.syntax.specs.declared.piece.Fields.TheVariants as fields
+use Rattle.syntax.specs.declared.piece.Start.TheVariants as starts
 use Rattle.syntax.specs.declared.form.Form.{Form}
 use Rattle.syntax.specs.declared.form.Form.TheVariants as forms
 use Rattle.syntax.specs.declared.operator.Operator.{Operator}
-use Rattle.syntax.specs.Parsing.{◌>>=◌, after, is_sign, begins_field, named_form, brace_form, events_form, defined_form, input_form, turned, value_form, field_form, declaration_form}
+use Rattle.syntax.specs.Faults.{first_line}
+use Rattle.syntax.specs.Parsing.{◌>>=◌, Found, after, is_sign, begins_field, named_form, brace_form, events_form, defined_form, input_form, turned, value_form, field_form, declaration_form, name_at, number_at, another}
 
 abbrev pub some_form : Form → Option Form
 some_form f = Some f
 
 abbrev no_form : Option Form
 no_form = None
+
+abbrev no_part : Option Found
+no_part = None
+
+abbrev some_tokens : List Lexeme → Option (List Lexeme)
+some_tokens toks = Some toks
 
 -- ---- the tokens of a slice
 
@@ -36,6 +44,14 @@ first_there [] t w h is says = absurd (omega (arith, h))
 first_there (x ∷ xs) t w h is says =
     ap (λ y. lexeme y ∷ lexemes xs) (sym is) ∙ ap (λ y. lexeme_of_word y ∷ lexemes xs) says
     ∙ ap (λ ys. lexeme_of_word w ∷ lexemes ys) (sym (take_all (suc (length xs) - 1) xs (omega arith)))
+
+pub first_line_is : {A : Type 0} (ts : List (Token A)) (t : Token A) → 1 ≤ length ts → t ≡ get_or ts 0 t → t.line ≡ first_line ts
+first_line_is [] t h is = absurd (omega (arith, h))
+first_line_is (x ∷ xs) t h is = ap (λ y. y.line) is
+
+pub no_line : {A : Type 0} (ts : List (Token A)) → length ts < 1 → 0 ≡ first_line ts
+no_line [] h = refl
+no_line (t ∷ ts) h = absurd (omega (arith, h))
 
 -- the tokens, where the test holds
 abbrev pub kept_where : List Lexeme → Bool → Option (List Lexeme)
@@ -145,6 +161,26 @@ module _ {A : Type 0} where
   no_name (words.Number n) rest h = refl
   no_name (words.Keyword k) rest h = refl
   no_name (words.Symbol s) rest h = refl
+
+  pub no_numeral : (w : Word A) (rest : List Lexeme) → ((n : ℕ) → w ≢ words.Number n) → number_at (lexeme_of_word w ∷ rest) ≡ no_part
+  unfolding number_at
+  no_numeral (words.Number n) rest h = absurd (h n refl)
+  no_numeral (words.Name n) rest h = refl
+  no_numeral (words.Keyword k) rest h = refl
+  no_numeral (words.Symbol s) rest h = refl
+
+  pub no_called : (w : Word A) (rest : List Lexeme) → ((n : Vec ℕ A) → w ≢ words.Name n) → name_at (lexeme_of_word w ∷ rest) ≡ no_part
+  unfolding name_at
+  no_called (words.Name n) rest h = absurd (h n refl)
+  no_called (words.Number n) rest h = refl
+  no_called (words.Keyword k) rest h = refl
+  no_called (words.Symbol s) rest h = refl
+
+  -- one more part begins with any token
+  pub any_there : (ts : List (Token A)) (greedy : Bool) → 1 ≤ length ts → another starts.Any greedy (lexemes ts) ≡ some_tokens (lexemes ts)
+  unfolding another
+  any_there [] greedy h = absurd (omega (arith, h))
+  any_there (t ∷ ts) greedy h = refl
 
   pub no_value : (w : Word A) (rest : List Lexeme) → ((n : Vec ℕ A) → w ≢ words.Name n) → ((s : Symbol) → w ≢ words.Symbol s) → value_form (lexeme_of_word w ∷ rest) ≡ no_form
   unfolding value_form

@@ -1,12 +1,19 @@
 -- How a part of a kind and the pieces of a rule are read, a step at a time.
-use Rattle.std.proofs.Common.{◌≡◌, ◌≢◌, ℕ, suc, ◌-◌, ◌<◌, ◌≤◌, length, take, drop, get_or, List, [], ◌∷◌, Bool, Option, Some, None, refl, sym, ap, ◌∙◌, arith}
+use Rattle.std.proofs.Common.{◌≡◌, ◌≢◌, ℕ, suc, ◌-◌, ◌<◌, ◌≤◌, length, take, drop, get_or, List, [], ◌∷◌, Bool, Option, Some, None, refl, sym, ap, subst, ◌∙◌, arith}
 use Rattle.std.proofs.lemmas.List.{take_all}
 use Rattle.tokens.specs.Lexeme.{Lexeme}
 use Rattle.syntax.specs.declared.piece.Kind.{Kind}
 use Rattle.syntax.specs.declared.piece.Kind.TheVariants as kinds
 use Rattle.syntax.specs.declared.piece.Piece.{Piece}
+use Rattle.syntax.specs.declared.piece.Fields.{Fields}
+use Rattle.syntax.specs.declared.form.Form.{Form}
+use Rattle.syntax.specs.declared.form.Form.TheVariants as forms
+use Rattle.syntax.specs.declared.operator.Operator.{Operator}
+use Rattle.syntax.specs.declared.operator.Operator.TheVariants as operators
+use Rattle.syntax.specs.Operators.{behind}
+use Rattle.syntax.specs.Rules.{rule}
 use Rattle.syntax.specs.Grammar.{Syntax}
-use Rattle.syntax.specs.Parsing.{◌>>=◌, Found, Reader, climb, go_on, may_open, operand, read_in, reader, reads, row, step}
+use Rattle.syntax.specs.Parsing.{◌>>=◌, Found, Reader, back, climb, front, go_on, may_open, operand, read_in, reader, reads, row, step}
 use Rattle.syntax.proofs.Branches.{some_row}
 use Rattle.syntax.proofs.Steps.{reads_step}
 
@@ -21,6 +28,36 @@ pub row_turn : (read : Reader) (opening : Bool) (ps : List Piece) (d : Piece) (p
 unfolding row
 row_turn read opening [] d parts toks h = absurd (omega (arith, h))
 row_turn read opening (p ∷ ps) d parts toks h = ap (λ (qs : List Piece). step read opening p parts toks >>= λ y. row read opening qs y.0 y.1) (sym (take_all (suc (length ps) - 1) ps (omega arith)))
+
+-- ---- no rule has more than 9 pieces
+
+front_length : (f : Form) → length (front f) ≤ 9
+unfolding front
+front_length forms.Set = omega arith
+front_length forms.Range = omega arith
+front_length forms.Channels = omega arith
+front_length forms.ChannelsWithFields = omega arith
+front_length f = omega arith
+
+back_length : (m : Fields) (f : Form) → length (back m f) ≤ 9
+unfolding back rule
+back_length m forms.Event = omega arith
+back_length m (forms.Operation op) = omega arith
+back_length m f = omega arith
+
+behind_length : (op : Operator) → length (behind op) ≤ 9
+unfolding behind
+behind_length operators.Renaming = omega arith
+behind_length op = omega arith
+
+pub front_short : (f : Form) (ps : List Piece) → ps ≡ front f → length ps ≤ 9
+front_short f ps e = subst (λ (qs : List Piece). length qs ≤ 9) (sym e) (front_length f)
+
+pub back_short : (m : Fields) (f : Form) (ps : List Piece) → ps ≡ back m f → length ps ≤ 9
+back_short m f ps e = subst (λ (qs : List Piece). length qs ≤ 9) (sym e) (back_length m f)
+
+pub behind_short : (op : Operator) (ps : List Piece) → ps ≡ behind op → length ps ≤ 9
+behind_short op ps e = subst (λ (qs : List Piece). length qs ≤ 9) (sym e) (behind_length op)
 
 -- ---- a part of a kind
 

@@ -1,5 +1,5 @@
 //! The rules of the grammar.
-ghost use Rattle.std.specs.Prelude.{◌≡◌, ◌≤◌, length};
+ghost use Rattle.std.specs.Prelude.{◌≡◌};
 ghost use Rattle.syntax.specs.Rules.{ending as ending_of, form_level, is_heavy};
 ghost use Rattle.syntax.specs.Parsing.{back as back_of, front as front_of};
 
@@ -197,8 +197,7 @@ pub(crate) fn end_of(form: Form) -> Ending
 /// What stands first in a set or in a declaration of channels, before it is known which form it is.
 #[tactic(auto, unfolding(crate::specs::Parsing::front))]
 pub(crate) fn front(form: Form) -> &'static [Piece]
-    ensures pieces { result.now ≡ front_of form }
-    ensures short { length result.now ≤ 9 }
+    ensures { result.now ≡ front_of form }
 {
     match form {
         Form::Set | Form::Range => &[
@@ -216,8 +215,7 @@ pub(crate) fn front(form: Form) -> &'static [Piece]
 /// The rule of a form without its front. A name takes these fields.
 #[tactic(auto, unfolding(crate::specs::Parsing::back, crate::specs::Rules::rule))]
 pub(crate) fn back(form: Form, fields: Fields) -> &'static [Piece]
-    ensures pieces { result.now ≡ back_of fields form }
-    ensures short { length result.now ≤ 9 }
+    ensures { result.now ≡ back_of fields form }
 {
     match form {
         Form::Event => match fields {

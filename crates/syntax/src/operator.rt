@@ -1,5 +1,5 @@
 //! The table of operators.
-ghost use Rattle.std.specs.Prelude.{◌≡◌, ◌≤◌, length};
+ghost use Rattle.std.specs.Prelude.{◌≡◌};
 ghost use Rattle.syntax.specs.Operators.{behind as behind_of, left_limit as left_limit_of, level as level_of, operator_of_keyword, operator_of_symbol, opens as opens_of};
 
 use crate::piece::{Kind, Piece, Place, Sign, Start};
@@ -157,8 +157,7 @@ pub(crate) fn opens(operator: Operator) -> bool
 /// What stands after its first token.
 #[tactic(auto, unfolding(crate::specs::Operators::behind, crate::specs::Operators::right_limit))]
 pub(crate) fn behind(operator: Operator) -> &'static [Piece]
-    ensures pieces { result.now ≡ behind_of operator }
-    ensures short { length result.now ≤ 9 }
+    ensures { result.now ≡ behind_of operator }
 {
     match operator {
         Operator::Renaming => &[

@@ -44,7 +44,6 @@ impl<A: Allocator + Clone + Drop> Parts<A> {
     }
 
     /// One part more.
-    #[tactic(auto, using(crate::proofs::Lists::push_shape, crate::proofs::Lists::highest_push, crate::proofs::Lists::open_push))]
     pub(crate) fn with(self, part: Parsed<A>) -> Result<Parts<A>, AllocError>
         ensures { IfOk result (λ p. (shapes p.trees.items ≡ shapes self.trees.items ++ shape part.tree ∷ []) × (p.height ≡ max self.height part.height)) }
     {

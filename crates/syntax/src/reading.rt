@@ -3,12 +3,12 @@
 //! One function reads a part of any kind: its form is known from the next tokens, and the form's rule says how it
 //! goes on. A phrase then climbs: while the next token is an operator that may follow, it takes what the operator's
 //! row of the table puts after it.
-ghost use Rattle.std.specs.Prelude.{◌≡◌, ◌≤◌, ◌<◌, ◌+◌, ◌-◌, ◌++◌, ◌∷◌, ℕ, List, [], Bool, Option, Some, IfOk, IfSome, length, max, nat_lt, not, if◌then◌else◌};
+ghost use Rattle.std.specs.Prelude.{◌≡◌, ◌≤◌, ◌<◌, ◌+◌, ◌-◌, ◌++◌, ◌∷◌, ℕ, List, [], Bool, Option, Some, None, IfOk, IfSome, length, max, nat_lt, not, if◌then◌else◌};
 ghost use Rattle.std.specs.Option.{option_map};
 ghost use Rattle.tokens.specs.Lexeme.{lexemes};
 ghost use Rattle.syntax.specs.Rules.{is_heavy};
 ghost use Rattle.syntax.specs.Grammar.{Syntax, left_fits as left_fits_of, level_in};
-ghost use Rattle.syntax.specs.Parsing.{another as another_of, climb as climb_of, grown as grown_of, may_begin as may_begin_of, may_open as may_open_of, name_at as name_at_of, next_operator, node as node_of_form, number_at, numeral_at as numeral_at_of, operand as operand_of, others as others_of, reader, reads, row as row_of, step as step_of, whole as whole_of};
+ghost use Rattle.syntax.specs.Parsing.{◌>>=◌ as onward, Found, keep, put, after as after_sign, another as another_of, climb as climb_of, grown as grown_of, may_begin as may_begin_of, may_open as may_open_of, name_at as name_at_of, next_operator, node as node_of_form, number_at, numeral_at as numeral_at_of, operand as operand_of, others as others_of, reader, reads, row as row_of, step as step_of, whole as whole_of};
 ghost use Rattle.syntax.specs.Answers.{Gives};
 ghost use Rattle.syntax.specs.View.{shape, shapes};
 
@@ -33,7 +33,7 @@ fn name_at<'t, A: Allocator + Clone + Drop>(
     tokens: &'t [Token<A>],
 ) -> Result<(Parsed<A>, &'t [Token<A>]), Unread>
     ensures read { Gives (λ x. (shape x.0.tree, lexemes x.1.now)) result (name_at_of (lexemes tokens.now)) }
-    ensures low { IfOk result (λ x. x.0.height ≡ 0) }
+    ensures low { (room : ℕ) → IfOk result (λ x. x.0.height ≤ room) }
 {
     match tokens {
         [first, rest @ ..] => match &first.word {
@@ -173,6 +173,38 @@ fn may_begin(operator: Operator, brackets: u32) -> bool
     may_open(brackets) || !opens(operator)
 }
 
+/// The parts, and the tokens after a sign that must stand first, if it may stand there.
+fn kept<'t, A: Allocator + Clone + Drop>(
+    parts: Parts<A>,
+    tokens: &'t [Token<A>],
+    sign: Sign,
+    may: bool,
+) -> Result<(Parts<A>, &'t [Token<A>]), Unread>
+    ensures read { Gives (λ x. (shapes x.0.trees.items, lexemes x.1.now)) result (if may then onward (after_sign sign (lexemes tokens.now)) (keep (shapes parts.trees.items)) else None) }
+    ensures high { (room : ℕ) → parts.height ≤ room → IfOk result (λ x. x.0.height ≤ room) }
+{
+    let rest = after(tokens, sign)?;
+    if may {
+        Ok((parts, rest))
+    } else {
+        Err(too_deep(tokens))
+    }
+}
+
+/// The parts with this one, if it was read, and the tokens after it.
+fn added<'t, A: Allocator + Clone + Drop>(
+    parts: Parts<A>,
+    found: Result<(Parsed<A>, &'t [Token<A>]), Unread>,
+) -> Result<(Parts<A>, &'t [Token<A>]), Unread>
+    ensures read { (wanted : Option Found) → Gives (λ x. (shape x.0.tree, lexemes x.1.now)) found.entry wanted → Gives (λ x. (shapes x.0.trees.items, lexemes x.1.now)) result (onward wanted (put (shapes parts.trees.items))) }
+    ensures high { (room : ℕ) → parts.height ≤ room → IfOk found.entry (λ x. x.0.height ≤ room) → IfOk result (λ x. x.0.height ≤ room) }
+{
+    match found {
+        Ok((one, rest)) => Ok((parts.with(one)?, rest)),
+        Err(unread) => Err(unread),
+    }
+}
+
 /// A part in its place.
 #[cycle(reading)]
 #[tactic(auto, using(crate::proofs::Steps::inside_step, crate::proofs::Steps::inside_none))]
@@ -225,8 +257,8 @@ fn others<'t, A: Allocator + Clone + Drop>(
         match another(start, parts.greedy, rest) {
             None => return Ok((parts, rest)),
             Some(begin) => {
-                let (one, behind) = part(alloc, place, kind, begin, limits)?;
-                parts = parts.with(one)?;
+                let (more, behind) = added(parts, part(alloc, place, kind, begin, limits))?;
+                parts = more;
                 rest = behind;
             }
         }
@@ -250,25 +282,13 @@ fn step<'t, A: Allocator + Clone + Drop>(
     ensures high { IfOk result (λ x. x.0.height ≤ limits.room) }
 {
     match piece {
-        Piece::Sign(sign) => {
-            let rest = after(tokens, sign)?;
-            Ok((parts, rest))
-        }
+        Piece::Sign(sign) => kept(parts, tokens, sign, true),
         Piece::Open(symbol) => {
-            let rest = after(tokens, Sign::Symbol(symbol))?;
-            if !may_open(limits.brackets) {
-                return Err(too_deep(tokens));
-            }
-            Ok((parts, rest))
+            let may = may_open(limits.brackets);
+            kept(parts, tokens, Sign::Symbol(symbol), may)
         }
-        Piece::Name => {
-            let (name, rest) = name_at(alloc, tokens)?;
-            Ok((parts.with(name)?, rest))
-        }
-        Piece::Part(place, kind) => {
-            let (one, rest) = part(alloc, place, kind, tokens, limits)?;
-            Ok((parts.with(one)?, rest))
-        }
+        Piece::Name => added(parts, name_at(alloc, tokens)),
+        Piece::Part(place, kind) => added(parts, part(alloc, place, kind, tokens, limits)),
         Piece::Others(place, kind, start) => {
             others(alloc, place, kind, start, parts, tokens, limits)
         }
@@ -412,10 +432,8 @@ fn climb<'t, A: Allocator + Clone + Drop>(
     match operator_behind(tokens, limit, &left) {
         None => Ok((left, tokens)),
         Some((operator, rest)) => {
-            if turns == 0 || left.height >= limits.room {
-                return Err(too_deep(tokens));
-            }
-            if !may_begin(operator, limits.brackets) {
+            let may = may_begin(operator, limits.brackets);
+            if turns == 0 || left.height >= limits.room || !may {
                 return Err(too_deep(tokens));
             }
             let (grown, rest) = grown(alloc, operator, left, rest, limits)?;
@@ -454,7 +472,6 @@ pub(crate) fn read<'t, A: Allocator + Clone + Drop>(
 }
 
 /// The script that is all of the tokens.
-#[tactic(auto, unfolding(crate::specs::Parsing::whole, crate::specs::Parsing::ended))]
 pub(crate) fn whole<A: Allocator + Clone + Drop>(
     alloc: &A,
     tokens: &[Token<A>],

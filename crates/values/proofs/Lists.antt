@@ -1,5 +1,5 @@
 -- Lists of what phrases stand for.
-use Rattle.std.proofs.Common.{◌≡◌, ◌≢◌, ℕ, zero, suc, ◌+◌, ◌<◌, ◌≤◌, take, get_or, ap₂, List, [], ◌∷◌, ◌++◌, map, length, Option, Some, None, Bool, true, false, cond, Vec, Bor, ◌↔◌, IsSome, refl, sym, ap, ◌∙◌, arith}
+use Rattle.std.proofs.Common.{◌≡◌, ◌≢◌, ℕ, zero, suc, ◌+◌, ◌<◌, ◌≤◌, take, get_or, ap₂, List, [], ◌∷◌, ◌++◌, map, length, Option, Some, None, Bool, true, false, cond, Vec, Bor, ◌↔◌, IsSome, refl, sym, ap, ◌∙◌, arith, eqb-true}
 use Rattle.std.proofs.lemmas.List.{map-append, length-append, take_more, take_all}
 use Rattle.values.specs.declared.worth.Worth.{Worth}
 use Rattle.values.specs.declared.value.Value.{Value}
@@ -49,20 +49,20 @@ unfolding nothing_of
 no_parts [] h = refl
 no_parts (w ∷ ws) h = absurd (omega (arith, h))
 
-pub some_parts : {A : Type 0} (ws : List (Worth A)) → (length ws ≢ 0) → nothing_of (map worth ws) ≡ None
+pub some_parts : {A : Type 0} (ws : List (Worth A)) → nat_eq (length ws) 0 ≡ false → nothing_of (map worth ws) ≡ None
 unfolding nothing_of
-some_parts [] n = absurd (n refl)
-some_parts (w ∷ ws) n = refl
+some_parts [] h = absurd cc
+some_parts (w ∷ ws) h = refl
 
-pub truth_alone : {A : Type 0} (b : Bool) (ws : List (Worth A)) → length ws ≡ 0 → truth_of b (map worth ws) ≡ Some (truth b)
+pub truth_alone : {A : Type 0} (b : Bool) (ws : List (Worth A)) → nat_eq (length ws) 0 ≡ true → truth_of b (map worth ws) ≡ Some (truth b)
 unfolding truth_of
 truth_alone b [] h = refl
-truth_alone b (w ∷ ws) h = absurd (omega (arith, h))
+truth_alone b (w ∷ ws) h = absurd (omega (arith, eqb-true (length (w ∷ ws)) 0 h))
 
-pub truth_with : {A : Type 0} (b : Bool) (ws : List (Worth A)) → (length ws ≢ 0) → truth_of b (map worth ws) ≡ None
+pub truth_with : {A : Type 0} (b : Bool) (ws : List (Worth A)) → nat_eq (length ws) 0 ≡ false → truth_of b (map worth ws) ≡ None
 unfolding truth_of
-truth_with b [] n = absurd (n refl)
-truth_with b (w ∷ ws) n = refl
+truth_with b [] h = absurd cc
+truth_with b (w ∷ ws) h = refl
 
 -- ---- tables
 

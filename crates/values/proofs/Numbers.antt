@@ -117,7 +117,7 @@ pub range_none : (x y : ℤ) → y <ℤ x → range x y ≡ Some []
 unfolding range
 range_none x y h = let e : int_lt y x ≡ true = grind (arith, ints) in rw e refl
 
-pub range_wide : (x y : ℤ) → x ≤ℤ y → pos 65535 <ℤ (y -ℤ x) → range x y ≡ None
+range_wide : (x y : ℤ) → x ≤ℤ y → pos 65535 <ℤ (y -ℤ x) → range x y ≡ None
 unfolding range
 range_wide x y h w =
     let e : int_lt y x ≡ false = grind (arith, ints) in
@@ -132,14 +132,14 @@ too_wide x y true h n e =
     let high : (y -ℤ x) ≤ℤ pos 65535 = omega (arith, ints) in
     absurd (n (between_fits (pos 0) (y -ℤ x) (pos 65535) low high (record { sfits = omega arith }) (record { sfits = omega arith })))
 
-pub range_beyond : (x y : ℤ) → x ≤ℤ y → (FitsSigned w64 (y -ℤ x) → ⊥) → range x y ≡ None
+range_beyond : (x y : ℤ) → x ≤ℤ y → (FitsSigned w64 (y -ℤ x) → ⊥) → range x y ≡ None
 unfolding range
 range_beyond x y h n =
     let e : int_lt y x ≡ false = grind (arith, ints) in
     let f : int_le y (x +ℤ pos 65535) ≡ false = too_wide x y (int_le y (x +ℤ pos 65535)) h n refl in
     rw (e, f) refl
 
-pub range_made : (x y : ℤ) (vs : Values) → x ≤ℤ y → (y -ℤ x) ≤ℤ pos 65535 → vs ≡ numbers_from x (suc (int_gap x y)) → range x y ≡ Some vs
+range_made : (x y : ℤ) (vs : Values) → x ≤ℤ y → (y -ℤ x) ≤ℤ pos 65535 → vs ≡ numbers_from x (suc (int_gap x y)) → range x y ≡ Some vs
 unfolding range
 range_made x y vs h w is =
     let e : int_lt y x ≡ false = grind (arith, ints) in
@@ -166,3 +166,12 @@ range_here x y d v w vs h is low made e f =
     let b : d ≤ℤ pos 65535 = not_under (pos 65535) d low in
     let k : (y -ℤ x) ≤ℤ pos 65535 = omega (arith, ints, b, is) in
     ap₂ (λ (s t : ℤ). range s t) (sym e) (sym f) ∙ range_made x y vs a k made
+
+pub wide_here : (x y d v w : ℤ) → lt_z y x ≡ false → d ≡ y -ℤ x → lt_z (pos 65535) d ≡ true → x ≡ v → y ≡ w → range v w ≡ None
+wide_here x y d v w h is high e f =
+    let b : pos 65535 <ℤ d = under (pos 65535) d high in
+    let k : pos 65535 <ℤ (y -ℤ x) = omega (arith, ints, b, is) in
+    ap₂ (λ (s t : ℤ). range s t) (sym e) (sym f) ∙ range_wide x y (not_under y x h) k
+
+pub beyond_here : (x y v w : ℤ) → lt_z y x ≡ false → (FitsSigned w64 (y -ℤ x) → ⊥) → x ≡ v → y ≡ w → range v w ≡ None
+beyond_here x y v w h n e f = ap₂ (λ (s t : ℤ). range s t) (sym e) (sym f) ∙ range_beyond x y (not_under y x h) n

@@ -5,12 +5,12 @@ use mathlib.Core.Former.{Count}
 use Rattle.syntax.specs.declared.tree.Tree.{Tree, Node as TreeNode, Row_of-Tree, end_of-Tree, more_of-Tree, items-the_row-Tree, items_hidden-the_row-Tree-0}
 use Rattle.syntax.specs.declared.tree.Tree.TheVariants as trees
 use Rattle.syntax.specs.declared.form.Form.{Form}
-use Rattle.syntax.specs.Grammar.{Node, MoreSyntax}
+use Rattle.syntax.specs.Grammar.{Syntax, Called, Node, MoreSyntax}
 use Rattle.syntax.specs.Parsing.{syntaxes}
 use Rattle.syntax.specs.View.{shape, shapes, row_shapes}
 use Rattle.values.specs.declared.worth.Worth.{Worth}
-use Rattle.values.specs.Values.{◌>>=◌}
-use Rattle.values.specs.Worths.{Worth as Plain, Known, formed, is_lazy}
+use Rattle.values.specs.Values.{◌>>=◌, Name}
+use Rattle.values.specs.Worths.{Worth as Plain, Known, formed, is_lazy, condition, the_truth}
 use Rattle.values.specs.Worths.{worth as worth_in, worths as worths_in}
 use Rattle.tokens.specs.declared.unread.Unread.{Unread}
 use Rattle.values.specs.View.{worth, Fails}
@@ -47,6 +47,16 @@ node_fails k known tree line form v ts h is strict f =
 pub lazy_is : {A : Type 0} (known : Known) (tree : Tree A) (line : ℕ) (form other : Form) (v : Vec (Tree A) A) (ts : List (Tree A)) → tree ≡ TreeNode line form v → ts ≡ v.items → form ≡ other → worth_in known (shape tree) ≡ worth_in known (Node other (syntaxes (shapes ts)))
 lazy_is known tree line form other v ts h is same =
     ap (worth_in known) (node_is tree line form v ts h is ∙ ap (λ f. Node f (syntaxes (shapes ts))) same)
+
+-- a name means what is known of it
+pub name_is : (known : Known) (t : Syntax) (m n : Name) → t ≡ Called m → n ≡ m → known n ≡ worth_in known t
+unfolding worth_in
+name_is known t m n h is = ap known is ∙ sym (ap (worth_in known) h)
+
+-- the truth that a phrase means is that of its worth
+pub condition_is : (known : Known) (t : Syntax) (w : Plain) → worth_in known t ≡ Some w → condition known t ≡ the_truth w
+unfolding condition
+condition_is known t w h = ap (λ o. o >>= λ w. the_truth w) h
 
 -- ---- lists of parts, from left to right
 

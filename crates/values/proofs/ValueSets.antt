@@ -1,6 +1,8 @@
 -- Sets of values in memory.
-use Rattle.std.proofs.Common.{◌≡◌, List, [], ◌∷◌, map, length, filter, Bool, true, false, not, ◌||◌, cond, refl, sym, ap, ap₂, ◌∙◌, arith}
+use Rattle.std.proofs.Common.{◌≡◌, ◌<◌, ◌≤◌, Option, Some, None, List, [], ◌∷◌, map, length, filter, Bool, true, false, not, ◌||◌, cond, refl, sym, ap, ap₂, ◌∙◌, arith}
 use Rattle.std.proofs.lemmas.List.{length-map}
+use Rattle.std.proofs.lemmas.Bool.{le-leb, lt-leb}
+use Rattle.std.proofs.Math.Dec.{leb}
 use Rattle.std.specs.List.{AllZip, list_any}
 use Rattle.std.specs.Ordering.{on, match_ordering, is_eq}
 use Rattle.std.specs.BTreeSet.{insert_key}
@@ -9,7 +11,7 @@ use Rattle.std.specs.declared.cmp.Ordering.{Ordering}
 use Rattle.std.specs.declared.cmp.Ordering.TheVariants.{Less, Equal, Greater}
 use Rattle.values.specs.declared.value.Value.{Value}
 use Rattle.alphabet.specs.Channels.{FieldValue, Values}
-use Rattle.values.specs.Values.{value_cmp, union, intersection, difference, is_among, is_same}
+use Rattle.values.specs.Values.{value_cmp, fitting_set, union, intersection, difference, is_among, is_same}
 use Rattle.values.specs.View.{value}
 
 -- a value put in its place
@@ -32,8 +34,19 @@ unfolding union
 union_end xs [] whole inv h = inv
 union_end xs (y ∷ ys) whole inv h = absurd (omega (arith, h))
 
-pub as_many : {A : Type 0} (xs : List (Value A)) → length (map value xs) ≡ length xs
-as_many xs = length-map xs value
+-- the set where it fits
+abbrev fitting_by : Bool → Values → Option Values
+fitting_by b vs = cond b (Some vs) None
+
+fitting_is : {A : Type 0} (xs : List (Value A)) (b : Bool) → leb (length xs) 65536 ≡ b → fitting_set (map value xs) ≡ fitting_by b (map value xs)
+unfolding fitting_set
+fitting_is xs b h = ap (λ n. fitting_by (leb n 65536) (map value xs)) (length-map xs value) ∙ ap (λ b. fitting_by b (map value xs)) h
+
+pub fits : {A : Type 0} (xs : List (Value A)) → length xs ≤ 65536 → fitting_set (map value xs) ≡ Some (map value xs)
+fits xs h = fitting_is xs true (le-leb (length xs) 65536 h)
+
+pub too_many : {A : Type 0} (xs : List (Value A)) → 65536 < length xs → fitting_set (map value xs) ≡ None
+too_many xs h = fitting_is xs false (lt-leb (length xs) 65536 h)
 
 pub same_values : {A : Type 0} (xs ys : List (Value A)) → AllZip (λ v copy. value copy ≡ value v) xs ys → map value ys ≡ map value xs
 same_values [] [] h = refl

@@ -77,7 +77,7 @@ fn negated<A: Allocator>(worths: Vec<Worth<A>, A>, line: u32) -> Result<Worth<A>
 }
 
 /// The set without values, of no parts.
-#[tactic(auto, unfolding(crate::specs::Worths::nothing_of), using(crate::proofs::Lists::no_parts, crate::proofs::Lists::some_parts))]
+#[tactic(auto, unfolding(crate::specs::Worths::nothing_of), using(crate::proofs::Lists::no_parts))]
 fn nothing<A: Allocator + Clone>(
     alloc: &A,
     worths: Vec<Worth<A>, A>,
@@ -211,7 +211,6 @@ pub fn stands_for<A: Allocator + Clone>(
 
 /// What the branch means that the condition chooses. The other one isn't looked at.
 #[cycle(phrase)]
-#[tactic(auto, using(crate::proofs::Branches::not_three))]
 fn conditional<A: Allocator + Clone>(
     alloc: &A,
     known: &Known<A>,
@@ -236,7 +235,6 @@ fn conditional<A: Allocator + Clone>(
 
 /// What `and` or `or` makes of its sides. The second isn't looked at where the first is the truth that decides.
 #[cycle(phrase)]
-#[tactic(auto, using(crate::proofs::Branches::not_two))]
 fn connected<A: Allocator + Clone>(
     alloc: &A,
     known: &Known<A>,

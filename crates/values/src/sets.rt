@@ -53,7 +53,6 @@ pub(crate) fn difference<A: Allocator>(first: Values<A>, second: &Values<A>) -> 
 }
 
 /// The set, if it has no more values than the limit.
-#[tactic(auto, unfolding(crate::specs::Values::fitting_set), using(crate::proofs::ValueSets::as_many))]
 pub(crate) fn fitting<A: Allocator>(set: Values<A>, line: u32) -> Result<Values<A>, Unread>
     ensures { Gives values result (fitting_set (values set)) }
 {
@@ -80,7 +79,7 @@ fn numbers<A: Allocator + Clone>(alloc: &A, first: i64, last: i64) -> Result<Val
 }
 
 /// The numbers from the first to the last, if they are no more than the limit.
-#[tactic(auto, using(crate::proofs::Numbers::range_none, crate::proofs::Numbers::range_wide, crate::proofs::Numbers::range_beyond, crate::proofs::Numbers::range_made))]
+#[tactic(auto, using(crate::proofs::Numbers::range_none))]
 pub(crate) fn range<A: Allocator + Clone>(
     alloc: &A,
     ends: (i64, i64),

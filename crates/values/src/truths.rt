@@ -33,7 +33,6 @@ pub(crate) fn lazy_form(form: Form) -> Option<Lazy>
 }
 
 /// The truth, of no parts.
-#[tactic(auto, unfolding(crate::specs::Worths::truth_of), using(crate::proofs::Lists::truth_alone, crate::proofs::Lists::truth_with))]
 pub(crate) fn truth_of<A: Allocator>(
     truth: bool,
     worths: Vec<Worth<A>, A>,

@@ -80,7 +80,6 @@ pub fn the_truth<A: Allocator>(worth: Worth<A>, line: u32) -> Result<bool, Unrea
 }
 
 /// The only one of the list.
-#[tactic(auto, using(crate::proofs::Lists::only_one, crate::proofs::Lists::not_one))]
 pub(crate) fn the_only<A: Allocator>(
     worths: Vec<Worth<A>, A>,
     line: u32,
@@ -98,7 +97,7 @@ pub(crate) fn the_only<A: Allocator>(
 }
 
 /// The two of the list.
-#[tactic(auto, using(crate::proofs::Lists::only_two, crate::proofs::Lists::not_two))]
+#[tactic(auto, using(crate::proofs::Lists::only_two))]
 pub(crate) fn the_two<A: Allocator>(
     worths: Vec<Worth<A>, A>,
     line: u32,

@@ -17,21 +17,21 @@ pub returns-then-is_value : goal.returns-then-is_value
 returns-then-is_value g c =
     let s = within (g.G.GlobalScope.scope c.args.scope.now.global.now) (map input c.args.scope.now.inputs.items) in
     let ts = shapes c.args.arguments.now in
-    fails_none c.fault.result (of_call s c.args.name.now ts (count c.args.work)) (call_hidden s c.args.name.now ts (count c.args.work) (sym c.is_value.ensures ∙ c.if-is_value.true))
+    fails_none c.fault.result (of_call s c.args.name.now ts (count c.args.work.now)) (call_hidden s c.args.name.now ts (count c.args.work.now) (sym c.is_value.ensures ∙ c.if-is_value.true))
 
 pub returns-in-None : goal.returns-in-None
 returns-in-None g c =
     let s = within (g.G.GlobalScope.scope c.args.scope.now.global.now) (map input c.args.scope.now.inputs.items) in
     let ts = shapes c.args.arguments.now in
-    fails_none c.call_fault.result (of_call s c.args.name.now ts (count c.args.work)) (call_of_none s c.args.name.now ts (count c.args.work) (sym c.is_value.ensures ∙ c.if-is_value.false) c.in-None.ensures)
+    fails_none c.call_fault.result (of_call s c.args.name.now ts (count c.args.work.now)) (call_of_none s c.args.name.now ts (count c.args.work.now) (sym c.is_value.ensures ∙ c.if-is_value.false) c.in-None.ensures)
 
 pub returns-then-parameters-arguments : goal.returns-then-parameters-arguments
 returns-then-parameters-arguments g c =
     let s = within (g.G.GlobalScope.scope c.args.scope.now.global.now) (map input c.args.scope.now.inputs.items) in
     let ts = shapes c.args.arguments.now in
     let xs = c.in-Some.parameters.now in
-    fails_none c.call_fault-then-parameters-arguments.result (of_call s c.args.name.now ts (count c.args.work))
-    (call_of_others s c.args.name.now ts (count c.args.work) (sym c.is_value.ensures ∙ c.if-is_value.false) (bytes xs) _ c.in-Some.ensures
+    fails_none c.call_fault-then-parameters-arguments.result (of_call s c.args.name.now ts (count c.args.work.now))
+    (call_of_others s c.args.name.now ts (count c.args.work.now) (sym c.is_value.ensures ∙ c.if-is_value.false) (bytes xs) _ c.in-Some.ensures
     (λ e. c.if-parameters-arguments.true (sym (length-map xs (λ x. x.items)) ∙ e ∙ length-map c.args.arguments.now shape)))
 
 pub returns-in_err-argument_values-in-Some : goal.returns-in_err-argument_values-in-Some
@@ -41,7 +41,7 @@ returns-in_err-argument_values-in-Some g c =
     let xs = c.in-Some.parameters.now in
     let same : length (bytes xs) ≡ length ts = length-map xs (λ x. x.items) ∙ c.if-parameters-arguments.false ∙ sym (length-map c.args.arguments.now shape) in
     let p = err_from_is_err_and c.from_residual.result c.from_residual.ensures.1 in
-    rw (p.1, p.2) (call_fails s c.args.name.now ts (count c.args.work) (sym c.is_value.ensures ∙ c.if-is_value.false) (bytes xs) _ c.in-Some.ensures same c.in_err-argument_values-in-Some.field-0.0 c.in_err-argument_values-in-Some.ensures)
+    rw (p.1, p.2) (call_fails s c.args.name.now ts (count c.args.work.now) (sym c.is_value.ensures ∙ c.if-is_value.false) (bytes xs) _ c.in-Some.ensures same c.in_err-argument_values-in-Some.field-0.0 c.in_err-argument_values-in-Some.ensures)
 
 pub returns-in_ok-from_slice-in-Some : goal.returns-in_ok-from_slice-in-Some
 returns-in_ok-from_slice-in-Some g c =
@@ -50,6 +50,6 @@ returns-in_ok-from_slice-in-Some g c =
     let xs = c.in-Some.parameters.now in
     let vs = listed c.in_ok-argument_values-in-Some.field-0.items in
     let same : length (bytes xs) ≡ length ts = length-map xs (λ x. x.items) ∙ c.if-parameters-arguments.false ∙ sym (length-map c.args.arguments.now shape) in
-    subst (λ o. Gives (λ x. (proc x.0, count x.1)) c.refer.result o)
-    (sym (call_so s c.args.name.now ts (count c.args.work) (sym c.is_value.ensures ∙ c.if-is_value.false) (bytes xs) _ c.in-Some.ensures same vs c.in_ok-argument_values-in-Some.ensures
-    ∙ ap (λ (n : List ℕ). refer_to (n, vs) (count c.args.work)) (sym c.in_ok-from_slice-in-Some.ensures.items))) c.refer.ensures
+    subst (λ o. Gives (λ t. (proc t, count c.refer.new.work)) c.refer.result o)
+    (sym (call_so s c.args.name.now ts (count c.args.work.now) (sym c.is_value.ensures ∙ c.if-is_value.false) (bytes xs) _ c.in-Some.ensures same vs c.in_ok-argument_values-in-Some.ensures
+    ∙ ap (λ (n : List ℕ). refer_to (n, vs) (count c.args.work.now)) (sym c.in_ok-from_slice-in-Some.ensures.items))) c.refer.ensures

@@ -7,5 +7,5 @@ use Rattle.denotation.proofs.joining.joined.Goals as goal
 pub returns-in-Interleaving : goal.returns-in-Interleaving
 unfolding join_of
 returns-in-Interleaving g c =
-    (λ i. par (empty_is c.empty.result c.empty.ensures i) (proc (c.in_ok-first.ensures.ok i)) (proc (c.in_ok-second.ensures.ok i)))
+    (λ i. par (empty_is c.empty.result c.empty.ensures i) (c.in_ok-first.ensures.first i) (c.in_ok-first.ensures.second i))
     ∙ ap (λ j. join_of j (proc c.args.first) (proc c.args.second)) (sym c.in-Interleaving.is)

@@ -15,5 +15,5 @@ pub returns : goal.returns
 returns g c =
     let s = g.G.GlobalScope.scope c.args.scope.now.global.now in
     let known = (within s (map input c.args.scope.now.inputs.items)).known in
-    subst (λ o. Gives (λ x. (proc x.0, count x.1)) c.renamed.result o)
-    (sym (renamed_so s.channels (pairs_of s.channels known (syntaxes (shapes c.args.pairs.now))) (proc c.args.term, count c.args.work) c.in_ok-pairs.pairs.items c.deref.result.now (length c.events-events.result.now) c.in_ok-pairs.ensures c.deref.ensures.value (count_is s.channels c.events-events.result.now c.events-events.ensures.rows))) c.renamed.ensures
+    subst (λ o. Gives (λ t. (proc t, count c.renamed.new.work)) c.renamed.result o)
+    (sym (renamed_so s.channels (pairs_of s.channels known (syntaxes (shapes c.args.pairs.now))) (proc c.args.term, count c.args.work.now) c.in_ok-pairs.pairs.items c.deref.result.now (length c.events-events.result.now) c.in_ok-pairs.ensures c.deref.ensures.value (count_is s.channels c.events-events.result.now c.events-events.ensures.rows))) c.renamed.ensures

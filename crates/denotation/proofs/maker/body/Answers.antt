@@ -13,6 +13,6 @@ pub returns-else-is_empty : goal.returns-else-is_empty
 returns-else-is_empty g c =
     let s = g.G.GlobalScope.scope c.args.global.now in
     let k = c.args.call.now in
-    subst (λ o. Gives (λ x. (proc x.0, count x.1)) c.called_body.result o)
-    (ap₂ (λ (n : List ℕ) (vs : Values). make_called s (meaning s.entries n) vs (count c.args.work)) c.deref-else-is_empty.ensures.value (ap listed c.deref-else-is_empty-2.ensures.value)
-    ∙ sym (with_values s k.name.items k.arguments.items (count c.args.work) (ap (λ n. nat_eq n 0) (sym k.arguments.ok.0) ∙ sym c.is_empty.ensures ∙ c.if-is_empty.false))) c.called_body.ensures
+    subst (λ o. Gives (λ t. (proc t, count c.called_body.new.work)) c.called_body.result o)
+    (ap₂ (λ (n : List ℕ) (vs : Values). make_called s (meaning s.entries n) vs (count c.args.work.now)) c.deref-else-is_empty.ensures.value (ap listed c.deref-else-is_empty-2.ensures.value)
+    ∙ sym (with_values s k.name.items k.arguments.items (count c.args.work.now) (ap (λ n. nat_eq n 0) (sym k.arguments.ok.0) ∙ sym c.is_empty.ensures ∙ c.if-is_empty.false))) c.called_body.ensures

@@ -15,18 +15,18 @@ use Rattle.denotation.proofs.maker.plain_body.Goals as goal
 pub returns-then-not-is_process : goal.returns-then-not-is_process
 returns-then-not-is_process g c =
     let s = g.G.GlobalScope.scope c.args.global.now in
-    fails_none c.fault.result (make_body s (c.args.name.now, []) (count c.args.work)) (no_process s c.args.name.now (count c.args.work) (sym c.is_process.ensures ∙ c.if-not-is_process.true))
+    fails_none c.fault.result (make_body s (c.args.name.now, []) (count c.args.work.now)) (no_process s c.args.name.now (count c.args.work.now) (sym c.is_process.ensures ∙ c.if-not-is_process.true))
 
 pub returns-in-None : goal.returns-in-None
 returns-in-None g c =
     let s = g.G.GlobalScope.scope c.args.global.now in
-    fails_none c.fault-in-None.result (make_body s (c.args.name.now, []) (count c.args.work))
-    (no_definition s c.args.name.now (count c.args.work) (sym c.is_process.ensures ∙ c.if-not-is_process.false) c.in-None.ensures)
+    fails_none c.fault-in-None.result (make_body s (c.args.name.now, []) (count c.args.work.now))
+    (no_definition s c.args.name.now (count c.args.work.now) (sym c.is_process.ensures ∙ c.if-not-is_process.false) c.in-None.ensures)
 
 pub returns-in-Some : goal.returns-in-Some
 returns-in-Some g c =
     let s = g.G.GlobalScope.scope c.args.global.now in
     let t = shape c.in-Some.tree.now in
     let inner = no_inputs s (map input c.new.result.items) (ap (map input) c.new.ensures.items) in
-    subst (λ o. Gives (λ x. (proc x.0, count x.1)) c.body_within.result o)
-    (ap (λ (s : Scope). make_shallow t s (count c.args.work)) inner ∙ sym (body_from s c.args.name.now (count c.args.work) (sym c.is_process.ensures ∙ c.if-not-is_process.false) t c.in-Some.ensures)) c.body_within.ensures
+    subst (λ o. Gives (λ t. (proc t, count c.body_within.new.work)) c.body_within.result o)
+    (ap (λ (s : Scope). make_shallow t s (count c.args.work.now)) inner ∙ sym (body_from s c.args.name.now (count c.args.work.now) (sym c.is_process.ensures ∙ c.if-not-is_process.false) t c.in-Some.ensures)) c.body_within.ensures

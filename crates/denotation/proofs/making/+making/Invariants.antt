@@ -52,8 +52,8 @@ decreases-conditional_phrase g l = 6 * (tall (shape l.trees.0.now) + tall (shape
 abbrev pub decreases-guarded_phrase : goal.decreases-guarded_phrase
 decreases-guarded_phrase g l = 6 * tall (shape l.then.now) + 4
 
-abbrev pub decreases-with_process : goal.decreases-with_process
-decreases-with_process g l = 6 * tall (shape l.tree.now) + 1
+abbrev pub decreases-put_process : goal.decreases-put_process
+decreases-put_process g l = 6 * tall (shape l.tree.now) + 1
 
 abbrev pub decreases-over : goal.decreases-over
 decreases-over g l = 6 * tall (shape l.then.now) + 2

@@ -4,7 +4,7 @@ use Rattle.denotation.proofs.FirstPlaces.{met_keys, met_place}
 use Rattle.denotation.proofs.work.numbered.Goals as goal
 
 pub returns-clause-keys : goal.returns-clause-keys
-returns-clause-keys g c = met_keys c.args.met.keys c.args.call ∙ ap (map key) (sym c.in_ok-number.ensures.keys)
+returns-clause-keys g c = met_keys c.args.met.now.keys c.args.call ∙ ap (map key) (sym c.in_ok-number.ensures.keys)
 
 pub returns-clause-number : goal.returns-clause-number
-returns-clause-number g c = met_place c.args.met.keys c.args.call ∙ sym c.in_ok-number.ensures.index
+returns-clause-number g c = met_place c.args.met.now.keys c.args.call ∙ sym c.in_ok-number.ensures.index

@@ -1,4 +1,4 @@
-use Rattle.std.proofs.Common.{◌≡◌, ◌++◌, ◌∷◌, [], map, drop, true, subst, sym, ap, ap₂, ◌∙◌}
+use Rattle.std.proofs.Common.{◌≡◌, ◌++◌, ◌∷◌, [], map, drop, true, false, subst, sym, ap, ap₂, ◌∙◌}
 use Rattle.std.proofs.lemmas.List.{map-append}
 use Rattle.std.proofs.lemmas.Result.{err_from_is_err_and}
 use Rattle.syntax.specs.View.{shape, shapes}
@@ -8,7 +8,7 @@ use Rattle.values.specs.View.{Gives, Fails, value}
 use Rattle.event_phrases.specs.EventForms.{within_by, values_behind}
 use Rattle.event_phrases.specs.Scopes.{within}
 use Rattle.event_phrases.specs.View.{listed}
-use Rattle.event_phrases.proofs.Scopes.{no_fields, no_sets, one_value, value_fails, no_items, first_item, rest_is}
+use Rattle.event_phrases.proofs.Scopes.{no_fields, no_sets, not_within, one_value, value_fails, no_items, first_item, rest_is}
 use Rattle.syntax.proofs.Failing.{fails_none}
 use Rattle.event_phrases.proofs.beginning.+more_values.Goals as goal
 
@@ -37,6 +37,18 @@ returns-in_err-value-in-len1-up-sets g t c =
     let k = c.in_err-value-in-len1-up-sets.field-0.0 in
     let p = err_from_is_err_and c.from_residual.result c.from_residual.ensures.1 in
     rw (p.1, p.2) (subst (λ o. Fails k o) (sym whole) (value_fails known (shape c.field-item.result) (shapes (drop 1 c.args.fields.now)) (listed c.set-item.result.items) (map (λ v. listed v.items) (drop 1 c.args.sets.now)) front k c.in_err-value-in-len1-up-sets.ensures))
+
+pub returns-then-not-is_one_of : goal.returns-then-not-is_one_of
+returns-then-not-is_one_of g t c =
+    let known = (within (g.G.GlobalScope.scope c.args.scope.now.global.now) (map input c.args.scope.now.inputs.items)).known in
+    let front = listed c.args.before.items in
+    let v = value c.in_ok-value-in-len1-up-sets.value in
+    let ef = first_item c.args.fields.now c.field-item.result c.in-len1-up.len_at_least c.field-item.is in
+    let es = first_item c.args.sets.now c.set-item.result c.in-len1-up-sets.len_at_least c.set-item.is in
+    let whole = ap₂ (λ ts vs. values_behind front (within_by known (shapes ts) (map (λ v. listed v.items) vs))) ef es in
+    let a : is_among v (listed c.set-item.result.items) ≡ false = ap (λ xs. is_among v (listed xs)) (sym c.deref.ensures.value) ∙ sym c.is_one_of.ensures ∙ c.if-not-is_one_of.true in
+    fails_none c.fault-then-not-is_one_of.result (values_behind front (within_by known (shapes c.args.fields.now) (map (λ v. listed v.items) c.args.sets.now)))
+    (whole ∙ not_within known (shape c.field-item.result) (shapes (drop 1 c.args.fields.now)) (listed c.set-item.result.items) (map (λ v. listed v.items) (drop 1 c.args.sets.now)) front v c.in_ok-value-in-len1-up-sets.ensures a)
 
 pub returns-in_ok-push-in-len1-up-sets : goal.returns-in_ok-push-in-len1-up-sets
 returns-in_ok-push-in-len1-up-sets g t c =

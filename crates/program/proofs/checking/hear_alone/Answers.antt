@@ -1,6 +1,6 @@
 use Rattle.std.proofs.Common.{◌≡◌, List, [], ◌∷◌, length, true, ap, arith}
 use Rattle.std.specs.Prelude.{IsSome}
-use Rattle.shared.specs.Told.{SeatTold}
+use Rattle.shared.specs.View.{SeatView}
 use Rattle.shared.specs.Seats.{apart}
 use Rattle.program.proofs.Alone.{conversed, told_alone}
 use Rattle.program.proofs.checking.hear_alone.Goals as goal
@@ -8,7 +8,7 @@ use Rattle.program.proofs.checking.hear_alone.Goals as goal
 pub returns-in-Some-clause-conversed : goal.returns-in-Some-clause-conversed
 returns-in-Some-clause-conversed g c =
     let heard = c.in-Some.ensures.serves in
-    let items : List SeatTold = c.hear-talk.new.shares.items in
+    let items : List SeatView = c.hear-talk.new.shares.items in
     let is : items ≡ heard.1 ∷ [] = heard.4 in
     let alone : apart items ≡ true = ap apart is in
     let whole : IsSome c.finish-session.result.1 = c.finish-session.ensures.whole (omega (arith, ap length is, c.requires.ledger.3)) alone in

@@ -1,10 +1,10 @@
 use Rattle.std.proofs.Common.{◌≡◌, ℕ, List, Ok, Err, IfOk, IfErr, subst, sym}
 use Rattle.std.specs.Prelude.{map}
-use Rattle.shared.specs.Told.{SeatTold}
+use Rattle.shared.specs.View.{SeatView}
 use Rattle.term.specs.Proc.{bodies_of}
 use Rattle.shared.specs.Legal.{Legal}
 use Rattle.shared.specs.Beginnings.{StartsWith}
-use Rattle.shared.specs.SessionTold.{IsFor}
+use Rattle.shared.specs.SessionView.{IsFor}
 use Rattle.shared.proofs.Keeping.{if_ok}
 use Rattle.shared.proofs.ScriptLemmas.{if_err}
 use Rattle.connections.specs.declared.outcome.Outcome.{Outcome}
@@ -31,7 +31,7 @@ returns-clause-went g c =
     (subst (λ n. Went takes fails left contents c.args.accept c.args.count spec opening finish.result.0.history k.endings.items k.account.accept_failed n) (sym is.1)
     (subst (λ es. Went takes fails left contents c.args.accept c.args.count spec opening finish.result.0.history es.items k.account.accept_failed finish.result.1) (sym is.2)
     (went_of takes fails left contents c.args.accept c.args.count spec opening finish.result.0.history served.new.shares.items served.new.endings.items k.account.accept_failed finish.result.1
-    (subst (λ r. IfOk r (λ accept_failed. (outcomes : List (Outcome SeatTold))
+    (subst (λ r. IfOk r (λ accept_failed. (outcomes : List (Outcome SeatView))
     × CameTo takes fails left contents c.args.accept c.args.count spec opening outcomes accept_failed
     × (served.new.shares.items ≡ places_of outcomes) × (served.new.endings.items ≡ map ending_of outcomes))) is.3 served.ensures.served)
     finish.ensures.counted finish.ensures.told))))

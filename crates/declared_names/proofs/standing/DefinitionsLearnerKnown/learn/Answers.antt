@@ -5,7 +5,8 @@ use Rattle.values.specs.Values.{Name}
 use Rattle.values.specs.Tables.{table}
 use Rattle.values.specs.View.{worth}
 use Rattle.declared_names.specs.View.{entries}
-use Rattle.declared_names.proofs.Learning.{added, kept, reached_more, settled_known, settled_none}
+use Rattle.declared_names.proofs.Learning.{reached_more, settled_known, settled_none}
+use Rattle.declared_names.proofs.Searching.{added, kept}
 use Rattle.declared_names.proofs.standing.DefinitionsLearnerKnown.learn.Goals as goal
 
 pub returns-then-has : goal.returns-then-has

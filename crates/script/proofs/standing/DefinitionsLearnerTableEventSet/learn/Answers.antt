@@ -3,9 +3,10 @@ use Rattle.syntax.proofs.Failing.{none_wanted}
 use Rattle.values.specs.Tables.{table}
 use Rattle.event_phrases.specs.Events.{masked}
 use Rattle.declared_names.specs.View.{entries}
+use Rattle.declared_names.proofs.Searching.{added, kept}
 use Rattle.script.specs.Standing.{events_by, next_events}
 use Rattle.script.specs.Tables.{said}
-use Rattle.script.proofs.Learning.{added, kept, reached_more, settled_known, settled_none}
+use Rattle.script.proofs.Learning.{reached_more, settled_known, settled_none}
 use Rattle.script.proofs.standing.DefinitionsLearnerTableEventSet.learn.Goals as goal
 
 pub returns-then-has : goal.returns-then-has

@@ -1,6 +1,6 @@
 use Rattle.std.proofs.Common.{◌≡◌, List, length, length-append, true, sym, ap, ◌∙◌, subst, arith}
 use Rattle.session.specs.Entry.{Entry}
-use Rattle.shared.specs.Told.{SeatTold}
+use Rattle.shared.specs.View.{SeatView}
 use Rattle.shared.specs.Seats.{AllWithin, AllTold, receipts, apart}
 use Rattle.shared.proofs.Leaving.{kept_legal}
 use Rattle.shared.proofs.Sums.{told_all}
@@ -35,7 +35,7 @@ returns-clause-counted g c =
     let o = g.N.Naming.opening in
     let all : List Entry = c.self.inside.front in
     let ps = c.args.shares.items in
-    let within : AllWithin o all ps = subst (λ (l : List SeatTold). AllWithin o all l) c.as_slice-all.ensures.value c.await_within.ensures in
+    let within : AllWithin o all ps = subst (λ (l : List SeatView). AllWithin o all l) c.as_slice-all.ensures.value c.await_within.ensures in
     let alone : apart ps ≡ true = ap apart (sym c.as_slice-all.ensures.value) ∙ sym c.are_apart-alone.ensures ∙ c.if-not-alone.false in
     let parts : c.gather.new.rest.parts ≡ g.N.Ledger.parts = omega (arith, c.gather.ensures.parts, i.3, c.requires, c.if-count-given.false, ap length c.as_slice-all.ensures.value) in
     let count : receipts ps ≡ length all = omega (arith, c.gather.ensures.amount, c.audit.ensures.whole parts, i.2, i.4) in
@@ -47,7 +47,7 @@ returns-clause-told g c =
     let o = g.N.Naming.opening in
     let all : List Entry = c.self.inside.front in
     let ps = c.args.shares.items in
-    let within : AllWithin o all ps = subst (λ (l : List SeatTold). AllWithin o all l) c.as_slice-all.ensures.value c.await_within.ensures in
+    let within : AllWithin o all ps = subst (λ (l : List SeatView). AllWithin o all l) c.as_slice-all.ensures.value c.await_within.ensures in
     let alone : apart ps ≡ true = ap apart (sym c.as_slice-all.ensures.value) ∙ sym c.are_apart-alone.ensures ∙ c.if-not-alone.false in
     let parts : c.gather.new.rest.parts ≡ g.N.Ledger.parts = omega (arith, c.gather.ensures.parts, i.3, c.requires, c.if-count-given.false, ap length c.as_slice-all.ensures.value) in
     let count : receipts ps ≡ length all = omega (arith, c.gather.ensures.amount, c.audit.ensures.whole parts, i.2, i.4) in
@@ -59,7 +59,7 @@ returns-clause-crash g c =
     let o = g.N.Naming.opening in
     let all : List Entry = c.self.inside.front in
     let ps = c.args.shares.items in
-    let within : AllWithin o all ps = subst (λ (l : List SeatTold). AllWithin o all l) c.as_slice-all.ensures.value c.await_within.ensures in
+    let within : AllWithin o all ps = subst (λ (l : List SeatView). AllWithin o all l) c.as_slice-all.ensures.value c.await_within.ensures in
     let alone : apart ps ≡ true = ap apart (sym c.as_slice-all.ensures.value) ∙ sym c.are_apart-alone.ensures ∙ c.if-not-alone.false in
     let parts : c.gather.new.rest.parts ≡ g.N.Ledger.parts = omega (arith, c.gather.ensures.parts, i.3, c.requires, c.if-count-given.false, ap length c.as_slice-all.ensures.value) in
     let count : receipts ps ≡ length all = omega (arith, c.gather.ensures.amount, c.audit.ensures.whole parts, i.2, i.4) in

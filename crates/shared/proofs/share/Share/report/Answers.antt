@@ -6,7 +6,7 @@ use Rattle.session.proofs.Beginnings.{begins_self}
 use Rattle.term.specs.Proc.{bodies_of}
 use Rattle.session.specs.Entry.{Entry}
 use Rattle.session.specs.Entries.{calls}
-use Rattle.shared.specs.Told.{SeatTold}
+use Rattle.shared.specs.View.{SeatView}
 use Rattle.shared.specs.Faults.{Explained, Answers}
 use Rattle.shared.specs.Seats.{Answered}
 use Rattle.shared.proofs.Calls.{after_report}
@@ -32,14 +32,14 @@ returns-in-Ok-clause-answered g c =
     let k = c.self.inside.number in
     let t = after_report B n k o front c.report-result.new.front e r.seen.0 i.1 r.entry.seat_is r.entry.number_is r.fits r.within in
     let ends = ap (λ (f : List Entry). o ++ f) r.seen.0 ∙ sym (append_assoc o front (e ∷ [])) in
-    let now : SeatTold = record {
+    let now : SeatView = record {
       seat = k;
       front = c.report-result.new.front;
       seen = o ++ c.report-result.new.front;
       mine = take (n + 1) (calls (o ++ c.report-result.new.front) k);
       closed = c.self.inside.closed;
     } in
-    subst (λ (old : SeatTold). Answered B old now c.args.report.now e.verdict c.report-result.new.summary.judged) c.self.view_is (record {
+    subst (λ (old : SeatView). Answered B old now c.args.report.now e.verdict c.report-result.new.summary.judged) c.self.view_is (record {
       legal = c.len-legal.ensures.legal;
       before = o ++ front;
       begins = begins_self (o ++ front);
@@ -74,9 +74,9 @@ returns-in-Err-clause-refused g c =
     let from : StartsWith (o ++ now) (o ++ front) = ([], ap (λ (l : List Entry). o ++ l) same ∙ sym (append-nil (o ++ front))) in
     record {
       legal = c.len-legal.ensures.legal;
-      begins = subst (λ (l : List Entry). StartsWith (o ++ now) l) (ap (λ (t : SeatTold). t.seen) c.self.view_is) from;
-      same = stays ∙ ap (λ (t : SeatTold). t.mine) c.self.view_is;
-      why = subst (λ (t : SeatTold). Answers B (o ++ now) t.seat t.mine c.args.report.now f) c.self.view_is told;
-      seat = ap (λ (t : SeatTold). t.seat) c.self.view_is;
-      closed = λ i. c.is_closing.ensures i || ap (λ (t : SeatTold). t.closed) c.self.view_is i;
+      begins = subst (λ (l : List Entry). StartsWith (o ++ now) l) (ap (λ (t : SeatView). t.seen) c.self.view_is) from;
+      same = stays ∙ ap (λ (t : SeatView). t.mine) c.self.view_is;
+      why = subst (λ (t : SeatView). Answers B (o ++ now) t.seat t.mine c.args.report.now f) c.self.view_is told;
+      seat = ap (λ (t : SeatView). t.seat) c.self.view_is;
+      closed = λ i. c.is_closing.ensures i || ap (λ (t : SeatView). t.closed) c.self.view_is i;
     }

@@ -4,7 +4,7 @@ use Rattle.session.specs.Entry.{Entry}
 use Rattle.session.specs.Entries.{summary_of}
 use Rattle.session.specs.Beginnings.{StartsWith}
 use Rattle.session.proofs.Beginnings.{begins_after}
-use Rattle.shared.specs.Told.{SeatTold}
+use Rattle.shared.specs.View.{SeatView}
 use Rattle.shared.proofs.Calls.{own_stays, own_enough}
 use Rattle.shared.proofs.share.Share.take_over.Goals as goal
 
@@ -24,4 +24,4 @@ returns-clause-same g c =
     let o = g.N.Naming.opening in
     let more : StartsWith c.front-front.result.now c.self.inside.front = subst (λ b. MatchBool b (StartsWith c.front-front.result.now c.self.inside.front) (length c.front-front.result.now < length c.self.inside.front)) c.if-not-begins.false c.begins.ensures in
     let longer : StartsWith c.again.result c.self.inside.front = subst (λ (l : List Entry). StartsWith l c.self.inside.front) (sym c.again.ensures) more in
-    (ap (λ (t : SeatTold). t.seat) c.self.view_is, own_stays c.self.inside.answered c.self.inside.number _ _ (begins_after o _ _ longer) i.1 ∙ ap (λ (t : SeatTold). t.mine) c.self.view_is, ap (λ (t : SeatTold). t.closed) c.self.view_is)
+    (ap (λ (t : SeatView). t.seat) c.self.view_is, own_stays c.self.inside.answered c.self.inside.number _ _ (begins_after o _ _ longer) i.1 ∙ ap (λ (t : SeatView). t.mine) c.self.view_is, ap (λ (t : SeatView). t.closed) c.self.view_is)

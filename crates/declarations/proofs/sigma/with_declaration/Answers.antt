@@ -1,9 +1,0 @@
-use Rattle.syntax.specs.Parsing.{syntaxes}
-use Rattle.syntax.specs.View.{shape, shapes}
-use Rattle.values.specs.Tables.{table}
-use Rattle.declarations.proofs.Parted.{keep_parts}
-use Rattle.declarations.proofs.sigma.with_declaration.Goals as goal
-
-pub with_form-requires : goal.with_form-requires
-with_form-requires g c =
-    keep_parts (table c.args.known.now) c.args.alphabet (shape c.args.declaration.now) c.in-Node.form (syntaxes (shapes c.in-Node.parts.now)) c.requires c.in-Node.ensures

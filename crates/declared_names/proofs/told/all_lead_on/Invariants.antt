@@ -1,7 +1,0 @@
-use Rattle.std.proofs.Common.{ℕ, ◌<◌}
-use Rattle.declared_names.specs.View.{entries}
-use Rattle.declared_names.specs.Told.{MayLeadOn}
-use Rattle.declared_names.proofs.told.all_lead_on.Given as goal
-
-abbrev pub invariant-loop-place : goal.invariant-loop-place
-invariant-loop-place g l = (i : ℕ) → i < l.place → MayLeadOn (entries l.entries) l.told i
