@@ -12,7 +12,7 @@ use crate::ahead::is_empty_ahead;
 use crate::forms::generator;
 use crate::replicated::values_of;
 use event_phrases::forms::first;
-use event_phrases::{GlobalScope, Scope};
+use event_phrases::{GlobalScope, Scope, copies};
 use std::alloc::{AllocError, Allocator};
 use syntax::Tree;
 use tokens::{ScriptErrorKind, Unread, fault};
@@ -37,23 +37,6 @@ pub(crate) struct Place<'a, A: Allocator> {
     pub(crate) outer: Vec<Opened<'a, A>, A>,
     /// The generators that have none.
     inner: &'a [Tree<A>],
-}
-
-/// The inputs, copied.
-fn copied<A: Allocator + Copy>(
-    alloc: A,
-    inputs: &[Input<A>],
-) -> Result<Vec<Input<A>, A>, AllocError>
-    ensures { IfOk result (λ v. map input v.items ≡ map input inputs.now) }
-{
-    let mut copies = Vec::new(alloc);
-    for input in inputs {
-        copies.push(Input {
-            name: Vec::from_slice(alloc, &input.name)?,
-            value: input.value.clone()?,
-        })?;
-    }
-    Ok(copies)
 }
 
 /// The place at this value of a generator inside of these.
@@ -163,7 +146,7 @@ pub(crate) fn first_place<'a, A: Allocator + Copy, G: GlobalScope<A>>(
         return Ok(None);
     }
     let place = Place {
-        inputs: copied(alloc, &scope.inputs)?,
+        inputs: copies(alloc, &scope.inputs)?,
         outer: Vec::new(alloc),
         inner: generators,
     };

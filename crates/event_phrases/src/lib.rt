@@ -23,5 +23,5 @@ pub use pairs::ordered;
 pub use prefix::Prefix;
 pub use renaming::pairs_of;
 pub use row::Row;
-pub use scope::{Scope, behind_input, wanted_truth, wanted_value, wanted_values};
+pub use scope::{Scope, behind_input, copies, wanted_truth, wanted_value, wanted_values};
 pub use sets::{set_of_events, two_sets, wanted_events};

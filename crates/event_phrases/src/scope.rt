@@ -28,7 +28,7 @@ pub struct Scope<'a, A: Allocator, G: GlobalScope<A>> {
 }
 
 /// A copy of the inputs.
-pub(crate) fn copies<A: Allocator + Copy>(
+pub fn copies<A: Allocator + Copy>(
     alloc: A,
     inputs: &[Input<A>],
 ) -> Result<Vec<Input<A>, A>, AllocError>
