@@ -17,6 +17,6 @@ pub mod FirstValues
 mod NodeParts
 mod FormParts
 mod SetForms
-mod Copies
+mod CopiedInputs
 mod FieldSteps
 mod RowSteps

@@ -1,7 +1,7 @@
 use Rattle.std.proofs.Common.{◌++◌, ◌∷◌, [], List, ℕ, map, ap, ap₂, ◌∙◌, arith}
 use Rattle.std.proofs.lemmas.List.{map-append}
 use Rattle.values.specs.Tables.{input}
-use Rattle.event_phrases.proofs.Copies.{copied_more, copied_all}
+use Rattle.event_phrases.proofs.CopiedInputs.{copied_more, copied_all}
 use Rattle.event_phrases.proofs.scope.copies.Goals as goal
 
 pub loop-input-init : goal.loop-input-init
