@@ -10,7 +10,10 @@ use Rattle.alphabet.specs.declared.field_value.Value.{Value as FieldStored}
 use Rattle.alphabet.specs.Channels.{FieldValue, number, constant, Values, is_below, is_rising}
 use Rattle.alphabet.specs.Stored.{value_of, field_of}
 use Rattle.tokens.specs.declared.unread.Unread.{Unread}
+use Rattle.syntax.specs.declared.tree.Tree.{Tree}
 use Rattle.syntax.specs.Grammar.{Syntax, Syntaxes, NoSyntax, MoreSyntax}
+use Rattle.syntax.specs.Parsing.{syntaxes}
+use Rattle.syntax.specs.View.{shapes}
 use Rattle.syntax.proofs.Failing.{fails_on}
 use Rattle.values.specs.declared.value.Value.{Value}
 use Rattle.values.specs.Values.{◌>>=◌, value_cmp}
@@ -20,6 +23,12 @@ use Rattle.values.specs.View.{Fails, value}
 use Rattle.declared_names.specs.Steps.{steps}
 use Rattle.declarations.specs.Sigma.{add_field}
 use Rattle.declared_names.proofs.Chains.{both, left, right}
+use Rattle.declared_names.proofs.Loops.{from}
+
+-- ---- parts, taken one by one
+
+pub all_start : {A X : Type 0} (f : X → Syntax → Option X) (ts : List (Tree A)) (x y : X) → x ≡ y → from f ts 0 x ≡ steps f y (syntaxes (shapes ts))
+all_start f ts x y h = ap (λ z. steps f z (syntaxes (shapes ts))) h
 
 -- ---- a set, taken value by value
 

@@ -63,7 +63,7 @@ fn push_field<A: Allocator + Copy>(
 }
 
 /// The values of the fields with these sets.
-#[tactic(auto, using(declared_names::proofs::Loops::all_start))]
+#[tactic(auto, using(crate::proofs::Fields::all_start))]
 fn fields_of<A: Allocator + Copy>(
     alloc: A,
     known: &Known<A>,
