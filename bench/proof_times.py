@@ -107,7 +107,7 @@ def sums(times, which):
 
 def main():
     parser = argparse.ArgumentParser(description=__doc__.split("\n")[0])
-    parser.add_argument("--least", type=float, default=LEAST, help="only modules that take more seconds than this")
+    parser.add_argument("--least", type=float, default=LEAST, help="only what takes more seconds than this")
     parser.add_argument("--kinds", action="store_true", help="list the kinds of modules, not functions")
     parser.add_argument("--files", action="store_true", help="list source files, not functions")
     parser.add_argument("crates", nargs="+")
@@ -122,9 +122,10 @@ def main():
         elif options.files:
             rows = sums(times, lambda function, part: "-" if part == "-" else function.split(".")[0])
         else:
-            rows = [("%-10s %s" % (part, function), seconds) for (function, part), seconds in times.most_common() if seconds > options.least]
+            rows = [("%-10s %s" % (part, function), seconds) for (function, part), seconds in times.most_common()]
         for name, seconds in rows:
-            print("%8.1f  %s" % (seconds, name))
+            if seconds > options.least:
+                print("%8.1f  %s" % (seconds, name))
     return failed
 
 
