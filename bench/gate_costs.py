@@ -4,8 +4,9 @@
     bench/gate_costs.py [--table FILE] COMMAND ..      for example bench/gate_costs.py --table costs.md .ci/run
 
 Once a second it looks at the checker's processes among the command's children (Linux alone). A check that runs in a
-temporary folder is one of a wrong body; every other one counts as proof and tests. What a process takes after the last
-look at it is missing, so a crate's figure is up to a second too small for each process. The status is the command's.
+temporary folder is one of a wrong body; every other one counts as proof and tests. A check by two jobs leaves much to
+processes of its own, whose time is in its figure once they have ended. What a process takes after the last look at it is
+missing, so a crate's figure is up to a second too small for each process. The status is the command's.
 """
 import argparse
 import collections
@@ -22,10 +23,10 @@ PAGE = os.sysconf("SC_PAGE_SIZE")
 
 
 def stat_of(number):
-    """The parent, the processor seconds and the memory in bytes of a process."""
+    """The parent, the processor seconds, with those of its children that have ended, and the memory in bytes of a process."""
     with open("/proc/%s/stat" % number) as file:
         fields = file.read().rpartition(")")[2].split()
-    return int(fields[1]), (int(fields[11]) + int(fields[12])) / TICKS, int(fields[21]) * PAGE
+    return int(fields[1]), sum(map(int, fields[11:15])) / TICKS, int(fields[21]) * PAGE
 
 
 def words_of(number):
@@ -33,10 +34,16 @@ def words_of(number):
         return file.read().decode(errors="replace").split("\0")
 
 
+def name_of(number):
+    with open("/proc/%s/comm" % number) as file:
+        return file.read().strip()
+
+
 def check_of(number):
-    """The crate that a process checks or builds and whether it is one of a wrong body; None for another process."""
+    """The crate that a process checks or builds and whether it is one of a wrong body; None for another process, and for
+    one that a check began."""
     words = words_of(number)
-    if "--crate-name" not in words[:-1] or os.path.basename(words[0]) != "rattle":
+    if "--crate-name" not in words[:-1] or os.path.basename(words[0]) != "rattle" or name_of(number) != "rattle":
         return None
     crate = words[words.index("--crate-name") + 1]
     folder = os.path.basename(os.readlink("/proc/%s/cwd" % number))
