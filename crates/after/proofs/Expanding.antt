@@ -22,7 +22,7 @@ below n zero = inr (omega arith)
 below zero (suc d) = inl (omega arith)
 below (suc n) (suc d) = elim (below n d) [ inl h ↦ inl (omega arith) | inr h ↦ inr (omega arith) ]
 
--- what was put behind a cut makes it a cut of more
+-- what was put after a cut makes it a cut of more
 pub cut-put : (S M : Terms) (most : ℕ) (found old new : List Proc) → CutOf S most old → length old ≤ most → ((Q : Proc) → In Q found → M Q) → (length new ≤ most → (Q : Proc) → M Q → In Q found) → HasPut found old new → CutOf (λ Q. S Q ⊎ M Q) most new
 cut-put S M most found old new c few only all p =
     record {
@@ -50,7 +50,7 @@ module _ (B : ℕ → Proc) where
         | inr j ↦ inr (subst (λ p. Step B p l Q) (one-In j refl) d)
       ]
 
-  -- the level's list on the way: the targets of the processes between `from` and `to` stand behind the old ones
+  -- the level's list on the way: the targets of the processes between `from` and `to` come after the old ones
   pub record IsOnTheWay (old : List Proc) (from to : ℕ) (now : List Proc) : Type 0 where
     pub more : (next : List Proc) × (now ≡ old ++ next)
     pub few : length now ≤ most_states

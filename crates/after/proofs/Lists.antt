@@ -19,7 +19,7 @@ In-at [] i d h = absurd (omega arith)
 In-at (P ∷ ps) zero d h = here
 In-at (P ∷ ps) (suc i) d h = there (In-at ps i d (omega arith))
 
--- what stands behind a place stands in the list
+-- what comes after a place stands in the list
 pub In-drop : (n : ℕ) (ps : List Proc) (Q : Proc) → In Q (drop n ps) → In Q ps
 In-drop zero ps Q i = i
 In-drop (suc n) [] Q i = i
@@ -98,7 +98,7 @@ entry-at keys i t old next e f h =
     let w : i < length keys = slice_get_within keys i t e in
     ap proc (sym k) ∙ sym (get_or-map proc keys i t stop w) ∙ ap (λ l. get_or l i stop) f ∙ get_or_append_left old next stop i h
 
--- the member at a place stands behind each place up to it
+-- the member at a place comes after each place up to it
 pub drop-In : (from i : ℕ) (ps : List Proc) (d : Proc) → from ≤ i → i < length ps → In (get_or ps i d) (drop from ps)
 drop-In zero i ps d h k = In-at ps i d k
 drop-In (suc n) i [] d h k = absurd (omega arith)

@@ -81,7 +81,7 @@ at_flat_map f (y ∷ ys) (suc i) j x at h =
 pub length-channel_events : (c : Channel) → length (channel_events c) ≡ length (choices c.fields)
 length-channel_events c = length-map (choices c.fields) (λ (vs : Values). let p : Parts = record { channel = c.name; values = vs } in p)
 
--- an event of a channel stands behind those of the channels before it
+-- an event of a channel comes after those of the channels before it
 pub parts_located : (cs : List Channel) (i j : ℕ) (c : Channel) → slice_get cs i ≡ Some c → j < length (choices c.fields) → slice_get (events cs) (event_count (take i cs) + j) ≡ slice_get (channel_events c) j
 parts_located cs i j c at h =
     let inside : j < length (channel_events c) = omega (arith, length-channel_events c) in

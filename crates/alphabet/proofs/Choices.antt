@@ -165,7 +165,7 @@ turns_done fs i stride left name text h all some e =
     let last : get_or (choices (drop i fs)) left [] ≡ [] = ap (λ y. get_or (choices y) left []) none ∙ ap (λ y. get_or (choices []) y []) first in
     sym (append-nil name) ∙ ap (λ y. name ++ dotted y) (sym last) ∙ e
 
--- the element where the rest of a list begins, and the rest behind it
+-- the element where the rest of a list begins, and the rest after it
 pub dropped_at : {A : Type 0} (i : ℕ) (xs ys : List A) (x : A) → drop i xs ≡ x ∷ ys → slice_get xs i ≡ Some x
 dropped_at zero [] ys x e = absurd (cc)
 dropped_at zero (y ∷ xs) ys x e = let f : y ≡ x = cc in ap Some f

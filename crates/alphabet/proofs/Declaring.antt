@@ -11,7 +11,7 @@ use Rattle.alphabet.specs.Naming.{own_names}
 use Rattle.alphabet.proofs.Lists.{and-left, and-right, all-push}
 use Rattle.alphabet.proofs.Choices.{length-own_names}
 
--- the new channel's names stand behind the others
+-- the new channel's names come after the others
 pub names-push : (cs : List Channel) (c : Channel) → names (cs ++ c ∷ []) ≡ names cs ++ own_names c
 unfolding names
 names-push cs c =
@@ -63,7 +63,7 @@ alphabet-push cs c a n =
       small = omega (arith, event_count-push cs c, n.small);
     }
 
--- ---- the count, which stops behind the limit
+-- ---- the count, which stops past the limit
 module _ {K : Type 0} (f : K → List ℕ) (keys : List K) (cs : List Channel) (c : Channel) (n total : ℕ) (listed : map f keys ≡ names cs) (size : n ≡ length keys) (counted : total ≡ min (length (choices c.fields)) 257) where
   known : n ≡ event_count cs
   known = size ∙ sym (length-map keys f) ∙ ap length listed

@@ -88,7 +88,7 @@ module _ (cs : List Channel) (sound : IsAlphabet cs) (n : List ℕ) where
 
 -- ---- places
 
--- the place behind the last event is tick's
+-- the place after the last event is tick's
 pub place_is_last : (cs : List Channel) (p : ℕ) → p ≡ event_count cs + 1 → (x : Event) → (Some tick ≡ Some x) ↔ (IsEvent cs x × (place_of cs x ≡ p))
 place_is_last cs p e tick = ((λ f. (tt, sym e)), (λ f. refl))
 place_is_last cs p e (ev k) = ((λ f. absurd (cc)), (λ f. absurd (omega (arith, f.0, f.1))))

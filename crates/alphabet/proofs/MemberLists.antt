@@ -15,7 +15,7 @@ same_kept : (p q : ℕ → Bool) (a n : ℕ) → ((j : ℕ) → a ≤ j → p j 
 same_kept p q a zero h = refl
 same_kept p q a (suc n) h = rw (h a (omega arith)) (ap (λ xs. cond (q a) (a ∷ xs) xs) (same_kept p q (a + 1) n (λ j b. h j (omega arith))))
 
--- the first number that passes, and what is kept behind it
+-- the first number that passes, and what is kept after it
 first_kept : (p q : ℕ → Bool) (k a n : ℕ) → a ≤ k → k < a + n → p k ≡ true → ((j : ℕ) → j < k → p j ≡ false) → q k ≡ false → ((j : ℕ) → k ≢ j → q j ≡ p j) → filter p (range_with_len a n) ≡ k ∷ filter q (range_with_len a n)
 first_kept p q k a zero h l holds before misses others = absurd (omega arith)
 first_kept p q k a (suc n) h l holds before misses others =

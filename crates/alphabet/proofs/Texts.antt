@@ -109,7 +109,7 @@ same_value (number y) (constant n) h k e = absurd (number_is_no_name y n h.1 k.0
 same_value (constant m) (number z) h k e = absurd (number_is_no_name z m k.1 h.0 (sym e))
 same_value (constant m) (constant n) h k e = ap constant e
 
--- behind two texts without a dot stand two lists of values: the texts are the same, and so are the lists' texts
+-- after two texts without a dot stand two lists of values: the texts are the same, and so are the lists' texts
 pub same_front : (a b : List ℕ) (vs ws : Values) → NoDot a → NoDot b → a ++ dotted vs ≡ b ++ dotted ws → (a ≡ b) × (dotted vs ≡ dotted ws)
 same_front [] [] vs ws h k e = (refl, e)
 same_front [] (y ∷ b) [] ws h k e = absurd (cc)

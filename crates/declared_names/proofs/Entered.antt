@@ -13,7 +13,7 @@ use Rattle.declared_names.specs.Entering.{has_name, put, put_name, add_name, lis
 abbrev some_of : {X : Type 0} → X → Option X
 some_of x = Some x
 
--- one behind the other
+-- one after the other
 unfoldable pub put_all : List Entry → List Entry → Option (List Entry)
 put_all es [] = Some es
 put_all es (e ∷ fs) = put es e >>= λ gs. put_all gs fs

@@ -38,7 +38,7 @@ reached_more es f g n w h e is m u p = by (same_name m n) refl (sym (is m) ∙ p
     by true s q = sound_step es f h m u (ap (next_known es f) ((bytes_decides m n).0 s) ∙ e ∙ q)
     by false s q = h m u q
 
--- what a definition says has a meaning behind it
+-- what a definition says has a meaning after it
 said : (es : List Entry) (f : Known) (n : Name) (w : Worth) → next_known es f n ≡ Some w → (m : Meaning) × (meaning es n ≡ Some m)
 unfolding next_known
 said es f n w h = by (meaning es n) refl

@@ -1,4 +1,4 @@
--- Steps over the parts of a tree, one behind the other.
+-- Steps over the parts of a tree, one after the other.
 use Rattle.std.proofs.Common.{◌≡◌, ℕ, zero, suc, ◌+◌, ◌<◌, ◌≤◌, List, [], ◌∷◌, length, drop, get_or, Option, Some, refl, sym, ap, ◌∙◌, arith, drop-cons}
 use Rattle.tokens.specs.declared.unread.Unread.{Unread}
 use Rattle.syntax.specs.declared.tree.Tree.{Tree}

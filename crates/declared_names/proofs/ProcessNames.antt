@@ -93,7 +93,7 @@ pub follows_known : (es : List Entry) (first : Name) (i : ℕ) (n : Name) (b : B
 follows_known es first i n b h (zero, e, p) s = absurd (omega (arith, h, e))
 follows_known es first i n b h (suc k, e, p) s = sym (s k) ∙ p
 
--- behind as many names as there are, and one more
+-- after as many names as there are, and one more
 pub follows_all : (es : List Entry) (first : Name) (i : ℕ) (n m : Name) → i ≡ length es → Follows es first i n → ((k : ℕ) → is_process_in es (suc k) n ≡ is_process_in es k m) → true ≡ is_process es first
 unfolding is_process_in
 follows_all es first i n m h (zero, e, p) s = absurd (omega (arith, h, e))

@@ -66,7 +66,7 @@ pub behind_all : {X : Type 0} (xs : List X) → drop (length xs) xs ≡ []
 behind_all [] = refl
 behind_all (x ∷ xs) = behind_all xs
 
--- what a phrase stands for behind no inputs
+-- what a phrase stands for after no inputs
 pub alone : {A : Type 0} (known : Known) (is : List (Input A)) (t : Syntax) → is ≡ [] → worth (behind known (map input is)) t ≡ worth known t
 unfolding behind
 alone known is t h = ap (λ xs. worth (behind known (map input xs)) t) h

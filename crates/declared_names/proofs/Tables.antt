@@ -70,7 +70,7 @@ placed {A = A} (e ∷ es) n (Some i) h k =
     at_key (e ∷ es) i e.0 p.0
     ∙ ap (λ m. let o : Option Name = Some m in o) (sym ((bytes_decides n (get_or (map (λ (e : Vec ℕ A × Entry A). e.0) (e ∷ es)) i e.0).items).0 p.1))
 
--- a new name stands behind the others
+-- a new name comes after the others
 insert_new : {A : Type 0} (es : Stored A) (k : Vec ℕ A) (v : Entry A) → has_name (listed es) k.items ≡ false → insert_entry (λ a b. pointwise nat_eq a.items b.items) es k v ≡ es ++ (k, v) ∷ []
 insert_new [] k v h = refl
 insert_new {A = A} (e ∷ es) k v h = by (pointwise nat_eq k.items e.0.items) h (insert_new es k v)

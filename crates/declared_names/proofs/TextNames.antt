@@ -123,11 +123,11 @@ abbrev AllOf : Syntaxes → Type 0
 AllOf NoSyntax = Unit {0}
 AllOf (MoreSyntax t ts) = (Fits t → all_named (flat t) ≡ true → has_names t ≡ true) × AllOf ts
 
--- the parts behind the first pieces of a form's rule, so many, have names
+-- the parts after the first pieces of a form's rule, so many, have names
 abbrev NamedFrom : ℕ → Form → Type 0
 NamedFrom k f = (ts : Syntaxes) → AllOf ts → FitAll ts (drop k (rule f)) → all_named (spell ts (drop k (rule f))) ≡ true → have_names ts ≡ true
 
--- a part, and behind it the pieces from m on
+-- a part, and after it the pieces from m on
 abbrev PartThen : ℕ → ℕ → Form → Type 0
 PartThen k m f =
     ((t : Syntax) (us : Syntaxes) → FitAll (MoreSyntax t us) (drop k (rule f)) → Fits t × FitAll us (drop m (rule f)))
@@ -156,7 +156,7 @@ unfolding has_names
 ends k f n NoSyntax a fit h = refl
 ends k f n (MoreSyntax t us) a fit h = absurd (n t us fit)
 
--- what stands behind the first part of an operator
+-- what comes after the first part of an operator
 behind_first : (op : Operator) → NamedFrom 1 (forms.Operation op)
 unfolding rule opening behind spell spell_part
 behind_first operators.Renaming = next 1 3 (forms.Operation operators.Renaming) (λ t us h. (h.0, h.1.1), λ t us h. all_split (flat t) _ h) (many 3 (forms.Operation operators.Renaming) (λ t us h. (h.0, h.1.1), λ t us h. all_split (flat t) _ h))

@@ -75,7 +75,7 @@ fn put_constants<'a, A: Allocator + Copy>(
     }
 }
 
-/// Looks at a parameter behind these: `Redeclared` where it is one of them, `Unsupported` where it has the name of a constant.
+/// Looks at a parameter that comes after these: `Redeclared` where it is one of them, `Unsupported` where it has the name of a constant.
 fn look_at_parameter<'a, A: Allocator + Copy>(
     constants: &Names<'a, A>,
     earlier: &mut Names<'a, A>,

@@ -49,7 +49,7 @@ flat_more view f vs i v h e =
 
 -- ---- texts that grow by an item
 
--- an item behind what parts it from those before
+-- an item after what parts it from those before
 pub behind_item : {V : Type 0} (between : List ℕ) (text : V → List ℕ) (start now new : List ℕ) (vs : List V) (i : ℕ) (v d : V) → i < length vs → v ≡ get_or vs i d →
     now ≡ start ++ flat_map (λ w. between ++ text w) (take i vs) → new ≡ (now ++ between) ++ text v → new ≡ start ++ flat_map (λ w. between ++ text w) (take (i + 1) vs)
 behind_item between text start now new vs i v d h e is more =
@@ -86,7 +86,7 @@ others : {X : Type 0} (between : List ℕ) (text : X → List ℕ) (xs : List X)
 others between text [] = refl
 others between text (x ∷ xs) = ap (λ t. (between ++ text x) ++ t) (others between text xs)
 
--- the first text, and the others each behind what stands between them
+-- the first text, and the others each after what stands between them
 pub first_and_others : {X : Type 0} (between : List ℕ) (text : X → List ℕ) (start first new : List ℕ) (xs : List X) (x d : X) → 1 ≤ length xs → x ≡ get_or xs 0 d →
     first ≡ start ++ text x → new ≡ first ++ flat_map (λ y. between ++ text y) (take (length xs - 1) (drop 1 xs)) → new ≡ start ++ joined between (map text xs)
 first_and_others between text start first new [] x d h e is more = absurd (omega arith)

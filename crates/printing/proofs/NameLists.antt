@@ -53,7 +53,7 @@ pub names_next : {X : Type 0} (f : X → List Name) (ks now new : List Name) (xs
 names_next f ks now new xs i x e is more =
     more ∙ ap (λ ns. with_names ns (f x)) is ∙ sym (with_names-append ks (flat_map f (take i xs)) (f x)) ∙ ap (with_names ks) (sym (flat_next f xs i x e))
 
--- the names with one more behind those of a list
+-- the names with one more after those of a list
 pub name_next : {X : Type 0} (f : X → Name) (ks ns now new : List Name) (xs : List X) (i : ℕ) (x : X) → slice_get xs i ≡ Some x →
     now ≡ with_names ks (ns ++ map f (take i xs)) → new ≡ insert_key byte_order now (f x) → new ≡ with_names ks (ns ++ map f (take (i + 1) xs))
 unfolding with_names

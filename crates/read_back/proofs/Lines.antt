@@ -221,7 +221,7 @@ proper_datatype primes = (record { first = 84; body = []; primes = replicate pri
 
 -- ---- lines of trees
 
--- the tokens of trees, one behind the other
+-- the tokens of trees, one after the other
 abbrev flats : List Syntax → List Lexeme
 flats [] = []
 flats (t ∷ ts) = flat t ++ flats ts

@@ -42,7 +42,7 @@ module _ {K : Type 0} (R : K → K → Ordering) (total : IsTotalOrder R) where
   Above k [] = Unit {0}
   Above k (x ∷ xs) = (R k x ≡ Less) × Above k xs
 
-  -- each is below those behind it
+  -- each is below those after it
   abbrev pub Rises : List K → Type 0
   Rises [] = Unit {0}
   Rises (x ∷ xs) = Above x xs × Rises xs

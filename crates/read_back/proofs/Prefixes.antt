@@ -248,7 +248,7 @@ module _ (s : Scope) (primes m : ℕ) (h : IsPrintedScope s primes m) (a : ℕ) 
       ∙ ap (λ b. cond b (at_no_fault (dotted_trees parts.values) its_channel.fields s >>= λ u. Some (parts.channel, dotted_trees parts.values, its_channel.fields)) None) (all_fields parts.values its_channel.fields is_chosen)
       ∙ ap (λ b. cond b (Some tt) (fields_pass (dotted_trees parts.values) its_channel.fields s) >>= λ u. Some (parts.channel, dotted_trees parts.values, its_channel.fields)) has_one
 
-  -- the process behind the event, with the event before it
+  -- the process after the event, with the event before it
   pub prefix_denoted : (next : Scope → Option Body) → prefixed s (tree_of_event s.channels (ev a)) next ≡ (next s >>= λ q. Some (prefix a q))
   unfolding prefixed
   prefix_denoted next =

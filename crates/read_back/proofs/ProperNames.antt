@@ -52,7 +52,7 @@ right_proper (x ∷ xs) ys h = right_proper xs ys h.1
 
 -- ---- names
 
--- behind the first of a list of channels
+-- after the first of a list of channels
 later_names : (ts : Syntaxes) (ns : List Name) → names_of ts ≡ Some ns → TokensProper (spell ts (drop 1 (rule forms.Names))) → AllProper ns
 unfolding names_of flat spell spell_part rule
 later_names NoSyntax ns h k = subst AllProper (some_same h) tt
@@ -62,7 +62,7 @@ later_names (MoreSyntax (Called n) ts) ns h k =
 later_names (MoreSyntax (Numeral n) ts) ns h k = absurd cc
 later_names (MoreSyntax (Node f us) ts) ns h k = absurd cc
 
--- behind the first of the constants
+-- after the first of the constants
 later_constants : (ts : Syntaxes) (ns : List Name) → names_of ts ≡ Some ns → TokensProper (spell ts (drop 1 (rule forms.Constants))) → AllProper ns
 unfolding names_of flat spell spell_part rule
 later_constants NoSyntax ns h k = subst AllProper (some_same h) tt

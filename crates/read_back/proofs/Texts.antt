@@ -72,7 +72,7 @@ begins_value (constant n) h =
     let high = letter_high h.0.first h.0.letter in
     (h.0.first, h.0.body ++ h.0.primes, h.0.spelled, other_byte 46 h.0.first (λ x. omega (arith, high.0, x)))
 
--- a value behind a dot
+-- a value after a dot
 dotted_read : (v : FieldValue) → IsShown v → Reads Ends (46 ∷ value_text v) (Sign symbols.Dot ∷ flat (value_tree v))
 dotted_read v h rest ws e r =
     let b = begins_value v h in
@@ -83,7 +83,7 @@ dotted_read v h rest ws e r =
 
 -- ---- events
 
--- the tokens of fields behind each other
+-- the tokens of fields, one after the other
 abbrev pub field_tokens : Values → List Lexeme
 field_tokens [] = []
 field_tokens (v ∷ vs) = (Sign symbols.Dot ∷ flat (value_tree v)) ++ field_tokens vs
@@ -96,7 +96,7 @@ fields_read : (vs : Values) → AllShown vs → Reads Ends (dotted vs) (field_to
 fields_read [] h = λ rest ws e r. r
 fields_read (v ∷ vs) h = both_read Ends Ends (46 ∷ value_text v) (dotted vs) (Sign symbols.Dot ∷ flat (value_tree v)) (field_tokens vs) (dotted_read v h.0) (fields_read vs h.1) (λ rest e. ends_dot vs rest e)
 
--- the parts of an event behind its channel
+-- the parts of an event after its channel
 fields_flat : (vs : Values) → spell (dotted_trees vs) (drop 1 (rule forms.Event)) ≡ field_tokens vs
 unfolding flat spell spell_part spell_signs rule
 fields_flat [] = refl

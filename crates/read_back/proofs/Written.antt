@@ -148,7 +148,7 @@ fitting_same ts sets vs s inner e = absurd cc
 
 -- ---- branches
 
--- what is denoted behind the fields lies in Sigma
+-- what is denoted after the fields lies in Sigma
 abbrev NextLies : List Channel → (Scope → Option Body) → Type 0
 NextLies cs next = (s : Scope) (b : Body) → s.channels ≡ cs → next s ≡ Some b → Lies (event_count cs) b
 

@@ -24,7 +24,7 @@ masked_some cs None S h = absurd cc
 masked_some cs (Some A) S h = (A, refl, sym (some_same h))
 
 module _ (cs : List Channel) (known : Known) (es : List Entry) where
-  -- what a definition says has a meaning behind it
+  -- what a definition says has a meaning after it
   said : (f : KnownSets) (n : Name) (A : Events) → next_events cs known es (events_by f) n ≡ Some A → (m : Meaning) × (meaning es n ≡ Some m)
   unfolding next_events
   said f n A h = by (meaning es n) refl

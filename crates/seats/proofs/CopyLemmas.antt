@@ -1,4 +1,4 @@
--- The channels of an alphabet can be declared again, one behind the other.
+-- The channels of an alphabet can be declared again, one after the other.
 use Rattle.std.proofs.Common.{◌≡◌, ℕ, zero, suc, ◌+◌, Bool, true, false, not, ◌&&◌, ◌||◌, Some, Result, Ok, Err, List, [], ◌∷◌, ◌++◌, take, drop, nat_eq, refl, sym, ap, ◌∙◌, subst}
 use Rattle.std.specs.List.{list_all, slice_get}
 use Rattle.std.specs.Result.{is_err, OnOk}

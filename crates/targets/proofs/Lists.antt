@@ -8,7 +8,7 @@ use Rattle.targets.specs.Cuts.{CutOf}
 use Rattle.targets.specs.Among.{InEither, Joined}
 use Rattle.targets.proofs.Cutting.{nothing, only, distinct-push, distinct-front, cut-all, cut-join, cut-to}
 
--- ---- one list behind the other
+-- ---- one list after the other
 module _ (n : ℕ) (l : List Proc) where
   pub joined-first : (qs : List Proc) → l ≡ [] → Joined n l qs qs
   joined-first qs e d f =

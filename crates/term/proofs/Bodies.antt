@@ -6,7 +6,7 @@ use Rattle.term.specs.declared.terms.Term.{Term}
 use Rattle.term.specs.Proc.{proc, stop}
 use Rattle.term.specs.Specs.{Specified, IsProcessOf, IsClosed}
 
--- a body, behind a reference, is one of the specification's processes
+-- a body that a reference leads to is one of the specification's processes
 pub body-is : {A : Type 0} (s : Specified) (ts : List (Term A)) (k : ℕ) (t : Term A) → IsClosed s → map proc ts ≡ s.bodies → k < length s.bodies → t ≡ get_or ts k t → IsProcessOf s (proc t)
 body-is s ts k t c m l e = subst (IsProcessOf s) body (All-get_or (IsProcessOf s) s.bodies k stop l c.1)
   where

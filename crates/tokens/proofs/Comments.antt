@@ -188,14 +188,14 @@ passed_two : (c e : ℕ) (rest : List ℕ) (d : ℕ) (r : List ℕ) (b : Bool) �
 passed_two c e rest d r true z is open_more close_one stay = passed_none (c ∷ e ∷ rest) d r None (ap (λ (b : Bool). cond b (Some (c ∷ e ∷ rest)) None) z ∙ is) z
 passed_two c e rest d r false z is open_more close_one stay = passed_long c e rest d r (c == 123 && e == 45) (c == 45 && e == 125) (not_open d z) refl refl is open_more close_one stay
 
--- what stands behind open comments stands behind their ends
+-- what comes after open comments comes after their ends
 pub passed : (text : List ℕ) (d : ℕ) (r : List ℕ) → behind_comments text d ≡ Some r → Passed text d r
 unfolding behind_comments
 passed [] d r is = passed_short [] d r (d == 0) refl is
 passed (c ∷ []) d r is = passed_short (c ∷ []) d r (d == 0) refl is
 passed (c ∷ e ∷ rest) d r is = passed_two c e rest d r (d == 0) refl is (passed rest (d + 1) r) (passed rest (d - 1) r) (passed (e ∷ rest) d r)
 
--- what stands behind one open comment
+-- what comes after one open comment
 pub passed_one : (text r : List ℕ) → behind_comments text 1 ≡ Some r → (k : Comment) × IsComment k × (text ≡ comment_bytes k ++ r)
 passed_one text r is = one (passed text 1 r is).comments (passed text 1 r is).fine (passed text 1 r is).count (passed text 1 r is).spelled
   where

@@ -83,7 +83,7 @@ ends_line (c ∷ rest) = ends_at c rest (c == 10) refl (ends_line rest)
 ends_run : (rest : List ℕ) → EndsLine (drop (run is_of_line rest) rest)
 ends_run rest = subst (λ (n : ℕ). EndsLine (drop n rest)) (sym (run_is is_of_line rest)) (ends_line rest)
 
--- what stands behind a word decides nothing of what the word is
+-- what comes after a word decides nothing of what the word is
 named_sound : (w r : List ℕ) (x : Step) (o : Option Reserved) → reserved_of w ≡ o → IsName w → IsLongest w r → opens_comment (w ++ r) ≡ false → named o w r ≡ Some x → IsStep (w ++ r) x
 unfolding named
 named_sound w r x None is name longest plain e =

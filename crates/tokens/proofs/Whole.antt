@@ -11,7 +11,7 @@ use Rattle.tokens.proofs.Words.{reserved_name}
 use Rattle.tokens.proofs.Complete.{step_complete}
 use Rattle.tokens.proofs.Sound.{step_sound}
 
--- tokens behind what was found
+-- tokens after what was found
 pub tokens_sound : (text : List ℕ) (x : Step) → next_at text ≡ Some x → (ws : List Lexeme) → Holds x.1 ws → Holds text (behind x.0 ws)
 tokens_sound text x e ws h =
     let s = step_sound text x e in
@@ -51,7 +51,7 @@ tokens_begin text ws n h = begin h.parts h.spelled h.are
 same_step : (o : Option Step) (x y : Step) → o ≡ Some x → o ≡ Some y → x ≡ y
 same_step o x y e f = cc
 
--- tokens of the text are what was found and tokens of what is behind it
+-- tokens of the text are what was found and tokens of what comes after it
 pub tokens_only : (text : List ℕ) (x : Step) → 0 < length text → next_at text ≡ Some x → (ws : List Lexeme) → Holds text ws → (vs : List Lexeme) × Holds x.1 vs × (ws ≡ behind x.0 vs)
 tokens_only text x n e ws h =
     let b = tokens_begin text ws n h in
@@ -78,7 +78,7 @@ pub behind_front : (o : Option Lexeme) (ws : List Lexeme) → behind o ws ≡ be
 behind_front None ws = refl
 behind_front (Some w) ws = refl
 
--- ---- the loop: what was kept and what is behind
+-- ---- the loop: what was kept and what comes after
 
 kept : (o : Option Lexeme) (old new ws : List Lexeme) → new ≡ old ++ behind o [] → old ++ behind o ws ≡ new ++ ws
 kept o old new ws e = ap (λ (t : List Lexeme). old ++ t) (behind_front o ws) ∙ sym (append_assoc old (behind o []) ws) ∙ ap (λ (t : List Lexeme). t ++ ws) (sym e)

@@ -50,7 +50,7 @@ next_is x n = omega (arith, ints)
 same_start : (x : ℤ) → x +ℤ pos 0 ≡ x
 same_start x = omega (arith, ints)
 
--- the number behind so many from x on
+-- the number after so many from x on
 push : (n : ℕ) (x : ℤ) → insert_key value_cmp (numbers_from x n) (number (x +ℤ pos n)) ≡ numbers_from x (suc n)
 unfolding numbers_from
 push zero x = ap (λ y. number y ∷ []) (same_start x)

@@ -60,7 +60,7 @@ condition_is known t w h = ap (λ o. o >>= λ w. the_truth w) h
 
 -- ---- lists of parts, from left to right
 
--- what is known in front, and what the others stand for behind it
+-- what is known in front, and what the others stand for after it
 abbrev pub with_front : List Plain → Option (List Plain) → Option (List Plain)
 with_front front o = o >>= λ ws. Some (front ++ ws)
 

@@ -60,7 +60,7 @@ pub whole_long : (bytes more : List ℕ) → bytes ++ more ≡ take 4097 bytes +
 whole_long bytes more =
     ap (λ v. v ++ more) (sym (take-append-drop 4097 bytes)) ∙ append_assoc (take 4097 bytes) (drop 4097 bytes) more
 
--- further bytes behind the last line
+-- further bytes after the last line
 pub line_unused : (front last unused heard more : List ℕ) → heard ≡ front ++ (last ++ unused) → heard ++ more ≡ front ++ (last ++ (unused ++ more))
 line_unused front last unused heard more is =
     ap (λ v. v ++ more) is ∙ append_assoc front (last ++ unused) more ∙ ap (λ v. front ++ v) (append_assoc last unused more)
