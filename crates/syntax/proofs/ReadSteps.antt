@@ -75,3 +75,11 @@ module _ (b r t : ℕ) (k : Kind) (toks : List Lexeme) (room : r ≢ 0) (layers 
   pub read_climbs : (x : Found) (l : ℕ) → first ≡ Some x → k ≡ kinds.Phrase l → reads b r t k toks ≡ climb (reader b (r - 1) 4) (may_open b) r l r x.0 x.1
   unfolding go_on
   read_climbs x l e is = read_first ∙ ap (λ o. o >>= go_on (reader b (r - 1) 4) (may_open b) r k) e ∙ ap (λ k. go_on (reader b (r - 1) 4) (may_open b) r k x) is
+
+  ends : (x : Found) (k : Kind) → ((l : ℕ) → k ≢ kinds.Phrase l) → go_on (reader b (r - 1) 4) (may_open b) r k x ≡ Some x
+  unfolding go_on
+  ends x (kinds.Phrase l) other = absurd (other l refl)
+  ends x k other = refl
+
+  pub read_ends : (x : Found) → first ≡ Some x → ((l : ℕ) → k ≢ kinds.Phrase l) → reads b r t k toks ≡ Some x
+  read_ends x e other = read_first ∙ ap (λ o. o >>= go_on (reader b (r - 1) 4) (may_open b) r k) e ∙ ends x k other

@@ -9,7 +9,7 @@ use Rattle.syntax.specs.Parsing.{◌>>=◌, reader, may_open, after, climb, name
 use Rattle.syntax.specs.View.{shape, shapes}
 use Rattle.syntax.proofs.Branches.{gives_as, kept, inside_fails, inside_reads, others_stop, others_done, others_more, others_fail, node_is, node_fails, grown_is, grown_fails, climb_ends, climb_turn, climb_stuck}
 use Rattle.syntax.proofs.Failing.{fails_none, fails_on}
-use Rattle.syntax.proofs.ReadSteps.{back_short, behind_short, front_short, read_climbs, read_fails, row_ends, row_turn}
+use Rattle.syntax.proofs.ReadSteps.{back_short, behind_short, front_short, read_climbs, read_ends, read_fails, row_ends, row_turn}
 use Rattle.syntax.proofs.Steps.{reads_no_layer, reads_no_room}
 use Rattle.syntax.proofs.reading.+reading.Goals as goal
 
@@ -152,6 +152,10 @@ read-returns-in-Phrase-clause-read g t c =
     gives_as _ c.climb.result _ _
     (read_climbs c.args.limits.brackets c.args.limits.room c.args.limits.layers c.args.kind (lexemes c.args.tokens.now) c.if-limits-eq0.false c.if-limits-eq0-2.false (shape c.in_ok-first.first.tree, lexemes c.in_ok-first.rest.now) c.in-Phrase.limit c.in_ok-first.ensures.read c.in-Phrase.is)
     c.climb.ensures.read
+
+pub read-returns-in_default-clause-read : goal.read-returns-in_default-clause-read
+read-returns-in_default-clause-read g t c =
+    read_ends c.args.limits.brackets c.args.limits.room c.args.limits.layers c.args.kind (lexemes c.args.tokens.now) c.if-limits-eq0.false c.if-limits-eq0-2.false (shape c.in_ok-first.first.tree, lexemes c.in_ok-first.rest.now) c.in_ok-first.ensures.read c.in_default.not-Phrase
 
 piece_is : (b r n : ℕ) (p q : Piece) (parts : List Syntax) (toks : List Lexeme) → p ≡ q → step (reader b r n) (may_open b) p parts toks ≡ step (reader b r n) (may_open b) q parts toks
 piece_is b r n p q parts toks e = ap (λ (p : Piece). step (reader b r n) (may_open b) p parts toks) e
