@@ -1,5 +1,5 @@
 -- Reading by its limits as numbers.
-use Rattle.std.proofs.Common.{◌≡◌, ℕ, zero, suc, ◌-◌, ◌<◌, List, ◌∷◌, true, false, None, refl, sym, ap, ◌∙◌, arith}
+use Rattle.std.proofs.Common.{◌≡◌, ℕ, zero, suc, ◌+◌, ◌-◌, ◌<◌, ◌≤◌, List, ◌∷◌, Bool, true, false, if◌then◌else◌, None, refl, sym, ap, ◌∙◌, arith}
 use Rattle.tokens.specs.Lexeme.{Lexeme}
 use Rattle.tokens.specs.Lexeme.{Sign}
 use Rattle.tokens.specs.declared.symbol.Symbol.TheVariants as symbols
@@ -63,3 +63,8 @@ unfolding turned is_heavy
 heavy_turned forms.Set (Sign symbols.Range ∷ rest) = refl
 heavy_turned forms.Channels (Sign symbols.Colon ∷ rest) = refl
 heavy_turned f toks = refl
+
+-- a form is higher than its parts by one at most
+pub one_higher : (heavy : Bool) (h p room : ℕ) → h ≡ (if heavy then 1 else 0) + p → p ≤ room - 1 → 0 < room → h ≤ room
+one_higher true h p room e l r = omega arith
+one_higher false h p room e l r = omega arith

@@ -43,6 +43,13 @@ impl<A: Allocator + Clone + Drop> Parts<A> {
         })
     }
 
+    /// This part alone.
+    pub(crate) fn alone(alloc: &A, part: Parsed<A>) -> Result<Parts<A>, AllocError>
+        ensures { IfOk result (λ p. (shapes p.trees.items ≡ shape part.tree ∷ []) × (p.height ≡ part.height)) }
+    {
+        Parts::new(alloc)?.with(part)
+    }
+
     /// One part more.
     pub(crate) fn with(self, part: Parsed<A>) -> Result<Parts<A>, AllocError>
         ensures { IfOk result (λ p. (shapes p.trees.items ≡ shapes self.trees.items ++ shape part.tree ∷ []) × (p.height ≡ max self.height part.height)) }

@@ -402,7 +402,7 @@ fn grown<'t, A: Allocator + Clone + Drop>(
     ensures high { IfOk result (λ x. x.0.height ≤ limits.room) }
 {
     let line = first_line(&left.tree);
-    let parts = Parts::new(alloc)?.with(left)?;
+    let parts = Parts::alone(alloc, left)?;
     let limits = Limits {
         brackets: limits.brackets,
         room: limits.room - 1,

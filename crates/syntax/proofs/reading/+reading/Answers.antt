@@ -1,4 +1,4 @@
-use Rattle.std.proofs.Common.{arith, rules, take, drop, ◌≡◌, ◌≤◌, ◌+◌, ◌-◌, ◌++◌, ◌∷◌, [], ℕ, List, Bool, Option, length, ap, sym, ◌∙◌}
+use Rattle.std.proofs.Common.{arith, rules, take, drop, ◌≡◌, ◌≤◌, ◌+◌, ◌-◌, ℕ, List, Bool, Option, length, ap, sym, ◌∙◌}
 use Rattle.std.proofs.lemmas.List.{length-map}
 use Rattle.std.proofs.lemmas.Result.{err_from_is_err_and}
 use Rattle.tokens.specs.Lexeme.{Lexeme, lexeme, lexemes}
@@ -10,7 +10,7 @@ use Rattle.syntax.specs.View.{shape, shapes}
 use Rattle.syntax.proofs.Branches.{gives_as, kept, inside_fails, inside_reads, others_stop, others_done, others_more, others_fail, node_is, node_fails, grown_is, grown_fails, climb_ends, climb_turn, climb_stuck}
 use Rattle.syntax.proofs.Failing.{fails_none, fails_on}
 use Rattle.syntax.proofs.ReadSteps.{back_short, behind_short, front_short, read_climbs, read_ends, read_fails, row_ends, row_turn}
-use Rattle.syntax.proofs.Steps.{reads_no_layer, reads_no_room}
+use Rattle.syntax.proofs.Steps.{one_higher, reads_no_layer, reads_no_room}
 use Rattle.syntax.proofs.reading.+reading.Goals as goal
 
 pub climb-returns-then-turns-eq0-clause-read : goal.climb-returns-then-turns-eq0-clause-read
@@ -43,14 +43,16 @@ climb-returns-in_ok-grown-in-Some-clause-read g t c =
 pub grown-returns-in_err-parts-2-clause-read : goal.grown-returns-in_err-parts-2-clause-read
 grown-returns-in_err-parts-2-clause-read g t c =
     let p = err_from_is_err_and c.from_residual-in_err-parts-2.result c.from_residual-in_err-parts-2.ensures.1 in
-    let one : shapes c.in_ok-parts.parts.trees.items ≡ shape c.args.left.tree ∷ [] = c.in_ok-parts.ensures.0 ∙ ap (λ (xs : List Syntax). xs ++ shape c.args.left.tree ∷ []) c.in_ok-new.ensures.0 in
     rw (p.1, p.2)
-    (grown_fails c.in_err-parts-2.field-0.0 (reader c.args.limits.brackets (c.args.limits.room - 1) 4) (may_open c.args.limits.brackets) c.args.operator (shape c.args.left.tree) (lexemes c.args.tokens.now) c.behind.result.now (shapes c.in_ok-parts.parts.trees.items) c.behind.ensures one c.in_err-parts-2.ensures.read)
+    (grown_fails c.in_err-parts-2.field-0.0 (reader c.args.limits.brackets (c.args.limits.room - 1) 4) (may_open c.args.limits.brackets) c.args.operator (shape c.args.left.tree) (lexemes c.args.tokens.now) c.behind.result.now (shapes c.in_ok-parts.parts.trees.items) c.behind.ensures c.in_ok-parts.ensures.0 c.in_err-parts-2.ensures.read)
 
 pub grown-returns-clause-read : goal.grown-returns-clause-read
 grown-returns-clause-read g t c =
-    let one : shapes c.in_ok-parts.parts.trees.items ≡ shape c.args.left.tree ∷ [] = c.in_ok-parts.ensures.0 ∙ ap (λ (xs : List Syntax). xs ++ shape c.args.left.tree ∷ []) c.in_ok-new.ensures.0 in
-    grown_is (reader c.args.limits.brackets (c.args.limits.room - 1) 4) (may_open c.args.limits.brackets) c.args.operator (shape c.args.left.tree) (shape c.node.result.tree) (lexemes c.args.tokens.now) (lexemes c.in_ok-parts-2.rest.now) c.behind.result.now (shapes c.in_ok-parts.parts.trees.items) (shapes c.in_ok-parts-2.parts.trees.items) c.behind.ensures one c.in_ok-parts-2.ensures.read c.node.ensures.shape
+    grown_is (reader c.args.limits.brackets (c.args.limits.room - 1) 4) (may_open c.args.limits.brackets) c.args.operator (shape c.args.left.tree) (shape c.node.result.tree) (lexemes c.args.tokens.now) (lexemes c.in_ok-parts-2.rest.now) c.behind.result.now (shapes c.in_ok-parts.parts.trees.items) (shapes c.in_ok-parts-2.parts.trees.items) c.behind.ensures c.in_ok-parts.ensures.0 c.in_ok-parts-2.ensures.read c.node.ensures.shape
+
+pub grown-returns-clause-high : goal.grown-returns-clause-high
+grown-returns-clause-high g t c =
+    one_higher _ c.node.result.height c.in_ok-parts-2.parts.height c.args.limits.room c.node.ensures.height c.in_ok-parts-2.ensures.high (omega (arith, c.requires))
 
 pub node-returns-in_err-parts-2-clause-read : goal.node-returns-in_err-parts-2-clause-read
 node-returns-in_err-parts-2-clause-read g t c =
