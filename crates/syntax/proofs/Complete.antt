@@ -89,7 +89,7 @@ phrase_read t comes b r layers l rest loosest low high nested follows =
 
 -- ---- the other kinds
 
--- behind a part that is no phrase nothing goes on
+-- after a part that is no phrase nothing goes on
 abbrev is_phrase : Kind → Bool
 is_phrase (kinds.Phrase l) = true
 is_phrase k = false

@@ -1,4 +1,4 @@
--- What ends a part: which tokens may stand behind it.
+-- What ends a part: which tokens may come after it.
 use Rattle.std.proofs.Common.{◌≡◌, ℕ, List, [], ◌∷◌, Bool, true, false, cond, not, ◌&&◌, Option, Some, None, refl, sym, ap, ◌∙◌}
 use Rattle.tokens.specs.Lexeme.{Lexeme, Name, Number, Kept, Sign}
 use Rattle.tokens.specs.declared.symbol.Symbol.{Symbol}
@@ -64,7 +64,7 @@ declares (Kept keywords.Channel ∷ rest) = true
 declares (Kept keywords.Datatype ∷ rest) = true
 declares toks = false
 
--- ---- what may stand behind a part, which is open or not
+-- ---- what may come after a part, which is open or not
 
 abbrev pub Behind : Fields → Bool → List Lexeme → Type 0
 Behind m open_end rest = (calm rest ≡ true) × (begins_field m rest ≡ false) × (open_end ≡ true → quiet rest ≡ true)
@@ -150,7 +150,7 @@ quiet_fieldless m toks e = refl
 pub quiet_behind : (m : Fields) (o : Bool) (toks : List Lexeme) → quiet toks ≡ true → Behind m o toks
 quiet_behind m o toks e = (quiet_calm toks e, quiet_fieldless m toks e, λ h. e)
 
--- behind a phrase that takes all that can follow
+-- after a phrase that takes all that can follow
 pub quiet_phrase : (l : ℕ) (o : Bool) (toks : List Lexeme) → quiet toks ≡ true → Follows (kinds.Phrase l) o toks
 quiet_phrase l o toks e = (quiet_behind fields.Any o toks e, quiet_stops l toks e)
 
@@ -180,7 +180,7 @@ fieldless_dot (Number n ∷ rest) e = refl
 fieldless_dot (Kept k ∷ rest) e = refl
 fieldless_dot (Sign s ∷ rest) e = refl
 
--- ---- signs that may stand behind a part
+-- ---- signs that may come after a part
 
 unfoldable pub closes : Kind → Signs → Bool
 closes (kinds.Phrase l) s = quiet (sign_lexeme s ∷ [])

@@ -1,7 +1,7 @@
 -- What is shown of each tree that fits, by induction on trees: where its tokens stand, and then what ends it, it is read.
 -- The limits are the fuel: room for its height, brackets for its nesting, and layers for its kind are enough. A phrase
 -- may stand on the left of an operator, where it isn't read by itself; so of a phrase it is also shown that reading
--- comes to the point behind it (Comes), and that with no operator there to go on with it is what was read.
+-- comes to the point after it (Comes), and that with no operator there to go on with it is what was read.
 use Rattle.std.proofs.Common.{◌≡◌, ℕ, suc, ◌+◌, ◌<◌, ◌≤◌, List, ◌++◌, Bool, true, false, Option}
 use Rattle.std.specs.Prelude.{nat_le}
 use Rattle.tokens.specs.Lexeme.{Lexeme}
@@ -52,11 +52,11 @@ unfoldable pub spine : Syntax → ℕ
 spine (Node (forms.Operation op) (MoreSyntax p ts)) = suc (spine p)
 spine t = 0
 
--- the first operand, and up to so many operators behind it
+-- the first operand, and up to so many operators after it
 abbrev pub start : ℕ → ℕ → ℕ → ℕ → ℕ → List Lexeme → Option Found
 start b r layers l turns toks = operand (reader b r 4) (reader b (suc r) layers) (may_open b) (kinds.Phrase l) toks >>= λ x. climb (reader b r 4) (may_open b) (suc r) l turns x.0 x.1
 
--- what begins with a phrase's tokens comes to the point where the phrase was read, and reading goes on behind it
+-- what begins with a phrase's tokens comes to the point where the phrase was read, and reading goes on after it
 abbrev pub Comes : Syntax → Type 0
 Comes t = (b r layers l m n : ℕ) (rest : List Lexeme) → l ≤ 16 → level_in t ≤ l → height_of t ≤ suc r → nesting t ≤ b → Behind fields.Any (is_open t) rest → Stops (edge t) rest → m ≡ spine t + n → start b r layers l m (flat t ++ rest) ≡ climb (reader b r 4) (may_open b) (suc r) l n t rest
 

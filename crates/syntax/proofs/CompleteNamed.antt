@@ -70,7 +70,7 @@ node_event b r m n ts rest read fits takes high nested none f =
     ∙ ap (found_row (reader b r 4) (may_open b) []) all in
     node_is (reader b r 4) (may_open b) m forms.Event forms.Event (Name n ∷ toks) (Name n ∷ toks) rest [] (back m forms.Event) [] [] (Called n ∷ listed ts) (Node forms.Event (MoreSyntax (Called n) ts)) refl refl refl refl refl whole (ap (λ (us : Syntaxes). Node forms.Event (MoreSyntax (Called n) us)) (sym (syntaxes_listed ts)))
 
--- ---- forms that what stands behind their first part tells apart
+-- ---- forms that what comes after their first part tells apart
 
 -- a form whose rule is read in two goes
 pub record Split (b r n : ℕ) (m : Fields) (f g : Form) (qs : List Piece) (t : Syntax) (ts : Syntaxes) (rest : List Lexeme) : Type 0 where

@@ -1,4 +1,4 @@
--- Where the tokens are those of a node that is no operation, and what may stand behind it, it is read as the first operand.
+-- Where the tokens are those of a node that is no operation, and what may come after it, it is read as the first operand.
 use Rattle.std.proofs.Common.{◌≡◌, ℕ, suc, ◌<◌, ◌≤◌, List, ◌++◌, true, false, refl, arith}
 use Rattle.std.specs.Prelude.{nat_le}
 use Rattle.std.proofs.lemmas.Bool.{leb-true}
@@ -22,9 +22,9 @@ use Rattle.syntax.proofs.CompleteNode.{below, is_simple, node_of_simple}
 use Rattle.syntax.proofs.CompleteNamed.{node_event, node_set, node_range}
 use Rattle.syntax.proofs.CompleteForms.{first_form}
 
--- ---- what a phrase's rule asks of what stands behind it
+-- ---- what a phrase's rule asks of what comes after it
 
--- what is asked of what stands behind a phrase that binds looser than an atom
+-- what is asked of what comes after a phrase that binds looser than an atom
 abbrev pub Loose : Form → Syntaxes → List Lexeme → Type 0
 Loose f ts rest = 0 < form_level f → Behind fields.Any (is_open (Node f ts)) rest × Stops (edge (Node f ts)) rest
 

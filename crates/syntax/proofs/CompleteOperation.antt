@@ -25,7 +25,7 @@ use Rattle.syntax.proofs.CompleteTall.{tall}
 use Rattle.syntax.proofs.CompleteRow.{listed, syntaxes_listed, linked, ranked, joins, separates, ends_with, halts, continues, wants_shut, shutting, Tail, tall_pieces, row_complete, fewer_nests, fewer_nests_open}
 use Rattle.syntax.proofs.CompleteNode.{has_inside, inside_nests}
 
--- ---- what stands behind an operator's first token
+-- ---- what comes after an operator's first token
 
 behind_linked : (op : Operator) → linked 4 (behind op) ≡ true
 unfolding linked ranked joins separates ends_with halts continues rank is_read_kind closes quiet quiet_symbol is_sign behind right_limit

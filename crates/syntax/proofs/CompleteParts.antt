@@ -32,7 +32,7 @@ use Rattle.syntax.proofs.CompleteOperand.{phrase_node, event_node}
 abbrev pub first : ℕ → ℕ → ℕ → Kind → List Lexeme → Option Found
 first b r n k toks = operand (reader b r 4) (reader b (suc r) n) (may_open b) k toks
 
--- what is asked of what stands behind a first operand
+-- what is asked of what comes after a first operand
 abbrev pub Meets : Kind → Syntax → List Lexeme → Type 0
 Meets (kinds.Phrase l) t rest = Behind fields.Any (is_open t) rest × Stops (edge t) rest
 Meets k t rest = Follows k (is_open t) rest

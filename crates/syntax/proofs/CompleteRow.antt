@@ -81,7 +81,7 @@ part_read b r n places.Inside k t rest read kind fits positive high nested e fol
 
 -- ---- how further parts stand one after another
 
--- one more part is looked for only behind one that is not open
+-- one more part is looked for only after one that is not open
 unfoldable pub wants_shut : Start → Bool
 wants_shut starts.Dot = true
 wants_shut (starts.Field m) = true
@@ -141,7 +141,7 @@ some_more kinds.Field (starts.Field m) u e kind fits = field_some u kind
 some_more kinds.Declaration starts.Any u e kind fits = declaration_some u kind fits
 some_more k start u e kind fits = absurd (false_true e)
 
--- what behind the last part is no further part
+-- what after the last part is no further part
 abbrev pub NoMore : Start → List Lexeme → Type 0
 NoMore start rest = (o : Bool) → another start o rest ≡ None
 
@@ -182,7 +182,7 @@ count_length place k start ps (MoreSyntax u us) rest e fits =
     omega (arith, one, count_length place k start ps us rest e fits.1.1, length-append (before start) (flat u ++ s), length-append (flat u) s, length-append (before start) (flat u)) in
     subst (λ (xs : List Lexeme). suc (how_many us) ≤ length xs) (sym (spelled_more place k start ps u us rest)) longer
 
--- what stands behind a part among others ends it
+-- what comes after a part among others ends it
 next_follows : (place : Place) (k : Kind) (start : Start) (ps : List Piece) (rest : List Lexeme) (front : List Syntax) (u : Syntax) (us : Syntaxes) → continues k start ≡ true → FitAll us (pieces.Others place k start ∷ ps) → takes_fields (fields_at start) us ≡ true → Apart (wants_shut start) (front ++ u ∷ []) us → Follows k (last_open (MoreSyntax u us)) (spell_signs ps ++ rest) → Follows k (is_open u) (spell us (pieces.Others place k start ∷ ps) ++ rest)
 unfolding last_open spell spell_signs takes_fields
 next_follows place k start ps rest front u NoSyntax e fits takes apart f = f
@@ -235,7 +235,7 @@ abbrev pub is_fields : Start → Bool
 is_fields (starts.Field m) = true
 is_fields start = false
 
--- each part of a rule ends before what the rule has behind it, and has this many layers below it
+-- each part of a rule ends before what the rule has after it, and has this many layers below it
 unfoldable pub linked : ℕ → List Piece → Bool
 linked n [] = true
 linked n (pieces.Sign s ∷ ps) = linked n ps
@@ -244,7 +244,7 @@ linked n (pieces.Name ∷ ps) = linked n ps
 linked n (pieces.Part place k ∷ ps) = is_read_kind k && (ranked place n k && (joins k ps && linked n ps))
 linked n (pieces.Others place k start ∷ ps) = is_read_kind k && (ranked place n k && (continues k start && (not (is_fields start) && (ends_with k start ps && only_signs ps))))
 
--- what the last piece of a rule asks of what stands behind it
+-- what the last piece of a rule asks of what comes after it
 abbrev pub Tail : List Piece → Bool → List Lexeme → Type 0
 Tail [] o rest = Unit {0}
 Tail (pieces.Part place k ∷ []) o rest = Follows k o rest
@@ -267,7 +267,7 @@ unfolding halts another
 halted (starts.Behind s) t rest e o = no_sign s (sign_lexeme t) rest e
 halted start t rest e o = absurd cc
 
--- behind further parts
+-- after further parts
 others_tail : (place : Place) (k : Kind) (start : Start) (ps : List Piece) (o : Bool) (rest : List Lexeme) → ends_with k start ps ≡ true → Tail (pieces.Others place k start ∷ ps) o rest → Follows k o (spell_signs ps ++ rest) × NoMore start (spell_signs ps ++ rest)
 unfolding ends_with spell_signs
 others_tail place k start [] o rest e h = h
@@ -285,7 +285,7 @@ opened_next t ts o h l = sym (later_open t ts l) ∙ h refl
 pub none_left : (t : Syntax) (others : List Piece → Type 0) → FitsPart t others [] → ⊥
 none_left t others h = h
 
--- what stands behind a part ends it
+-- what comes after a part ends it
 pub part_follows : (place : Place) (k : Kind) (ps : List Piece) (t : Syntax) (ts : Syntaxes) (front : List Syntax) (o : Bool) (rest : List Lexeme) → joins k ps ≡ true → FitAll ts ps → Tail (pieces.Part place k ∷ ps) o rest → Opened (MoreSyntax t ts) o → Apart (shutting ps) (front ++ t ∷ []) ts → Follows k (is_open t) (spell ts ps ++ rest)
 unfolding joins ends_with last_open spell spell_signs shutting
 part_follows place k [] t NoSyntax front o rest e fits tail opened apart = subst (λ (b : Bool). Follows k b rest) (sym (opened refl)) tail
@@ -352,7 +352,7 @@ room_part : (k : Kind) (ps : List Piece) (r : ℕ) → ((tall k && tall_pieces p
 room_part k ps r (inl e) = let b = both_true (tall k) (tall_pieces ps) e in (inl b.0, inl b.1)
 room_part k ps r (inr h) = (inr h, inr h)
 
--- the tokens of a rule's parts, and what may stand behind them, are read as these parts
+-- the tokens of a rule's parts, and what may come after them, are read as these parts
 pub row_complete : (b r n : ℕ) (ps : List Piece) (o : Bool) (rest : List Lexeme) (ts : Syntaxes) (front : List Syntax) → (tall_pieces ps ≡ true) ⊎ (0 < r) → linked n ps ≡ true → (opens_any ps ≡ true → 0 < b) → AllRead ts → FitAll ts ps → highest ts ≤ r → nests ts ps ≤ b → Apart (shutting ps) front ts → Tail ps o rest → Opened ts o → row (reader b r n) (may_open b) ps front (spell ts ps ++ rest) ≡ some_row (front ++ listed ts) rest
 unfolding row step linked spell spell_signs spell_part flat nests nests_part is_called name_at shutting tall_pieces
 row_complete b r n [] o rest NoSyntax front positive e opens read fits high nested apart tail opened = ap (λ (xs : List Syntax). some_row xs rest) (sym (append-nil front))

@@ -91,7 +91,7 @@ pub record IsPart (k : Kind) (place : Place) (b r : ℕ) (toks : List Lexeme) (x
 abbrev pub IsSound : (b r : ℕ) → Reader → Type 0
 IsSound b r read = (place : Place) (k : Kind) (toks : List Lexeme) (x : Found) → read place k toks ≡ Some x → IsPart k place b r toks x
 
--- parts that were read behind others by the pieces of a rule
+-- parts that were read after others by the pieces of a rule
 pub record Rowed (b r : ℕ) (ps : List Piece) (front : List Syntax) (toks : List Lexeme) (y : Row) : Type 0 where
   pub new : List Syntax
   pub all : y.0 ≡ front ++ new
@@ -106,7 +106,7 @@ only_signs [] = true
 only_signs (pieces.Sign s ∷ ps) = only_signs ps
 only_signs (p ∷ ps) = false
 
--- behind any number of parts only signs stand
+-- after any number of parts only signs stand
 abbrev pub tidy : List Piece → Bool
 tidy [] = true
 tidy (pieces.Others place k start ∷ ps) = only_signs ps

@@ -87,7 +87,7 @@ pub record IsPhrase (b r l : ℕ) (toks : List Lexeme) (x : Found) : Type 0 wher
 abbrev GoesOn : (b r l : ℕ) → (Syntax → List Lexeme → Option Found) → Type 0
 GoesOn b r l go = (left : Syntax) (toks : List Lexeme) (x : Found) → Fits left → level_in left ≤ l → height_of left ≤ suc r → nesting left ≤ b → go left toks ≡ Some x → IsPhrase b (suc r) l (flat left ++ toks) x
 
--- a part and what stands behind an operator
+-- a part and what comes after an operator
 pub record Grown (b r : ℕ) (op : Operator) (left : Syntax) (toks : List Lexeme) (y : Found) : Type 0 where
   pub fits : Fits y.0
   pub loose : level_in y.0 ≡ level op
