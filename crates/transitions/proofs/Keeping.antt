@@ -1,6 +1,5 @@
 -- Processes by number, of which there get more.
 use Rattle.std.proofs.Common.{◌≡◌, ℕ, ◌<◌, List, length, refl, sym, ap, ◌∙◌, subst, arith}
-use Rattle.std.specs.declared.vec.Vec.{Vec}
 use Rattle.term.specs.Proc.{Proc, bodies_of, prefix}
 use Rattle.term.specs.Limits.{Terms, most_states}
 use Rattle.step.specs.declared.targets.Label.{Label}
@@ -75,16 +74,16 @@ module _ (s r : Numbered) (k : KeepsNumbers s r) where
       go (Intr p q) v = rw (part p v.0, part q v.1) refl
       go (Name j) v = refl
 
-pub sound-grown : {A : Type 0} (t u : Tabled) (ns : List ℕ) (es : List (ℕ × Vec ℕ A)) (ds : List ℕ) → IsSound t ns es ds → HasGrown t u → IsSound u ns es ds
+pub sound-grown : (t u : Tabled) (ns : List ℕ) (es : List (ℕ × List ℕ)) (ds : List ℕ) → IsSound t ns es ds → HasGrown t u → IsSound u ns es ds
 sound-grown t u ns es ds s g =
     let k = kept t u ns s.here g in
     record {
       here = below-grown t u g ns s.here;
-      remembered = λ n l v i e.
-          let r = s.remembered n l v i e in
+      remembered = λ n l vs i e.
+          let r = s.remembered n l vs i e in
           record {
             within = within-kept (numbered t ns) (numbered u ns) k n r.within;
-            targets = targets-kept (numbered t ns) (numbered u ns) k n l v.items r.within r.targets;
+            targets = targets-kept (numbered t ns) (numbered u ns) k n l vs r.within r.targets;
           };
       few = omega (arith, s.few, longer t u g);
       depths = λ i d h.

@@ -1,4 +1,5 @@
 -- To believe.
 pub mod Numbered
 -- Steps of the program.
+pub mod Lists
 pub mod Unfolding

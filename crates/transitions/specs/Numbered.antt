@@ -2,7 +2,6 @@
 use Rattle.std.specs.Prelude.{◌≡◌, ℕ, ◌+◌, ◌*◌, ◌<◌, ◌≤◌, List, length, nat_eq, Some}
 use Rattle.std.specs.Coded.{Coded, code_by, coded×, coded_list}
 use Rattle.std.specs.Map.{lookup}
-use Rattle.std.specs.declared.vec.Vec.{Vec}
 use Rattle.std.proofs.Common.{refl}
 use Rattle.alphabet.specs.declared.events.Event.TheVariants.{Tick as tick, Of as ev}
 use Rattle.term.specs.Codes.{proc_code}
@@ -65,11 +64,11 @@ pub record IsRemembered (s : Numbered) (n : ℕ) (l : Label) (ns : List ℕ) : T
   pub targets : AreTargets s n l ns
 
 -- All that is remembered is so.
-abbrev pub AllRemembered : {A : Type 0} → Numbered → List (ℕ × Vec ℕ A) → Type 0
-AllRemembered {A} s es = (n : ℕ) (l : Label) (v : Vec ℕ A) → IsSmall l → lookup (nat_eq (key n l)) es ≡ Some v → IsRemembered s n l v.items
+abbrev pub AllRemembered : Numbered → List (ℕ × List ℕ) → Type 0
+AllRemembered s es = (n : ℕ) (l : Label) (ns : List ℕ) → IsSmall l → lookup (nat_eq (key n l)) es ≡ Some ns → IsRemembered s n l ns
 
 -- What always holds: the bodies' numbers are in the table, what is remembered is so, and so are the depths.
-pub record IsSound {A : Type 0} (t : Tabled) (ns : List ℕ) (es : List (ℕ × Vec ℕ A)) (ds : List ℕ) : Type 0 where
+pub record IsSound (t : Tabled) (ns : List ℕ) (es : List (ℕ × List ℕ)) (ds : List ℕ) : Type 0 where
   pub here : AllBelow (length t.processes) ns
   pub remembered : AllRemembered (numbered t ns) es
   pub few : length ds ≤ length t.processes

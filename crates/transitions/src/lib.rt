@@ -4,6 +4,7 @@
 mod depths;
 mod events;
 mod keys;
+mod lists;
 mod transitions;
 mod walk;
 

@@ -18,16 +18,13 @@ ghost use Rattle.transitions.specs.Unfolding.{capped, unfolded};
 use crate::depths::deepen;
 use crate::events::sources_of;
 use crate::keys::key_of;
+use crate::lists::Lists;
 use alphabet::EventSet;
-use indexmap::IndexMap;
 use nodes::{Facts, Node, Table};
 use std::alloc::{AllocError, Allocator};
-use std::hash::{BuildHasherDefault, FoldHasher};
 use std::marker::Model;
 use step::{DEEPEST_STATE, Label};
 use term::{Spec, Term};
-
-type Hashing = BuildHasherDefault<FoldHasher>;
 
 /// The most processes of a set of states; a list of targets has at most one more.
 pub const MOST_STATES: usize = 4096;
@@ -38,7 +35,7 @@ pub const MOST_STATES: usize = 4096;
 pub struct Transitions<A: Allocator> {
     table: Table<A>,
     bodies: Vec<u32, A>,
-    remembered: IndexMap<u64, Vec<u32, A>, Hashing, A>,
+    remembered: Lists<A>,
     depths: Vec<u32, A>,
     alloc: A,
 }
@@ -52,7 +49,7 @@ impl<A: Allocator> Model for Transitions<A> {
 
     ghost view = { λ s. numbered s.table s.bodies.items };
 
-    ghost invariant = { λ s. IsSound s.table s.bodies.items s.remembered.entries s.depths.items };
+    ghost invariant = { λ s. IsSound s.table s.bodies.items s.remembered s.depths.items };
 }
 
 impl<A: Allocator + Copy> Transitions<A> {
@@ -63,7 +60,7 @@ impl<A: Allocator + Copy> Transitions<A> {
         Transitions {
             table: Table::new(alloc),
             bodies: Vec::new(alloc),
-            remembered: IndexMap::new(alloc),
+            remembered: Lists::new(alloc),
             depths: Vec::new(alloc),
             alloc,
         }
@@ -78,7 +75,7 @@ impl<A: Allocator + Copy> Transitions<A> {
         Ok(Transitions {
             table,
             bodies,
-            remembered: IndexMap::new(alloc),
+            remembered: Lists::new(alloc),
             depths: Vec::new(alloc),
             alloc,
         })
@@ -118,10 +115,7 @@ impl<A: Allocator + Copy> Transitions<A> {
         requires targets { AreTargets self.old number label found.now }
         ensures { self.new ≡ self.old }
     {
-        let Ok(kept) = found.to_vec(self.alloc) else {
-            return;
-        };
-        let _ = self.remembered.insert(key_of(number, label), kept);
+        self.remembered.put(key_of(number, label), found);
     }
 }
 
@@ -209,10 +203,10 @@ impl<A: Allocator> Transitions<A> {
     }
 
     /// What is remembered of the process's steps with this label.
-    pub(crate) fn found(&self, number: u32, label: Label) -> Option<&Vec<u32, A>>
-        ensures { IfSome result (λ found. AreTargets self.now number label found.now.items) }
+    pub(crate) fn found(&self, number: u32, label: Label) -> Option<&[u32]>
+        ensures { IfSome result (λ found. AreTargets self.now number label found.now) }
     {
-        self.remembered.get(&key_of(number, label))
+        self.remembered.get(key_of(number, label))
     }
 
     /// Appends those of the numbers that aren't in the list, as long as there are no more than a set of states may have.

@@ -1,15 +1,14 @@
 use Rattle.std.proofs.Common.{ℕ, nat_eq, sym, ap, ◌∙◌, subst}
 use Rattle.std.specs.Map.{lookup}
-use Rattle.std.specs.declared.vec.Vec.{Vec}
 use Rattle.transitions.specs.Numbered.{Numbered, AreTargets}
 use Rattle.transitions.proofs.Remembering.{found-said}
 use Rattle.transitions.proofs.transitions.Transitions.found.Goals as goal
 
 pub returns : goal.returns
 returns g c =
-    let es = c.self.inside.remembered.entries in
+    let es = c.self.inside.remembered in
     let n = c.args.number in
     let l = c.args.label in
-    found-said c.get.result (λ (v : Vec ℕ g.row.A.Denot). AreTargets c.args.self.now n l v.items) (lookup (nat_eq c.key_of.result) es) c.get.ensures.value
-    (λ v e. subst (λ (s : Numbered). AreTargets s n l v.items) c.self.view_is
-    (c.self.invariant.remembered n l v c.key_of.ensures.small (ap (λ (k : ℕ). lookup (nat_eq k) es) (sym c.key_of.ensures.key) ∙ e)).targets)
+    found-said c.get.result (AreTargets c.args.self.now n l) (lookup (nat_eq c.key_of.result) es) c.get.ensures
+    (λ ns e. subst (λ (s : Numbered). AreTargets s n l ns) c.self.view_is
+    (c.self.invariant.remembered n l ns c.key_of.ensures.small (ap (λ (k : ℕ). lookup (nat_eq k) es) (sym c.key_of.ensures.key) ∙ e)).targets)

@@ -10,7 +10,7 @@ use Rattle.transitions.proofs.Keeping.{kept, sound-grown}
 use Rattle.transitions.proofs.transitions.Transitions.put_end.Goals as goal
 
 pub invariant_of-self : goal.invariant_of-self
-invariant_of-self g c = sound-grown c.self.inside.table c.put_end.new.self c.self.inside.bodies.items c.self.inside.remembered.entries c.self.inside.depths.items c.self.invariant c.put_end.ensures.grown
+invariant_of-self g c = sound-grown c.self.inside.table c.put_end.new.self c.self.inside.bodies.items c.self.inside.remembered c.self.inside.depths.items c.self.invariant c.put_end.ensures.grown
 
 pub returns-clause-cut : goal.returns-clause-cut
 returns-clause-cut g c =
