@@ -49,6 +49,22 @@ fn bodies_of<'a, A: Allocator + Copy>(
     }
 }
 
+/// The specification of what is reached from the root, where a script has these names.
+fn specified<A: Allocator + Copy>(
+    alloc: A,
+    names: Names<'_, A>,
+    root: &[u8],
+) -> Result<Spec<A>, Unread>
+    ensures found { IfOk result (λ spec. (spec.alphabet ≡ names.entry.sigma.alphabet) × AreBodies names.entry.sigma.alphabet (table names.entry.known) (entries_of names.entry.entries) root.now spec.bodies) }
+    ensures only { (spec : Specified) → spec.alphabet ≡ names.entry.sigma.alphabet → AreBodies names.entry.sigma.alphabet (table names.entry.known) (entries_of names.entry.entries) root.now spec.bodies
+        → MatchResult result (λ s. s ≡ spec) (λ e. e ≡ unread.Memory) }
+{
+    match bodies_of(alloc, &names, root) {
+        Ok(bodies) => Ok(Spec::new(names.into_alphabet(), bodies)),
+        Err(error) => Err(error),
+    }
+}
+
 /// The specification that the script with this tree denotes for the root.
 fn denoted<A: Allocator + Copy>(alloc: A, tree: &Tree<A>, root: &[u8]) -> Result<Spec<A>, Unread>
     requires { IsTrue (has_names (shape tree.now)) }
@@ -57,10 +73,7 @@ fn denoted<A: Allocator + Copy>(alloc: A, tree: &Tree<A>, root: &[u8]) -> Result
 {
     let declared = declare(alloc, tree)?;
     let names = names_of(alloc, declared)?;
-    match bodies_of(alloc, &names, root) {
-        Ok(bodies) => Ok(Spec::new(names.into_alphabet(), bodies)),
-        Err(error) => Err(error),
-    }
+    specified(alloc, names, root)
 }
 
 /// The specification that the text of a script denotes for the root, which is the name of one of its processes; or the first
