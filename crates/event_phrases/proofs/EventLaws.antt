@@ -1,5 +1,6 @@
 -- What events, sets of events, fields and prefixes are, by their forms.
 use Rattle.std.proofs.Common.{◌≡◌, suc, ◌<◌, List, [], ◌∷◌, length, Bool, true, false, cond, ◌&&◌, nat_eq, Option, Some, None, refl, sym, subst, ap, ◌∙◌, arith}
+use Rattle.std.specs.Option.{option_map}
 use Rattle.alphabet.specs.Channels.{FieldValue, Values, Channel}
 use Rattle.syntax.specs.declared.form.Form.{Form}
 use Rattle.syntax.specs.declared.form.Form.TheVariants as forms
@@ -90,8 +91,18 @@ within_is known (t ∷ ts) (set ∷ sets) = by (field_value known t) (field_valu
     by (Some v) None h = lost (is_among v set) v ∙ ap (λ o. cond (is_among v set) (o >>= λ vs. some_values (v ∷ vs)) None) h
     by (Some v) (Some vs) h = here (is_among v set) (are_within vs sets) v vs ∙ ap (λ o. cond (is_among v set) (o >>= λ vs. some_values (v ∷ vs)) None) h
 
-abbrev begun : Name → Values → Option Beginning
+abbrev pub begun : Name → Values → Option Beginning
 begun c vs = Some (c, vs)
+
+abbrev pub begun_with : Name → Values → Beginning
+begun_with c vs = (c, vs)
+
+mapped : (c : Name) (o : Option Values) → (o >>= λ vs. begun c vs) ≡ option_map (begun_with c) o
+mapped c None = refl
+mapped c (Some vs) = refl
+
+pub begun_fails : (k : Unread) (c : Name) (o : Option Values) → Fails k o → Fails k (option_map (begun_with c) o)
+begun_fails k c o f = fails_on k o (option_map (begun_with c) o) (λ e. ap (option_map (begun_with c)) e) f
 
 begin_in : (c : Name) (o : Option Values) (sets : List Values) → (o >>= λ vs. cond (are_within vs sets) (begun c vs) None) ≡ ((o >>= λ vs. cond (are_within vs sets) (some_values vs) None) >>= λ vs. begun c vs)
 begin_in c None sets = refl
@@ -386,15 +397,9 @@ module _ (cs : List Channel) (known : Known) (t : Syntax) (c : Name) (ts : List 
   begin_none f = begins_by cs known t (c, ts) (sym h) ∙ ap (λ o. o >>= λ sets. within_by known ts sets >>= λ vs. begun c vs) (sym f)
 
   module _ (sets : List Values) (f : Some sets ≡ channel_fields cs known c) where
-    begin_so_far : beginning cs known t ≡ (within_by known ts sets >>= λ vs. begun c vs)
+    pub begin_made : beginning cs known t ≡ option_map (begun_with c) (within_by known ts sets)
     unfolding begin_by
-    begin_so_far = begins_by cs known t (c, ts) (sym h) ∙ ap (λ o. o >>= λ sets. within_by known ts sets >>= λ vs. begun c vs) (sym f)
-
-    pub begin_fails : (k : Unread) → Fails k (within_by known ts sets) → Fails k (beginning cs known t)
-    begin_fails k e = fails_on k (within_by known ts sets) (beginning cs known t) (λ e. begin_so_far ∙ ap (λ o. o >>= λ vs. begun c vs) e) e
-
-    pub begin_made : (name : Name) (vs : Values) → within_by known ts sets ≡ Some vs → name ≡ c → beginning cs known t ≡ Some (name, vs)
-    begin_made name vs e n = begin_so_far ∙ ap (λ o. o >>= λ vs. begun c vs) e ∙ ap (λ c. begun c vs) (sym n)
+    begin_made = begins_by cs known t (c, ts) (sym h) ∙ ap (λ o. o >>= λ sets. within_by known ts sets >>= λ vs. begun c vs) (sym f) ∙ mapped c (within_by known ts sets)
 
 -- what is left of a phrase is nothing
 pub whole_unchosen : (cs : List Channel) (known : Known) (t : Syntax) (k : Unread) → Fails k (chosen known t) → Fails k (whole_event cs known t)
@@ -425,8 +430,5 @@ module _ (cs : List Channel) (known : Known) (t u : Syntax) (un : chosen known t
       pub whole_lacks : (length ts ≡ length sets → ⊥) → whole_event cs known t ≡ None
       whole_lacks n = whole_so_far false (grind (arith, n))
 
-      pub whole_fails : length ts ≡ length sets → (k : Unread) → Fails k (within_by known ts sets) → Fails k (whole_event cs known t)
-      whole_fails l k e = fails_on k (within_by known ts sets) (whole_event cs known t) (λ e. whole_so_far true (grind (arith, l)) ∙ ap (λ o. o >>= λ vs. begun c vs) e) e
-
-      pub whole_made : length ts ≡ length sets → (name : Name) (vs : Values) → within_by known ts sets ≡ Some vs → name ≡ c → whole_event cs known t ≡ Some (name, vs)
-      whole_made l name vs e n = whole_so_far true (grind (arith, l)) ∙ ap (λ o. o >>= λ vs. begun c vs) e ∙ ap (λ c. begun c vs) (sym n)
+      pub whole_made : length ts ≡ length sets → whole_event cs known t ≡ option_map (begun_with c) (within_by known ts sets)
+      whole_made l = whole_so_far true (grind (arith, l)) ∙ mapped c (within_by known ts sets)

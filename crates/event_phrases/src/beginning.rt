@@ -1,7 +1,8 @@
 //! Events, and events that begin alike, as phrases without inputs give them.
-ghost use Rattle.std.specs.Prelude.{◌≡◌, Some, map};
+ghost use Rattle.std.specs.Prelude.{◌≡◌, map};
+ghost use Rattle.std.specs.Option.{option_map};
 ghost use Rattle.syntax.specs.View.{shape, shapes};
-ghost use Rattle.values.specs.Tables.{input};
+ghost use Rattle.values.specs.Tables.{behind, input, table};
 ghost use Rattle.values.specs.Values.{is_among};
 ghost use Rattle.values.specs.View.{Gives, value as value_of};
 ghost use Rattle.event_phrases.specs.EventForms.{given_value, within_by, values_behind, chosen as chosen_of};
@@ -13,11 +14,11 @@ ghost use Rattle.event_phrases.specs.View.{beginning as beginning_of, listed};
 use crate::forms::{FieldPhrase, branches, event_parts, field, in_brackets};
 use crate::global_scope::{GlobalScope, Set, Wanted};
 use crate::row::Row;
-use crate::scope::{Scope, reported_fault, truth, worth};
+use crate::scope::{Scope, reported_fault, truth};
 use std::alloc::Allocator;
 use syntax::Tree;
 use tokens::{ScriptErrorKind, Unread, fault};
-use values::{Value, the_value};
+use values::{Input, Known, Value, stands_for, the_value};
 
 /// Whether the value is one of the set.
 pub(crate) fn is_one_of<A: Allocator>(value: &Value<A>, set: &[Value<A>]) -> bool
@@ -30,19 +31,20 @@ pub(crate) fn is_one_of<A: Allocator>(value: &Value<A>, set: &[Value<A>]) -> boo
     }
 }
 
-/// The value that a field of this form gives.
+/// The value that a field of this form gives after these inputs.
 #[tactic(auto, unfolding(crate::specs::EventForms::given_value))]
-fn given_by<A: Allocator + Copy, G: GlobalScope<A>>(
+fn given_by<A: Allocator + Copy>(
     alloc: A,
-    scope: &Scope<'_, A, G>,
+    known: &Known<A>,
+    inputs: &[Input<A>],
     phrase: FieldPhrase<'_, A>,
     line: u32,
 ) -> Result<Value<A>, Unread>
-    ensures { Gives value_of result (given_value (within (G.scope scope.now.global.now) (map input scope.now.inputs.items)).known (plain_field phrase.entry)) }
+    ensures { Gives value_of result (given_value (behind (table known.now) (map input inputs.now)) (plain_field phrase.entry)) }
 {
     match phrase {
         FieldPhrase::Given(tree) => {
-            let found = worth(alloc, scope.global, &scope.inputs, tree)?;
+            let found = stands_for(&alloc, known, inputs, tree)?;
             the_value(found, tree.line())
         }
         FieldPhrase::Input(_) => Err(fault(line, ScriptErrorKind::Expected)),
@@ -50,63 +52,85 @@ fn given_by<A: Allocator + Copy, G: GlobalScope<A>>(
     }
 }
 
-/// The value that a field gives.
+/// The value that a field gives after these inputs.
 #[tactic(auto, using(crate::proofs::EventLaws::value_so, crate::proofs::EventLaws::no_value))]
-pub(crate) fn given<A: Allocator + Copy, G: GlobalScope<A>>(
+pub(crate) fn given<A: Allocator + Copy>(
     alloc: A,
-    scope: &Scope<'_, A, G>,
+    known: &Known<A>,
+    inputs: &[Input<A>],
     tree: &Tree<A>,
 ) -> Result<Value<A>, Unread>
-    ensures { Gives value_of result (field_value (within (G.scope scope.now.global.now) (map input scope.now.inputs.items)).known (shape tree.now)) }
+    ensures { Gives value_of result (field_value (behind (table known.now) (map input inputs.now)) (shape tree.now)) }
 {
     match field(tree) {
-        Some(phrase) => given_by(alloc, scope, phrase, tree.line()),
+        Some(phrase) => given_by(alloc, known, inputs, phrase, tree.line()),
         None => Err(fault(tree.line(), ScriptErrorKind::Expected)),
     }
 }
 
 /// The values before, and after them those that the fields give, each of which is one of its field's.
-fn more_values<A: Allocator + Copy, G: GlobalScope<A>>(
+fn more_values<A: Allocator + Copy>(
     alloc: A,
-    scope: &Scope<'_, A, G>,
+    known: &Known<A>,
+    inputs: &[Input<A>],
     fields: &[Tree<A>],
     sets: &[Set<A>],
     before: Vec<Value<A>, A>,
     line: u32,
 ) -> Result<Vec<Value<A>, A>, Unread>
-    ensures { Gives (λ v. listed v.items) result (values_behind (listed before.items) (within_by (within (G.scope scope.now.global.now) (map input scope.now.inputs.items)).known (shapes fields.now) (map (λ v. listed v.items) sets.now))) }
+    ensures { Gives (λ v. listed v.items) result (values_behind (listed before.items) (within_by (behind (table known.now) (map input inputs.now)) (shapes fields.now) (map (λ v. listed v.items) sets.now))) }
 {
     match fields {
         [] => Ok(before),
         [field, fields @ ..] => match sets {
             [] => Err(fault(line, ScriptErrorKind::WrongFields)),
             [set, sets @ ..] => {
-                let value = given(alloc, scope, field)?;
+                let value = given(alloc, known, inputs, field)?;
                 if !is_one_of(&value, set) {
                     return Err(fault(field.line(), ScriptErrorKind::OutOfRange));
                 }
                 let mut values = before;
                 values.push(value)?;
-                more_values(alloc, scope, fields, sets, values, line)
+                more_values(alloc, known, inputs, fields, sets, values, line)
             }
         },
     }
 }
 
 /// The values that the fields give, each of which is one of its field's.
-fn values_of<A: Allocator + Copy, G: GlobalScope<A>>(
+fn values_of<A: Allocator + Copy>(
     alloc: A,
-    scope: &Scope<'_, A, G>,
+    known: &Known<A>,
+    inputs: &[Input<A>],
     fields: &[Tree<A>],
     sets: &[Set<A>],
     line: u32,
 ) -> Result<Vec<Value<A>, A>, Unread>
-    ensures { Gives (λ v. listed v.items) result (within_by (within (G.scope scope.now.global.now) (map input scope.now.inputs.items)).known (shapes fields.now) (map (λ v. listed v.items) sets.now)) }
+    ensures { Gives (λ v. listed v.items) result (within_by (behind (table known.now) (map input inputs.now)) (shapes fields.now) (map (λ v. listed v.items) sets.now)) }
 {
     if fields.len() > sets.len() {
         return Err(fault(line, ScriptErrorKind::WrongFields));
     }
-    more_values(alloc, scope, fields, sets, Vec::new(alloc), line)
+    more_values(alloc, known, inputs, fields, sets, Vec::new(alloc), line)
+}
+
+/// The channel and the values that the fields after it give, each of which is one of its field's.
+fn begun<A: Allocator + Copy>(
+    alloc: A,
+    known: &Known<A>,
+    inputs: &[Input<A>],
+    channel: &[u8],
+    fields: &[Tree<A>],
+    sets: &[Set<A>],
+    line: u32,
+) -> Result<Row<A>, Unread>
+    ensures { Gives (λ r. beginning_of r) result (option_map (λ vs. (channel.now, vs)) (within_by (behind (table known.now) (map input inputs.now)) (shapes fields.now) (map (λ v. listed v.items) sets.now))) }
+{
+    let values = values_of(alloc, known, inputs, fields, sets, line)?;
+    Ok(Row {
+        channel: Vec::from_slice(alloc, channel)?,
+        values,
+    })
 }
 
 /// The channel and the first values that an event phrase without inputs gives. Its fault isn't the one that is reported.
@@ -122,11 +146,16 @@ pub(crate) fn beginning<A: Allocator + Copy, G: GlobalScope<A>>(
         Some((channel, fields)) => match scope.fields(channel) {
             None => Err(fault(tree.line(), ScriptErrorKind::Expected)),
             Some(sets) => {
-                let values = values_of(alloc, scope, fields, sets, tree.line())?;
-                Ok(Row {
-                    channel: Vec::from_slice(alloc, channel)?,
-                    values,
-                })
+                let known = scope.global.known();
+                begun(
+                    alloc,
+                    known,
+                    &scope.inputs,
+                    channel,
+                    fields,
+                    sets,
+                    tree.line(),
+                )
             }
         },
     }
@@ -155,21 +184,22 @@ pub(crate) fn wanted_beginning<A: Allocator + Copy, G: GlobalScope<A>>(
 }
 
 /// The phrase that is left where brackets go and each condition chooses its branch. Its fault isn't the one that is reported.
-fn chosen<'t, A: Allocator + Copy, G: GlobalScope<A>>(
+fn chosen<'t, A: Allocator + Copy>(
     alloc: A,
-    scope: &Scope<'_, A, G>,
+    known: &Known<A>,
+    inputs: &[Input<A>],
     tree: &'t Tree<A>,
 ) -> Result<&'t Tree<A>, Unread>
-    ensures { Gives (λ t. shape t.now) result (chosen_of (within (G.scope scope.now.global.now) (map input scope.now.inputs.items)).known (shape tree.now)) }
+    ensures { Gives (λ t. shape t.now) result (chosen_of (behind (table known.now) (map input inputs.now)) (shape tree.now)) }
 {
     match in_brackets(tree) {
-        Some(inner) => chosen(alloc, scope, inner),
+        Some(inner) => chosen(alloc, known, inputs, inner),
         None => match branches(tree) {
             Some((condition, first, second)) => {
-                if truth(alloc, scope, condition)? {
-                    chosen(alloc, scope, first)
+                if truth(alloc, known, inputs, condition)? {
+                    chosen(alloc, known, inputs, first)
                 } else {
-                    chosen(alloc, scope, second)
+                    chosen(alloc, known, inputs, second)
                 }
             }
             None => Ok(tree),
@@ -185,7 +215,9 @@ pub(crate) fn whole_event<A: Allocator + Copy, G: GlobalScope<A>>(
 ) -> Result<Row<A>, Unread>
     ensures { Gives (λ r. beginning_of r) result (whole_event_in (G.scope scope.now.global.now).channels (within (G.scope scope.now.global.now) (map input scope.now.inputs.items)).known (shape tree.now)) }
 {
-    let inner = chosen(alloc, scope, tree)?;
+    let known = scope.global.known();
+    let inputs: &[Input<A>] = &scope.inputs;
+    let inner = chosen(alloc, known, inputs, tree)?;
     match event_parts(inner) {
         None => Err(fault(tree.line(), ScriptErrorKind::Expected)),
         Some((channel, fields)) => match scope.fields(channel) {
@@ -194,11 +226,7 @@ pub(crate) fn whole_event<A: Allocator + Copy, G: GlobalScope<A>>(
                 if fields.len() != sets.len() {
                     return Err(fault(inner.line(), ScriptErrorKind::WrongFields));
                 }
-                let values = values_of(alloc, scope, fields, sets, inner.line())?;
-                Ok(Row {
-                    channel: Vec::from_slice(alloc, channel)?,
-                    values,
-                })
+                begun(alloc, known, inputs, channel, fields, sets, inner.line())
             }
         },
     }

@@ -255,7 +255,13 @@ pub fn prefix_of<'a, A: Allocator + Copy, G: GlobalScope<A>>(
                     return Err(fault(event.line(), ScriptErrorKind::WrongFields));
                 }
                 at_no_fault(alloc, scope, fields, sets)?;
-                let leading = leading_values(alloc, scope, fields, sets)?;
+                let leading = leading_values(
+                    alloc,
+                    scope.global.known(),
+                    &scope.inputs,
+                    fields,
+                    sets,
+                )?;
                 Ok(Prefix {
                     channel,
                     fields,

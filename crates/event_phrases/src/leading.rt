@@ -3,7 +3,7 @@ ghost use Rattle.std.specs.Prelude.{suc, ◌≤◌, ◌<◌, ◌++◌, IfOk, IfS
 ghost use Rattle.std.specs.Option.{option_map};
 ghost use Rattle.alphabet.specs.Channels.{events as events_of};
 ghost use Rattle.syntax.specs.View.{shape, shapes};
-ghost use Rattle.values.specs.Tables.{input};
+ghost use Rattle.values.specs.Tables.{behind, input, table};
 ghost use Rattle.values.specs.View.{Gives, value as value_of};
 ghost use Rattle.event_phrases.specs.Events.{field_value};
 ghost use Rattle.event_phrases.specs.Leading.{first_fit, leading, led_fits, led_fitting as led_fitting_of, value_within};
@@ -18,19 +18,20 @@ use crate::scope::{Scope, copies};
 use std::alloc::Allocator;
 use syntax::Tree;
 use tokens::{ScriptErrorKind, Unread, fault};
-use values::{Input, Value};
+use values::{Input, Known, Value};
 
 /// The value that a field gives, if it is one of the field's set. A fault isn't reported here.
 #[tactic(auto, unfolding(crate::specs::Leading::value_within))]
-fn leading_value<A: Allocator + Copy, G: GlobalScope<A>>(
+fn leading_value<A: Allocator + Copy>(
     alloc: A,
-    scope: &Scope<'_, A, G>,
+    known: &Known<A>,
+    inputs: &[Input<A>],
     field: &Tree<A>,
     set: &Set<A>,
 ) -> Result<Option<Value<A>>, Unread>
-    ensures { Gives (option_map value_of) result (Some (value_within (field_value (within (G.scope scope.now.global.now) (map input scope.now.inputs.items)).known (shape field.now)) (listed set.now.items))) }
+    ensures { Gives (option_map value_of) result (Some (value_within (field_value (behind (table known.now) (map input inputs.now)) (shape field.now)) (listed set.now.items))) }
 {
-    match given(alloc, scope, field) {
+    match given(alloc, known, inputs, field) {
         Ok(value) => {
             if is_one_of(&value, set) {
                 Ok(Some(value))
@@ -45,25 +46,26 @@ fn leading_value<A: Allocator + Copy, G: GlobalScope<A>>(
 
 /// The values before, and after them those of the first fields, as far as they give one of their set.
 #[tactic(auto, unfolding(crate::specs::Leading::leading, crate::specs::Leading::before_more))]
-fn more_leading<A: Allocator + Copy, G: GlobalScope<A>>(
+fn more_leading<A: Allocator + Copy>(
     alloc: A,
-    scope: &Scope<'_, A, G>,
+    known: &Known<A>,
+    inputs: &[Input<A>],
     fields: &[Tree<A>],
     sets: &[Set<A>],
     before: Vec<Value<A>, A>,
 ) -> Result<Vec<Value<A>, A>, Unread>
-    ensures { Gives (λ v. listed v.items) result (Some (listed before.items ++ leading (within (G.scope scope.now.global.now) (map input scope.now.inputs.items)).known (shapes fields.now) (map (λ v. listed v.items) sets.now))) }
+    ensures { Gives (λ v. listed v.items) result (Some (listed before.items ++ leading (behind (table known.now) (map input inputs.now)) (shapes fields.now) (map (λ v. listed v.items) sets.now))) }
 {
     match fields {
         [] => Ok(before),
         [field, fields @ ..] => match sets {
             [] => Ok(before),
-            [set, sets @ ..] => match leading_value(alloc, scope, field, set)? {
+            [set, sets @ ..] => match leading_value(alloc, known, inputs, field, set)? {
                 None => Ok(before),
                 Some(value) => {
                     let mut values = before;
                     values.push(value)?;
-                    more_leading(alloc, scope, fields, sets, values)
+                    more_leading(alloc, known, inputs, fields, sets, values)
                 }
             },
         },
@@ -71,15 +73,16 @@ fn more_leading<A: Allocator + Copy, G: GlobalScope<A>>(
 }
 
 /// The values of the first fields, as far as they give one of their set. A field that is at fault is left to the events.
-pub(crate) fn leading_values<A: Allocator + Copy, G: GlobalScope<A>>(
+pub(crate) fn leading_values<A: Allocator + Copy>(
     alloc: A,
-    scope: &Scope<'_, A, G>,
+    known: &Known<A>,
+    inputs: &[Input<A>],
     fields: &[Tree<A>],
     sets: &[Set<A>],
 ) -> Result<Vec<Value<A>, A>, Unread>
-    ensures { Gives (λ v. listed v.items) result (Some (leading (within (G.scope scope.now.global.now) (map input scope.now.inputs.items)).known (shapes fields.now) (map (λ v. listed v.items) sets.now))) }
+    ensures { Gives (λ v. listed v.items) result (Some (leading (behind (table known.now) (map input inputs.now)) (shapes fields.now) (map (λ v. listed v.items) sets.now))) }
 {
-    more_leading(alloc, scope, fields, sets, Vec::new(alloc))
+    more_leading(alloc, known, inputs, fields, sets, Vec::new(alloc))
 }
 
 /// The inputs after the fields, if the event's values fit them; the first fields have these values.

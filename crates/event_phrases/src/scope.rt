@@ -3,7 +3,7 @@ ghost use Rattle.std.specs.Prelude.{◌≡◌, ◌++◌, ◌∷◌, [], IfOk, On
 ghost use Rattle.std.specs.Option.{option_map};
 ghost use Rattle.syntax.specs.View.{shape};
 ghost use Rattle.tokens.specs.declared.unread.Unread.TheVariants.{Memory};
-ghost use Rattle.values.specs.Tables.{input, names_value};
+ghost use Rattle.values.specs.Tables.{behind, input, names_value, table};
 ghost use Rattle.values.specs.View.{Gives, value as value_of, values, worth as worth_of};
 ghost use Rattle.values.specs.Worths.{condition, worth as worth_in};
 ghost use Rattle.event_phrases.specs.Scopes.{value_by, values_by, with_input as with_input_of, within};
@@ -14,7 +14,9 @@ use crate::global_scope::{GlobalScope, Set, Wanted};
 use std::alloc::{AllocError, Allocator};
 use syntax::Tree;
 use tokens::Unread;
-use values::{Input, Value, Values, Worth, is_value, stands_for, the_set, the_truth, the_value};
+use values::{
+    Input, Known, Value, Values, Worth, is_value, stands_for, the_set, the_truth, the_value,
+};
 
 /// The scope of a phrase: what is known of the script, and the inputs before the phrase.
 #[derive(Drop)]
@@ -44,18 +46,6 @@ pub fn copies<A: Allocator + Copy>(
     Ok(copies)
 }
 
-/// What a phrase for a value or a set of values means after these inputs.
-pub(crate) fn worth<A: Allocator + Copy, G: GlobalScope<A>>(
-    alloc: A,
-    global: &G,
-    inputs: &[Input<A>],
-    tree: &Tree<A>,
-) -> Result<Worth<A>, Unread>
-    ensures { Gives worth_of result (worth_in (within (G.scope global.now) (map input inputs.now)).known (shape tree.now)) }
-{
-    stands_for(&alloc, global.known(), inputs, tree)
-}
-
 /// The fault that is reported of a phrase after these inputs which isn't what is wanted for this error; out of memory stays as it is.
 pub(crate) fn reported_fault<A: Allocator, G: GlobalScope<A>>(
     global: &G,
@@ -83,22 +73,23 @@ pub(crate) fn wanted_worth<A: Allocator + Copy, G: GlobalScope<A>>(
 ) -> Result<Worth<A>, Unread>
     ensures { Gives worth_of result (worth_in (within (G.scope global.now) (map input inputs.now)).known (shape tree.now)) }
 {
-    match worth(alloc, global, inputs, tree) {
+    match stands_for(&alloc, global.known(), inputs, tree) {
         Ok(worth) => Ok(worth),
         Err(error) => Err(reported_fault(global, inputs, tree, wanted, error)),
     }
 }
 
-/// The truth that a condition means. Its fault isn't the one that is reported.
+/// The truth that a condition means after these inputs. Its fault isn't the one that is reported.
 #[tactic(auto, unfolding(values::specs::Worths::condition))]
-pub(crate) fn truth<A: Allocator + Copy, G: GlobalScope<A>>(
+pub(crate) fn truth<A: Allocator + Copy>(
     alloc: A,
-    scope: &Scope<'_, A, G>,
+    known: &Known<A>,
+    inputs: &[Input<A>],
     tree: &Tree<A>,
 ) -> Result<bool, Unread>
-    ensures { Gives (λ b. b) result (condition (within (G.scope scope.now.global.now) (map input scope.now.inputs.items)).known (shape tree.now)) }
+    ensures { Gives (λ b. b) result (condition (behind (table known.now) (map input inputs.now)) (shape tree.now)) }
 {
-    let worth = worth(alloc, scope.global, &scope.inputs, tree)?;
+    let worth = stands_for(&alloc, known, inputs, tree)?;
     the_truth(worth, tree.line())
 }
 
@@ -111,7 +102,7 @@ pub fn wanted_truth<A: Allocator + Copy, G: GlobalScope<A>>(
 ) -> Result<bool, Unread>
     ensures { Gives (λ b. b) result (condition (within (G.scope scope.now.global.now) (map input scope.now.inputs.items)).known (shape tree.now)) }
 {
-    match truth(alloc, scope, tree) {
+    match truth(alloc, scope.global.known(), &scope.inputs, tree) {
         Ok(truth) => Ok(truth),
         Err(error) => Err(reported_fault(scope.global, &scope.inputs, tree, Wanted::Truth, error)),
     }

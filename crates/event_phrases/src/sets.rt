@@ -107,7 +107,7 @@ fn set_of_phrase<A: Allocator + Copy, G: GlobalScope<A>>(
         SetPhrase::Everything => Ok(scope.global.sigma()),
         SetPhrase::Several(extent, trees) => several(alloc, scope, extent, trees),
         SetPhrase::Chosen(condition, first, second) => {
-            if truth(alloc, scope, condition)? {
+            if truth(alloc, scope.global.known(), &scope.inputs, condition)? {
                 event_set(alloc, scope, first)
             } else {
                 event_set(alloc, scope, second)

@@ -2,11 +2,10 @@ use Rattle.std.proofs.Common.{◌≡◌, ◌++◌, ◌∷◌, [], map, drop, tru
 use Rattle.std.proofs.lemmas.List.{map-append}
 use Rattle.std.proofs.lemmas.Result.{err_from_is_err_and}
 use Rattle.syntax.specs.View.{shape, shapes}
-use Rattle.values.specs.Tables.{input}
+use Rattle.values.specs.Tables.{behind, input, table}
 use Rattle.values.specs.Values.{is_among}
 use Rattle.values.specs.View.{Gives, Fails, value}
 use Rattle.event_phrases.specs.EventForms.{within_by, values_behind}
-use Rattle.event_phrases.specs.Scopes.{within}
 use Rattle.event_phrases.specs.View.{listed}
 use Rattle.event_phrases.proofs.Scopes.{no_fields, no_sets, not_within, one_value, value_fails, no_items, first_item, rest_is}
 use Rattle.syntax.proofs.Failing.{fails_none}
@@ -14,13 +13,13 @@ use Rattle.event_phrases.proofs.beginning.+more_values.Goals as goal
 
 pub returns-in-empty : goal.returns-in-empty
 returns-in-empty g t c =
-    let known = (within (g.G.GlobalScope.scope c.args.scope.now.global.now) (map input c.args.scope.now.inputs.items)).known in
+    let known = behind (table c.args.known.now) (map input c.args.inputs.now) in
     let sets = map (λ v. listed v.items) c.args.sets.now in
     ap (λ ts. values_behind (listed c.args.before.items) (within_by known (shapes ts) sets)) (no_items c.args.fields.now c.in-empty.len_below) ∙ no_fields known sets (listed c.args.before.items)
 
 pub returns-in-empty-sets : goal.returns-in-empty-sets
 returns-in-empty-sets g t c =
-    let known = (within (g.G.GlobalScope.scope c.args.scope.now.global.now) (map input c.args.scope.now.inputs.items)).known in
+    let known = behind (table c.args.known.now) (map input c.args.inputs.now) in
     let front = listed c.args.before.items in
     let ef = first_item c.args.fields.now c.field-item.result c.in-len1-up.len_at_least c.field-item.is in
     let es = no_items c.args.sets.now c.in-empty-sets.len_below in
@@ -29,7 +28,7 @@ returns-in-empty-sets g t c =
 
 pub returns-in_err-value-in-len1-up-sets : goal.returns-in_err-value-in-len1-up-sets
 returns-in_err-value-in-len1-up-sets g t c =
-    let known = (within (g.G.GlobalScope.scope c.args.scope.now.global.now) (map input c.args.scope.now.inputs.items)).known in
+    let known = behind (table c.args.known.now) (map input c.args.inputs.now) in
     let front = listed c.args.before.items in
     let ef = first_item c.args.fields.now c.field-item.result c.in-len1-up.len_at_least c.field-item.is in
     let es = first_item c.args.sets.now c.set-item.result c.in-len1-up-sets.len_at_least c.set-item.is in
@@ -40,7 +39,7 @@ returns-in_err-value-in-len1-up-sets g t c =
 
 pub returns-then-not-is_one_of : goal.returns-then-not-is_one_of
 returns-then-not-is_one_of g t c =
-    let known = (within (g.G.GlobalScope.scope c.args.scope.now.global.now) (map input c.args.scope.now.inputs.items)).known in
+    let known = behind (table c.args.known.now) (map input c.args.inputs.now) in
     let front = listed c.args.before.items in
     let v = value c.in_ok-value-in-len1-up-sets.value in
     let ef = first_item c.args.fields.now c.field-item.result c.in-len1-up.len_at_least c.field-item.is in
@@ -52,7 +51,7 @@ returns-then-not-is_one_of g t c =
 
 pub returns-in_ok-push-in-len1-up-sets : goal.returns-in_ok-push-in-len1-up-sets
 returns-in_ok-push-in-len1-up-sets g t c =
-    let known = (within (g.G.GlobalScope.scope c.args.scope.now.global.now) (map input c.args.scope.now.inputs.items)).known in
+    let known = behind (table c.args.known.now) (map input c.args.inputs.now) in
     let front = listed c.args.before.items in
     let v = value c.in_ok-value-in-len1-up-sets.value in
     let others = within_by known (shapes (drop 1 c.args.fields.now)) (map (λ v. listed v.items) (drop 1 c.args.sets.now)) in

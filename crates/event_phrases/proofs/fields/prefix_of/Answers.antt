@@ -1,12 +1,15 @@
-use Rattle.std.proofs.Common.{map, sym, arith, ◌∙◌}
+use Rattle.std.proofs.Common.{map, sym, ap, ap₂, arith, ◌∙◌}
 use Rattle.std.proofs.lemmas.List.{length-map}
 use Rattle.std.proofs.lemmas.Result.{err_from_is_err_and}
 use Rattle.syntax.specs.View.{shape, shapes}
-use Rattle.values.specs.Tables.{input}
+use Rattle.values.specs.Tables.{behind, input}
+use Rattle.event_phrases.specs.Leading.{leading}
 use Rattle.event_phrases.specs.Prefixes.{prefix_parts}
 use Rattle.event_phrases.specs.Scopes.{within}
 use Rattle.event_phrases.specs.View.{listed}
 use Rattle.event_phrases.proofs.PrefixParts.{no_event, no_channel, other_count, field_fails, parts_found}
+use Rattle.event_phrases.proofs.FieldSteps.{some_values}
+use Rattle.event_phrases.proofs.Options.{some_is}
 use Rattle.syntax.proofs.Failing.{fails_none}
 use Rattle.event_phrases.proofs.fields.prefix_of.Goals as goal
 
@@ -35,3 +38,8 @@ pub returns-in_ok-leading-in-Some-fields-clause-parts : goal.returns-in_ok-leadi
 returns-in_ok-leading-in-Some-fields-clause-parts g c =
     let s = within (g.G.GlobalScope.scope c.args.scope.now.global.now) (map input c.args.scope.now.inputs.items) in
     parts_found s (shape c.args.event.now) c.in-Some.channel.now (shapes c.in-Some.fields.now) c.in-Some.ensures (map (λ v. listed v.items) c.in-Some-fields.sets.now) c.in-Some-fields.ensures (length-map c.in-Some.fields.now shape ∙ c.if-fields-sets.false ∙ sym (length-map c.in-Some-fields.sets.now (λ v. listed v.items))) c.in_ok-at_no_fault-in-Some-fields.ensures
+
+pub returns-in_ok-leading-in-Some-fields-clause-leading : goal.returns-in_ok-leading-in-Some-fields-clause-leading
+returns-in_ok-leading-in-Some-fields-clause-leading g c =
+    let e = ap₂ (λ k is. behind k (map input is)) c.known.ensures c.deref.ensures.value in
+    sym (some_is (ap (λ k. some_values (leading k (shapes c.in-Some.fields.now) (map (λ v. listed v.items) c.in-Some-fields.sets.now))) (sym e) ∙ c.in_ok-leading-in-Some-fields.ensures))

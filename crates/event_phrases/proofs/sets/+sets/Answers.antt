@@ -1,9 +1,10 @@
-use Rattle.std.proofs.Common.{rules, ◌+◌, ◌*◌, ◌<◌, arith, map, subst, sym, ap, ◌∙◌}
+use Rattle.std.proofs.Common.{rules, ◌+◌, ◌*◌, ◌<◌, arith, map, subst, sym, ap, ap₂, ◌∙◌}
 use Rattle.std.proofs.lemmas.Result.{err_from_is_err_and}
 use Rattle.syntax.specs.View.{shape, shapes}
-use Rattle.values.specs.Tables.{input}
+use Rattle.values.specs.Tables.{behind, input}
 use Rattle.values.specs.Values.{◌>>=◌}
-use Rattle.values.specs.View.{Gives}
+use Rattle.values.specs.Worths.{condition}
+use Rattle.values.specs.View.{Fails, Gives}
 use Rattle.event_phrases.specs.Events.{event_set, masked}
 use Rattle.event_phrases.specs.EventForms.{set_by}
 use Rattle.event_phrases.specs.Scopes.{within}
@@ -102,23 +103,26 @@ pub set_of_phrase-returns-in_err-truth-in-Chosen : goal.set_of_phrase-returns-in
 set_of_phrase-returns-in_err-truth-in-Chosen g t c =
     let s = g.G.GlobalScope.scope c.args.scope.now.global.now in
     let known = (within s (map input c.args.scope.now.inputs.items)).known in
+    let e = ap₂ (λ k is. behind k (map input is)) c.known.ensures c.deref.ensures.value in
     let b = c.in-Chosen in
     let p = err_from_is_err_and c.from_residual.result c.from_residual.ensures.1 in
-    rw (p.1, p.2) (condition_fails (plain_set c.args.phrase) s.channels known s.sets (shape b.condition.now) (shape b.first.now) (shape b.second.now) (ap plain_set b.is) c.in_err-truth-in-Chosen.field-0.0 c.in_err-truth-in-Chosen.ensures)
+    rw (p.1, p.2) (condition_fails (plain_set c.args.phrase) s.channels known s.sets (shape b.condition.now) (shape b.first.now) (shape b.second.now) (ap plain_set b.is) c.in_err-truth-in-Chosen.field-0.0 (subst (λ k. Fails c.in_err-truth-in-Chosen.field-0.0 (condition k (shape b.condition.now))) e c.in_err-truth-in-Chosen.ensures))
 
 pub set_of_phrase-returns-then-branch : goal.set_of_phrase-returns-then-branch
 set_of_phrase-returns-then-branch g t c =
     let s = g.G.GlobalScope.scope c.args.scope.now.global.now in
     let known = (within s (map input c.args.scope.now.inputs.items)).known in
+    let e = ap₂ (λ k is. behind k (map input is)) c.known.ensures c.deref.ensures.value in
     let b = c.in-Chosen in
-    subst (λ o. Gives (λ s. s) c.event_set-then-branch.result o) (sym (first_chosen (plain_set c.args.phrase) s.channels known s.sets (shape b.condition.now) (shape b.first.now) (shape b.second.now) (ap plain_set b.is) c.in_ok-truth-in-Chosen.field-0 c.in_ok-truth-in-Chosen.ensures c.if-branch.true)) c.event_set-then-branch.ensures
+    subst (λ o. Gives (λ s. s) c.event_set-then-branch.result o) (sym (first_chosen (plain_set c.args.phrase) s.channels known s.sets (shape b.condition.now) (shape b.first.now) (shape b.second.now) (ap plain_set b.is) c.in_ok-truth-in-Chosen.field-0 (ap (λ k. condition k (shape b.condition.now)) (sym e) ∙ c.in_ok-truth-in-Chosen.ensures) c.if-branch.true)) c.event_set-then-branch.ensures
 
 pub set_of_phrase-returns-else-branch : goal.set_of_phrase-returns-else-branch
 set_of_phrase-returns-else-branch g t c =
     let s = g.G.GlobalScope.scope c.args.scope.now.global.now in
     let known = (within s (map input c.args.scope.now.inputs.items)).known in
+    let e = ap₂ (λ k is. behind k (map input is)) c.known.ensures c.deref.ensures.value in
     let b = c.in-Chosen in
-    subst (λ o. Gives (λ s. s) c.event_set-else-branch.result o) (sym (second_chosen (plain_set c.args.phrase) s.channels known s.sets (shape b.condition.now) (shape b.first.now) (shape b.second.now) (ap plain_set b.is) c.in_ok-truth-in-Chosen.field-0 c.in_ok-truth-in-Chosen.ensures c.if-branch.false)) c.event_set-else-branch.ensures
+    subst (λ o. Gives (λ s. s) c.event_set-else-branch.result o) (sym (second_chosen (plain_set c.args.phrase) s.channels known s.sets (shape b.condition.now) (shape b.first.now) (shape b.second.now) (ap plain_set b.is) c.in_ok-truth-in-Chosen.field-0 (ap (λ k. condition k (shape b.condition.now)) (sym e) ∙ c.in_ok-truth-in-Chosen.ensures) c.if-branch.false)) c.event_set-else-branch.ensures
 
 pub set_of_phrase-returns-in_err-first-in-Combined : goal.set_of_phrase-returns-in_err-first-in-Combined
 set_of_phrase-returns-in_err-first-in-Combined g t c =
