@@ -19,4 +19,5 @@ mod FormParts
 mod SetForms
 mod CopiedInputs
 mod FieldSteps
+mod FieldForms
 mod RowSteps
