@@ -50,6 +50,10 @@ module _ (ts : List Syntax) (sets : List Values) (s : Scope) (set : Values) wher
   unfolding fields_pass field_passes
   field_is t p h = ap (λ o. o >>= λ p. onward (scopes_after p set s)) h
 
+  pub no_field_is : (t : Syntax) → field_of t ≡ None → fields_pass (syntaxes (t ∷ ts)) (set ∷ sets) s ≡ None
+  unfolding fields_pass
+  no_field_is t h = ap (λ o. o >>= λ p. onward (scopes_after p set s)) h
+
   module _ (p : FieldPhrase) where
     pub given_passes : (t : Syntax) → p ≡ given t → scopes_after (given t) set s ≡ Some (s ∷ []) → field_passes ts sets s p set ≡ fields_pass (syntaxes ts) sets s
     unfolding field_passes all_pass

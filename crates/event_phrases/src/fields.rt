@@ -177,7 +177,6 @@ fn all_pass<A: Allocator + Copy, G: GlobalScope<A>>(
 
 /// Looks at the fields from left to right, each for all values of the inputs before it that it uses.
 #[cycle(passing)]
-#[tactic(auto, unfolding(crate::specs::Prefixes::fields_pass))]
 fn fields_pass<A: Allocator + Copy, G: GlobalScope<A>>(
     alloc: A,
     global: &G,

@@ -83,7 +83,6 @@ fn is_in_part<A: Allocator + Copy, G: GlobalScope<A>>(
 }
 
 /// Whether the event's value fits a field, whose values are this set. What the field puts in is appended to the inputs.
-#[tactic(auto, unfolding(crate::specs::EventForms::fits_by, crate::specs::Fitting::against_input, crate::specs::Fitting::against_part), using(crate::proofs::Scopes::behind_input))]
 fn fits_phrase<A: Allocator + Copy, G: GlobalScope<A>>(
     alloc: A,
     global: &G,

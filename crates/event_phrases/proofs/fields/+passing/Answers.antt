@@ -1,4 +1,5 @@
-use Rattle.std.proofs.Common.{◌≡◌, ◌++◌, ◌∷◌, [], ◌-◌, arith, ap, drop, length, map, refl, subst, sym, take, ap₂, ◌∙◌}
+use Rattle.std.proofs.Common.{rules, ◌≡◌, ◌++◌, ◌∷◌, [], ◌+◌, ◌*◌, ◌-◌, ◌<◌, arith, ap, drop, length, map, refl, subst, sym, take, ap₂, ◌∙◌}
+use Rattle.std.proofs.lemmas.List.{length-drop}
 use Rattle.std.proofs.lemmas.Result.{err_from_is_err_and}
 use Rattle.alphabet.specs.Channels.{FieldValue}
 use Rattle.syntax.specs.Parsing.{syntaxes}
@@ -10,8 +11,9 @@ use Rattle.event_phrases.specs.Scopes.{with_input, within}
 use Rattle.event_phrases.specs.Shapes.{plain_field}
 use Rattle.event_phrases.specs.Uses.{field_passes, passes_after}
 use Rattle.event_phrases.specs.View.{listed}
-use Rattle.event_phrases.proofs.Passing.{turn_passes, turn_fails, all_passed, field_is}
-use Rattle.event_phrases.proofs.Scopes.{behind_input, first_item, rest_is}
+use Rattle.event_phrases.proofs.Passing.{turn_passes, turn_fails, all_passed, field_is, no_field_is}
+use Rattle.event_phrases.proofs.Scopes.{behind_input, first_item, no_items, rest_is}
+use Rattle.syntax.proofs.Failing.{fails_none}
 use Rattle.event_phrases.proofs.fields.+passing.Goals as goal
 
 pub all_pass-loop-value-init : goal.all_pass-loop-value-init
@@ -106,3 +108,40 @@ fields_pass-returns-in-Some-2 g t c =
     let each = all_pass (λ v. fields_pass (syntaxes (shapes rest)) (map (λ v. listed v.items) others) (with_input s c.in-Some-2.name.now v)) in
     let onward : field_passes (shapes rest) (map (λ v. listed v.items) others) s phrase set ≡ each (listed c.in-Some-2.values.items) = rw c.in-Some-2.is at c.in_ok-passing-in-Some.ensures in
     subst (λ o. Gives (λ u. u) c.all_pass.result o) (sym (whole ∙ onward ∙ ap (λ vs. each (listed vs)) (sym c.deref.ensures.value))) c.all_pass.ensures
+
+pub fields_pass-returns-in-empty : goal.fields_pass-returns-in-empty
+unfolding fields_pass
+fields_pass-returns-in-empty g t c =
+    let s = within (g.G.GlobalScope.scope c.args.global.now) (map input c.args.inputs.now) in
+    ap (λ ts. fields_pass (syntaxes (shapes ts)) (map (λ v. listed v.items) c.args.sets.now) s) (no_items c.args.fields.now c.in-empty.len_below)
+
+pub fields_pass-returns-in-empty-sets : goal.fields_pass-returns-in-empty-sets
+unfolding fields_pass
+fields_pass-returns-in-empty-sets g t c =
+    let s = within (g.G.GlobalScope.scope c.args.global.now) (map input c.args.inputs.now) in
+    let ef = first_item c.args.fields.now c.tree-item.result c.in-len1-up.len_at_least c.tree-item.is in
+    ap₂ (λ ts vs. fields_pass (syntaxes (shapes ts)) (map (λ v. listed v.items) vs) s) ef (no_items c.args.sets.now c.in-empty-sets.len_below)
+
+pub fields_pass-returns-in-None : goal.fields_pass-returns-in-None
+fields_pass-returns-in-None g t c =
+    let s = within (g.G.GlobalScope.scope c.args.global.now) (map input c.args.inputs.now) in
+    let ef = first_item c.args.fields.now c.tree-item.result c.in-len1-up.len_at_least c.tree-item.is in
+    let es = first_item c.args.sets.now c.set-item.result c.in-len1-up-sets.len_at_least c.set-item.is in
+    fails_none c.fault.result (fields_pass (syntaxes (shapes c.args.fields.now)) (map (λ v. listed v.items) c.args.sets.now) s)
+    (ap₂ (λ ts vs. fields_pass (syntaxes (shapes ts)) (map (λ v. listed v.items) vs) s) ef es
+    ∙ no_field_is (shapes (drop 1 c.args.fields.now)) (map (λ v. listed v.items) (drop 1 c.args.sets.now)) s (listed c.set-item.result.items) (shape c.tree-item.result) (sym c.in-None.ensures))
+
+pub all_pass-fields_pass-requires : goal.all_pass-fields_pass-requires
+all_pass-fields_pass-requires g t c κs within =
+    let m : 2 * length c.args.rest.0.now < 2 * length c.args.rest.0.now + 1 = omega arith in
+    search (rules, m)
+
+pub fields_pass-fields_pass-requires : goal.fields_pass-fields_pass-requires
+fields_pass-fields_pass-requires g t c κs within =
+    let m : 2 * length (take (length c.args.fields.now - 1) (drop 1 c.args.fields.now)) < 2 * length c.args.fields.now = omega (arith, ap length (rest_is c.args.fields.now), length-drop 1 c.args.fields.now, c.in-len1-up.len_at_least) in
+    search (rules, m)
+
+pub fields_pass-all_pass-requires : goal.fields_pass-all_pass-requires
+fields_pass-all_pass-requires g t c κs within =
+    let m : 2 * length (take (length c.args.fields.now - 1) (drop 1 c.args.fields.now)) + 1 < 2 * length c.args.fields.now = omega (arith, ap length (rest_is c.args.fields.now), length-drop 1 c.args.fields.now, c.in-len1-up.len_at_least) in
+    search (rules, m)
