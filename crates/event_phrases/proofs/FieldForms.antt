@@ -10,7 +10,7 @@ use Rattle.values.specs.View.{Fails}
 use Rattle.event_phrases.specs.EventForms.{fits_by}
 use Rattle.event_phrases.specs.Fitting.{Fitting, against, against_input, against_part}
 use Rattle.event_phrases.specs.Forms.{FieldPhrase, given, input, input_from}
-use Rattle.event_phrases.specs.Scopes.{Scope, with_input, unless_constant, value_by, values_by}
+use Rattle.event_phrases.specs.Scopes.{Scope, with_input, value_by, values_by}
 use Rattle.event_phrases.proofs.Options.{some_is}
 use Rattle.syntax.proofs.Failing.{fails_on}
 
