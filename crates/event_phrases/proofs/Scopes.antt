@@ -1,5 +1,5 @@
 -- Scopes behind inputs, values of fields, and fields of a prefix.
-use Rattle.std.proofs.Common.{◌≡◌, ℕ, zero, suc, ◌-◌, ◌<◌, ◌≤◌, List, [], ◌∷◌, ◌++◌, length, take, drop, get_or, true, false, cond, Option, Some, None, refl, sym, ap, ◌∙◌, arith, append-nil, append_assoc}
+use Rattle.std.proofs.Common.{◌≡◌, ℕ, zero, suc, ◌-◌, ◌<◌, ◌≤◌, List, [], ◌∷◌, ◌++◌, length, take, drop, get_or, Bool, true, false, cond, Option, Some, None, refl, sym, ap, ◌∙◌, arith, append-nil, append_assoc}
 use Rattle.std.proofs.lemmas.List.{length-drop}
 use Rattle.alphabet.specs.Channels.{FieldValue, Values}
 use Rattle.syntax.specs.Grammar.{Syntax}
@@ -12,6 +12,7 @@ use Rattle.values.proofs.Inputs.{behind-more}
 use Rattle.event_phrases.specs.Events.{unless_value, field_value}
 use Rattle.event_phrases.specs.EventForms.{within_by, values_behind, fits_by}
 use Rattle.event_phrases.specs.Forms.{FieldPhrase, field_of}
+use Rattle.event_phrases.specs.Leading.{value_within}
 use Rattle.event_phrases.specs.Fitting.{fits_field}
 use Rattle.event_phrases.specs.Scopes.{Scope, with_input, within}
 use Rattle.syntax.proofs.Failing.{fails_on}
@@ -49,24 +50,44 @@ unfolding values_behind
 front_more front v None = refl
 front_more front v (Some vs) = ap some_values (sym (append_assoc front (v ∷ []) vs))
 
+-- a value that is one of a set
+module _ (o : Option FieldValue) (set : Values) where
+  pub kept_within : (v : FieldValue) → o ≡ Some v → is_among v set ≡ true → value_within o set ≡ Some v
+  unfolding value_within
+  kept_within v h a = ap (λ o. value_within o set) h ∙ ap (λ b. cond b (Some v) None) a
+
+  pub left_out : (v : FieldValue) → o ≡ Some v → is_among v set ≡ false → value_within o set ≡ None
+  unfolding value_within
+  left_out v h a = ap (λ o. value_within o set) h ∙ ap (λ b. cond b (Some v) None) a
+
+pub no_value_within : (k : Unread) (o : Option FieldValue) (set : Values) → Fails k o → Fails k (value_within o set)
+unfolding value_within
+no_value_within k o set f = fails_on k o (value_within o set) (λ e. ap (λ o. value_within o set) e) f
+
 module _ (known : Known) (t : Syntax) (ts : List Syntax) (set : Values) (sets : List Values) (front : Values) where
-  pub one_value : (v : FieldValue) → field_value known t ≡ Some v → is_among v set ≡ true → values_behind front (within_by known (t ∷ ts) (set ∷ sets)) ≡ values_behind (front ++ v ∷ []) (within_by known ts sets)
-  unfolding within_by
-  one_value v h a =
-      ap (λ o. values_behind front (o >>= λ v. cond (is_among v set) (within_by known ts sets >>= λ vs. some_values (v ∷ vs)) None)) h
-      ∙ ap (λ b. values_behind front (cond b (within_by known ts sets >>= λ vs. some_values (v ∷ vs)) None)) a ∙ front_more front v (within_by known ts sets)
+  abbrev then_more : FieldValue → Option Values
+  then_more v = within_by known ts sets >>= λ vs. some_values (v ∷ vs)
 
-  pub not_within : (v : FieldValue) → field_value known t ≡ Some v → is_among v set ≡ false → values_behind front (within_by known (t ∷ ts) (set ∷ sets)) ≡ None
-  unfolding within_by values_behind
-  not_within v h a =
-      ap (λ o. values_behind front (o >>= λ v. cond (is_among v set) (within_by known ts sets >>= λ vs. some_values (v ∷ vs)) None)) h
-      ∙ ap (λ b. values_behind front (cond b (within_by known ts sets >>= λ vs. some_values (v ∷ vs)) None)) a
+  first_value : within_by known (t ∷ ts) (set ∷ sets) ≡ (value_within (field_value known t) set >>= then_more)
+  unfolding within_by value_within
+  first_value = by (field_value known t)
+    where
+      here : (b : Bool) (v : FieldValue) → cond b (then_more v) None ≡ (cond b (Some v) None >>= then_more)
+      here true v = refl
+      here false v = refl
 
-  pub value_fails : (k : Unread) → Fails k (field_value known t) → Fails k (values_behind front (within_by known (t ∷ ts) (set ∷ sets)))
-  unfolding within_by values_behind
+      by : (o : Option FieldValue) → (o >>= λ v. cond (is_among v set) (then_more v) None) ≡ (value_within o set >>= then_more)
+      by None = refl
+      by (Some v) = here (is_among v set) v
+
+  pub one_value : (v : FieldValue) → value_within (field_value known t) set ≡ Some v → values_behind front (within_by known (t ∷ ts) (set ∷ sets)) ≡ values_behind (front ++ v ∷ []) (within_by known ts sets)
+  one_value v h = ap (values_behind front) first_value ∙ ap (λ o. values_behind front (o >>= then_more)) h ∙ front_more front v (within_by known ts sets)
+
+  pub value_fails : (k : Unread) → Fails k (value_within (field_value known t) set) → Fails k (values_behind front (within_by known (t ∷ ts) (set ∷ sets)))
+  unfolding values_behind
   value_fails k f =
-      fails_on k (field_value known t) (values_behind front (within_by known (t ∷ ts) (set ∷ sets)))
-      (λ e. ap (λ o. values_behind front (o >>= λ v. cond (is_among v set) (within_by known ts sets >>= λ vs. some_values (v ∷ vs)) None)) e) f
+      fails_on k (value_within (field_value known t) set) (values_behind front (within_by known (t ∷ ts) (set ∷ sets)))
+      (λ e. ap (values_behind front) first_value ∙ ap (λ o. values_behind front (o >>= then_more)) e) f
 
 -- without values in front
 pub from_none : (o : Option Values) → values_behind [] o ≡ o

@@ -8,6 +8,7 @@ ghost use Rattle.values.specs.View.{Gives, value as value_of};
 ghost use Rattle.event_phrases.specs.EventForms.{given_value, within_by, values_behind, chosen as chosen_of};
 ghost use Rattle.event_phrases.specs.Scopes.{within};
 ghost use Rattle.event_phrases.specs.Events.{beginning as beginning_in, field_value, whole_event as whole_event_in};
+ghost use Rattle.event_phrases.specs.Leading.{value_within};
 ghost use Rattle.event_phrases.specs.Shapes.{plain_field};
 ghost use Rattle.event_phrases.specs.View.{beginning as beginning_of, listed};
 
@@ -68,53 +69,49 @@ pub(crate) fn given<A: Allocator + Copy>(
     }
 }
 
-/// The values before, and after them those that the fields give, each of which is one of its field's.
+/// The value that a field gives, which has to be one of the field's set.
+pub(crate) fn given_within<A: Allocator + Copy>(
+    alloc: A,
+    known: &Known<A>,
+    inputs: &[Input<A>],
+    field: &Tree<A>,
+    set: &Set<A>,
+) -> Result<Value<A>, Unread>
+    ensures { Gives value_of result (value_within (field_value (behind (table known.now) (map input inputs.now)) (shape field.now)) (listed set.now.items)) }
+{
+    let value = given(alloc, known, inputs, field)?;
+    if is_one_of(&value, set) {
+        Ok(value)
+    } else {
+        Err(fault(field.line(), ScriptErrorKind::OutOfRange))
+    }
+}
+
+/// Appends the values that the fields give, each of which has to be one of its field's.
 fn more_values<A: Allocator + Copy>(
     alloc: A,
     known: &Known<A>,
     inputs: &[Input<A>],
     fields: &[Tree<A>],
     sets: &[Set<A>],
-    before: Vec<Value<A>, A>,
+    values: &mut Vec<Value<A>, A>,
     line: u32,
-) -> Result<Vec<Value<A>, A>, Unread>
-    ensures { Gives (λ v. listed v.items) result (values_behind (listed before.items) (within_by (behind (table known.now) (map input inputs.now)) (shapes fields.now) (map (λ v. listed v.items) sets.now))) }
+) -> Result<(), Unread>
+    ensures { Gives (λ u. listed values.new.items) result (values_behind (listed values.old.items) (within_by (behind (table known.now) (map input inputs.now)) (shapes fields.now) (map (λ v. listed v.items) sets.now))) }
 {
     match fields {
-        [] => Ok(before),
+        [] => Ok(()),
         [field, fields @ ..] => match sets {
             [] => Err(fault(line, ScriptErrorKind::WrongFields)),
             [set, sets @ ..] => {
-                let value = given(alloc, known, inputs, field)?;
-                if !is_one_of(&value, set) {
-                    return Err(fault(field.line(), ScriptErrorKind::OutOfRange));
-                }
-                let mut values = before;
-                values.push(value)?;
+                values.push(given_within(alloc, known, inputs, field, set)?)?;
                 more_values(alloc, known, inputs, fields, sets, values, line)
             }
         },
     }
 }
 
-/// The values that the fields give, each of which is one of its field's.
-fn values_of<A: Allocator + Copy>(
-    alloc: A,
-    known: &Known<A>,
-    inputs: &[Input<A>],
-    fields: &[Tree<A>],
-    sets: &[Set<A>],
-    line: u32,
-) -> Result<Vec<Value<A>, A>, Unread>
-    ensures { Gives (λ v. listed v.items) result (within_by (behind (table known.now) (map input inputs.now)) (shapes fields.now) (map (λ v. listed v.items) sets.now)) }
-{
-    if fields.len() > sets.len() {
-        return Err(fault(line, ScriptErrorKind::WrongFields));
-    }
-    more_values(alloc, known, inputs, fields, sets, Vec::new(alloc), line)
-}
-
-/// The channel and the values that the fields after it give, each of which is one of its field's.
+/// The channel and the values that the fields after it give, each of which has to be one of its field's.
 fn begun<A: Allocator + Copy>(
     alloc: A,
     known: &Known<A>,
@@ -126,7 +123,11 @@ fn begun<A: Allocator + Copy>(
 ) -> Result<Row<A>, Unread>
     ensures { Gives (λ r. beginning_of r) result (option_map (λ vs. (channel.now, vs)) (within_by (behind (table known.now) (map input inputs.now)) (shapes fields.now) (map (λ v. listed v.items) sets.now))) }
 {
-    let values = values_of(alloc, known, inputs, fields, sets, line)?;
+    if fields.len() > sets.len() {
+        return Err(fault(line, ScriptErrorKind::WrongFields));
+    }
+    let mut values = Vec::new(alloc);
+    more_values(alloc, known, inputs, fields, sets, &mut values, line)?;
     Ok(Row {
         channel: Vec::from_slice(alloc, channel)?,
         values,

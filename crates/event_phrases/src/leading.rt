@@ -10,7 +10,7 @@ ghost use Rattle.event_phrases.specs.Leading.{first_fit, leading, led_fits, led_
 ghost use Rattle.event_phrases.specs.Scopes.{within};
 ghost use Rattle.event_phrases.specs.View.{listed, row};
 
-use crate::beginning::{given, is_one_of};
+use crate::beginning::given_within;
 use crate::global_scope::{GlobalScope, Set};
 use crate::prefix::{Prefix, fitting};
 use crate::row::{Row, is_equal};
@@ -21,7 +21,6 @@ use tokens::{ScriptErrorKind, Unread, fault};
 use values::{Input, Known, Value};
 
 /// The value that a field gives, if it is one of the field's set. A fault isn't reported here.
-#[tactic(auto, unfolding(crate::specs::Leading::value_within))]
 fn leading_value<A: Allocator + Copy>(
     alloc: A,
     known: &Known<A>,
@@ -31,39 +30,31 @@ fn leading_value<A: Allocator + Copy>(
 ) -> Result<Option<Value<A>>, Unread>
     ensures { Gives (option_map value_of) result (Some (value_within (field_value (behind (table known.now) (map input inputs.now)) (shape field.now)) (listed set.now.items))) }
 {
-    match given(alloc, known, inputs, field) {
-        Ok(value) => {
-            if is_one_of(&value, set) {
-                Ok(Some(value))
-            } else {
-                Ok(None)
-            }
-        }
+    match given_within(alloc, known, inputs, field, set) {
+        Ok(value) => Ok(Some(value)),
         Err(Unread::Fault(_)) => Ok(None),
         Err(Unread::Memory) => Err(Unread::Memory),
     }
 }
 
-/// The values before, and after them those of the first fields, as far as they give one of their set.
-#[tactic(auto, unfolding(crate::specs::Leading::leading, crate::specs::Leading::before_more))]
+/// Appends the values of the first fields, as far as they give one of their set.
 fn more_leading<A: Allocator + Copy>(
     alloc: A,
     known: &Known<A>,
     inputs: &[Input<A>],
     fields: &[Tree<A>],
     sets: &[Set<A>],
-    before: Vec<Value<A>, A>,
-) -> Result<Vec<Value<A>, A>, Unread>
-    ensures { Gives (λ v. listed v.items) result (Some (listed before.items ++ leading (behind (table known.now) (map input inputs.now)) (shapes fields.now) (map (λ v. listed v.items) sets.now))) }
+    values: &mut Vec<Value<A>, A>,
+) -> Result<(), Unread>
+    ensures { Gives (λ u. listed values.new.items) result (Some (listed values.old.items ++ leading (behind (table known.now) (map input inputs.now)) (shapes fields.now) (map (λ v. listed v.items) sets.now))) }
 {
     match fields {
-        [] => Ok(before),
+        [] => Ok(()),
         [field, fields @ ..] => match sets {
-            [] => Ok(before),
+            [] => Ok(()),
             [set, sets @ ..] => match leading_value(alloc, known, inputs, field, set)? {
-                None => Ok(before),
+                None => Ok(()),
                 Some(value) => {
-                    let mut values = before;
                     values.push(value)?;
                     more_leading(alloc, known, inputs, fields, sets, values)
                 }
@@ -82,7 +73,9 @@ pub(crate) fn leading_values<A: Allocator + Copy>(
 ) -> Result<Vec<Value<A>, A>, Unread>
     ensures { Gives (λ v. listed v.items) result (Some (leading (behind (table known.now) (map input inputs.now)) (shapes fields.now) (map (λ v. listed v.items) sets.now))) }
 {
-    more_leading(alloc, known, inputs, fields, sets, Vec::new(alloc))
+    let mut values = Vec::new(alloc);
+    more_leading(alloc, known, inputs, fields, sets, &mut values)?;
+    Ok(values)
 }
 
 /// The inputs after the fields, if the event's values fit them; the first fields have these values.

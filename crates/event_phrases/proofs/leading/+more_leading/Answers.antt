@@ -12,24 +12,24 @@ use Rattle.event_phrases.proofs.leading.+more_leading.Goals as goal
 pub returns-in-empty : goal.returns-in-empty
 returns-in-empty g t c =
     let known = behind (table c.args.known.now) (map input c.args.inputs.now) in
-    leading_no_fields shape (λ v. listed v.items) known (listed c.args.before.items) c.args.fields.now c.args.sets.now c.in-empty.len_below
+    leading_no_fields shape (λ v. listed v.items) known (listed c.args.values.now.items) c.args.fields.now c.args.sets.now c.in-empty.len_below
 
 pub returns-in-empty-sets : goal.returns-in-empty-sets
 returns-in-empty-sets g t c =
     let known = behind (table c.args.known.now) (map input c.args.inputs.now) in
-    leading_no_sets shape (λ v. listed v.items) known (listed c.args.before.items) c.args.fields.now c.args.sets.now c.in-len1-up.len_at_least c.in-empty-sets.len_below
+    leading_no_sets shape (λ v. listed v.items) known (listed c.args.values.now.items) c.args.fields.now c.args.sets.now c.in-len1-up.len_at_least c.in-empty-sets.len_below
 
 pub returns-in-None : goal.returns-in-None
 returns-in-None g t c =
     let known = behind (table c.args.known.now) (map input c.args.inputs.now) in
-    leading_ends shape (λ v. listed v.items) known (listed c.args.before.items) c.args.fields.now c.args.sets.now c.field-item.result c.set-item.result c.in-len1-up.len_at_least c.in-len1-up-sets.len_at_least c.field-item.is c.set-item.is (c.in_ok-leading_value-in-len1-up-sets.ensures ∙ ap (λ o. some_found (option_map value o)) c.in-None.is)
+    leading_ends shape (λ v. listed v.items) known (listed c.args.values.now.items) c.args.fields.now c.args.sets.now c.field-item.result c.set-item.result c.in-len1-up.len_at_least c.in-len1-up-sets.len_at_least c.field-item.is c.set-item.is (c.in_ok-leading_value-in-len1-up-sets.ensures ∙ ap (λ o. some_found (option_map value o)) c.in-None.is)
 
 pub returns-in_ok-push-in-Some : goal.returns-in_ok-push-in-Some
 returns-in_ok-push-in-Some g t c =
     let known = behind (table c.args.known.now) (map input c.args.inputs.now) in
-    let front = listed c.args.before.items in
+    let front = listed c.args.values.now.items in
     let v = value c.in-Some.value in
     let rest = leading known (shapes (take (length c.args.fields.now - 1) (drop 1 c.args.fields.now))) (map (λ v. listed v.items) (take (length c.args.sets.now - 1) (drop 1 c.args.sets.now))) in
-    let new : listed c.push.new.self.items ≡ front ++ v ∷ [] = ap (λ xs. listed xs) c.in_ok-push-in-Some.ensures.items ∙ map-append value c.args.before.items (c.in-Some.value ∷ []) in
+    let new : listed c.push.new.self.items ≡ front ++ v ∷ [] = ap (λ xs. listed xs) c.in_ok-push-in-Some.ensures.items ∙ map-append value c.args.values.now.items (c.in-Some.value ∷ []) in
     let same = leading_goes_on shape (λ v. listed v.items) known front c.args.fields.now c.args.sets.now c.field-item.result c.set-item.result v c.in-len1-up.len_at_least c.in-len1-up-sets.len_at_least c.field-item.is c.set-item.is (c.in_ok-leading_value-in-len1-up-sets.ensures ∙ ap (λ o. some_found (option_map value o)) c.in-Some.is) ∙ ap (λ front. some_values (front ++ rest)) (sym new) in
-    subst (λ o. Gives (λ v. listed v.items) c.more_leading.result o) (sym same) c.more_leading.ensures
+    subst (λ o. Gives (λ u. listed c.more_leading.new.values.items) c.more_leading.result o) (sym same) c.more_leading.ensures
