@@ -8,17 +8,14 @@ use Rattle.values.specs.Names.{is_constant, meaning}
 use Rattle.values.specs.Values.{Name, is_among}
 use Rattle.values.specs.View.{Fails}
 use Rattle.event_phrases.specs.EventForms.{fits_by}
-use Rattle.event_phrases.specs.Fitting.{Fitting, against, against_input, against_part}
+use Rattle.event_phrases.specs.Fitting.{against, against_input, against_part}
 use Rattle.event_phrases.specs.Forms.{FieldPhrase, given, input, input_from}
 use Rattle.event_phrases.specs.Scopes.{Scope, with_input, value_by, values_by}
+use Rattle.event_phrases.proofs.FieldSteps.{fit_if}
 use Rattle.event_phrases.proofs.Options.{some_is}
 use Rattle.syntax.proofs.Failing.{fails_on}
 
 module _ (p : FieldPhrase) (set : Values) (v : FieldValue) (s : Scope) where
-  -- what fits, where the scope after the field is this
-  abbrev pub fit_if : Scope → Bool → Fitting
-  fit_if n b = Some (cond b (Some n) None)
-
   pub given_fits : (t : Syntax) → p ≡ given t → fits_by p set v s ≡ against set v s (value_by s t)
   unfolding fits_by
   given_fits t h = ap (λ p. fits_by p set v s) h

@@ -6,7 +6,7 @@ use Rattle.syntax.specs.Parsing.{syntaxes}
 use Rattle.values.specs.Values.{Name, is_same}
 use Rattle.values.specs.Worths.{Known}
 use Rattle.event_phrases.specs.Events.{field_value}
-use Rattle.event_phrases.specs.Fitting.{Fitting, fitting}
+use Rattle.event_phrases.specs.Fitting.{Fitting, fits_field, fitting, then_fits}
 use Rattle.event_phrases.specs.Leading.{before_more, leading, led_fitting, value_within}
 use Rattle.event_phrases.specs.Scopes.{Scope}
 use Rattle.event_phrases.specs.Uses.{is_used, mentions}
@@ -15,6 +15,10 @@ use Rattle.event_phrases.proofs.Scopes.{rest_is}
 
 abbrev not_fitting : Fitting
 not_fitting = Some None
+
+-- what fits, where the scope after the fields is this
+abbrev pub fit_if : Scope → Bool → Fitting
+fit_if n b = Some (cond b (Some n) None)
 
 abbrev pub some_values : Values → Option Values
 some_values vs = Some vs
@@ -61,11 +65,30 @@ module _ {F S V : Type 0} (field : F → Syntax) (set : S → Values) (value : V
   fit_no_values (f ∷ fs) [] vs s h k l = absurd (omega (arith, k))
   fit_no_values (f ∷ fs) (g ∷ sets) (v ∷ vs) s h k l = absurd (omega (arith, l))
 
+  pub fit_next : (fs : List F) (sets : List S) (vs : List V) (s : Scope) (f : F) (g : S) (v : V) → 1 ≤ length fs → 1 ≤ length sets → 1 ≤ length vs → f ≡ get_or fs 0 f → g ≡ get_or sets 0 g → v ≡ get_or vs 0 v →
+      fit fs sets vs s ≡ then_fits (fits_field (field f) (set g) (value v) s) (fit (take (length fs - 1) (drop 1 fs)) (take (length sets - 1) (drop 1 sets)) (take (length vs - 1) (drop 1 vs)))
+  unfolding fitting
+  fit_next [] sets vs s f g v h k l ef eg ev = absurd (omega (arith, h))
+  fit_next (x ∷ fs) [] vs s f g v h k l ef eg ev = absurd (omega (arith, k))
+  fit_next (x ∷ fs) (y ∷ sets) [] s f g v h k l ef eg ev = absurd (omega (arith, l))
+  fit_next (x ∷ fs) (y ∷ sets) (z ∷ vs) s f g v h k l ef eg ev =
+      ap (λ x. then_fits (fits_field (field x) (set y) (value z) s) (fit fs sets vs)) (sym ef)
+      ∙ ap (λ y. then_fits (fits_field (field f) (set y) (value z) s) (fit fs sets vs)) (sym eg)
+      ∙ ap (λ z. then_fits (fits_field (field f) (set g) (value z) s) (fit fs sets vs)) (sym ev)
+      ∙ ap (λ fs. then_fits (fits_field (field f) (set g) (value v) s) (fit fs sets vs)) (sym (rest_is (x ∷ fs)))
+      ∙ ap (λ sets. then_fits (fits_field (field f) (set g) (value v) s) (fit (take (length (x ∷ fs) - 1) fs) sets vs)) (sym (rest_is (y ∷ sets)))
+      ∙ ap (λ vs. then_fits (fits_field (field f) (set g) (value v) s) (fit (take (length (x ∷ fs) - 1) fs) (take (length (y ∷ sets) - 1) sets) vs)) (sym (rest_is (z ∷ vs)))
+
 -- ---- events against fields whose first values are known
 
 module _ {U F S V : Type 0} (first : U → FieldValue) (field : F → Syntax) (set : S → Values) (value : V → FieldValue) (s : Scope) where
   abbrev led : List U → List F → List S → List V → Fitting
   led us fs sets vs = led_fitting (map first us) (map field fs) (map set sets) (map value vs) s
+
+  pub led_by_none : (us : List U) (fs : List F) (sets : List S) (vs : List V) → length us < 1 → led us fs sets vs ≡ fitting (syntaxes (map field fs)) (map set sets) (map value vs) s
+  unfolding led_fitting
+  led_by_none [] fs sets vs h = refl
+  led_by_none (u ∷ us) fs sets vs h = absurd (omega (arith, h))
 
   pub led_no_fields : (us : List U) (fs : List F) (sets : List S) (vs : List V) → 1 ≤ length us → length fs < 1 → led us fs sets vs ≡ None
   unfolding led_fitting
