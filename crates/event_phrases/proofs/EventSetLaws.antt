@@ -240,6 +240,19 @@ pub empty_is : (S : Set) → ((x : Event) → member S x ≡ false) → S ≡ 0
 unfolding set_below
 empty_is S h = none_below no_events S h
 
+abbrev pub some_beginning : Beginning → Option Beginning
+some_beginning b = Some b
+
+-- the events of one phrase in a set
+module _ {A : Type 0} (cs : List Channel) (known : Known) (e : Extent) (t : Syntax) (rows : List (Row A)) (h : map row rows ≡ events cs) (b : Beginning) (S : Set) (s : S ≡ set_below (length rows) (at_number (begins_so b) (map row rows))) where
+  pub begun_events : e ≡ extents.Beginnings → beginning cs known t ≡ Some b → masked cs (gives_by cs known e t) ≡ Some S
+  unfolding gives_by
+  begun_events is g = ap (λ e. masked cs (gives_by cs known e t)) is ∙ ap (λ o. masked cs (o >>= λ b. Some (beginning_so cs b))) g ∙ begun_set cs b rows S h s
+
+  pub member_events : e ≡ extents.Events → whole_event cs known t ≡ Some b → masked cs (gives_by cs known e t) ≡ Some S
+  unfolding gives_by
+  member_events is g = ap (λ e. masked cs (gives_by cs known e t)) is ∙ ap (λ o. masked cs (o >>= λ b. Some (beginning_so cs b))) g ∙ begun_set cs b rows S h s
+
 -- faults of the phrases in a set
 pub begun_fails : (k : Unread) (cs : List Channel) (known : Known) (e : Extent) (t : Syntax) → e ≡ extents.Beginnings → Fails k (beginning cs known t) → Fails k (masked cs (gives_by cs known e t))
 unfolding gives_by masked

@@ -1,5 +1,5 @@
 -- Fields against values, one field after the other, as slices give them.
-use Rattle.std.proofs.Common.{◌≡◌, ◌-◌, ◌<◌, ◌≤◌, List, [], ◌∷◌, ◌++◌, length, map, take, drop, get_or, Bool, true, false, cond, ◌||◌, Option, Some, None, refl, sym, ap, ◌∙◌, arith, append-nil, append_assoc}
+use Rattle.std.proofs.Common.{◌≡◌, ◌-◌, ◌<◌, ◌≤◌, List, [], ◌∷◌, ◌++◌, length, map, take, drop, get_or, Bool, true, false, cond, ◌||◌, nat_eq, Option, Some, None, refl, sym, ap, ap₂, ◌∙◌, arith, append-nil, append_assoc, eqb-true}
 use Rattle.alphabet.specs.Channels.{FieldValue, Values}
 use Rattle.syntax.specs.Grammar.{Syntax}
 use Rattle.syntax.specs.Parsing.{syntaxes}
@@ -8,10 +8,11 @@ use Rattle.values.specs.Worths.{Known}
 use Rattle.event_phrases.specs.Events.{field_value}
 use Rattle.event_phrases.specs.Fitting.{Fitting, fits_field, fitting, then_fits}
 use Rattle.event_phrases.specs.Leading.{before_more, leading, led_fitting, value_within}
+use Rattle.event_phrases.specs.Prefixes.{has_event}
 use Rattle.event_phrases.specs.Scopes.{Scope}
 use Rattle.event_phrases.specs.Uses.{is_used, mentions}
 use Rattle.event_phrases.proofs.Options.{some_is}
-use Rattle.event_phrases.proofs.Scopes.{rest_is}
+use Rattle.event_phrases.proofs.Scopes.{first_item, rest_is}
 
 abbrev not_fitting : Fitting
 not_fitting = Some None
@@ -197,3 +198,35 @@ module _ {F S : Type 0} (field : F → Syntax) (set : S → Values) (x : Name) w
   used_here [] sets f h k ef e = absurd (omega (arith, h))
   used_here (y ∷ fs) [] f h k ef e = absurd (omega (arith, k))
   used_here (y ∷ fs) (g ∷ sets) f h k ef e = sym (used_first x (field y) (map field fs) (set g) (map set sets) (ap (λ z. mentions x (field z)) (sym ef) ∙ e))
+
+-- a name that isn't in the first field
+used_beyond : (x : Name) (t : Syntax) (ts : List Syntax) (vs : Values) (sets : List Values) (b : Bool) → mentions x t ≡ false → nat_eq (length vs) 0 ≡ b → is_used x (t ∷ ts) (vs ∷ sets) ≡ cond b false (is_used x ts sets)
+unfolding is_used
+used_beyond x t ts [] sets true m h = m
+used_beyond x t ts [] sets false m h = absurd cc
+used_beyond x t ts (v ∷ vs) sets true m h = absurd (omega (arith, eqb-true (length (v ∷ vs)) 0 h))
+used_beyond x t ts (v ∷ vs) sets false m h = ap (λ b. b || is_used x ts sets) m
+
+module _ {F S : Type 0} (field : F → Syntax) (set : S → Values) (x : Name) where
+  pub used_next : (fs : List F) (sets : List S) (f : F) (g : S) (b : Bool) → 1 ≤ length fs → 1 ≤ length sets → f ≡ get_or fs 0 f → g ≡ get_or sets 0 g → mentions x (field f) ≡ false → nat_eq (length (set g)) 0 ≡ b →
+      is_used x (map field fs) (map set sets) ≡ cond b false (is_used x (map field (take (length fs - 1) (drop 1 fs))) (map set (take (length sets - 1) (drop 1 sets))))
+  used_next fs sets f g b h k ef eg m e =
+      ap₂ (λ fs sets. is_used x (map field fs) (map set sets)) (first_item fs f h ef) (first_item sets g k eg)
+      ∙ used_beyond x (field f) (map field (drop 1 fs)) (set g) (map set (drop 1 sets)) b m e
+      ∙ ap₂ (λ fs sets. cond b false (is_used x (map field fs) (map set sets))) (sym (rest_is fs)) (sym (rest_is sets))
+
+-- ---- channels with events
+
+event_beyond : (vs : Values) (sets : List Values) (b : Bool) → nat_eq (length vs) 0 ≡ b → has_event (vs ∷ sets) ≡ cond b false (has_event sets)
+unfolding has_event
+event_beyond [] sets true h = refl
+event_beyond [] sets false h = absurd cc
+event_beyond (v ∷ vs) sets true h = absurd (omega (arith, eqb-true (length (v ∷ vs)) 0 h))
+event_beyond (v ∷ vs) sets false h = refl
+
+module _ {S : Type 0} (set : S → Values) where
+  pub event_next : (sets : List S) (g : S) (b : Bool) → 1 ≤ length sets → g ≡ get_or sets 0 g → nat_eq (length (set g)) 0 ≡ b → has_event (map set sets) ≡ cond b false (has_event (map set (take (length sets - 1) (drop 1 sets))))
+  event_next sets g b k eg e =
+      ap (λ sets. has_event (map set sets)) (first_item sets g k eg)
+      ∙ event_beyond (set g) (map set (drop 1 sets)) b e
+      ∙ ap (λ sets. cond b false (has_event (map set sets))) (sym (rest_is sets))

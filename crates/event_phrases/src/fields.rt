@@ -30,7 +30,6 @@ use tokens::{ScriptErrorKind, Unread, fault};
 use values::{Input, Value, Values, the_set, the_value};
 
 /// Whether the name is in one of the fields up to the first without values.
-#[tactic(auto, unfolding(crate::specs::Uses::is_used))]
 fn is_used<A: Allocator>(name: &[u8], fields: &[Tree<A>], sets: &[Set<A>]) -> bool
     ensures { result ≡ is_used_in name.now (shapes fields.now) (map (λ v. listed v.items) sets.now) }
 {

@@ -79,7 +79,6 @@ pub(crate) fn leading_values<A: Allocator + Copy>(
 }
 
 /// The inputs after the fields, if the event's values fit them; the first fields have these values.
-#[tactic(auto, unfolding(crate::specs::Leading::led_fitting))]
 fn led_fitting<A: Allocator + Copy, G: GlobalScope<A>>(
     alloc: A,
     scope: &Scope<'_, A, G>,

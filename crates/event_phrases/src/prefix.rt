@@ -135,7 +135,6 @@ fn fits<A: Allocator + Copy, G: GlobalScope<A>>(
 }
 
 /// Whether the event's values fit the fields, from left to right. What the fields put in is appended to the inputs.
-#[tactic(auto, unfolding(crate::specs::Fitting::fitting))]
 pub(crate) fn fitting<A: Allocator + Copy, G: GlobalScope<A>>(
     alloc: A,
     global: &G,

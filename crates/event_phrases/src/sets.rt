@@ -34,7 +34,6 @@ fn combined(combination: Combination, first: EventSet, second: EventSet) -> Even
 }
 
 /// The events of one phrase in a set.
-#[tactic(auto, unfolding(crate::specs::EventForms::gives_by), using(crate::proofs::EventSetLaws::begun_set))]
 fn events_of<A: Allocator + Copy, G: GlobalScope<A>>(
     alloc: A,
     scope: &Scope<'_, A, G>,

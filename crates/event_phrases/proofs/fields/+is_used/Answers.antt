@@ -1,7 +1,9 @@
-use Rattle.std.proofs.Common.{sym, ◌∙◌}
+use Rattle.std.proofs.Common.{◌≡◌, length, true, false, not, nat_eq, sym, ap, ◌∙◌}
+use Rattle.std.proofs.lemmas.List.{length-map}
 use Rattle.syntax.specs.View.{shape}
+use Rattle.values.specs.View.{value}
 use Rattle.event_phrases.specs.View.{listed}
-use Rattle.event_phrases.proofs.FieldSteps.{used_here, used_no_fields, used_no_sets}
+use Rattle.event_phrases.proofs.FieldSteps.{used_here, used_next, used_no_fields, used_no_sets}
 use Rattle.event_phrases.proofs.fields.+is_used.Goals as goal
 
 pub returns-in-empty : goal.returns-in-empty
@@ -12,3 +14,15 @@ returns-in-empty-sets g t c = used_no_sets shape (λ v. listed v.items) c.args.n
 
 pub returns-then-mentions : goal.returns-then-mentions
 returns-then-mentions g t c = c.if-mentions.true ∙ used_here shape (λ v. listed v.items) c.args.name.now c.args.fields.now c.args.sets.now c.field-item.result c.in-len1-up.len_at_least c.in-len1-up-sets.len_at_least c.field-item.is (sym c.mentions.ensures ∙ c.if-mentions.true)
+
+pub returns-then-not-is_empty : goal.returns-then-not-is_empty
+returns-then-not-is_empty g t c =
+    let set = c.set-item.result in
+    let n : nat_eq (length (listed set.items)) 0 ≡ false = ap (λ n. nat_eq n 0) (length-map set.items value ∙ sym set.ok.0) ∙ sym c.is_empty.ensures ∙ c.if-not-is_empty.true in
+    c.is_used.ensures ∙ sym (used_next shape (λ v. listed v.items) c.args.name.now c.args.fields.now c.args.sets.now c.field-item.result set false c.in-len1-up.len_at_least c.in-len1-up-sets.len_at_least c.field-item.is c.set-item.is (sym c.mentions.ensures ∙ c.if-mentions.false) n)
+
+pub returns-else-not-is_empty : goal.returns-else-not-is_empty
+returns-else-not-is_empty g t c =
+    let set = c.set-item.result in
+    let n : nat_eq (length (listed set.items)) 0 ≡ true = ap (λ n. nat_eq n 0) (length-map set.items value ∙ sym set.ok.0) ∙ sym c.is_empty.ensures ∙ c.if-not-is_empty.false in
+    ap not c.if-not-is_empty.false ∙ sym (used_next shape (λ v. listed v.items) c.args.name.now c.args.fields.now c.args.sets.now c.field-item.result set true c.in-len1-up.len_at_least c.in-len1-up-sets.len_at_least c.field-item.is c.set-item.is (sym c.mentions.ensures ∙ c.if-mentions.false) n)
