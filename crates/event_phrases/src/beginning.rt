@@ -54,7 +54,6 @@ fn given_by<A: Allocator + Copy>(
 }
 
 /// The value that a field gives after these inputs.
-#[tactic(auto, using(crate::proofs::EventLaws::value_so, crate::proofs::EventLaws::no_value))]
 pub(crate) fn given<A: Allocator + Copy>(
     alloc: A,
     known: &Known<A>,

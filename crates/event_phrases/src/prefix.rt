@@ -117,7 +117,6 @@ fn fits_phrase<A: Allocator + Copy, G: GlobalScope<A>>(
 }
 
 /// The same of the field as it is written. A fault has the line of the phrase that is at fault.
-#[tactic(auto, using(crate::proofs::Scopes::field_fits, crate::proofs::Scopes::no_field))]
 fn fits<A: Allocator + Copy, G: GlobalScope<A>>(
     alloc: A,
     global: &G,

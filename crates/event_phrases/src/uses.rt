@@ -22,7 +22,6 @@ pub(crate) fn mentions<A: Allocator>(tree: &Tree<A>, name: &[u8]) -> bool
 
 /// Whether the name is in one of the phrases.
 #[cycle(mentioning)]
-#[tactic(auto, unfolding(crate::specs::Uses::mention))]
 fn mention<A: Allocator>(trees: &[Tree<A>], name: &[u8]) -> bool
     ensures { result ≡ mention_of name.now (syntaxes (shapes trees.now)) }
 {
