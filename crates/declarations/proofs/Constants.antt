@@ -18,6 +18,10 @@ use Rattle.values.proofs.Keeps.{EachWorth, worth_keeps}
 use Rattle.declared_names.proofs.Chains.{bind_some, some_same, left, right, both}
 use Rattle.declarations.specs.Passing.{passes, all_pass, pass}
 
+-- an answer that isn't there is no answer
+pub no_some : {A : Type 0} {x : A} → None ≡ Some x → ⊥
+no_some h = cc
+
 module _ (p : Name → Bool) where
   -- ---- sets
 
@@ -219,7 +223,7 @@ module _ (p : Name → Bool) where
   formed_pass forms.Union ws w h k = united_pass ws w h k
   formed_pass forms.Intersection ws w h k = shared_pass ws w h k
   formed_pass forms.Difference ws w h k = parted_pass ws w h k
-  formed_pass f ws w h k = absurd cc
+  formed_pass f ws w h k = absurd (no_some h)
 
   each_pass : (ws : List Worth) → EachWorth (λ w. pass p w ≡ true) ws → list_pass ws ≡ true
   each_pass [] h = refl

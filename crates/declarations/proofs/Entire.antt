@@ -18,6 +18,7 @@ use Rattle.declared_names.specs.Entering.{has_name, list_parts}
 use Rattle.declarations.specs.Sigma.{enter, enter_name, enter_names, enter_channels, enter_fielded, enter_form, enter_declaration}
 use Rattle.declared_names.proofs.Chains.{bind_some, some_same, left, right, both}
 use Rattle.declared_names.proofs.Entered.{same_sym, parts_names}
+use Rattle.declarations.proofs.Constants.{no_some}
 
 abbrev some_of : {X : Type 0} → X → Option X
 some_of x = Some x
@@ -144,7 +145,7 @@ entered_form known cs forms.DefinitionWithParameters (MoreSyntax (Called n) (Mor
   where
     none : (xs : List Name) → (channels_of known ((n, parametric xs u) ∷ []) >>= enter_all cs) ≡ Some cs
     none xs = refl
-entered_form known cs f ts es h = absurd cc
+entered_form known cs f ts es h = absurd (no_some h)
 
 entered_declaration : (known : Known) (cs : List Channel) (t : Syntax) (es : List Entry) → declared_by t ≡ Some es → enter_declaration known cs t ≡ (channels_of known es >>= enter_all cs)
 unfolding enter_declaration declared_by

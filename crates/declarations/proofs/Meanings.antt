@@ -16,7 +16,7 @@ use Rattle.declared_names.specs.Steps.{only_of, two_of}
 use Rattle.declared_names.specs.Entering.{list_parts}
 use Rattle.declarations.specs.Sigma.{are_channels, lists_channels, declares_channels, declare_channels, KeepDeclared}
 use Rattle.declared_names.proofs.Chains.{bind_some, some_same, left, right, both}
-use Rattle.declarations.proofs.Constants.{worth_pass, set_pass}
+use Rattle.declarations.proofs.Constants.{no_some, worth_pass, set_pass}
 use Rattle.declared_names.proofs.Entered.{parts_names}
 
 -- ---- entries among others
@@ -137,7 +137,7 @@ form_closed forms.DefinitionWithParameters (MoreSyntax (Called m) (MoreSyntax t 
   where
     by : (xs : List Name) → (let a : Entry = (m, parametric xs u) in let b : Entry = (n, datatype cs) in a ≡ b) ⊎ ⊥ → AllIn cs es
     by xs k = elim k [ inl l ↦ absurd (let e : parametric xs u ≡ datatype cs = ap (λ (x : Entry). x.1) l in cc) | inr l ↦ absurd l ]
-form_closed f ts es n cs h k = absurd cc
+form_closed f ts es n cs h k = absurd (no_some h)
 
 by_closed : (t : Syntax) (es : List Entry) (n : Name) (cs : List Name) → declared_by t ≡ Some es → In (n, datatype cs) es → AllIn cs es
 unfolding declared_by
@@ -177,7 +177,7 @@ names_named m (MoreSyntax (Called n) ts) ns h k =
     let (ms, a, b) = bind_some (names_of ts) (λ ms. Some (n ∷ ms)) ns h in
     subst (λ xs. AreNamed (map (λ n. (n, m)) xs)) (some_same b) (left (is_name n) (have_names ts) k, names_named m ts ms a (right (is_name n) (have_names ts) k))
 names_named m (MoreSyntax (Numeral n) ts) ns h k = absurd cc
-names_named m (MoreSyntax (Node f us) ts) ns h k = absurd cc
+names_named m (MoreSyntax (Node f us) ts) ns h k = absurd (no_some h)
 
 listed_named : (m : Meaning) (t : Syntax) (ns : List Name) → listed_names t ≡ Some ns → has_names t ≡ true → AreNamed (map (λ n. (n, m)) ns)
 unfolding listed_names has_names
@@ -185,7 +185,7 @@ listed_named m (Called n) ns h k = absurd cc
 listed_named m (Numeral n) ns h k = absurd cc
 listed_named m (Node forms.Names ts) ns h k = names_named m ts ns h k
 listed_named m (Node forms.Constants ts) ns h k = names_named m ts ns h k
-listed_named m (Node f ts) ns h k = absurd cc
+listed_named m (Node f ts) ns h k = absurd (no_some h)
 
 form_named : (f : Form) (ts : Syntaxes) (es : List Entry) → entries_of f ts ≡ Some es → have_names ts ≡ true → AreNamed es
 unfolding entries_of have_names has_names
@@ -203,7 +203,7 @@ form_named forms.Definition (MoreSyntax (Called m) (MoreSyntax t NoSyntax)) es h
 form_named forms.DefinitionWithParameters (MoreSyntax (Called m) (MoreSyntax t (MoreSyntax u NoSyntax))) es h k =
     let (xs, a, b) = bind_some (listed_names t) (λ xs. Some ((m, parametric xs u) ∷ [])) es h in
     subst AreNamed (some_same b) (left (is_name m) (has_names t && (has_names u && true)) k, tt)
-form_named f ts es h k = absurd cc
+form_named f ts es h k = absurd (no_some h)
 
 pub named : (ts : Syntaxes) (es : List Entry) → declared_by_all ts ≡ Some es → have_names ts ≡ true → AreNamed es
 unfolding declared_by_all declared_by have_names has_names
@@ -278,7 +278,7 @@ channel_form all forms.ChannelsWithFields (MoreSyntax t (MoreSyntax u NoSyntax))
 channel_form all forms.Datatype (MoreSyntax (Called m) (MoreSyntax t NoSyntax)) es h k = refl
 channel_form all forms.Definition (MoreSyntax (Called m) (MoreSyntax t NoSyntax)) es h k = refl
 channel_form all forms.DefinitionWithParameters (MoreSyntax (Called m) (MoreSyntax t (MoreSyntax u NoSyntax))) es h k = refl
-channel_form all f ts es h k = absurd cc
+channel_form all f ts es h k = absurd (no_some h)
 
 channel_declarations : (all : List Entry) (ts : Syntaxes) (es : List Entry) → declared_by_all ts ≡ Some es → ((e : Entry) → In e es → (is_name e.0 ≡ true) × (meaning all e.0 ≡ Some e.1)) → declare_channels (is_declared_constant all) ts ≡ true
 unfolding declared_by_all declare_channels declared_by

@@ -11,15 +11,15 @@ ghost use Rattle.declared_names.specs.Steps.{steps};
 
 use crate::found::{seen_behind, seen_of};
 use crate::kinds::{Kind, Wanted};
-use crate::phrase_kinds::{event_in_set, kind_of};
-use crate::sight::{as_evaluated, kind_of_name, undeclared};
+use crate::phrase_kinds::{evaluated_kind, event_in_set, kind_of};
+use crate::sight::{kind_of_name, undeclared};
 use crate::sigma::alphabet_of;
 use alphabet::Alphabet;
 use declared_names::{Entries, Meaning, Part, part_of, worth_alone};
 use std::alloc::Allocator;
 use syntax::{Form, Tree};
 use tokens::{ScriptError, ScriptErrorKind, Unread, fault};
-use values::{Input, Known, Worth, is_value};
+use values::{Input, Known, is_value, the_set};
 
 /// What is reported of the phrase, which is to be a set of values for a channel's field and which evaluation refuses.
 fn field_fault<'a, A: Allocator + Copy>(
@@ -32,6 +32,16 @@ fn field_fault<'a, A: Allocator + Copy>(
     kind_of(&sight, phrase, Wanted::Values, phrase.line())
 }
 
+/// Whether evaluation finds the phrase to be a set of values: its fault where it isn't one.
+fn evaluated_set<A: Allocator + Copy>(
+    alloc: A,
+    known: &Known<A>,
+    phrase: &Tree<A>,
+) -> Result<(), Unread> {
+    the_set(worth_alone(alloc, known, phrase)?, phrase.line())?;
+    Ok(())
+}
+
 /// The fault in the set of a field, if it has one.
 fn set_fault<'a, A: Allocator + Copy>(
     alloc: A,
@@ -39,9 +49,8 @@ fn set_fault<'a, A: Allocator + Copy>(
     known: &Known<A>,
     set: &Tree<A>,
 ) -> Result<(), Unread> {
-    match worth_alone(alloc, known, set) {
-        Ok(Worth::Many(_)) => Ok(()),
-        Ok(Worth::One(_) | Worth::Truth(_)) => Err(fault(set.line(), ScriptErrorKind::Expected)),
+    match evaluated_set(alloc, known, set) {
+        Ok(()) => Ok(()),
         Err(Unread::Memory) => Err(Unread::Memory),
         Err(own) => match field_fault(alloc, entries, known, set) {
             Ok(_) => Err(own),
@@ -194,8 +203,7 @@ fn kind_behind_inputs<'a, A: Allocator + Copy>(
     wanted: Wanted,
 ) -> Result<Kind, Unread> {
     let sight = seen_behind(alloc, entries, known, inputs, phrase, true)?;
-    let kind = kind_of(&sight, phrase, wanted, phrase.line())?;
-    as_evaluated(&sight, phrase, kind)
+    evaluated_kind(&sight, phrase, wanted)
 }
 
 /// What is reported of an event phrase after these inputs that gives no channel and first values of its fields.

@@ -2,8 +2,8 @@
 
 use crate::kinds::{Kind, Wanted};
 use crate::needs::{Names, needs_of_name, needs_of_phrase};
-use crate::phrase_kinds::{kind_of, without_conditions};
-use crate::sight::{Found, Sight, as_evaluated};
+use crate::phrase_kinds::{evaluated_kind, without_conditions};
+use crate::sight::{Found, Sight};
 use declared_names::{Answer, Entries, Meaning, answer_of};
 use std::alloc::{AllocError, Allocator};
 use syntax::Tree;
@@ -96,8 +96,7 @@ fn kind_of_body<'a, A: Allocator + Copy>(
     if let Some(kind) = kind_behind(sight, phrase)? {
         return Ok(kind);
     }
-    let kind = kind_of(sight, phrase, Wanted::Anything, phrase.line())?;
-    as_evaluated(sight, phrase, kind)
+    evaluated_kind(sight, phrase, Wanted::Anything)
 }
 
 /// What is found of the definition at this place.
@@ -124,32 +123,21 @@ fn look_into<'a, A: Allocator + Copy>(sight: &mut Sight<'_, 'a, A>, places: &[us
     }
 }
 
-/// Nothing found yet.
-fn nothing_found<'s, 'a, A: Allocator + Copy>(
-    names: &Names<'s, 'a, A>,
-    has_events: bool,
-) -> Result<Sight<'s, 'a, A>, AllocError> {
-    let mut found = Vec::new(names.alloc);
-    for _ in 0..names.entries.len() {
-        found.push(Found::Nothing)?;
-    }
-    Ok(Sight {
-        alloc: names.alloc,
-        entries: names.entries,
-        known: names.known,
-        inputs: &[],
-        has_events,
-        found,
-    })
-}
-
 /// What can be seen without inputs, with what is found of the definitions at these places.
 fn seen_with<'s, 'a, A: Allocator + Copy>(
     names: &Names<'s, 'a, A>,
     places: &[usize],
     has_events: bool,
 ) -> Result<Sight<'s, 'a, A>, AllocError> {
-    let mut sight = nothing_found(names, has_events)?;
+    let found = vec![in names.alloc; Found::Nothing; names.entries.len()]?;
+    let mut sight = Sight {
+        alloc: names.alloc,
+        entries: names.entries,
+        known: names.known,
+        inputs: &[],
+        has_events,
+        found,
+    };
     look_into(&mut sight, places);
     Ok(sight)
 }

@@ -3,7 +3,7 @@
 use syntax::{Form, Operator};
 
 /// What a phrase is.
-#[derive(Clone, Copy, Debug, PartialEq, Eq)]
+#[derive(Clone, Copy, PartialEq, Eq)]
 pub(crate) enum Kind {
     Number,
     Constant,
@@ -19,7 +19,7 @@ pub(crate) enum Kind {
 }
 
 /// What is wanted of a phrase.
-#[derive(Clone, Copy, Debug, PartialEq, Eq)]
+#[derive(Clone, Copy)]
 pub enum Wanted {
     Anything,
     /// A number.
@@ -106,15 +106,11 @@ fn is_set_form(form: Form) -> bool {
 /// How phrases of a form are looked into.
 #[derive(Clone, Copy)]
 pub(crate) enum Look {
-    /// The phrase in brackets is looked into.
-    Inside,
-    Branch,
     Members,
     Sets,
     Productions,
     /// The sides of `and` or `or`, of which the first one decides where it is this truth.
     Connected(bool),
-    Compared,
     /// Each of the parts is to be what is wanted.
     Each(Wanted),
     /// The form says what it is, or the names in it.
@@ -126,7 +122,7 @@ fn look_of_operator(operator: Operator) -> Look {
     match operator {
         Operator::And => Look::Connected(false),
         Operator::Or => Look::Connected(true),
-        Operator::Equal | Operator::NotEqual => Look::Compared,
+        Operator::Equal | Operator::NotEqual => Look::Each(Wanted::Comparable),
         _ => Look::Each(Wanted::Number),
     }
 }
@@ -134,8 +130,6 @@ fn look_of_operator(operator: Operator) -> Look {
 /// How phrases of this form are looked into.
 pub(crate) fn look_of(form: Form) -> Look {
     match form {
-        Form::Brackets => Look::Inside,
-        Form::If => Look::Branch,
         Form::Set => Look::Members,
         Form::Union | Form::Intersection | Form::Difference => Look::Sets,
         Form::Productions => Look::Productions,
@@ -148,9 +142,9 @@ pub(crate) fn look_of(form: Form) -> Look {
     }
 }
 
-/// Whether a phrase of this form can be what is wanted. Names, calls and conditions say it by more than their form.
+/// Whether a phrase of this form can be what is wanted. Names and calls say it by more than their form.
 pub(crate) fn takes_form(wanted: Wanted, form: Form) -> bool {
-    if matches!(form, Form::Brackets | Form::If | Form::Event | Form::Call) {
+    if matches!(form, Form::Event | Form::Call) {
         return true;
     }
     match wanted {

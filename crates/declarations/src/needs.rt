@@ -1,12 +1,12 @@
 //! The names that a phrase needs, each after those that its own definition needs: they are met in the order in which what
 //! the phrase stands for is found. What isn't looked at there is left out.
 
+use crate::sight::truth_behind;
 use declared_names::{Entries, Meaning, is_process_form};
 use std::alloc::{AllocError, Allocator};
 use std::mem::replace;
 use syntax::{Form, Operator, Tree};
-use tokens::Unread;
-use values::{Input, Known, Worth, stands_for};
+use values::{Input, Known};
 
 /// What the names of a phrase are declared as, and what they mean.
 #[derive(Drop)]
@@ -59,18 +59,6 @@ fn is_idle(idle: Idle, place: usize) -> bool {
     }
 }
 
-/// The truth that the phrase means after these inputs, if it is one.
-fn truth_of<'a, A: Allocator + Copy>(
-    names: &Names<'_, 'a, A>,
-    phrase: &Tree<A>,
-) -> Result<Option<bool>, AllocError> {
-    match stands_for(&names.alloc, names.known, names.inputs, phrase) {
-        Ok(Worth::Truth(truth)) => Ok(Some(truth)),
-        Err(Unread::Memory) => Err(AllocError),
-        _ => Ok(None),
-    }
-}
-
 /// Puts the name on the stack, to be met, if it is declared and no input hides it.
 fn push_name<'a, A: Allocator + Copy>(
     names: &Names<'_, 'a, A>,
@@ -94,7 +82,7 @@ fn idle_branches<'a, A: Allocator + Copy>(
     names: &Names<'_, 'a, A>,
     condition: &Tree<A>,
 ) -> Result<Idle, AllocError> {
-    match truth_of(names, condition)? {
+    match truth_behind(&names.alloc, names.known, names.inputs, condition)? {
         Some(true) => Ok(Idle::Last),
         Some(false) => Ok(Idle::LastButOne),
         None => Ok(Idle::LastTwo),
@@ -107,7 +95,7 @@ fn idle_sides<'a, A: Allocator + Copy>(
     first: &Tree<A>,
     decisive: bool,
 ) -> Result<Idle, AllocError> {
-    match truth_of(names, first)? {
+    match truth_behind(&names.alloc, names.known, names.inputs, first)? {
         Some(truth) if truth != decisive => Ok(Idle::Nothing),
         _ => Ok(Idle::Last),
     }
@@ -129,7 +117,6 @@ fn idle_parts<'a, A: Allocator + Copy>(
 }
 
 /// Puts the names that the phrase behind these inputs needs on the stack, to be met, the first one on top. A process needs none.
-#[cycle(needs)]
 fn push_needs<'a, A: Allocator + Copy>(
     names: &Names<'_, 'a, A>,
     phrase: &Tree<A>,
@@ -138,27 +125,16 @@ fn push_needs<'a, A: Allocator + Copy>(
     match phrase {
         Tree::Name { text, .. } => push_name(names, text, stack),
         Tree::Number { .. } => Ok(()),
-        Tree::Node { form, parts, .. } => match idle_parts(names, *form, parts)? {
-            Idle::All => Ok(()),
-            idle => push_needs_of_parts(names, parts, idle, stack),
-        },
-    }
-}
-
-/// The same of these parts, but of those that aren't looked at.
-#[cycle(needs)]
-fn push_needs_of_parts<'a, A: Allocator + Copy>(
-    names: &Names<'_, 'a, A>,
-    parts: &[Tree<A>],
-    idle: Idle,
-    stack: &mut Vec<Turn, A>,
-) -> Result<(), AllocError> {
-    for (place, part) in parts.iter().rev().enumerate() {
-        if !is_idle(idle, place) {
-            push_needs(names, part, stack)?;
+        Tree::Node { form, parts, .. } => {
+            let idle = idle_parts(names, *form, parts)?;
+            for (place, part) in parts.iter().rev().enumerate() {
+                if !is_idle(idle, place) {
+                    push_needs(names, part, stack)?;
+                }
+            }
+            Ok(())
         }
     }
-    Ok(())
 }
 
 /// Puts the names that the definition of the name at this place needs on the stack, to be met, the first one on top.

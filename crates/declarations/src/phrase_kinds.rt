@@ -1,9 +1,11 @@
 //! What phrases are, or the first fault that is met when their parts are looked into from the left.
+ghost use Rattle.std.specs.Prelude.{◌<◌, ◌≤◌, IfOk, IfSome};
+ghost use Rattle.syntax.specs.declared.tree.Tree.{size-Tree};
 
 use crate::kinds::{Kind, Look, Wanted, look_of, takes, takes_form};
 use crate::sight::{
-    Sight, as_evaluated, field_sets, in_set, kind_of_call, kind_of_event, kind_of_events,
-    kind_of_worth, truth_here, worth_here,
+    Sight, as_evaluated, field_sets, in_set, kind_here, kind_of_call, kind_of_event,
+    kind_of_events, truth_behind,
 };
 use declared_names::is_process_form;
 use std::alloc::Allocator;
@@ -44,45 +46,57 @@ fn is_input<A: Allocator>(field: &Tree<A>) -> bool {
     }
 }
 
-/// A phrase that means nothing.
-#[derive(Clone, Copy)]
-struct Spot {
-    wanted: Wanted,
-    /// The line of the brackets round the phrase, or else its own.
-    outer: u32,
-    line: u32,
-    /// What is reported of it where its parts are as they should be; none where it means a set.
-    own: Option<Unread>,
-}
-
 /// What evaluation says of a phrase.
+#[derive(Clone, Copy)]
 enum Evaluation {
     Is(Kind),
     /// Its parts are to be looked into. This is reported where they are as they should be; none where it means a set.
     Unclear(Option<Unread>),
 }
 
-/// What evaluation says of the phrase. A condition isn't evaluated as a whole, since its parts say more; nor is what is made
-/// of two sets, since that is costly and says nothing but that it is too large.
+/// What evaluation says of the phrase. What is made of two sets isn't evaluated as a whole, since that is costly and says
+/// nothing but that it is too large.
 fn evaluation_of<A: Allocator + Copy>(
     sight: &Sight<'_, '_, A>,
     phrase: &Tree<A>,
 ) -> Result<Evaluation, Unread> {
     if let Tree::Node { form, .. } = phrase {
-        if matches!(
-            form,
-            Form::Brackets | Form::If | Form::Union | Form::Intersection | Form::Difference
-        ) {
+        if matches!(form, Form::Union | Form::Intersection | Form::Difference) {
             return Ok(Evaluation::Unclear(None));
         }
     }
-    match worth_here(sight, phrase) {
-        Ok(worth) => match kind_of_worth(&worth) {
-            Kind::Nothing => Ok(Evaluation::Unclear(None)),
-            kind => Ok(Evaluation::Is(kind)),
-        },
+    match kind_here(sight, phrase) {
+        Ok(Kind::Nothing) => Ok(Evaluation::Unclear(None)),
+        Ok(kind) => Ok(Evaluation::Is(kind)),
         Err(Unread::Memory) => Err(Unread::Memory),
         Err(own) => Ok(Evaluation::Unclear(Some(own))),
+    }
+}
+
+/// Whether a phrase of its form can be what is wanted.
+fn takes_phrase<A: Allocator>(wanted: Wanted, phrase: &Tree<A>) -> bool {
+    match phrase {
+        Tree::Node { form, .. } => takes_form(wanted, *form),
+        Tree::Name { .. } | Tree::Number { .. } => true,
+    }
+}
+
+/// The same, where the phrase is or can be what is wanted of it on this line.
+fn evaluation_as_wanted<A: Allocator + Copy>(
+    sight: &Sight<'_, '_, A>,
+    phrase: &Tree<A>,
+    wanted: Wanted,
+    line: u32,
+) -> Result<Evaluation, Unread> {
+    match evaluation_of(sight, phrase)? {
+        Evaluation::Is(kind) => Ok(Evaluation::Is(as_wanted(wanted, kind, line)?)),
+        unclear => {
+            if takes_phrase(wanted, phrase) {
+                Ok(unclear)
+            } else {
+                Err(fault(line, ScriptErrorKind::Expected))
+            }
+        }
     }
 }
 
@@ -151,66 +165,42 @@ fn kind_alone<A: Allocator + Copy>(
     }
 }
 
-/// What the phrase is, which is wanted on this line; else the fault that is met first.
+/// What the phrase is, which is wanted on this line; else the fault that is met first. Of a condition it is what the branch
+/// is that it chooses: the other one isn't looked into.
 #[cycle(kinds)]
 pub(crate) fn kind_of<A: Allocator + Copy>(
     sight: &Sight<'_, '_, A>,
     phrase: &Tree<A>,
     wanted: Wanted,
-    outer: u32,
+    line: u32,
 ) -> Result<Kind, Unread> {
-    match evaluation_of(sight, phrase)? {
-        Evaluation::Is(kind) => as_wanted(wanted, kind, outer),
-        Evaluation::Unclear(own) => match phrase {
-            Tree::Node { line, form, parts } => {
-                let spot = Spot {
-                    wanted,
-                    outer,
-                    line: *line,
-                    own,
-                };
-                let kind = kind_of_form(sight, *form, parts, spot)?;
-                as_wanted_of(sight, phrase, wanted, kind, outer)
-            }
-            Tree::Name { .. } | Tree::Number { .. } => ended(own),
-        },
+    let phrase = without_conditions(sight, phrase)?;
+    match evaluation_as_wanted(sight, phrase, wanted, line)? {
+        Evaluation::Is(kind) => Ok(kind),
+        Evaluation::Unclear(own) => {
+            let kind = kind_by_parts(sight, phrase, own)?;
+            as_wanted_of(sight, phrase, wanted, kind, line)
+        }
     }
 }
 
-/// What a phrase of this form is.
+/// What the phrase is by its form and its parts. This is reported where they are as they should be; none where it means a set.
 #[cycle(kinds)]
-fn kind_of_form<A: Allocator + Copy>(
+fn kind_by_parts<A: Allocator + Copy>(
     sight: &Sight<'_, '_, A>,
-    form: Form,
-    parts: &[Tree<A>],
-    spot: Spot,
+    phrase: &Tree<A>,
+    own: Option<Unread>,
 ) -> Result<Kind, Unread> {
-    if !takes_form(spot.wanted, form) {
-        return Err(fault(spot.outer, ScriptErrorKind::Expected));
-    }
-    match look_of(form) {
-        Look::Inside => kind_inside(sight, parts, spot),
-        Look::Branch => kind_of_branch(sight, parts, spot),
-        Look::Members => kind_of_members(sight, parts, spot.own),
-        Look::Sets => kind_of_sets(sight, parts, spot.own),
+    let Tree::Node { line, form, parts } = phrase else {
+        return ended(own);
+    };
+    match look_of(*form) {
+        Look::Members => kind_of_members(sight, parts, own),
+        Look::Sets => kind_of_sets(sight, parts, own),
         Look::Productions => kind_of_productions(sight, parts),
-        Look::Connected(decisive) => connected(sight, decisive, parts, spot.own),
-        Look::Compared => compared(sight, parts, spot.own),
-        Look::Each(wanted) => each(sight, wanted, parts, spot.own),
-        Look::Alone => kind_alone(sight, form, parts, spot.line),
-    }
-}
-
-/// What the phrase in brackets is.
-#[cycle(kinds)]
-fn kind_inside<A: Allocator + Copy>(
-    sight: &Sight<'_, '_, A>,
-    parts: &[Tree<A>],
-    spot: Spot,
-) -> Result<Kind, Unread> {
-    match parts {
-        [inner] => kind_of(sight, inner, spot.wanted, spot.outer),
-        _ => ended(spot.own),
+        Look::Connected(decisive) => connected(sight, decisive, parts, own),
+        Look::Each(wanted) => each(sight, wanted, parts, own),
+        Look::Alone => kind_alone(sight, *form, parts, *line),
     }
 }
 
@@ -220,30 +210,11 @@ fn decided<A: Allocator + Copy>(
     sight: &Sight<'_, '_, A>,
     phrase: &Tree<A>,
 ) -> Result<bool, Unread> {
-    if let Some(truth) = truth_here(sight, phrase)? {
+    if let Some(truth) = truth_behind(&sight.alloc, sight.known, sight.inputs, phrase)? {
         return Ok(truth);
     }
     kind_of(sight, phrase, Wanted::Truth, phrase.line())?;
     Err(fault(phrase.line(), ScriptErrorKind::Expected))
-}
-
-/// What the branch is that a condition chooses. The other one isn't looked into.
-#[cycle(kinds)]
-fn kind_of_branch<A: Allocator + Copy>(
-    sight: &Sight<'_, '_, A>,
-    parts: &[Tree<A>],
-    spot: Spot,
-) -> Result<Kind, Unread> {
-    match parts {
-        [condition, first, second] => {
-            if decided(sight, condition)? {
-                kind_of(sight, first, spot.wanted, spot.outer)
-            } else {
-                kind_of(sight, second, spot.wanted, spot.outer)
-            }
-        }
-        _ => ended(spot.own),
-    }
 }
 
 /// The first fault in the sides of `and` or `or`, or else this one. The second side isn't looked into where the first is the
@@ -263,22 +234,19 @@ fn connected<A: Allocator + Copy>(
     ended(own)
 }
 
-/// The first fault in phrases that are to be of one kind, which can be compared, or else this one.
-#[cycle(kinds)]
-fn compared<A: Allocator + Copy>(
-    sight: &Sight<'_, '_, A>,
-    sides: &[Tree<A>],
-    own: Option<Unread>,
-) -> Result<Kind, Unread> {
-    if let [first, second] = sides {
-        let line = second.line();
-        let first = kind_of(sight, first, Wanted::Comparable, first.line())?;
-        let second = kind_of(sight, second, Wanted::Comparable, line)?;
-        if first != second {
-            return Err(fault(line, ScriptErrorKind::Expected));
+/// The kind of a phrase of which this is wanted; phrases that are compared are of one kind, which the one before it has.
+fn as_before(
+    wanted: Wanted,
+    before: Option<Kind>,
+    kind: Kind,
+    line: u32,
+) -> Result<Option<Kind>, Unread> {
+    match (wanted, before) {
+        (Wanted::Comparable, Some(before)) if before != kind => {
+            Err(fault(line, ScriptErrorKind::Expected))
         }
+        _ => Ok(Some(kind)),
     }
-    ended(own)
 }
 
 /// The first fault in phrases of each of which this is wanted, or else this one.
@@ -289,8 +257,11 @@ fn each<A: Allocator + Copy>(
     parts: &[Tree<A>],
     own: Option<Unread>,
 ) -> Result<Kind, Unread> {
+    let mut before = None;
     for part in parts {
-        kind_of(sight, part, wanted, part.line())?;
+        let line = part.line();
+        let kind = kind_of(sight, part, wanted, line)?;
+        before = as_before(wanted, before, kind, line)?;
     }
     ended(own)
 }
@@ -374,42 +345,40 @@ pub(crate) fn event_in_set<A: Allocator + Copy>(
     phrase: &Tree<A>,
     is_member: bool,
 ) -> Result<(), Unread> {
-    let Tree::Node { line, form, parts } = phrase else {
+    let Tree::Node { line, parts, .. } = without_conditions(sight, phrase)? else {
         return Ok(());
     };
-    match (*form, parts.as_slice()) {
-        (Form::Brackets, [inner]) => event_in_set(sight, inner, is_member),
-        (Form::If, [condition, first, second]) => {
-            if decided(sight, condition)? {
-                event_in_set(sight, first, is_member)
-            } else {
-                event_in_set(sight, second, is_member)
-            }
-        }
-        (_, [first, fields @ ..]) => {
-            let sets = sets_of_event(sight, first, fields, is_member, *line)?;
-            values_in_sets(sight, parts, sets)
-        }
-        (_, []) => Ok(()),
+    let [first, fields @ ..] = parts.as_slice() else {
+        return Ok(());
+    };
+    let sets = sets_of_event(sight, first, fields, is_member, *line)?;
+    values_in_sets(sight, fields, sets)
+}
+
+/// What a field gives, if it gives one value.
+fn value_of_field<A: Allocator>(field: &Tree<A>) -> Option<&Tree<A>>
+    ensures { IfSome result (λ v. size-Tree _ v.now < size-Tree _ field.now) }
+{
+    match field {
+        Tree::Node { parts, .. } => match parts.as_slice() {
+            [value] => Some(value),
+            _ => None,
+        },
+        Tree::Name { .. } | Tree::Number { .. } => None,
     }
 }
 
-/// Looks into the fields after the name of an event, each of which is to be a value of its set.
+/// Looks into the fields of an event, each of which is to be a value of its set.
 #[cycle(kinds)]
 fn values_in_sets<A: Allocator + Copy>(
     sight: &Sight<'_, '_, A>,
-    parts: &[Tree<A>],
+    fields: &[Tree<A>],
     sets: &[Tree<A>],
 ) -> Result<(), Unread> {
-    for (place, part) in parts.iter().enumerate() {
-        let Some(set) = place.checked_sub(1) else {
-            continue;
-        };
-        if let Tree::Node { parts, .. } = part {
-            if let [value] = parts.as_slice() {
-                kind_of(sight, value, Wanted::Value, value.line())?;
-                in_set(sight, value, sets.get(set))?;
-            }
+    for (field, set) in fields.iter().zip(sets) {
+        if let Some(value) = value_of_field(field) {
+            kind_of(sight, value, Wanted::Value, value.line())?;
+            in_set(sight, value, set)?;
         }
     }
     Ok(())
@@ -434,10 +403,13 @@ fn kind_of_sets<A: Allocator + Copy>(
 
 /// The phrase that is left of a phrase without its brackets and with its conditions decided; else the first fault in a
 /// condition.
+#[cycle(kinds)]
 pub(crate) fn without_conditions<'t, A: Allocator + Copy>(
     sight: &Sight<'_, '_, A>,
     phrase: &'t Tree<A>,
-) -> Result<&'t Tree<A>, Unread> {
+) -> Result<&'t Tree<A>, Unread>
+    ensures { IfOk result (λ t. size-Tree _ t.now ≤ size-Tree _ phrase.now) }
+{
     let Tree::Node { form, parts, .. } = phrase else {
         return Ok(phrase);
     };
@@ -452,4 +424,14 @@ pub(crate) fn without_conditions<'t, A: Allocator + Copy>(
         }
         _ => Ok(phrase),
     }
+}
+
+/// What the phrase is, of which this is wanted; also the fault of a set of values that is too large.
+pub(crate) fn evaluated_kind<A: Allocator + Copy>(
+    sight: &Sight<'_, '_, A>,
+    phrase: &Tree<A>,
+    wanted: Wanted,
+) -> Result<Kind, Unread> {
+    let kind = kind_of(sight, phrase, wanted, phrase.line())?;
+    as_evaluated(sight, phrase, kind)
 }

@@ -44,7 +44,7 @@ pub(crate) fn undeclared(name: &[u8], line: u32) -> Unread {
 }
 
 /// What a phrase is that means this: `Nothing` for a set without values, whatever it is made of.
-pub(crate) fn kind_of_worth<A: Allocator>(worth: &Worth<A>) -> Kind {
+fn kind_of_worth<A: Allocator>(worth: &Worth<A>) -> Kind {
     match worth {
         Worth::One(Value::Number(_)) => Kind::Number,
         Worth::One(Value::Constant(_)) => Kind::Constant,
@@ -60,16 +60,25 @@ pub(crate) fn kind_of_worth<A: Allocator>(worth: &Worth<A>) -> Kind {
 }
 
 /// Whether the name means a value, which hides a channel of its name.
-pub(crate) fn hides<A: Allocator>(sight: &Sight<'_, '_, A>, name: &[u8]) -> bool {
+fn hides<A: Allocator>(sight: &Sight<'_, '_, A>, name: &[u8]) -> bool {
     is_value(sight.known, sight.inputs, name)
 }
 
 /// What a phrase after the inputs means.
-pub(crate) fn worth_here<A: Allocator + Copy>(
+fn worth_here<A: Allocator + Copy>(
     sight: &Sight<'_, '_, A>,
     phrase: &Tree<A>,
 ) -> Result<Worth<A>, Unread> {
     stands_for(&sight.alloc, sight.known, sight.inputs, phrase)
+}
+
+/// What a phrase is by what it means after the inputs.
+pub(crate) fn kind_here<A: Allocator + Copy>(
+    sight: &Sight<'_, '_, A>,
+    phrase: &Tree<A>,
+) -> Result<Kind, Unread> {
+    let worth = worth_here(sight, phrase)?;
+    Ok(kind_of_worth(&worth))
 }
 
 /// The kind, of a phrase that is of it; the fault of a set of values that is too large.
@@ -79,17 +88,19 @@ pub(crate) fn as_evaluated<A: Allocator + Copy>(
     kind: Kind,
 ) -> Result<Kind, Unread> {
     if kind == Kind::Values {
-        worth_here(sight, phrase)?;
+        kind_here(sight, phrase)?;
     }
     Ok(kind)
 }
 
-/// The truth that a phrase stands for after the inputs, if it is one.
-pub(crate) fn truth_here<A: Allocator + Copy>(
-    sight: &Sight<'_, '_, A>,
+/// The truth that a phrase stands for after these inputs, if it is one.
+pub(crate) fn truth_behind<A: Allocator + Copy>(
+    alloc: &A,
+    known: &Known<A>,
+    inputs: &[Input<A>],
     phrase: &Tree<A>,
 ) -> Result<Option<bool>, AllocError> {
-    match worth_here(sight, phrase) {
+    match stands_for(alloc, known, inputs, phrase) {
         Ok(Worth::Truth(truth)) => Ok(Some(truth)),
         Err(Unread::Memory) => Err(AllocError),
         _ => Ok(None),
@@ -140,21 +151,13 @@ pub(crate) fn kind_of_event<A: Allocator + Copy>(
     let [first, fields @ ..] = parts else {
         return Err(fault(line, ScriptErrorKind::Expected));
     };
-    let Part::Name(name) = part_of(first) else {
-        return Err(fault(line, ScriptErrorKind::Expected));
-    };
-    if fields.is_empty() {
-        return kind_of_name(sight, name, line);
+    if !fields.is_empty() {
+        field_sets(sight, first, line)?;
+        return Ok(Kind::Event);
     }
-    if hides(sight, name) {
-        return Err(fault(line, ScriptErrorKind::Expected));
-    }
-    match sight.entries.get(name) {
-        Some(entry) => match &entry.meaning {
-            Meaning::Channel(_) => Ok(Kind::Event),
-            _ => Err(fault(line, ScriptErrorKind::Expected)),
-        },
-        None => Err(undeclared(name, line)),
+    match part_of(first) {
+        Part::Name(name) => kind_of_name(sight, name, line),
+        _ => Err(fault(line, ScriptErrorKind::Expected)),
     }
 }
 
@@ -217,29 +220,30 @@ pub(crate) fn field_sets<'a, A: Allocator + Copy>(
     }
 }
 
+/// Whether this is a set with that value in it.
+fn contains<A: Allocator + Copy>(set: &Worth<A>, value: &Worth<A>) -> bool {
+    match (set, value) {
+        (Worth::Many(set), Worth::One(value)) => set.contains(value),
+        _ => false,
+    }
+}
+
 /// Whether the phrase means a value of the set.
 fn is_in<A: Allocator + Copy>(
     sight: &Sight<'_, '_, A>,
     value: &Tree<A>,
-    set: Option<&Tree<A>>,
+    set: &Tree<A>,
 ) -> Result<bool, Unread> {
-    let Some(set) = set else {
-        return Ok(false);
-    };
-    let Worth::One(value) = worth_here(sight, value)? else {
-        return Ok(false);
-    };
-    match worth_alone(sight.alloc, sight.known, set)? {
-        Worth::Many(set) => Ok(set.contains(&value)),
-        Worth::One(_) | Worth::Truth(_) => Ok(false),
-    }
+    let value = worth_here(sight, value)?;
+    let set = worth_alone(sight.alloc, sight.known, set)?;
+    Ok(contains(&set, &value))
 }
 
 /// Looks whether the phrase means a value of the set; it is out of range where it doesn't.
 pub(crate) fn in_set<A: Allocator + Copy>(
     sight: &Sight<'_, '_, A>,
     value: &Tree<A>,
-    set: Option<&Tree<A>>,
+    set: &Tree<A>,
 ) -> Result<(), Unread> {
     if is_in(sight, value, set)? {
         Ok(())
