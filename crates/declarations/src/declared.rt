@@ -32,16 +32,13 @@ pub struct Declared<'a, A: Allocator> {
     pub alphabet: Alphabet<A>,
 }
 
-/// The names, where the parameters are in order.
-fn fitting<'a, A: Allocator + Copy>(
-    entries: Entries<'a, A>,
-    tree: &'a Tree<A>,
-) -> Result<Entries<'a, A>, Unread>
-    ensures { Gives entries_of result (fitting_of (entries_of entries.entry)) }
+/// Whether the parameters of these names are in order; else the fault in the names of the tree.
+fn fitting<'a, A: Allocator + Copy>(entries: &Entries<'a, A>, tree: &Tree<A>) -> Result<(), Unread>
+    ensures { Gives (λ _. entries_of entries.now) result (fitting_of (entries_of entries.now)) }
 {
-    let fit = parameters_fit(&entries)?;
+    let fit = parameters_fit(entries)?;
     if fit {
-        Ok(entries)
+        Ok(())
     } else {
         Err(fault_of_names(tree))
     }
@@ -55,7 +52,10 @@ fn fitting_entries<'a, A: Allocator + Copy>(
     ensures { Gives entries_of result (fitting_entries_of (shape tree.now)) }
 {
     match distinct_entries(alloc, tree) {
-        Ok(entries) => fitting(entries, tree),
+        Ok(entries) => {
+            fitting(&entries, tree)?;
+            Ok(entries)
+        }
         Err(Unread::Fault(_)) => Err(fault_of_names(tree)),
         Err(Unread::Memory) => Err(Unread::Memory),
     }

@@ -73,14 +73,6 @@ fn evaluation_of<A: Allocator + Copy>(
     }
 }
 
-/// Whether a phrase of its form can be what is wanted.
-fn takes_phrase<A: Allocator>(wanted: Wanted, phrase: &Tree<A>) -> bool {
-    match phrase {
-        Tree::Node { form, .. } => takes_form(wanted, *form),
-        Tree::Name { .. } | Tree::Number { .. } => true,
-    }
-}
-
 /// The same, where the phrase is or can be what is wanted of it on this line.
 fn evaluation_as_wanted<A: Allocator + Copy>(
     sight: &Sight<'_, '_, A>,
@@ -90,13 +82,12 @@ fn evaluation_as_wanted<A: Allocator + Copy>(
 ) -> Result<Evaluation, Unread> {
     match evaluation_of(sight, phrase)? {
         Evaluation::Is(kind) => Ok(Evaluation::Is(as_wanted(wanted, kind, line)?)),
-        unclear => {
-            if takes_phrase(wanted, phrase) {
-                Ok(unclear)
-            } else {
+        unclear => match phrase {
+            Tree::Node { form, .. } if !takes_form(wanted, *form) => {
                 Err(fault(line, ScriptErrorKind::Expected))
             }
-        }
+            _ => Ok(unclear),
+        },
     }
 }
 

@@ -10,7 +10,7 @@ returns-in_err-fit g c =
     rw (p.1, p.2) tt
 
 pub returns-then-fit : goal.returns-then-fit
-returns-then-fit g c = fit_same (entries c.args.entries) (sym c.in_ok-fit.ensures ∙ c.if-fit.true)
+returns-then-fit g c = fit_same (entries c.args.entries.now) (sym c.in_ok-fit.ensures ∙ c.if-fit.true)
 
-pub returns : goal.returns
-returns g c = unfit_fails c.fault_of_names.result (entries c.args.entries) (sym c.in_ok-fit.ensures ∙ c.if-fit.false)
+pub returns-else-fit : goal.returns-else-fit
+returns-else-fit g c = unfit_fails c.fault_of_names.result (entries c.args.entries.now) (sym c.in_ok-fit.ensures ∙ c.if-fit.false)
