@@ -41,21 +41,18 @@ enum Turn {
 #[derive(Clone, Copy)]
 enum Idle {
     Nothing,
-    Last,
-    LastButOne,
-    /// The last one and the one before it.
-    LastTwo,
-    All,
+    /// The part at this place.
+    At(usize),
+    /// Those from this place on.
+    From(usize),
 }
 
-/// Whether the part at this place, counted from the last one, isn't looked at.
+/// Whether the part at this place isn't looked at.
 fn is_idle(idle: Idle, place: usize) -> bool {
     match idle {
         Idle::Nothing => false,
-        Idle::Last => place == 0,
-        Idle::LastButOne => place == 1,
-        Idle::LastTwo => place < 2,
-        Idle::All => true,
+        Idle::At(only) => place == only,
+        Idle::From(first) => place >= first,
     }
 }
 
@@ -83,9 +80,9 @@ fn idle_branches<'a, A: Allocator + Copy>(
     condition: &Tree<A>,
 ) -> Result<Idle, AllocError> {
     match truth_behind(&names.alloc, names.known, names.inputs, condition)? {
-        Some(true) => Ok(Idle::Last),
-        Some(false) => Ok(Idle::LastButOne),
-        None => Ok(Idle::LastTwo),
+        Some(true) => Ok(Idle::At(2)),
+        Some(false) => Ok(Idle::At(1)),
+        None => Ok(Idle::From(1)),
     }
 }
 
@@ -97,7 +94,7 @@ fn idle_sides<'a, A: Allocator + Copy>(
 ) -> Result<Idle, AllocError> {
     match truth_behind(&names.alloc, names.known, names.inputs, first)? {
         Some(truth) if truth != decisive => Ok(Idle::Nothing),
-        _ => Ok(Idle::Last),
+        _ => Ok(Idle::At(1)),
     }
 }
 
@@ -111,7 +108,7 @@ fn idle_parts<'a, A: Allocator + Copy>(
         (Form::If, [condition, _, _]) => idle_branches(names, condition),
         (Form::Operation(Operator::And), [first, _]) => idle_sides(names, first, false),
         (Form::Operation(Operator::Or), [first, _]) => idle_sides(names, first, true),
-        _ if is_process_form(form) => Ok(Idle::All),
+        _ if is_process_form(form) => Ok(Idle::From(0)),
         _ => Ok(Idle::Nothing),
     }
 }
@@ -127,9 +124,9 @@ fn push_needs<'a, A: Allocator + Copy>(
         Tree::Number { .. } => Ok(()),
         Tree::Node { form, parts, .. } => {
             let idle = idle_parts(names, *form, parts)?;
-            for (place, part) in parts.iter().rev().enumerate() {
+            for place in (0..parts.len()).rev() {
                 if !is_idle(idle, place) {
-                    push_needs(names, part, stack)?;
+                    push_needs(names, &parts[place], stack)?;
                 }
             }
             Ok(())

@@ -73,7 +73,7 @@ fn evaluation_of<A: Allocator + Copy>(
     }
 }
 
-/// The same, where the phrase is or can be what is wanted of it on this line.
+/// What evaluation says of the phrase, where it is or can be what is wanted of it on this line.
 fn evaluation_as_wanted<A: Allocator + Copy>(
     sight: &Sight<'_, '_, A>,
     phrase: &Tree<A>,
@@ -225,7 +225,7 @@ fn connected<A: Allocator + Copy>(
     ended(own)
 }
 
-/// The kind of a phrase of which this is wanted; phrases that are compared are of one kind, which the one before it has.
+/// The kind of a phrase of which this is wanted; where phrases are compared, it is to be that of the one before it.
 fn as_before(
     wanted: Wanted,
     before: Option<Kind>,
@@ -346,7 +346,7 @@ pub(crate) fn event_in_set<A: Allocator + Copy>(
     values_in_sets(sight, fields, sets)
 }
 
-/// What a field gives, if it gives one value.
+/// What a field gives, if it gives one value. It is less deep than the field.
 fn value_of_field<A: Allocator>(field: &Tree<A>) -> Option<&Tree<A>>
     ensures { IfSome result (λ v. size-Tree _ v.now < size-Tree _ field.now) }
 {
@@ -392,8 +392,8 @@ fn kind_of_sets<A: Allocator + Copy>(
     }
 }
 
-/// The phrase that is left of a phrase without its brackets and with its conditions decided; else the first fault in a
-/// condition.
+/// The phrase that is left of a phrase without its brackets and with its conditions decided, which is no deeper; else the first
+/// fault in a condition.
 #[cycle(kinds)]
 pub(crate) fn without_conditions<'t, A: Allocator + Copy>(
     sight: &Sight<'_, '_, A>,
