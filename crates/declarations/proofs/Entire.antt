@@ -26,7 +26,7 @@ some_of x = Some x
 abbrev made : List Values → Name → Channel
 made fields n = record { name = n; fields = fields }
 
--- one behind the other
+-- one after the other
 unfoldable pub enter_all : List Channel → List Channel → Option (List Channel)
 enter_all cs [] = Some cs
 enter_all cs (d ∷ ds) = enter cs d >>= λ es. enter_all es ds

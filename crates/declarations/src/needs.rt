@@ -113,7 +113,7 @@ fn idle_parts<'a, A: Allocator + Copy>(
     }
 }
 
-/// Puts the names that the phrase behind these inputs needs on the stack, to be met, the first one on top. A process needs none.
+/// Puts the names that the phrase after these inputs needs on the stack, to be met, the first one on top. A process needs none.
 fn push_needs<'a, A: Allocator + Copy>(
     names: &Names<'_, 'a, A>,
     phrase: &Tree<A>,

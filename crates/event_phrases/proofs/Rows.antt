@@ -29,6 +29,6 @@ unfolding is_among is_same
 among [] v = refl
 among (w ∷ ws) v = ap₂ (λ a b. a || b) (turned (value w) (value v)) (among ws v)
 
--- the values behind so many
+-- the values after so many
 pub drop_view : {A : Type 0} (vs : List (Value A)) (n : ℕ) → map value (drop n vs) ≡ drop n (map value vs)
 drop_view vs n = sym (drop-map value n vs)

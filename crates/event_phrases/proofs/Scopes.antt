@@ -1,4 +1,4 @@
--- Scopes behind inputs, values of fields, and fields of a prefix.
+-- Scopes after inputs, values of fields, and fields of a prefix.
 use Rattle.std.proofs.Common.{◌≡◌, ℕ, zero, suc, ◌-◌, ◌<◌, ◌≤◌, List, [], ◌∷◌, ◌++◌, length, take, drop, get_or, Bool, true, false, cond, Option, Some, None, refl, sym, ap, ◌∙◌, arith, append-nil, append_assoc}
 use Rattle.std.proofs.lemmas.List.{length-drop}
 use Rattle.alphabet.specs.Channels.{FieldValue, Values}
@@ -27,7 +27,7 @@ seen o x h = unless_is o x ∙ ap (λ b. cond b None x) h
 abbrev at_input : Scope → Known → Scope
 at_input s k = record s { known = k }
 
--- a scope behind one more input
+-- a scope after one more input
 pub behind_input : (s : Scope) (is js : List (Name × FieldValue)) (x : Name) (v : FieldValue) → js ≡ is ++ (x, v) ∷ [] → within s js ≡ with_input (within s is) x v
 behind_input s is js x v h = ap (within s) h ∙ ap (at_input s) (behind-more s.known is x v)
 
@@ -119,7 +119,7 @@ pub first_item : {X : Type 0} (xs : List X) (x : X) → 1 ≤ length xs → x �
 first_item [] x h is = absurd (omega (arith, h))
 first_item (y ∷ ys) x h is = ap (λ z. z ∷ ys) (sym is)
 
--- the items behind the first, as the code sees them
+-- the items after the first, as the code sees them
 pub rest_is : {X : Type 0} (xs : List X) → take (length xs - 1) (drop 1 xs) ≡ drop 1 xs
 rest_is xs = take_whole (length xs - 1) (drop 1 xs) (omega (arith, length-drop 1 xs))
 
