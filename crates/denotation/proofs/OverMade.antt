@@ -71,7 +71,7 @@ two_are w (Some ps) (Some qs) = both_are w ps qs
 
 -- ---- generators
 
--- where what is made behind inputs is what the bodies are
+-- where what is made after inputs is what the bodies are
 module _ (next : Scope → Count → Option AllMade) (bodies : Scope → Option (List Body)) (h : (s : Scope) (w : Count) → next s w ≡ all_made w (bodies s)) where
   for_each_is : (s : Scope) (n : Name) (vs : Values) (w : Count) → make_for_each next s n vs w ≡ all_made w (for_each bodies s n vs)
   unfolding make_for_each for_each

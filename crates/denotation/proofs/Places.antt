@@ -130,7 +130,7 @@ module _ (s : Scope) where
           by_name ∙ ap (λ o. (o >>= λ vs. some_values x vs) >>= λ p. some_visits (visits_from s is (p.0, p.1, inner) hs)) e ∙ ap some_visits (sym is_same)
 
   module _ (is : List (Name × FieldValue)) (hs : List Waiting) (gs : List Syntax) (whole : Option (List Visit)) (inv : first_scope (visits gs (within s is) ++ visits_after s is hs) ≡ whole) where
-    -- behind a value of each generator
+    -- after a value of each generator
     pub arrived : gs ≡ [] → whole ≡ Some (stands (within s is) ∷ visits_after s is hs)
     unfolding visits
     arrived h = sym inv ∙ at_scope (visits gs (within s is) ++ visits_after s is hs) (visits_after s is hs) (within s is) (ap (λ gs. visits gs (within s is) ++ visits_after s is hs) h)

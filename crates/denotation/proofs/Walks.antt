@@ -52,7 +52,7 @@ module _ (next : Scope → Count → Option Made) where
   visits_append (fails ∷ us) vs w = refl
   visits_append (stands s ∷ us) vs w = one_more us vs (visits_append us vs) (next s w)
 
-  -- where what is made behind inputs is what is made on a walk
+  -- where what is made after inputs is what is made on a walk
   module _ (inner : Scope → Count → Option AllMade) (on : Scope → List Visit) (h : (s : Scope) (w : Count) → inner s w ≡ make_visits next (on s) w) where
     each_is : (s : Scope) (x : Name) (vs : Values) (w : Count) → make_for_each inner s x vs w ≡ make_visits next (behind_each on s x vs) w
     unfolding make_for_each behind_each make_visits

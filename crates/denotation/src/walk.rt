@@ -133,7 +133,7 @@ fn descended<'a, A: Allocator + Copy, G: GlobalScope<A>>(
     Ok(Some(at))
 }
 
-/// The first place behind a value of each of the generators, in this scope. Sets of later generators are looked at first, as far as
+/// The first place after a value of each of the generators, in this scope. Sets of later generators are looked at first, as far as
 /// they can be: where one is empty there is no place, and the values of the earlier ones aren't gone through.
 pub(crate) fn first_place<'a, A: Allocator + Copy, G: GlobalScope<A>>(
     alloc: A,
