@@ -90,9 +90,10 @@ def check(crate):
     number = None
     while running.poll() is None:
         time.sleep(LOOK)
-        number = number or checker_of(folder)
         seconds = processor_seconds(number) if number else None
-        if seconds is not None:
+        if seconds is None:  # it hasn't begun, or it was a short one, which `rt` runs ahead of the check
+            number, watch.last = checker_of(folder), 0.0
+        else:
             watch.look(seconds)
     return running.returncode, watch.times
 
