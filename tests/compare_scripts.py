@@ -348,7 +348,8 @@ BODY = rb"(?m)^([A-Za-z][A-Za-z0-9_]*'*) = \(*(?:if\b|[A-Za-z][A-Za-z0-9_]*'*\()
 def decided_elsewhere(folder, case, own, wanted):
     """Whether both report a fault, and the reference reports the program's where some of the names that have a condition or a call as body
     are STOP: those that the program hasn't made yet, since it looks into such a body when it makes it. Or else the program's fault is in
-    such a body, and is the kind of fault that the reference reports at a use of its name."""
+    such a body, and is the kind of fault that the reference reports at a use of its name; or it is 3, since the condition chooses no
+    process, where the reference reports a fault of what is chosen."""
     text, root = case
     faults = [re.fullmatch(rb"p\.csp:(\d+): (\d+) [a-z]+\n", answer) for answer in (own, wanted)]
     if None in faults:
@@ -360,7 +361,7 @@ def decided_elsewhere(folder, case, own, wanted):
             if next(reference_answers(folder, [(later, root)])) == own:
                 return True
     line = text.split(b"\n")[int(faults[0][1]) - 1]
-    return any(line.startswith(name + b" = ") for name in late) and faults[0][2] == faults[1][2]
+    return any(line.startswith(name + b" = ") for name in late) and (faults[0][2] == faults[1][2] or faults[0][2] == b"3" and faults[0][1] == faults[1][1])
 
 
 def reason(folder, case, own, wanted):
