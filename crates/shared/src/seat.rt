@@ -143,17 +143,19 @@ impl<D: Disk, A: Allocator + Copy, N: Naming> Seat<'_, D, A, N> {
 }
 
 // How often a lock that is held is asked for again before the thread sleeps.
-const TRIES: u32 = 70;
+const TRIES: u32 = 56;
 
 // After how many of these tries the thread pauses. After the others it lets another thread run.
-const PAUSED_TRIES: u32 = 20;
+const PAUSED_TRIES: u32 = 6;
 
-// How many pauses there are between two tries. Each try takes the lock's word away from the thread that holds the lock.
+// How many pauses there are after the first try; after each try there are twice as many as after the one before. Each try takes the
+// lock's word away from the thread that holds the lock. And while others pause, a thread takes the lock for several reports, so that
+// what is under the lock doesn't go from processor to processor with each of them.
 const PAUSES: u32 = 30;
 
-// Waits for a moment, some microseconds at most.
-fn pause() {
-    for _ in 0..PAUSES {
+// Waits for a moment: a microsecond for 20 pauses.
+fn pause(pauses: u32) {
+    for _ in 0..pauses {
         spin_loop();
     }
 }
@@ -169,7 +171,7 @@ fn lock<'a, D: Disk, A: Allocator + Copy, N: Naming, R: Wait>(
             return locked;
         }
         if failed < PAUSED_TRIES {
-            pause();
+            pause(PAUSES << failed);
         } else {
             yield_now();
         }

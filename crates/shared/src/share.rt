@@ -17,7 +17,7 @@ use alphabet::Report;
 use board::{Counts, Front, Looker, Naming, look};
 use core::mem::replace_with;
 use disk::Disk;
-use session::{Fault, SeatNumber, Summary};
+use session::{Entry, Fault, SeatNumber, Summary};
 use std::alloc::Allocator;
 use std::marker::Model;
 use std::sync::{Wait, ledger};
@@ -29,6 +29,19 @@ pub struct Receipt {
     pub verdict: bool,
     /// The place of the report's entry in the history, counted from 1.
     pub place: u64,
+}
+
+impl Receipt {
+    // The receipt of the last entry of a history with these counts.
+    fn of(last: &Entry, counts: &Summary) -> Receipt
+        ensures verdict { last.now.verdict ≡ result.verdict }
+        ensures place { result.place ≡ counts.now.judged }
+    {
+        Receipt {
+            verdict: last.verdict,
+            place: counts.judged,
+        }
+    }
 }
 
 /// The counts of a history, and whether this seat knows the session to be closed.
@@ -216,10 +229,7 @@ impl<N: Naming, A: Allocator + Copy> Share<N, A> {
         match result {
             Ok(entry) => {
                 self.answered = number;
-                Ok(Receipt {
-                    verdict: entry.verdict,
-                    place: self.summary.judged,
-                })
+                Ok(Receipt::of(&entry, &self.summary))
             }
             Err(fault) => {
                 self.closed = is_closing(&fault) | self.closed;

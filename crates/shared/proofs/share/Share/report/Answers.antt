@@ -39,14 +39,14 @@ returns-in-Ok-clause-answered g c =
       mine = take (n + 1) (calls (o ++ c.report-result.new.front) k);
       closed = c.self.inside.closed;
     } in
-    subst (λ (old : SeatView). Answered B old now c.args.report.now e.verdict c.report-result.new.summary.judged) c.self.view_is (record {
+    subst (λ (old : SeatView). Answered B old now c.args.report.now c.of.result.verdict c.of.result.place) c.self.view_is (record {
       legal = c.len-legal.ensures.legal;
       before = o ++ front;
       begins = begins_self (o ++ front);
       entry = e;
-      is_of = record { seat_is = r.entry.seat_is; report_is = r.entry.report_is; verdict_is = refl };
+      is_of = record { seat_is = r.entry.seat_is; report_is = r.entry.report_is; verdict_is = c.of.ensures.verdict };
       ends = ends;
-      stands = ap (λ s. s.judged) r.seen.2;
+      stands = c.of.ensures.place ∙ ap (λ s. s.judged) r.seen.2;
       mine = t.1;
       own = t.0 ∙ sym t.1;
       seat = refl;
