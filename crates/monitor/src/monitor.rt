@@ -150,6 +150,22 @@ impl<A: Allocator + Copy> Monitor<A> {
         self.trace.push_reserved(event);
         self.states = states;
     }
+
+    /// Begins anew with what the root may be after the present trace alone, where the sets of states that it has found are
+    /// many (`Space::is_large`). What was judged before isn't of this monitor any more. Where memory is refused for that, all
+    /// stays.
+    pub fn forget(&mut self)
+        ensures spec { self.new.spec ≡ self.old.spec }
+        ensures trace { self.new.trace ≡ self.old.trace }
+        ensures room { self.new.room ≡ self.old.room }
+    {
+        if !self.space.is_large() {
+            return;
+        }
+        if let Ok(states) = self.states.renew(&mut self.space) {
+            self.states = states;
+        }
+    }
 }
 
 impl<A: Allocator + Copy> Monitor<A> {

@@ -5,3 +5,4 @@ pub mod Looking
 pub mod Joining
 pub mod Acting
 pub mod HiddenSteps
+pub mod Copying

@@ -5,3 +5,4 @@ pub mod Tables
 pub mod Looks
 -- Steps of the program.
 pub mod SameNodes
+pub mod Copies

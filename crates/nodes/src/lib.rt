@@ -2,6 +2,7 @@
 #![tactic(auto)]
 
 mod acts;
+mod copies;
 mod facts;
 mod hids;
 mod lists;

@@ -78,6 +78,11 @@ impl<A: Allocator + Copy> Table<A> {
         self.relations.push(kept)?;
         Ok(number as u32)
     }
+
+    /// The allocator of what is stored.
+    pub(crate) fn allocator(&self) -> A {
+        self.alloc
+    }
 }
 
 impl<A: Allocator> Table<A> {
@@ -121,6 +126,13 @@ impl<A: Allocator> Table<A> {
         ensures { NoneTwice stop self.now.processes }
     {
         let _ = &self.nodes;
+    }
+
+    /// How many processes there are.
+    pub fn len(&self) -> u32
+        ensures { result ≡ length self.now.processes }
+    {
+        self.nodes.len() as u32
     }
 
     /// The node with this number.

@@ -2,6 +2,7 @@ pub mod Members
 pub mod Growing
 pub mod Answering
 pub mod Entering
+pub mod Renewing
 pub mod Remembering
 pub mod Offering
 pub mod Ordering

@@ -1,18 +1,20 @@
 //! The sets of states found so far.
 
-ghost use Rattle.std.specs.Prelude.{◌≡◌, ◌+◌, ◌<◌, ◌≤◌, ◌^◌, ◌∷◌, [], IfErr, IfNone, IfOk, IfSome, List, OnOk, ℕ, get_or, length};
+ghost use Rattle.std.specs.List.{All};
+ghost use Rattle.std.specs.Prelude.{◌≡◌, ◌↔◌, ◌+◌, ◌<◌, ◌≤◌, ◌^◌, ◌∷◌, [], IfErr, IfNone, IfOk, IfSome, List, OnErr, OnOk, ℕ, get_or, length};
 ghost use Rattle.alphabet.specs.declared.events.Event.{Event};
 ghost use Rattle.closures.specs.Label.TheVariants as label;
 ghost use Rattle.closures.specs.Cuts.{CutOf};
 ghost use Rattle.term.specs.Limits.{Advance, most_states};
-ghost use Rattle.term.specs.Proc.{bodies_of, root};
+ghost use Rattle.term.specs.Proc.{Proc, bodies_of, root};
 ghost use Rattle.term.specs.Specs.{IsClosed};
+ghost use Rattle.term.specs.Traces.{In};
 ghost use Rattle.closures.specs.Looks.{look, AllBelow};
 ghost use Rattle.closures.specs.Belonging.{MeetsLimit};
 ghost use Rattle.closures.specs.Closing.{AllShallow, Among, IsClosure, Opens, TargetOf};
 ghost use Rattle.spaces.specs.Answers.{HasMembers, IsAnswer, IsClosedSet};
 ghost use Rattle.spaces.specs.Found.{HasBegun, HasList, members, shown};
-ghost use Rattle.spaces.specs.Known.{AreFactsOf, lists_of};
+ghost use Rattle.spaces.specs.Known.{AreFactsOf, IsStored, lists_of};
 ghost use Rattle.spaces.specs.Spaces.{Belongs, GrewFrom, IsSetOf, states};
 
 use crate::facts::{SetFacts, facts_of};
@@ -31,6 +33,12 @@ pub(crate) type Hashing = BuildHasherDefault<FoldHasher>;
 /// The numbers of the members of each set, with what is known of it.
 type Lists<A> = IndexMap<Vec<u32, A>, SetFacts<A>, Hashing, A>;
 
+/// The most processes of a space that isn't large.
+pub const MOST_PROCESSES: u32 = 524_288;
+
+/// The most members that all sets of a space have together that isn't large.
+pub const MOST_MEMBERS: usize = 33_554_432;
+
 /// The most sets.
 const MOST_SETS: usize = 4_294_967_295;
 
@@ -40,6 +48,8 @@ pub(crate) struct FoundSets<A: Allocator> {
     spec: Spec<A>,
     all: Transitions<A>,
     sets: Lists<A>,
+    // How many numbers the lists have, as far as a `usize` goes. No clause speaks of it.
+    members: usize,
     alloc: A,
 }
 
@@ -68,6 +78,7 @@ impl<A: Allocator + Copy> FoundSets<A> {
             spec,
             all: Transitions::without_bodies(alloc),
             sets: IndexMap::new(alloc),
+            members: 0,
             alloc,
         }
     }
@@ -234,12 +245,50 @@ impl<A: Allocator + Copy> FoundSets<A> {
         ensures grown { GrewFrom (shown self.old) (shown self.new) }
     {
         let number = self.sets.len();
+        let members = self.members.saturating_add(list.len());
         self.sets.insert(list, facts)?;
+        self.members = members;
         Ok(StateSet::at(number as u32))
+    }
+
+    /// Begins anew with this set alone, and gives its number then. Where memory is refused, all stays.
+    pub(crate) fn renew(&mut self, set: StateSet) -> Result<StateSet, AllocError>
+        requires { set < length self.old.sets }
+        ensures set { IfOk result (HasMembers (shown self.new) (states (shown self.old) set)) }
+        ensures spec { self.new.spec ≡ self.old.spec }
+        ensures one { OnOk result (length self.new.sets ≡ 1) }
+        ensures kept { OnErr result (self.new ≡ self.old) }
+    {
+        let (all, list) = self.copies(set)?;
+        let members = list.len();
+        let sets = alone(&all, self.alloc, list)?;
+        drop(replace(&mut self.all, all));
+        drop(replace(&mut self.sets, sets));
+        self.members = members;
+        Ok(StateSet::at(0))
+    }
+
+    /// The specification's bodies and the set's members among processes of their own, with the members' numbers there.
+    fn copies(&self, set: StateSet) -> Result<(Transitions<A>, Vec<u32, A>), AllocError>
+        requires { set < length self.now.sets }
+        ensures bodies { IfOk result (λ new. new.0.bodies ≡ self.now.spec.bodies) }
+        ensures below { IfOk result (λ new. AllBelow (length new.0.table.processes) new.1.items) }
+        ensures shallow { IfOk result (λ new. AllShallow (look new.0.table.processes new.1.items)) }
+        ensures same { IfOk result (λ new. (Q : Proc) → In Q (look new.0.table.processes new.1.items) ↔ In Q (states (shown self.now) set)) }
+    {
+        let mut all = Transitions::new(self.alloc, &self.spec)?;
+        let mut list = all.put_from(&self.all, numbers_of(&self.sets, set))?;
+        list.sort_unstable();
+        Ok((all, list))
     }
 }
 
 impl<A: Allocator> FoundSets<A> {
+    /// Whether there are so many processes, or members of sets, that it should begin anew. Takes no memory.
+    pub(crate) fn is_large(&self) -> bool {
+        self.all.len() > MOST_PROCESSES || self.members > MOST_MEMBERS
+    }
+
     /// The specification. Takes no memory.
     pub(crate) fn spec(&self) -> &Spec<A>
         ensures spec { result.now ≡ self.now.spec }
@@ -258,6 +307,23 @@ impl<A: Allocator> FoundSets<A> {
             None => None,
         }
     }
+}
+
+/// The set of this list alone, with what is known of it.
+fn alone<A: Allocator + Copy>(
+    all: &Transitions<A>,
+    alloc: A,
+    list: Vec<u32, A>,
+) -> Result<Lists<A>, AllocError>
+    requires below { AllBelow (length all.now.table.processes) list.items }
+    requires shallow { AllShallow (look all.now.table.processes list.items) }
+    ensures list { IfOk result (λ sets. lists_of sets.entries ≡ list.items ∷ []) }
+    ensures stored { IfOk result (λ sets. All (IsStored all.now.table.processes) sets.entries) }
+{
+    let facts = facts_of(all, alloc, &list)?;
+    let mut sets = IndexMap::new(alloc);
+    sets.insert(list, facts)?;
+    Ok(sets)
 }
 
 /// The numbers of the set's members.

@@ -1,13 +1,13 @@
 //! The space of a specification's sets of states, with the answers that it remembers.
 
-ghost use Rattle.std.specs.Prelude.{◌≡◌, ◌<◌, ◌≤◌, ◌∷◌, [], IfErr, IfNone, IfOk, IfSome, List, length};
+ghost use Rattle.std.specs.Prelude.{◌≡◌, ◌<◌, ◌≤◌, ◌∷◌, [], IfErr, IfNone, IfOk, IfSome, List, OnErr, OnOk, length};
 ghost use Rattle.alphabet.specs.declared.events.Event.{Event};
 ghost use Rattle.term.specs.Limits.{Advance};
 ghost use Rattle.term.specs.Proc.{bodies_of, root};
 ghost use Rattle.term.specs.Specs.{IsClosed};
 ghost use Rattle.closures.specs.Belonging.{MeetsLimit};
 ghost use Rattle.closures.specs.Closing.{Among};
-ghost use Rattle.spaces.specs.Answers.{IsAnswer, IsClosedSet};
+ghost use Rattle.spaces.specs.Answers.{HasMembers, IsAnswer, IsClosedSet};
 ghost use Rattle.spaces.specs.Known.{AreFactsOf};
 ghost use Rattle.spaces.specs.Spaces.{Belongs, GrewFrom, IsSetOf, most_remembered, states};
 
@@ -18,7 +18,7 @@ use crate::states::StateSet;
 use alphabet::Event;
 use closures::AfterFault;
 use indexmap::IndexMap;
-use std::alloc::Allocator;
+use std::alloc::{AllocError, Allocator};
 use std::marker::Model;
 use term::Spec;
 
@@ -66,6 +66,20 @@ impl<A: Allocator + Copy> Space<A> {
         ensures grown { GrewFrom self.old self.new }
     {
         self.found.opening()
+    }
+
+    /// Begins anew with this set alone, without what was remembered, and gives the set's number then. Where memory is
+    /// refused, all stays.
+    pub(crate) fn renew(&mut self, set: StateSet) -> Result<StateSet, AllocError>
+        requires { set < length self.old.sets }
+        ensures set { IfOk result (HasMembers self.new (states self.old set)) }
+        ensures spec { self.new.spec ≡ self.old.spec }
+        ensures one { OnOk result (length self.new.sets ≡ 1) }
+        ensures kept { OnErr result (self.new ≡ self.old) }
+    {
+        let set = self.found.renew(set)?;
+        self.answers.clear();
+        Ok(set)
     }
 
     /// What comes of the set by this event: none where no trace goes on so. What was asked before is remembered.
@@ -121,6 +135,12 @@ impl<A: Allocator> Space<A> {
         ensures closed { IsClosed self.now.spec }
     {
         self.found.spec()
+    }
+
+    /// Whether it has grown so large that it should begin anew: by more than `MOST_PROCESSES` processes, or by sets with
+    /// more than `MOST_MEMBERS` members together. Takes no memory.
+    pub fn is_large(&self) -> bool {
+        self.found.is_large()
     }
 
     /// How many answers are remembered. Takes no memory.

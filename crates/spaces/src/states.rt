@@ -1,6 +1,6 @@
 //! Sets of states.
 
-ghost use Rattle.std.specs.Prelude.{◌≡◌, ◌↔◌, ◌++◌, [], ◌∷◌, List, IfOk, IfErr, IfSome, IfNone, OnOk, IsTrue};
+ghost use Rattle.std.specs.Prelude.{◌≡◌, ◌↔◌, ◌++◌, [], ◌∷◌, List, IfOk, IfErr, IfSome, IfNone, OnErr, OnOk, IsTrue, length};
 ghost use Rattle.alphabet.specs.declared.events.Event.{Event};
 ghost use Rattle.alphabet.specs.EventSets.{member};
 ghost use Rattle.term.specs.Limits.{Advance, NoLimit, Opening};
@@ -77,6 +77,18 @@ impl StateSet {
         ensures space { GrewFrom space.old space.new }
     {
         space.answer(self, event)
+    }
+
+    /// The space begins anew with this set alone: all other sets are gone, and what was remembered. The set has this number
+    /// then. Where memory is refused, all stays. The set is one of this space.
+    pub fn renew<A: Allocator + Copy>(self, space: &mut Space<A>) -> Result<StateSet, AllocError>
+        requires { IsSetOf space.old self }
+        ensures same { (u : List Event) → Belongs space.old self u → IfOk result (λ set. Belongs space.new set u) }
+        ensures spec { space.new.spec ≡ space.old.spec }
+        ensures one { OnOk result (length space.new.sets ≡ 1) }
+        ensures kept { OnErr result (space.new ≡ space.old) }
+    {
+        space.renew(self)
     }
 
     /// Whether the events of this set are refused after the trace: some state offers none of them and has no hidden

@@ -104,6 +104,20 @@ impl<A: Allocator + Copy> Transitions<A> {
         self.table.number_of_term(term)
     }
 
+    /// Puts the processes that have these numbers among others here, and gives their numbers here, in the same order.
+    pub fn put_from(
+        &mut self,
+        other: &Transitions<A>,
+        numbers: &[u32],
+    ) -> Result<Vec<u32, A>, AllocError>
+        requires { AllBelow (length other.now.table.processes) numbers.now }
+        ensures below { IfOk result (λ ns. AllBelow (length self.new.table.processes) ns.items) }
+        ensures same { IfOk result (λ ns. look self.new.table.processes ns.items ≡ look other.now.table.processes numbers.now) }
+        ensures kept { KeepsNumbers self.old self.new }
+    {
+        self.table.put_from(&other.table, numbers)
+    }
+
     /// The allocator of what is remembered.
     pub(crate) fn allocator(&self) -> A {
         self.alloc
@@ -134,6 +148,13 @@ impl<A: Allocator> Transitions<A> {
         ensures { NoneTwice stop self.now.table.processes }
     {
         self.table.once();
+    }
+
+    /// How many processes there are.
+    pub fn len(&self) -> u32
+        ensures { result ≡ length self.now.table.processes }
+    {
+        self.table.len()
     }
 
     /// The number of the root's name. Numbers keep what they are of, also where memory is refused.
