@@ -33,10 +33,10 @@ pub(crate) type Hashing = BuildHasherDefault<FoldHasher>;
 /// The numbers of the members of each set, with what is known of it.
 type Lists<A> = IndexMap<Vec<u32, A>, SetFacts<A>, Hashing, A>;
 
-/// The most processes of a space that isn't large.
-pub const MOST_PROCESSES: u32 = 524_288;
+/// By how many processes a space grows at most until it is large.
+pub const MOST_NEW_PROCESSES: u32 = 524_288;
 
-/// The most members that all sets of a space have together that isn't large.
+/// How many members all sets of a space have together at most until it is large.
 pub const MOST_MEMBERS: usize = 33_554_432;
 
 /// The most sets.
@@ -48,8 +48,10 @@ pub(crate) struct FoundSets<A: Allocator> {
     spec: Spec<A>,
     all: Transitions<A>,
     sets: Lists<A>,
-    // How many numbers the lists have, as far as a `usize` goes. No clause speaks of it.
+    // How many numbers the lists have, as far as a `usize` goes. No clause speaks of it, nor of the next one.
     members: usize,
+    // How many processes there were when it last began anew.
+    begun_with: u32,
     alloc: A,
 }
 
@@ -79,6 +81,7 @@ impl<A: Allocator + Copy> FoundSets<A> {
             all: Transitions::without_bodies(alloc),
             sets: IndexMap::new(alloc),
             members: 0,
+            begun_with: 0,
             alloc,
         }
     }
@@ -261,10 +264,12 @@ impl<A: Allocator + Copy> FoundSets<A> {
     {
         let (all, list) = self.copies(set)?;
         let members = list.len();
+        let begun_with = all.len();
         let sets = alone(&all, self.alloc, list)?;
         drop(replace(&mut self.all, all));
         drop(replace(&mut self.sets, sets));
         self.members = members;
+        self.begun_with = begun_with;
         Ok(StateSet::at(0))
     }
 
@@ -284,9 +289,11 @@ impl<A: Allocator + Copy> FoundSets<A> {
 }
 
 impl<A: Allocator> FoundSets<A> {
-    /// Whether there are so many processes, or members of sets, that it should begin anew. Takes no memory.
+    /// Whether it has so many processes more than it began with, or so many members of sets, that it should begin anew. So that
+    /// isn't done again before as many have come, also where the set that is left has many processes. Takes no memory.
     pub(crate) fn is_large(&self) -> bool {
-        self.all.len() > MOST_PROCESSES || self.members > MOST_MEMBERS
+        self.all.len().saturating_sub(self.begun_with) > MOST_NEW_PROCESSES
+            || self.members > MOST_MEMBERS
     }
 
     /// The specification. Takes no memory.

@@ -14,6 +14,6 @@ mod states;
 
 pub use closures::AfterFault;
 pub use crossing::{crosses, space_crosses};
-pub use found::{MOST_MEMBERS, MOST_PROCESSES};
+pub use found::{MOST_MEMBERS, MOST_NEW_PROCESSES};
 pub use space::{MOST_REMEMBERED, Space};
 pub use states::StateSet;

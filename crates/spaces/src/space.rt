@@ -137,8 +137,8 @@ impl<A: Allocator> Space<A> {
         self.found.spec()
     }
 
-    /// Whether it has grown so large that it should begin anew: by more than `MOST_PROCESSES` processes, or by sets with
-    /// more than `MOST_MEMBERS` members together. Takes no memory.
+    /// Whether it has grown so large that it should begin anew: by more than `MOST_NEW_PROCESSES` processes since it began, or
+    /// by sets with more than `MOST_MEMBERS` members together. Takes no memory.
     pub fn is_large(&self) -> bool {
         self.found.is_large()
     }
