@@ -38,11 +38,7 @@ impl<A: Allocator + Copy> Table<A> {
         for number in numbers {
             set_wanted(&mut wanted, *number);
         }
-        for number in (0..other.len()).rev() {
-            if is_wanted(&wanted, number) {
-                set_parts_wanted(&mut wanted, other.node(number));
-            }
-        }
+        set_all_parts_wanted(&mut wanted, other);
         Ok(wanted)
     }
 
@@ -156,6 +152,15 @@ fn is_wanted(wanted: &[bool], number: u32) -> bool {
 fn set_wanted(wanted: &mut [bool], number: u32) {
     if let Some(test) = wanted.get_mut(number as usize) {
         *test = true;
+    }
+}
+
+/// What the wanted processes of the table are made of is wanted too: parts have smaller numbers than what they are parts of.
+fn set_all_parts_wanted<A: Allocator>(wanted: &mut [bool], table: &Table<A>) {
+    for number in (0..table.len()).rev() {
+        if is_wanted(wanted, number) {
+            set_parts_wanted(wanted, table.node(number));
+        }
     }
 }
 

@@ -113,6 +113,7 @@ pub(crate) fn follow<A: Allocator + Copy>(
     match monitor.judge(&entry.report) {
         Ok(judged) => {
             monitor.commit(judged);
+            monitor.forget();
             Ok(())
         }
         Err(fault) => Err(refused(fault)),

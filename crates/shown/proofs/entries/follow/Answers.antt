@@ -1,3 +1,4 @@
+use Rattle.std.proofs.Common.{◌∙◌}
 use Rattle.term.specs.Proc.{bodies_of}
 use Rattle.term.specs.Verdict.{Verdict}
 use Rattle.shown.proofs.EntryLines.{both_true, moved, refusal_unmoved, report_refused, unmoved}
@@ -13,7 +14,8 @@ refused-requires g c =
 pub returns-in-Ok-clause-trace : goal.returns-in-Ok-clause-trace
 returns-in-Ok-clause-trace g c before is =
     let e = c.args.entry.now in
-    moved before e c.judge.new.self.trace c.args.monitor.now.trace c.commit.new.self.trace c.in-Ok.judged.report c.in-Ok.judged.verdict
+    c.forget.ensures.trace
+    ∙ moved before e c.judge.new.self.trace c.args.monitor.now.trace c.commit.new.self.trace c.in-Ok.judged.report c.in-Ok.judged.verdict
     c.commit.ensures.trace c.judge.ensures.trace is c.in-Ok.ensures.report
     (both_true c.in-Ok.judged.verdict e.verdict (Verdict (bodies_of c.args.monitor.now.spec.bodies) c.args.monitor.now.trace e.report) c.in-Ok.ensures.verdict c.requires.verdict c.if-not-entry.false)
 
