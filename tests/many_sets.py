@@ -20,7 +20,7 @@ PROGRAM = os.path.join(ROOT, "crates", "cspwatch", "out", "cspwatch")
 COUNTERS = 3
 MOST = 300
 # The bound, in bytes: for the space of sets, and for each report.
-SPACE, REPORT = 200_000_000, 150
+SPACE, REPORT = 350_000_000, 150
 SCRIPT = "channel %s\n" % ", ".join("up%d, down%d" % (i, i) for i in range(COUNTERS))
 for number in range(COUNTERS):
     SCRIPT += "Zero{0} = up{0} -> (More{0} ; Zero{0})\nMore{0} = down{0} -> SKIP [] up{0} -> (More{0} ; More{0})\n".format(number)
