@@ -48,10 +48,7 @@ impl<D: Disk, A: Allocator + Copy, N: Naming> Ended<D, A, N> {
         let alone = are_apart(all);
         await_within(rt, &front, all);
         gather(&mut rest, shares);
-        if count != given {
-            return (session, None);
-        }
-        if !alone {
+        if count != given || !alone {
             return (session, None);
         }
         book.audit(&mut rest);

@@ -153,7 +153,7 @@ const PAUSED_TRIES: u32 = 6;
 // what is under the lock doesn't go from processor to processor with each of them.
 const PAUSES: u32 = 30;
 
-// Waits for a moment: a microsecond for 20 pauses.
+// Waits for a moment.
 fn pause(pauses: u32) {
     for _ in 0..pauses {
         spin_loop();

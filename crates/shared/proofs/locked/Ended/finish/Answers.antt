@@ -6,6 +6,7 @@ use Rattle.shared.proofs.Leaving.{kept_legal}
 use Rattle.shared.proofs.Sums.{told_all}
 use Rattle.shared.proofs.Leaving.{all_left}
 use Rattle.shared.proofs.locked.Ended.finish.Goals as goal
+use Rattle.shared.proofs.locked.Ended.finish.Goals.{then-count-given-via-then-count-given, then-count-given-via-else-count-given+then-not-alone}
 
 pub returns-then-count-given-clause-session : goal.returns-then-count-given-clause-session
 returns-then-count-given-clause-session g c =
@@ -14,16 +15,13 @@ returns-then-count-given-clause-session g c =
 pub returns-then-count-given-clause-whole : goal.returns-then-count-given-clause-whole
 returns-then-count-given-clause-whole g c all alone =
     let i = c.self.invariant in
-    absurd (c.if-count-given.true (omega (arith, c.gather.ensures.parts, c.gather.ensures.bound, i.3, i.5, c.requires, all, ap length c.as_slice-all.ensures.value)))
-
-pub returns-then-not-alone-clause-session : goal.returns-then-not-alone-clause-session
-returns-then-not-alone-clause-session g c =
-    let i = c.self.invariant in (i.0, (c.self.inside.front, i.1), kept_legal _ _ _ i.0 c.history.ensures.judged)
-
-pub returns-then-not-alone-clause-whole : goal.returns-then-not-alone-clause-whole
-returns-then-not-alone-clause-whole g c all alone =
-    let same : c.are_apart-alone.result ≡ true = c.are_apart-alone.ensures ∙ ap apart c.as_slice-all.ensures.value ∙ alone in
-    absurd (cc)
+    elim c.then-count-given.branch [
+      | then-count-given-via-then-count-given w ↦ absurd (w.if-count-given.true (omega (arith, c.gather.ensures.parts, c.gather.ensures.bound, i.3, i.5, c.requires, all, ap length c.as_slice-all.ensures.value)))
+      | then-count-given-via-else-count-given+then-not-alone w ↦
+          let other = w.if-not-alone.true in
+          let same : c.are_apart-alone.result ≡ true = c.are_apart-alone.ensures ∙ ap apart c.as_slice-all.ensures.value ∙ alone in
+          absurd (cc)
+    ]
 
 pub returns-clause-session : goal.returns-clause-session
 returns-clause-session g c =
