@@ -1,10 +1,10 @@
 //! Processes of a table that are put into another one.
 
-ghost use Rattle.std.specs.Prelude.{◌≡◌, ◌<◌, ℕ, List, IfOk, Some, length};
+ghost use Rattle.std.specs.Prelude.{◌≡◌, ◌<◌, ℕ, List, IfOk, IfSome, Some, length};
 ghost use Rattle.term.specs.Proc.{Proc};
 ghost use Rattle.nodes.specs.Copies.{ArePlaces};
 ghost use Rattle.nodes.specs.Looks.{look, AllBelow};
-ghost use Rattle.nodes.specs.Shapes.{at, shape, IsWithin};
+ghost use Rattle.nodes.specs.Shapes.{Parameters, at, shape, IsWithin};
 ghost use Rattle.nodes.specs.Tables.{HasGrown, IsNumber, Tabled};
 
 use crate::node::Node;
@@ -93,28 +93,45 @@ impl<A: Allocator + Copy> Table<A> {
         ensures shape { IfOk result (λ copy. shape self.new.parameters self.new.processes copy ≡ shape other.now.parameters other.now.processes node) }
         ensures grown { HasGrown self.old self.new }
     {
-        Ok(match node {
-            Node::Stop => Node::Stop,
-            Node::Skip => Node::Skip,
-            Node::Prefix(event, p) => Node::Prefix(event, place(places, p)?),
-            Node::Ext(p, q) => Node::Ext(place(places, p)?, place(places, q)?),
-            Node::Int(p, q) => Node::Int(place(places, p)?, place(places, q)?),
-            Node::Seq(p, q) => Node::Seq(place(places, p)?, place(places, q)?),
-            Node::Par(set, p, q) => {
-                let set = self.put_set(other.set(set))?;
-                Node::Par(set, place(places, p)?, place(places, q)?)
-            }
-            Node::Hide(set, p) => {
-                let set = self.put_set(other.set(set))?;
-                Node::Hide(set, place(places, p)?)
-            }
-            Node::Ren(relation, p) => {
-                let relation = self.put_pairs(other.pairs(relation))?;
-                Node::Ren(relation, place(places, p)?)
-            }
-            Node::Intr(p, q) => Node::Intr(place(places, p)?, place(places, q)?),
-            Node::Name(body) => Node::Name(body),
-        })
+        match with_parts_at(places, node) {
+            Some(moved) => self.with_own_parameters(other, moved),
+            None => Err(AllocError),
+        }
+    }
+
+    /// The node of the other table, whose parts are numbers here already, with the set or the relation by its number here.
+    fn with_own_parameters<B: Allocator>(
+        &mut self,
+        other: &Table<B>,
+        node: Node,
+    ) -> Result<Node, AllocError>
+        requires node { IsWithin other.now.parameters (length self.old.processes) node }
+        ensures within { IfOk result (λ copy. IsWithin self.new.parameters (length self.new.processes) copy) }
+        ensures shape { IfOk result (λ copy. shape self.new.parameters self.new.processes copy ≡ shape other.now.parameters self.old.processes node) }
+        ensures grown { HasGrown self.old self.new }
+    {
+        match node {
+            Node::Par(set, p, q) => match self.put_set(other.set(set)) {
+                Ok(set) => Ok(Node::Par(set, p, q)),
+                Err(refused) => Err(refused),
+            },
+            Node::Hide(set, p) => match self.put_set(other.set(set)) {
+                Ok(set) => Ok(Node::Hide(set, p)),
+                Err(refused) => Err(refused),
+            },
+            Node::Ren(relation, p) => match self.put_pairs(other.pairs(relation)) {
+                Ok(relation) => Ok(Node::Ren(relation, p)),
+                Err(refused) => Err(refused),
+            },
+            Node::Stop
+            | Node::Skip
+            | Node::Name(_)
+            | Node::Prefix(_, _)
+            | Node::Ext(_, _)
+            | Node::Int(_, _)
+            | Node::Seq(_, _)
+            | Node::Intr(_, _) => Ok(node),
+        }
     }
 
     /// The numbers at these places.
@@ -124,19 +141,75 @@ impl<A: Allocator + Copy> Table<A> {
     {
         let mut found = Vec::new(self.allocator());
         for number in numbers {
-            found.push(place(places, *number)?)?;
+            let Some(place) = place(places, *number) else {
+                return Err(AllocError);
+            };
+            found.push(place)?;
         }
         Ok(found)
     }
 }
 
-/// The number at this place. Refused where there is none, which happens to no part of a wanted process.
-fn place(places: &[Option<u32>], number: u32) -> Result<u32, AllocError>
-    ensures { IfOk result (λ n. (t : Tabled) (ps : List Proc) → ArePlaces t ps places.now → IsNumber t n (at ps number)) }
+/// The number at this place. There is none only where no wanted process has the part.
+fn place(places: &[Option<u32>], number: u32) -> Option<u32>
+    ensures { IfSome result (λ n. (t : Tabled) (ps : List Proc) → ArePlaces t ps places.now → IsNumber t n (at ps number)) }
 {
     match places.get(number as usize) {
-        Some(Some(place)) => Ok(*place),
-        _ => Err(AllocError),
+        Some(place) => *place,
+        None => None,
+    }
+}
+
+/// The numbers at these two places.
+fn both(places: &[Option<u32>], first: u32, second: u32) -> Option<(u32, u32)>
+    ensures first { IfSome result (λ two. (t : Tabled) (ps : List Proc) → ArePlaces t ps places.now → IsNumber t two.0 (at ps first)) }
+    ensures second { IfSome result (λ two. (t : Tabled) (ps : List Proc) → ArePlaces t ps places.now → IsNumber t two.1 (at ps second)) }
+{
+    match (place(places, first), place(places, second)) {
+        (Some(first), Some(second)) => Some((first, second)),
+        _ => None,
+    }
+}
+
+/// The node with the numbers of its parts at these places; none where a part has no place.
+fn with_parts_at(places: &[Option<u32>], node: Node) -> Option<Node>
+    ensures within { IfSome result (λ moved. (S : Parameters) (t : Tabled) (ps : List Proc) → ArePlaces t ps places.now → IsWithin S (length ps) node → IsWithin S (length t.processes) moved) }
+    ensures shape { IfSome result (λ moved. (S : Parameters) (t : Tabled) (ps : List Proc) → ArePlaces t ps places.now → shape S t.processes moved ≡ shape S ps node) }
+{
+    match node {
+        Node::Stop | Node::Skip | Node::Name(_) => Some(node),
+        Node::Prefix(event, p) => match place(places, p) {
+            Some(p) => Some(Node::Prefix(event, p)),
+            None => None,
+        },
+        Node::Hide(set, p) => match place(places, p) {
+            Some(p) => Some(Node::Hide(set, p)),
+            None => None,
+        },
+        Node::Ren(relation, p) => match place(places, p) {
+            Some(p) => Some(Node::Ren(relation, p)),
+            None => None,
+        },
+        Node::Ext(p, q) => match both(places, p, q) {
+            Some((p, q)) => Some(Node::Ext(p, q)),
+            None => None,
+        },
+        Node::Int(p, q) => match both(places, p, q) {
+            Some((p, q)) => Some(Node::Int(p, q)),
+            None => None,
+        },
+        Node::Seq(p, q) => match both(places, p, q) {
+            Some((p, q)) => Some(Node::Seq(p, q)),
+            None => None,
+        },
+        Node::Par(set, p, q) => match both(places, p, q) {
+            Some((p, q)) => Some(Node::Par(set, p, q)),
+            None => None,
+        },
+        Node::Intr(p, q) => match both(places, p, q) {
+            Some((p, q)) => Some(Node::Intr(p, q)),
+            None => None,
+        },
     }
 }
 

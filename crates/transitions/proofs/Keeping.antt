@@ -19,6 +19,10 @@ use Rattle.transitions.specs.Numbered.{Numbered, numbered, KeepsNumbers, AreTarg
 pub kept : (t u : Tabled) (ns : List ℕ) → AllBelow (length t.processes) ns → HasGrown t u → KeepsNumbers (numbered t ns) (numbered u ns)
 kept t u ns a g = record { table = g; bodies = look-grown t u g ns a }
 
+-- the same of what contracts see
+pub kept-seen : (s : Numbered) (t u : Tabled) (ns : List ℕ) → numbered t ns ≡ s → AllBelow (length t.processes) ns → HasGrown t u → KeepsNumbers s (numbered u ns)
+kept-seen s t u ns is a g = subst (λ (r : Numbered). KeepsNumbers r (numbered u ns)) is (kept t u ns a g)
+
 pub kept-same : (s : Numbered) → KeepsNumbers s s
 kept-same s = record { table = same-grown s.table; bodies = refl }
 

@@ -1,12 +1,8 @@
-use Rattle.std.proofs.Common.{subst}
-use Rattle.transitions.specs.Numbered.{Numbered, numbered, KeepsNumbers}
-use Rattle.transitions.proofs.Keeping.{kept, sound-grown}
+use Rattle.transitions.proofs.Keeping.{kept-seen, sound-grown}
 use Rattle.transitions.proofs.transitions.Transitions.put_from.Goals as goal
 
 pub invariant_of-self : goal.invariant_of-self
 invariant_of-self g c = sound-grown c.self.inside.table c.put_from.new.self c.self.inside.bodies.items c.self.inside.remembered c.self.inside.depths.items c.self.invariant c.put_from.ensures.grown
 
 pub returns-clause-kept : goal.returns-clause-kept
-returns-clause-kept g c =
-    subst (λ (s : Numbered). KeepsNumbers s (numbered c.put_from.new.self c.self.inside.bodies.items)) c.self.view_is
-    (kept c.self.inside.table c.put_from.new.self c.self.inside.bodies.items c.self.invariant.here c.put_from.ensures.grown)
+returns-clause-kept g c = kept-seen _ c.self.inside.table c.put_from.new.self c.self.inside.bodies.items c.self.view_is c.self.invariant.here c.put_from.ensures.grown
