@@ -262,29 +262,53 @@ impl<A: Allocator + Copy> FoundSets<A> {
         ensures one { OnOk result (length self.new.sets ≡ 1) }
         ensures kept { OnErr result (self.new ≡ self.old) }
     {
-        let (all, list) = self.copies(set)?;
-        let members = list.len();
-        let begun_with = all.len();
-        let sets = alone(&all, self.alloc, list)?;
+        let mut all = Transitions::without_bodies(self.alloc);
+        let mut sets = IndexMap::new(self.alloc);
+        let Ok(members) = self.put_alone(set, &mut all, &mut sets) else {
+            drop(sets);
+            drop(all);
+            return Err(AllocError);
+        };
+        self.members = members;
+        self.begun_with = all.len();
         drop(replace(&mut self.all, all));
         drop(replace(&mut self.sets, sets));
-        self.members = members;
-        self.begun_with = begun_with;
         Ok(StateSet::at(0))
     }
 
-    /// The specification's bodies and the set's members among processes of their own, with the members' numbers there.
-    fn copies(&self, set: StateSet) -> Result<(Transitions<A>, Vec<u32, A>), AllocError>
-        requires { set < length self.now.sets }
-        ensures bodies { IfOk result (λ new. new.0.bodies ≡ self.now.spec.bodies) }
-        ensures below { IfOk result (λ new. AllBelow (length new.0.table.processes) new.1.items) }
-        ensures shallow { IfOk result (λ new. AllShallow (look new.0.table.processes new.1.items)) }
-        ensures same { IfOk result (λ new. (Q : Proc) → In Q (look new.0.table.processes new.1.items) ↔ In Q (states (shown self.now) set)) }
+    /// Puts the set alone among no sets, of processes that become those that it needs. Gives the number of its members.
+    fn put_alone(
+        &self,
+        set: StateSet,
+        all: &mut Transitions<A>,
+        sets: &mut Lists<A>,
+    ) -> Result<usize, AllocError>
+        requires set { set < length self.now.sets }
+        requires none { sets.old.entries ≡ [] }
+        ensures bodies { OnOk result (all.new.bodies ≡ self.now.spec.bodies) }
+        ensures one { OnOk result (length (lists_of sets.new.entries) ≡ 1) }
+        ensures stored { OnOk result (All (IsStored all.new.table.processes) sets.new.entries) }
+        ensures same { OnOk result ((Q : Proc) → In Q (look all.new.table.processes (get_or (lists_of sets.new.entries) 0 [])) ↔ In Q (states (shown self.now) set)) }
     {
-        let mut all = Transitions::new(self.alloc, &self.spec)?;
+        let list = self.copies(set, all)?;
+        let members = list.len();
+        put_list(sets, all, self.alloc, list)?;
+        Ok(members)
+    }
+
+    /// The processes become the specification's bodies and the set's members. Gives the members' numbers there.
+    fn copies(&self, set: StateSet, all: &mut Transitions<A>) -> Result<Vec<u32, A>, AllocError>
+        requires { set < length self.now.sets }
+        ensures bodies { OnOk result (all.new.bodies ≡ self.now.spec.bodies) }
+        ensures below { IfOk result (λ list. AllBelow (length all.new.table.processes) list.items) }
+        ensures shallow { IfOk result (λ list. AllShallow (look all.new.table.processes list.items)) }
+        ensures same { IfOk result (λ list. (Q : Proc) → In Q (look all.new.table.processes list.items) ↔ In Q (states (shown self.now) set)) }
+    {
+        let bodies = Transitions::new(self.alloc, &self.spec)?;
+        drop(replace(all, bodies));
         let mut list = all.put_from(&self.all, numbers_of(&self.sets, set))?;
         list.sort_unstable();
-        Ok((all, list))
+        Ok(list)
     }
 }
 
@@ -316,21 +340,22 @@ impl<A: Allocator> FoundSets<A> {
     }
 }
 
-/// The set of this list alone, with what is known of it.
-fn alone<A: Allocator + Copy>(
+/// Puts the set of this list among no sets, with what is known of it.
+fn put_list<A: Allocator + Copy>(
+    sets: &mut Lists<A>,
     all: &Transitions<A>,
     alloc: A,
     list: Vec<u32, A>,
-) -> Result<Lists<A>, AllocError>
+) -> Result<(), AllocError>
+    requires none { sets.old.entries ≡ [] }
     requires below { AllBelow (length all.now.table.processes) list.items }
     requires shallow { AllShallow (look all.now.table.processes list.items) }
-    ensures list { IfOk result (λ sets. lists_of sets.entries ≡ list.items ∷ []) }
-    ensures stored { IfOk result (λ sets. All (IsStored all.now.table.processes) sets.entries) }
+    ensures list { OnOk result (lists_of sets.new.entries ≡ list.items ∷ []) }
+    ensures stored { OnOk result (All (IsStored all.now.table.processes) sets.new.entries) }
 {
     let facts = facts_of(all, alloc, &list)?;
-    let mut sets = IndexMap::new(alloc);
     sets.insert(list, facts)?;
-    Ok(sets)
+    Ok(())
 }
 
 /// The numbers of the set's members.
