@@ -19,7 +19,7 @@ PARTS = ("src", "specs", "proofs", "stdin", "stdout")
 LOOP = "for _ in rt.forever() {"
 TURN = "for _ in 0..1u8 {"
 # How many such loops there are: one more has to be looked at.
-LOOPS = {"board": 1, "shared": 3}
+LOOPS = {"board": 1, "shared": 2}
 
 
 def copied(folder):

@@ -1,8 +1,8 @@
 -- The faults of sessions and seats as those of the line protocol.
 use Rattle.shared.specs.Fault.{Fault as SessionFault}
 use Rattle.shared.specs.Fault.TheVariants as session
-use Rattle.shared.specs.declared.fault.SeatFault.{SeatFault}
-use Rattle.shared.specs.declared.fault.SeatFault.TheVariants as seat
+use Rattle.shared.specs.SeatFault.{SeatFault}
+use Rattle.shared.specs.SeatFault.TheVariants as seat
 use Rattle.wire.specs.declared.answers.Fault.{Fault}
 use Rattle.wire.specs.declared.answers.Fault.TheVariants.{Depth, States, Seats, History, Turn, Behind, Reader, Journal, Closed, Memory}
 

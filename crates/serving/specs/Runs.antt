@@ -10,7 +10,7 @@ use Rattle.wire.specs.declared.engine.End.{End}
 use Rattle.wire.specs.declared.engine.WireError.{WireError}
 use Rattle.wire.specs.Replies.{LineReplies, noted}
 use Rattle.wire.specs.Talks.{Serves}
-use Rattle.shared.specs.declared.fault.SeatFault.{SeatFault}
+use Rattle.shared.specs.SeatFault.{SeatFault}
 use Rattle.shared.specs.View.{SeatView}
 use Rattle.shared.specs.Seats.{AllTold, receipts}
 use Rattle.seats.specs.Faults.{refused_as}

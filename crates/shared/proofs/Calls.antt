@@ -6,13 +6,13 @@ use Rattle.std.proofs.Math.Seq.{take-length}
 use Rattle.std.proofs.lemmas.List.Elements.{filter-append}
 use Rattle.std.proofs.lemmas.Bool.Decides.{nat_tests}
 use Rattle.term.specs.Proc.{Proc}
-use Rattle.session.specs.Entry.{Entry}
-use Rattle.session.specs.Summary.{Summary}
-use Rattle.session.specs.Entries.{calls, summary_of}
-use Rattle.session.specs.Legal.{Fits}
-use Rattle.session.proofs.Histories.{calls-le}
-use Rattle.session.specs.Beginnings.{StartsWith}
-use Rattle.session.proofs.Beginnings.{begins_after}
+use Rattle.locked.specs.Entry.{Entry}
+use Rattle.locked.specs.Summary.{Summary}
+use Rattle.locked.specs.Entries.{calls, summary_of}
+use Rattle.locked.specs.Legal.{Fits}
+use Rattle.locked.proofs.Histories.{calls-le}
+use Rattle.locked.specs.Beginnings.{StartsWith}
+use Rattle.locked.proofs.Beginnings.{begins_after}
 
 off : IsTrue false → ⊥
 off e = cc

@@ -1,13 +1,13 @@
 -- What holds of a report of one seat holds of one that has seen and done the same.
-use Rattle.std.proofs.Common.{◌≡◌, ℕ, Bool, true, false, Result, Ok, Err, IfOk, IfErr, List, [], ◌∷◌, ◌++◌, ap, sym, ◌∙◌, subst}
+use Rattle.std.proofs.Common.{◌≡◌, ℕ, Bool, true, false, Option, Some, None, IfSome, Result, Ok, Err, IfOk, IfErr, List, [], ◌∷◌, ◌++◌, ap, sym, ◌∙◌, subst}
 use Rattle.std.specs.Prelude.{MatchBool, ◌||◌}
 use Rattle.alphabet.specs.declared.events.Report.{Report}
 use Rattle.term.specs.Proc.{Proc}
-use Rattle.session.specs.Entry.{Entry}
-use Rattle.session.specs.Entries.{calls}
-use Rattle.session.specs.Beginnings.{StartsWith}
-use Rattle.session.proofs.Beginnings.{begins_self, begins_trans, begins_push}
-use Rattle.session.specs.declared.fault.Fault.{Fault}
+use Rattle.locked.specs.Entry.{Entry}
+use Rattle.locked.specs.Entries.{calls}
+use Rattle.locked.specs.Beginnings.{StartsWith}
+use Rattle.locked.proofs.Beginnings.{begins_self, begins_trans, begins_push}
+use Rattle.locked.specs.Fault.{Fault}
 use Rattle.shared.specs.View.{SeatView}
 use Rattle.shared.specs.Faults.{Answers, closes}
 use Rattle.shared.specs.Seats.{IsEntryOf, Answered, Refused}
@@ -19,6 +19,10 @@ match_map false f g h = g h
 pub if_ok : {A E : Type 0} (P Q : A → Type 0) (o : Result A E) → ((a : A) → P a → Q a) → IfOk o P → IfOk o Q
 if_ok P Q (Ok a) f h = f a h
 if_ok P Q (Err e) f h = tt
+
+pub if_some : {A : Type 0} (P Q : A → Type 0) (o : Option A) → ((a : A) → P a → Q a) → IfSome o P → IfSome o Q
+if_some P Q (Some a) f h = f a h
+if_some P Q None f h = tt
 
 pub if_err : {A E : Type 0} (P Q : E → Type 0) (o : Result A E) → ((e : E) → P e → Q e) → IfErr o P → IfErr o Q
 if_err P Q (Ok a) f h = tt

@@ -3,11 +3,11 @@ use Rattle.std.specs.Prelude.{◌≡◌, ℕ, List, [], ◌∷◌, ◌++◌, len
 use Rattle.std.specs.List.{sum_by}
 use Rattle.alphabet.specs.declared.events.Report.{Report}
 use Rattle.term.specs.Proc.{Proc}
-use Rattle.session.specs.Entry.{Entry}
-use Rattle.session.specs.Entries.{calls}
-use Rattle.session.specs.Legal.{Legal}
-use Rattle.session.specs.Beginnings.{StartsWith}
-use Rattle.session.specs.declared.fault.Fault.{Fault}
+use Rattle.locked.specs.Entry.{Entry}
+use Rattle.locked.specs.Entries.{calls}
+use Rattle.locked.specs.Legal.{Legal}
+use Rattle.locked.specs.Beginnings.{StartsWith}
+use Rattle.locked.specs.Fault.{Fault}
 use Rattle.shared.specs.View.{SeatView}
 use Rattle.shared.specs.Faults.{Answers, closes}
 

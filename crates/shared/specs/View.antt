@@ -1,6 +1,6 @@
 -- What contracts see of a seat, and of its share.
 use Rattle.std.specs.Prelude.{ℕ, List, Bool}
-use Rattle.session.specs.Entry.{Entry}
+use Rattle.locked.specs.Entry.{Entry}
 
 -- The seat's number; what it has seen of the list after the opening, and of the whole history; its own answered reports; and whether a
 -- report of it was answered by a fault that closes.

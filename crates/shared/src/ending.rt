@@ -2,59 +2,19 @@
 
 ghost use Rattle.std.specs.Prelude.{◌≡◌, ◌≤◌, ◌<◌, ◌+◌, ◌++◌, ◌∷◌, [], suc, length, true, ℕ, List, IfSome, IsSome};
 ghost use Rattle.term.specs.Proc.{bodies_of};
-ghost use Rattle.session.specs.Legal.{Legal};
-ghost use Rattle.session.specs.View.{IsFor};
-ghost use Rattle.session.specs.Beginnings.{StartsWith};
+ghost use Rattle.locked.specs.Legal.{Legal};
+ghost use Rattle.locked.specs.SessionView.{IsFor};
+ghost use Rattle.locked.specs.Beginnings.{StartsWith};
 ghost use Rattle.shared.specs.Crashes.{AllLeft};
 ghost use Rattle.shared.specs.Seats.{AllWithin, AllTold, receipts, apart, is_new};
 
-use crate::locked::{Ended, close};
 use crate::seat::Shared;
 use crate::share::Share;
-use board::{Front, Naming};
 use disk::Disk;
-use session::{SeatNumber, Session};
+use locked::{Front, Naming, SeatNumber, Session, close};
 use std::alloc::Allocator;
+use std::sync::ledger::Book;
 use std::sync::{Wait, ledger};
-
-impl<D: Disk, A: Allocator + Copy, N: Naming> Ended<D, A, N> {
-    /// The session, and how many reports were answered with a receipt: `None` where the shares aren't as many as the seats given, or
-    /// two have one seat number.
-    pub fn finish<R: Wait>(
-        self,
-        rt: &R,
-        shares: Vec<Share<N, A>, A>,
-    ) -> (Session<D, A>, Option<u64>)
-        requires { N.all ≡ N.parts }
-        ensures session { (result.0.spec ≡ N.spec) × StartsWith result.0.history N.opening × Legal (bodies_of N.spec.bodies) result.0.history }
-        ensures kept { (script : List ℕ) × (root : List ℕ) × IsFor D.state script root result.0 }
-        ensures counted { IfSome result.1 (λ n. (length result.0.history ≡ length N.opening + n) × (n ≡ receipts shares.items)) }
-        ensures told { IfSome result.1 (λ n. AllTold result.0.history shares.items) }
-        ensures crash { IfSome result.1 (λ n. AllLeft D.state result.0 shares.items) }
-
-        // The ledger has a part more than there are places at least. So where the shares have all other parts, they are all.
-        ensures whole { suc (length shares.items) ≡ N.all → apart shares.items ≡ true → IsSome result.1 }
-    {
-        let Self {
-            session,
-            front,
-            mut book,
-            mut rest,
-            given,
-        } = self;
-        let _ = session.history();
-        let all = shares.as_slice();
-        let count = all.len() as u64;
-        let alone = are_apart(all);
-        await_within(rt, &front, all);
-        gather(&mut rest, shares);
-        if count != given || !alone {
-            return (session, None);
-        }
-        book.audit(&mut rest);
-        (session, Some(front.len()))
-    }
-}
 
 impl<D: Disk, A: Allocator + Copy, N: Naming> Shared<D, A, N> {
     /// Ends the board. It gives back the session, and how many reports were answered with a receipt: `None` where the shares aren't
@@ -77,8 +37,42 @@ impl<D: Disk, A: Allocator + Copy, N: Naming> Shared<D, A, N> {
         ensures whole { suc (length shares.items) ≡ N.all → apart shares.items ≡ true → IsSome result.1 }
     {
         let Shared { locked } = self;
-        close(rt, locked.into_inner()).finish(rt, shares)
+        let (session, front, book, rest, given) = close(rt, locked.into_inner()).into_parts();
+        let _ = session.history();
+        let count = audited(rt, &front, book, rest, given, shares);
+        (session, count)
     }
+}
+
+// How many reports were answered with a receipt, by the whole list: `None` where the shares aren't as many as the seats given, or two
+// have one seat number.
+fn audited<N: Naming, A: Allocator, R: Wait>(
+    rt: &R,
+    all: &Front<N>,
+    book: Book<N>,
+    rest: ledger::Share<N>,
+    given: u64,
+    shares: Vec<Share<N, A>, A>,
+) -> Option<u64>
+    requires parts { (N.all ≡ N.parts) × (rest.parts + given ≡ N.all) × (given < N.all) }
+    requires receipts { (book.total ≡ length all.now) × (rest.amount ≡ 0) }
+    ensures told { IfSome result (λ n. AllWithin N.opening all.now shares.items × (apart shares.items ≡ true) × (n ≡ length all.now) × (n ≡ receipts shares.items)) }
+
+    // The ledger has a part more than there are places at least. So where the shares have all other parts, they are all.
+    ensures whole { suc (length shares.items) ≡ N.all → apart shares.items ≡ true → IsSome result }
+{
+    let mut book = book;
+    let mut rest = rest;
+    let seats = shares.as_slice();
+    let count = seats.len() as u64;
+    let alone = are_apart(seats);
+    await_within(rt, all, seats);
+    gather(&mut rest, shares);
+    if count != given || !alone {
+        return None;
+    }
+    book.audit(&mut rest);
+    Some(all.len())
 }
 
 // Whether no two have one seat number.

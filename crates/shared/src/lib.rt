@@ -5,16 +5,12 @@
 #![tactic(auto)]
 
 mod ending;
-mod fault;
-mod locked;
 mod seat;
 mod share;
 
-pub use board::{Board, Front, Naming, Opened, Publisher, Source, Spine};
-pub use fault::SeatFault;
-pub use locked::{Ended, Locked};
-pub use seat::{Seat, Shared};
-pub use session::{
-    Entry, Failed, Fault, SeatNumber, Session, SessionError, Summary, crosses, legal_crosses,
+pub use locked::{
+    Board, Entry, Failed, Fault, Front, Locked, Naming, Opened, Publisher, SeatFault, SeatNumber,
+    Session, SessionError, Source, Spine, Summary, crosses, legal_crosses,
 };
+pub use seat::{Seat, Shared};
 pub use share::{Receipt, Share, Status};

@@ -6,20 +6,17 @@ ghost use Rattle.alphabet.specs.EventSets.{member};
 ghost use Rattle.term.specs.Meaning.{Trace};
 ghost use Rattle.term.specs.Proc.{bodies_of, root};
 ghost use Rattle.term.specs.Specs.{IsClosed};
-ghost use Rattle.session.specs.Reports.{IsReport};
-ghost use Rattle.session.specs.Entries.{events, summary_of};
-ghost use Rattle.session.specs.Legal.{Legal};
-ghost use Rattle.session.specs.Beginnings.{StartsWith};
+ghost use Rattle.locked.specs.Reports.{IsReport};
+ghost use Rattle.locked.specs.Entries.{events, summary_of};
+ghost use Rattle.locked.specs.Legal.{Legal};
+ghost use Rattle.locked.specs.Beginnings.{StartsWith};
 ghost use Rattle.shared.specs.Seats.{Answered, Refused};
 
-use crate::fault::SeatFault;
-use crate::locked::Locked;
 use crate::share::{Receipt, Share, Status};
 use alphabet::{EventSet, Report};
-use board::{Board, Naming, Opened};
 use disk::Disk;
 use left_right::Absorb;
-use session::{Entry, Fault, Session, Summary};
+use locked::{Board, Entry, Fault, Locked, Naming, Opened, SeatFault, Session, Summary};
 use std::alloc::Allocator;
 use std::hint::spin_loop;
 use std::sync::ledger::Blank;
@@ -106,8 +103,10 @@ impl<D: Disk, A: Allocator + Copy, N: Naming> Seat<'_, D, A, N> {
         ensures answered { IfOk result (λ r. Answered (bodies_of N.spec.bodies) self.old.share self.new.share report r.verdict r.place) }
         ensures refused { IfErr result (λ f. Refused (bodies_of N.spec.bodies) self.old.share self.new.share report f) }
     {
-        let shared = self.shared;
-        report_at(rt, shared, &mut self.share, &report)
+        let mut locked = caught_up(rt, &self.shared.locked, &mut self.share);
+        let result = self.share.report(rt, &mut locked, &report);
+        MutexGuard::unlock(locked);
+        result
     }
 
     /// The events that may come next, tick among them, after the history as it stands, which is then what was seen.
@@ -117,8 +116,11 @@ impl<D: Disk, A: Allocator + Copy, N: Naming> Seat<'_, D, A, N> {
         ensures same { (self.new.share.seat ≡ self.old.share.seat) × (self.new.share.mine ≡ self.old.share.mine) × (self.new.share.closed ≡ self.old.share.closed) }
         ensures closed { IsClosed N.spec }
     {
-        let shared = self.shared;
-        next_at(rt, shared, &mut self.share)
+        let locked = caught_up(rt, &self.shared.locked, &mut self.share);
+        let _ = self.share.known();
+        let next = locked.next();
+        MutexGuard::unlock(locked);
+        next
     }
 
     /// The counts of a history that goes on from what was seen, and that is then what was seen.
@@ -179,47 +181,21 @@ fn lock<'a, D: Disk, A: Allocator + Copy, N: Naming, R: Wait>(
     mutex.lock(rt)
 }
 
-// Reports once the seat has seen what stands under the lock. No seat has seen more than that, so the first turn ends it.
-fn report_at<D: Disk, A: Allocator + Copy, N: Naming, R: Wait>(
+// Takes the lock once the seat has seen what stands under it. No seat has seen more than that, so the first turn ends it.
+fn caught_up<'a, D: Disk, A: Allocator + Copy, N: Naming, R: Wait>(
     rt: &R,
-    shared: &Shared<D, A, N>,
+    mutex: &'a Mutex<Locked<D, A, N>>,
     share: &mut Share<N, A>,
-    report: &Report,
-) -> Result<Receipt, Fault>
-    requires report { IsReport N.spec.alphabet report.now }
-    ensures answered { IfOk result (λ r. Answered (bodies_of N.spec.bodies) share.old share.new report.now r.verdict r.place) }
-    ensures refused { IfErr result (λ f. Refused (bodies_of N.spec.bodies) share.old share.new report.now f) }
-{
-    for _ in rt.forever() {
-        let mut locked = lock(rt, &shared.locked);
-        if share.catch_up(&locked) {
-            let result = share.report(rt, &mut locked, report);
-            MutexGuard::unlock(locked);
-            return result;
-        }
-        MutexGuard::unlock(locked);
-    }
-    unreachable!()
-}
-
-// The next events, once the seat has seen what stands under the lock. No seat has seen more than that, so the first turn ends it.
-fn next_at<D: Disk, A: Allocator + Copy, N: Naming, R: Wait>(
-    rt: &R,
-    shared: &Shared<D, A, N>,
-    share: &mut Share<N, A>,
-) -> EventSet
-    ensures next { (x : Event) → IsTrue (member result x) ↔ Trace (bodies_of N.spec.bodies) root (events share.new.seen ++ x ∷ []) }
-    ensures seen { StartsWith share.new.seen share.old.seen × Legal (bodies_of N.spec.bodies) share.new.seen }
+) -> MutexGuard<'a, Locked<D, A, N>>
+    ensures whole { share.new.seen ≡ N.opening ++ share.new.front }
+    ensures front { share.new.front ≡ result.value }
+    ensures seen { StartsWith share.new.seen share.old.seen }
     ensures same { (share.new.seat ≡ share.old.seat) × (share.new.mine ≡ share.old.mine) × (share.new.closed ≡ share.old.closed) }
-    ensures closed { IsClosed N.spec }
 {
     for _ in rt.forever() {
-        let locked = lock(rt, &shared.locked);
+        let locked = lock(rt, mutex);
         if share.catch_up(&locked) {
-            let _ = share.known();
-            let next = locked.next();
-            MutexGuard::unlock(locked);
-            return next;
+            return locked;
         }
         MutexGuard::unlock(locked);
     }

@@ -5,19 +5,17 @@ ghost use Rattle.alphabet.specs.declared.events.Event.{Event};
 ghost use Rattle.alphabet.specs.EventSets.{member};
 ghost use Rattle.term.specs.Meaning.{Trace};
 ghost use Rattle.term.specs.Proc.{bodies_of, root};
-ghost use Rattle.session.specs.Reports.{IsReport};
-ghost use Rattle.session.specs.Entries.{calls, events, summary_of};
-ghost use Rattle.session.specs.Legal.{Legal};
-ghost use Rattle.session.specs.Beginnings.{StartsWith};
+ghost use Rattle.locked.specs.Reports.{IsReport};
+ghost use Rattle.locked.specs.Entries.{calls, events, summary_of};
+ghost use Rattle.locked.specs.Legal.{Legal};
+ghost use Rattle.locked.specs.Beginnings.{StartsWith};
 ghost use Rattle.shared.specs.Faults.{closes};
 ghost use Rattle.shared.specs.Seats.{Answered, Refused, IsWithin};
 
-use crate::Locked;
 use alphabet::Report;
-use board::{Counts, Front, Looker, Naming, look};
 use core::mem::replace_with;
 use disk::Disk;
-use session::{Entry, Fault, SeatNumber, Summary};
+use locked::{Counts, Entry, Fault, Front, Locked, Looker, Naming, SeatNumber, Summary, look};
 use std::alloc::Allocator;
 use std::marker::Model;
 use std::sync::{Wait, ledger};
@@ -71,7 +69,7 @@ impl<N: Naming, A: Allocator> Model for Share<N, A> {
     ghost Value = { SeatView };
 
     ghost use Rattle.std.specs.Prelude.{◌≡◌, ◌≤◌, ◌++◌, length, [], take};
-    ghost use Rattle.session.specs.Entries.{calls, summary_of};
+    ghost use Rattle.locked.specs.Entries.{calls, summary_of};
 
     ghost view = { λ s. record {
       seat = s.number;

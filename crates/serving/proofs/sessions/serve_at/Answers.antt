@@ -1,7 +1,8 @@
 use denote.Param.{param}
 use denote.Param.Send.{sendable}
 use Rattle.serving.proofs.Crossings.{alphabet_sync}
-use Rattle.shared.proofs.Crossings.{session_send, shared_sync}
+use Rattle.shared.proofs.Crossings.{shared_sync}
+use Rattle.shared.proofs.LockedCrossings.{session_send}
 use Rattle.std.proofs.Common.{◌++◌, ap, ◌∙◌}
 use Rattle.std.specs.Prelude.{map}
 use Rattle.connections.specs.Outcomes.{ending_of, places_of}

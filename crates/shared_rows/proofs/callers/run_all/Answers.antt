@@ -3,7 +3,8 @@ use denote.Param.Send.{IsSync, sendable}
 use Rattle.std.proofs.Crossing.{crosses}
 use Rattle.std.specs.contracts.alloc.Global as Global
 use Rattle.shared_rows.specs.contracts.held.Gate as Gate
-use Rattle.shared.proofs.Crossings.{session_send, shared_sync}
+use Rattle.shared.proofs.Crossings.{shared_sync}
+use Rattle.shared.proofs.LockedCrossings.{session_send}
 use Rattle.shared_rows.proofs.callers.run_all.Goals as goal
 
 pub map_vec-requires-sync-F : goal.map_vec-requires-sync-F

@@ -1,6 +1,6 @@
 use Rattle.std.proofs.Common.{length, ◌∙◌, sym, ap, ◌++◌}
 use Rattle.std.proofs.lemmas.List.{length-take-le}
-use Rattle.session.specs.Entries.{calls}
+use Rattle.locked.specs.Entries.{calls}
 use Rattle.shared.specs.View.{SeatView}
 use Rattle.shared.proofs.share.Share.into_part.Goals as goal
 

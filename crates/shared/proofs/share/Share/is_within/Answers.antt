@@ -1,7 +1,7 @@
 use Rattle.std.proofs.Common.{length, subst}
 use Rattle.std.specs.Prelude.{MatchBool, ◌<◌}
-use Rattle.session.specs.Beginnings.{StartsWith}
-use Rattle.session.proofs.Beginnings.{begins_after}
+use Rattle.locked.specs.Beginnings.{StartsWith}
+use Rattle.locked.proofs.Beginnings.{begins_after}
 use Rattle.shared.specs.View.{SeatView}
 use Rattle.shared.specs.Seats.{IsWithin}
 use Rattle.shared.proofs.Calls.{own_within}

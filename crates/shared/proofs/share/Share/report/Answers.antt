@@ -1,13 +1,14 @@
 use Rattle.std.proofs.Common.{◌≡◌, ℕ, ◌+◌, ◌++◌, ◌∷◌, [], List, length, refl, sym, ap, ◌∙◌, subst, arith, append_assoc}
 use Rattle.std.specs.Prelude.{take, ◌||◌}
 use Rattle.std.proofs.lemmas.List.{append-nil, length-take-le}
-use Rattle.session.specs.Beginnings.{StartsWith}
-use Rattle.session.proofs.Beginnings.{begins_self}
+use Rattle.locked.specs.Beginnings.{StartsWith}
+use Rattle.locked.proofs.Beginnings.{begins_self}
 use Rattle.term.specs.Proc.{bodies_of}
-use Rattle.session.specs.Entry.{Entry}
-use Rattle.session.specs.Entries.{calls}
+use Rattle.locked.specs.Entry.{Entry}
+use Rattle.locked.specs.Entries.{calls}
 use Rattle.shared.specs.View.{SeatView}
-use Rattle.shared.specs.Faults.{Explained, Answers}
+use Rattle.locked.specs.Faults.{Explained}
+use Rattle.shared.specs.Faults.{Answers}
 use Rattle.shared.specs.Seats.{Answered}
 use Rattle.shared.proofs.Calls.{after_report}
 use Rattle.shared.proofs.Faults.{answers}

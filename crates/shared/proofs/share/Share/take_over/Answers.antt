@@ -1,9 +1,9 @@
 use Rattle.std.proofs.Common.{◌≡◌, ◌++◌, List, length, ap, sym, ◌∙◌, subst}
 use Rattle.std.specs.Prelude.{MatchBool, ◌<◌}
-use Rattle.session.specs.Entry.{Entry}
-use Rattle.session.specs.Entries.{summary_of}
-use Rattle.session.specs.Beginnings.{StartsWith}
-use Rattle.session.proofs.Beginnings.{begins_after}
+use Rattle.locked.specs.Entry.{Entry}
+use Rattle.locked.specs.Entries.{summary_of}
+use Rattle.locked.specs.Beginnings.{StartsWith}
+use Rattle.locked.proofs.Beginnings.{begins_after}
 use Rattle.shared.specs.View.{SeatView}
 use Rattle.shared.proofs.Calls.{own_stays, own_enough}
 use Rattle.shared.proofs.share.Share.take_over.Goals as goal

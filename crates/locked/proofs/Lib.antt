@@ -1,0 +1,8 @@
+pub mod Faults
+pub mod Counting
+pub mod Crossings
+-- Of the layers below, for those above.
+pub use Rattle.session.proofs.Beginnings
+pub use Rattle.session.proofs.Histories
+pub use Rattle.session.proofs.Keeping
+pub use Rattle.session.proofs.ScriptLemmas
