@@ -9,8 +9,8 @@ mod seat;
 mod share;
 
 pub use locked::{
-    Board, Entry, Failed, Fault, Front, Locked, Naming, Opened, Publisher, SeatFault, SeatNumber,
-    Session, SessionError, Source, Spine, Summary, crosses, legal_crosses,
+    Board, Entry, Failed, Fault, Front, Naming, Opened, Publisher, SeatFault, SeatNumber, Session,
+    SessionError, Source, Spine, Summary, crosses, legal_crosses,
 };
 pub use seat::{Seat, Shared};
 pub use share::{Receipt, Share, Status};

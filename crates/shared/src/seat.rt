@@ -1,6 +1,6 @@
 //! A shared session, and the seats at it.
 
-ghost use Rattle.std.specs.Prelude.{◌≡◌, ◌↔◌, ◌≤◌, ◌<◌, ◌++◌, ◌∷◌, [], length, false, IsTrue, IfOk, IfErr};
+ghost use Rattle.std.specs.Prelude.{◌≡◌, ◌↔◌, ◌≤◌, ◌<◌, ◌++◌, ◌∷◌, [], length, false, None, IsTrue, IfOk, IfErr, IfSome};
 ghost use Rattle.alphabet.specs.declared.events.Event.{Event};
 ghost use Rattle.alphabet.specs.EventSets.{member};
 ghost use Rattle.term.specs.Meaning.{Trace};
@@ -193,11 +193,26 @@ fn caught_up<'a, D: Disk, A: Allocator + Copy, N: Naming, R: Wait>(
     ensures same { (share.new.seat ≡ share.old.seat) × (share.new.mine ≡ share.old.mine) × (share.new.closed ≡ share.old.closed) }
 {
     for _ in rt.forever() {
-        let locked = lock(rt, mutex);
-        if share.catch_up(&locked) {
+        if let Some(locked) = once_seen(share, lock(rt, mutex)) {
             return locked;
         }
-        MutexGuard::unlock(locked);
     }
     unreachable!()
+}
+
+// The lock, where the seat has then seen what stands under it. Otherwise it is released, and the seat stays.
+fn once_seen<'a, D: Disk, A: Allocator + Copy, N: Naming>(
+    share: &mut Share<N, A>,
+    locked: MutexGuard<'a, Locked<D, A, N>>,
+) -> Option<MutexGuard<'a, Locked<D, A, N>>>
+    ensures whole { share.new.seen ≡ N.opening ++ share.new.front }
+    ensures seen { IfSome result (λ l. (share.new.front ≡ l.value) × StartsWith share.new.seen share.old.seen) }
+    ensures stays { result ≡ None → share.new ≡ share.old }
+    ensures same { (share.new.seat ≡ share.old.seat) × (share.new.mine ≡ share.old.mine) × (share.new.closed ≡ share.old.closed) }
+{
+    if share.catch_up(&locked) {
+        return Some(locked);
+    }
+    MutexGuard::unlock(locked);
+    None
 }

@@ -1,10 +1,20 @@
-use Rattle.std.proofs.Common.{List, ◌++◌, length, length-append, sym, ap, ◌∙◌, subst, arith}
+use Rattle.std.proofs.Common.{◌≡◌, List, ◌++◌, IfSome, length, length-append, sym, ap, ◌∙◌, subst, arith}
+use Rattle.std.proofs.lemmas.Option.{IfSome_then}
 use Rattle.locked.specs.Entry.{Entry}
 use Rattle.shared.specs.Seats.{AllTold}
 use Rattle.shared.proofs.Leaving.{all_left, kept_legal}
-use Rattle.shared.proofs.Reports.{if_some}
 use Rattle.shared.proofs.Sums.{told_all}
 use Rattle.shared.proofs.seat.Shared.finish.Goals as goal
+
+module _ (g : _) (c : goal.After-drop-front-inside g) where
+  history : c.into_parts-session.result.0.history ≡ g.N.Naming.opening ++ c.into_parts-session.result.1
+  history = let i = c.into_parts-session.ensures in i.session.1 ∙ ap (λ (l : List Entry). g.N.Naming.opening ++ l) (sym i.front)
+
+  told : IfSome c.audited-count.result (λ n. AllTold c.into_parts-session.result.0.history c.args.shares.items)
+  told =
+      let ps = c.args.shares.items in
+      IfSome_then c.audited-count.result c.audited-count.ensures.told
+      (λ n t. subst (λ (h : List Entry). AllTold h ps) (sym history) (told_all g.N.Naming.opening c.into_parts-session.result.1 ps t.0 t.1 (sym t.3 ∙ t.2)))
 
 pub returns-clause-session : goal.returns-clause-session
 returns-clause-session g c =
@@ -12,27 +22,13 @@ returns-clause-session g c =
 
 pub returns-clause-counted : goal.returns-clause-counted
 returns-clause-counted g c =
-    let i = c.into_parts-session.ensures in
-    let o = g.N.Naming.opening in
-    let all : List Entry = c.into_parts-session.result.1 in
-    let is = i.session.1 ∙ ap (λ (l : List Entry). o ++ l) (sym i.front) in
-    if_some _ _ c.audited-count.result (λ n t. (omega (arith, ap length is, length-append o all, t.2), t.3)) c.audited-count.ensures.told
+    IfSome_then c.audited-count.result c.audited-count.ensures.told
+    (λ n t. (omega (arith, ap length (history g c), length-append g.N.Naming.opening c.into_parts-session.result.1, t.2), t.3))
 
 pub returns-clause-told : goal.returns-clause-told
-returns-clause-told g c =
-    let i = c.into_parts-session.ensures in
-    let o = g.N.Naming.opening in
-    let all : List Entry = c.into_parts-session.result.1 in
-    let is = i.session.1 ∙ ap (λ (l : List Entry). o ++ l) (sym i.front) in
-    let ps = c.args.shares.items in
-    if_some _ _ c.audited-count.result (λ n t. subst (λ (h : List Entry). AllTold h ps) (sym is) (told_all o all ps t.0 t.1 (sym t.3 ∙ t.2))) c.audited-count.ensures.told
+returns-clause-told g c = told g c
 
 pub returns-clause-crash : goal.returns-clause-crash
 returns-clause-crash g c =
-    let i = c.into_parts-session.ensures in
-    let o = g.N.Naming.opening in
-    let all : List Entry = c.into_parts-session.result.1 in
-    let is = i.session.1 ∙ ap (λ (l : List Entry). o ++ l) (sym i.front) in
-    let ps = c.args.shares.items in
     let kept = c.history.ensures.kept in
-    if_some _ _ c.audited-count.result (λ n t. all_left g.D.Disk.state c.into_parts-session.result.0 kept.0 kept.1 ps kept.2 (subst (λ (h : List Entry). AllTold h ps) (sym is) (told_all o all ps t.0 t.1 (sym t.3 ∙ t.2)))) c.audited-count.ensures.told
+    IfSome_then c.audited-count.result (told g c) (λ n t. all_left g.D.Disk.state c.into_parts-session.result.0 kept.0 kept.1 c.args.shares.items kept.2 t)
