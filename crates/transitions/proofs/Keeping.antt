@@ -13,6 +13,7 @@ use Rattle.nodes.specs.Looks.{look, AllBelow, IsCutIn}
 use Rattle.nodes.proofs.Putting.{same-grown, grown-on, longer}
 use Rattle.nodes.proofs.Listing.{within-more}
 use Rattle.nodes.proofs.Looking.{below-grown, at-grown, set-grown, relation-grown, look-grown, cut-grown, part-within}
+use Rattle.transitions.specs.Lists.{Kept}
 use Rattle.transitions.specs.Unfolding.{unfolded, capped}
 use Rattle.transitions.specs.Numbered.{Numbered, numbered, KeepsNumbers, AreTargets, HidesEvents, IsSound}
 
@@ -78,8 +79,8 @@ module _ (s r : Numbered) (k : KeepsNumbers s r) where
       go (Intr p q) v = rw (part p v.0, part q v.1) refl
       go (Name j) v = refl
 
-pub sound-grown : (t u : Tabled) (ns : List ℕ) (es : List (ℕ × List ℕ)) (ds : List ℕ) → IsSound t ns es ds → HasGrown t u → IsSound u ns es ds
-sound-grown t u ns es ds s g =
+pub sound-grown : (t u : Tabled) (ns : List ℕ) (m : Kept) (ds : List ℕ) → IsSound t ns m ds → HasGrown t u → IsSound u ns m ds
+sound-grown t u ns m ds s g =
     let k = kept t u ns s.here g in
     record {
       here = below-grown t u g ns s.here;

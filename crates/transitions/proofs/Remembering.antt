@@ -12,8 +12,8 @@ use Rattle.nodes.specs.Shapes.{at}
 use Rattle.nodes.specs.Tables.{Tabled, HasGrown, IsNumber}
 use Rattle.nodes.specs.Looks.{look, AllBelow}
 use Rattle.nodes.proofs.Looking.{below-at, below-push, below-grown, look-grown}
-use Rattle.transitions.specs.Lists.{MayHave}
-use Rattle.transitions.specs.Numbered.{numbered, AreTargets, AllRemembered, IsRemembered, IsSmall, IsSound, key}
+use Rattle.transitions.specs.Lists.{Kept, MayHave, MayHaveAt}
+use Rattle.transitions.specs.Numbered.{numbered, recalled, AreTargets, AllRemembered, IsRemembered, IsSmall, IsSound, MayRecall, key}
 
 -- ---- a key is that of one number and one label
 key-same : (n m : ℕ) (l k : Label) → IsSmall l → IsSmall k → key n l ≡ key m k → (n ≡ m) × (l ≡ k)
@@ -33,20 +33,37 @@ found-said None P m e h = tt
 found-said (Some f) P m e h = h f.now (sym e)
 
 -- ---- one more is remembered
-pub sound-more : (t : Tabled) (ns ds : List ℕ) (es fs : List (ℕ × List ℕ)) (k n : ℕ) (l : Label) (found : List ℕ) → k ≡ key n l → IsSmall l → n < length t.processes → AreTargets (numbered t ns) n l found → IsSound t ns es ds → MayHave es fs k found → IsSound t ns fs ds
-sound-more t ns ds es fs k n l found e small within targets sound h = record { here = sound.here; remembered = all; few = sound.few; depths = sound.depths }
+pub hidden-more : (acts : List (ℕ × List ℕ)) (hs is : List (Option (List ℕ))) (n : ℕ) (l : Label) (found : List ℕ) → l ≡ label.Tau → MayHaveAt hs is n found → MayRecall (acts, hs) (acts, is) n l found
+hidden-more acts hs is n l found e h m label.Tau small = by (h m)
   where
-    all : AllRemembered (numbered t ns) fs
-    all m j vs i f = by (h (key m j))
+    by : (get_or is m None ≡ get_or hs m None) ⊎ ((m ≡ n) × (get_or is m None ≡ Some found)) → (get_or is m None ≡ get_or hs m None) ⊎ ((m ≡ n) × (label.Tau ≡ l) × (get_or is m None ≡ Some found))
+    by (inl same) = inl same
+    by (inr new) = inr (new.0, sym e, new.1)
+hidden-more acts hs is n l found e h m (label.Event x) small = inl refl
+
+pub acts-more : (acts more : List (ℕ × List ℕ)) (hs : List (Option (List ℕ))) (k n : ℕ) (l : Label) (found : List ℕ) → k ≡ key n l → IsSmall l → MayHave acts more k found → MayRecall (acts, hs) (more, hs) n l found
+acts-more acts more hs k n l found e small h m label.Tau s = inl refl
+acts-more acts more hs k n l found e small h m (label.Event x) s = by (h (key m (label.Event x)))
+  where
+    at : List (ℕ × List ℕ) → Option (List ℕ)
+    at = lookup (nat_eq (key m (label.Event x)))
+
+    by : (at more ≡ at acts) ⊎ ((key m (label.Event x) ≡ k) × (at more ≡ Some found)) → (at more ≡ at acts) ⊎ ((m ≡ n) × (label.Event x ≡ l) × (at more ≡ Some found))
+    by (inl same) = inl same
+    by (inr new) = let is = key-same m n (label.Event x) l s small (new.0 ∙ e) in inr (is.0, is.1, new.1)
+
+pub sound-more : (t : Tabled) (ns ds : List ℕ) (old new : Kept) (n : ℕ) (l : Label) (found : List ℕ) → n < length t.processes → AreTargets (numbered t ns) n l found → IsSound t ns old ds → MayRecall old new n l found → IsSound t ns new ds
+sound-more t ns ds old new n l found within targets sound h = record { here = sound.here; remembered = all; few = sound.few; depths = sound.depths }
+  where
+    all : AllRemembered (numbered t ns) new
+    all m j vs i f = by (h m j i)
       where
-        by : (lookup (nat_eq (key m j)) fs ≡ lookup (nat_eq (key m j)) es) ⊎ ((key m j ≡ k) × (lookup (nat_eq (key m j)) fs ≡ Some found)) → IsRemembered (numbered t ns) m j vs
+        by : (recalled new m j ≡ recalled old m j) ⊎ ((m ≡ n) × (j ≡ l) × (recalled new m j ≡ Some found)) → IsRemembered (numbered t ns) m j vs
         by (inl same) = sound.remembered m j vs i (sym same ∙ f)
-        by (inr new) =
-            let same = key-same n m l j small i (sym e ∙ sym new.0) in
-            let w : found ≡ vs = same_Some found vs (sym new.1 ∙ f) in
-            subst (IsRemembered (numbered t ns) m j) w
-            (subst (λ (x : Label). IsRemembered (numbered t ns) m x found) same.1
-            (subst (λ (x : ℕ). IsRemembered (numbered t ns) x l found) same.0 (record { within = within; targets = targets })))
+        by (inr (is_n, is_l, is_found)) =
+            subst (IsRemembered (numbered t ns) m j) (same_Some found vs (sym is_found ∙ f))
+            (subst (λ (x : Label). IsRemembered (numbered t ns) m x found) (sym is_l)
+            (subst (λ (x : ℕ). IsRemembered (numbered t ns) x l found) (sym is_n) (record { within = within; targets = targets })))
 
 -- ---- bodies
 pub body-number : (t : Tabled) (ns : List ℕ) (k n d : ℕ) → AllBelow (length t.processes) ns → k < length ns → n ≡ get_or ns k d → IsNumber t n (bodies_of (look t.processes ns) k)

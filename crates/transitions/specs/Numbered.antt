@@ -1,5 +1,5 @@
 -- Processes by number, with a specification's bodies among them, and what is remembered of their steps.
-use Rattle.std.specs.Prelude.{◌≡◌, ℕ, ◌+◌, ◌*◌, ◌<◌, ◌≤◌, List, length, nat_eq, Some}
+use Rattle.std.specs.Prelude.{◌≡◌, ◌⊎◌, ℕ, ◌+◌, ◌*◌, ◌<◌, ◌≤◌, List, length, get_or, nat_eq, Option, None, Some}
 use Rattle.std.specs.Coded.{Coded, code_by, coded×, coded_list}
 use Rattle.std.specs.Map.{lookup}
 use Rattle.std.proofs.Common.{refl}
@@ -14,6 +14,7 @@ use Rattle.step.specs.Labels.{Step}
 use Rattle.nodes.specs.Shapes.{at}
 use Rattle.nodes.specs.Tables.{Tabled, tabled_code, HasGrown}
 use Rattle.nodes.specs.Looks.{look, AllBelow, IsCutIn}
+use Rattle.transitions.specs.Lists.{Kept}
 use Rattle.transitions.specs.Unfolding.{AreUnfolded}
 
 -- What contracts see: the processes by number, and the bodies.
@@ -58,18 +59,27 @@ IsSmall (label.Event (ev a)) = a < 256
 abbrev pub key : ℕ → Label → ℕ
 key n l = n * 512 + label_code l
 
+-- The list that is remembered of a process's number and a label.
+abbrev pub recalled : Kept → ℕ → Label → Option (List ℕ)
+recalled m n label.Tau = get_or m.1 n None
+recalled m n (label.Event e) = lookup (nat_eq (key n (label.Event e))) m.0
+
+-- What was remembered is so, but that of this number and label this may be remembered.
+abbrev pub MayRecall : Kept → Kept → ℕ → Label → List ℕ → Type 0
+MayRecall old new n l ns = (m : ℕ) (k : Label) → IsSmall k → (recalled new m k ≡ recalled old m k) ⊎ ((m ≡ n) × (k ≡ l) × (recalled new m k ≡ Some ns))
+
 -- What is remembered of a process's number and a label.
 pub record IsRemembered (s : Numbered) (n : ℕ) (l : Label) (ns : List ℕ) : Type 0 where
   pub within : n < length s.table.processes
   pub targets : AreTargets s n l ns
 
 -- All that is remembered is so.
-abbrev pub AllRemembered : Numbered → List (ℕ × List ℕ) → Type 0
-AllRemembered s es = (n : ℕ) (l : Label) (ns : List ℕ) → IsSmall l → lookup (nat_eq (key n l)) es ≡ Some ns → IsRemembered s n l ns
+abbrev pub AllRemembered : Numbered → Kept → Type 0
+AllRemembered s m = (n : ℕ) (l : Label) (ns : List ℕ) → IsSmall l → recalled m n l ≡ Some ns → IsRemembered s n l ns
 
 -- What always holds: the bodies' numbers are in the table, what is remembered is so, and so are the depths.
-pub record IsSound (t : Tabled) (ns : List ℕ) (es : List (ℕ × List ℕ)) (ds : List ℕ) : Type 0 where
+pub record IsSound (t : Tabled) (ns : List ℕ) (m : Kept) (ds : List ℕ) : Type 0 where
   pub here : AllBelow (length t.processes) ns
-  pub remembered : AllRemembered (numbered t ns) es
+  pub remembered : AllRemembered (numbered t ns) m
   pub few : length ds ≤ length t.processes
   pub depths : AreUnfolded (bodies_of (look t.processes ns)) t.processes ds

@@ -17,8 +17,7 @@ ghost use Rattle.transitions.specs.Unfolding.{capped, unfolded};
 
 use crate::depths::deepen;
 use crate::events::sources_of;
-use crate::keys::key_of;
-use crate::lists::Lists;
+use crate::memory::Memory;
 use alphabet::EventSet;
 use nodes::{Facts, Node, Table};
 use std::alloc::{AllocError, Allocator};
@@ -35,7 +34,7 @@ pub const MOST_STATES: usize = 4096;
 pub struct Transitions<A: Allocator> {
     table: Table<A>,
     bodies: Vec<u32, A>,
-    remembered: Lists<A>,
+    remembered: Memory<A>,
     depths: Vec<u32, A>,
     alloc: A,
 }
@@ -60,7 +59,7 @@ impl<A: Allocator + Copy> Transitions<A> {
         Transitions {
             table: Table::new(alloc),
             bodies: Vec::new(alloc),
-            remembered: Lists::new(alloc),
+            remembered: Memory::new(alloc),
             depths: Vec::new(alloc),
             alloc,
         }
@@ -75,7 +74,7 @@ impl<A: Allocator + Copy> Transitions<A> {
         Ok(Transitions {
             table,
             bodies,
-            remembered: Lists::new(alloc),
+            remembered: Memory::new(alloc),
             depths: Vec::new(alloc),
             alloc,
         })
@@ -129,7 +128,7 @@ impl<A: Allocator + Copy> Transitions<A> {
         requires targets { AreTargets self.old number label found.now }
         ensures { self.new ≡ self.old }
     {
-        self.remembered.put(key_of(number, label), found);
+        self.remembered.put(number, label, found);
     }
 }
 
@@ -227,7 +226,7 @@ impl<A: Allocator> Transitions<A> {
     pub(crate) fn found(&self, number: u32, label: Label) -> Option<&[u32]>
         ensures { IfSome result (λ found. AreTargets self.now number label found.now) }
     {
-        self.remembered.get(key_of(number, label))
+        self.remembered.get(number, label)
     }
 
     /// Appends those of the numbers that aren't in the list, as long as there are no more than a set of states may have.

@@ -25,9 +25,28 @@ use step::Label;
 impl<A: Allocator + Copy> Transitions<A> {
     /// Appends to the empty list the numbers of what the process becomes by a step with this label, each once: of all of
     /// it, or of more than a set of states may have. Numbers keep what they are of, also where memory is refused. What was
-    /// asked before is remembered.
-    #[cycle(put_targets)]
+    /// asked of parts is remembered, and what the process becomes by hidden steps. What it becomes by an event isn't: most
+    /// members of a set of states are asked once, and what comes of the set is remembered.
     pub fn put_targets(
+        &mut self,
+        number: u32,
+        label: Label,
+        into: &mut Vec<u32, A>,
+    ) -> Result<(), AllocError>
+        requires number { number < length self.old.table.processes }
+        requires hides { HidesEvents self.old number }
+        requires empty { into.old.items ≡ [] }
+        ensures targets { OnOk result (AreTargets self.new number label into.new.items) }
+        ensures kept { KeepsNumbers self.old self.new }
+    {
+        match label {
+            Label::Tau => self.put_part_targets(number, label, into),
+            Label::Event(_) => self.put_new_targets(number, label, into),
+        }
+    }
+
+    /// What the process becomes by a step with this label, which isn't remembered.
+    fn put_new_targets(
         &mut self,
         number: u32,
         label: Label,
@@ -41,6 +60,29 @@ impl<A: Allocator + Copy> Transitions<A> {
     {
         if !self.may_step(number, label) {
             return Ok(());
+        }
+        self.find(number, label, into)
+    }
+
+    /// The same of a part. What was asked before is remembered, but for what a node without parts becomes.
+    #[cycle(put_part_targets)]
+    fn put_part_targets(
+        &mut self,
+        number: u32,
+        label: Label,
+        into: &mut Vec<u32, A>,
+    ) -> Result<(), AllocError>
+        requires number { number < length self.old.table.processes }
+        requires hides { HidesEvents self.old number }
+        requires empty { into.old.items ≡ [] }
+        ensures targets { OnOk result (AreTargets self.new number label into.new.items) }
+        ensures kept { KeepsNumbers self.old self.new }
+    {
+        if !self.may_step(number, label) {
+            return Ok(());
+        }
+        if !has_parts(self.node(number)) {
+            return self.find(number, label, into);
         }
         if let Some(found) = self.found(number, label) {
             return into.extend_from_slice(found);
@@ -64,7 +106,7 @@ impl<A: Allocator + Copy> Transitions<A> {
     }
 
     /// The same without what is remembered of this step.
-    #[cycle(put_targets)]
+    #[cycle(put_part_targets)]
     fn find(&mut self, number: u32, label: Label, into: &mut Vec<u32, A>) -> Result<(), AllocError>
         requires number { number < length self.old.table.processes }
         requires hides { HidesEvents self.old number }
@@ -95,7 +137,7 @@ impl<A: Allocator + Copy> Transitions<A> {
     }
 
     /// What the process becomes by the event.
-    #[cycle(put_targets)]
+    #[cycle(put_part_targets)]
     fn find_acts(
         &mut self,
         number: u32,
@@ -117,7 +159,7 @@ impl<A: Allocator + Copy> Transitions<A> {
 
     /// What the node's parts become by the event; under a renaming what the part becomes by the events that are taken to
     /// this one. The parts have numbers below `number`.
-    #[cycle(put_targets)]
+    #[cycle(put_part_targets)]
     fn act_parts(
         &mut self,
         number: u32,
@@ -139,7 +181,7 @@ impl<A: Allocator + Copy> Transitions<A> {
             Node::Ext(p, q) | Node::Par(_, p, q) | Node::Intr(p, q) => {
                 self.put_both(p, q, label, lefts, rights)
             }
-            Node::Seq(p, _) | Node::Hide(_, p) => self.put_targets(p, label, lefts),
+            Node::Seq(p, _) | Node::Hide(_, p) => self.put_part_targets(p, label, lefts),
             Node::Ren(relation, p) => self.put_renamed(relation, p, event, lefts),
             Node::Stop | Node::Skip | Node::Prefix(_, _) | Node::Int(_, _) | Node::Name(_) => Ok(
                 (),
@@ -148,7 +190,7 @@ impl<A: Allocator + Copy> Transitions<A> {
     }
 
     /// What both processes become by a step with this label.
-    #[cycle(put_targets)]
+    #[cycle(put_part_targets)]
     fn put_both(
         &mut self,
         p: u32,
@@ -167,12 +209,12 @@ impl<A: Allocator + Copy> Transitions<A> {
         ensures rights { OnOk result (AreTargets self.new q label rights.new.items) }
         ensures kept { KeepsNumbers self.old self.new }
     {
-        self.put_targets(p, label, lefts)?;
-        self.put_targets(q, label, rights)
+        self.put_part_targets(p, label, lefts)?;
+        self.put_part_targets(q, label, rights)
     }
 
     /// What the process becomes by the events that the renaming takes to this one.
-    #[cycle(put_targets)]
+    #[cycle(put_part_targets)]
     fn put_renamed(
         &mut self,
         relation: u32,
@@ -192,7 +234,7 @@ impl<A: Allocator + Copy> Transitions<A> {
     }
 
     /// What the process becomes by one of these events.
-    #[cycle(put_targets)]
+    #[cycle(put_part_targets)]
     fn put_each(&mut self, p: u32, events: &[u8], into: &mut Vec<u32, A>) -> Result<(), AllocError>
         requires part { p < length self.old.table.processes }
         requires hides { HidesEvents self.old p }
@@ -207,7 +249,7 @@ impl<A: Allocator + Copy> Transitions<A> {
     }
 
     /// Joins what the process becomes by the event to what it becomes by others.
-    #[cycle(put_targets)]
+    #[cycle(put_part_targets)]
     fn join_acts(&mut self, p: u32, event: u8, into: &mut Vec<u32, A>) -> Result<(), AllocError>
         requires part { p < length self.old.table.processes }
         requires hides { HidesEvents self.old p }
@@ -216,12 +258,12 @@ impl<A: Allocator + Copy> Transitions<A> {
         ensures kept { KeepsNumbers self.old self.new }
     {
         let mut found = self.list();
-        self.put_targets(p, Label::Event(Event::Of(event)), &mut found)?;
+        self.put_part_targets(p, Label::Event(Event::Of(event)), &mut found)?;
         self.join(&found, into)
     }
 
     /// What the process becomes by a hidden step.
-    #[cycle(put_targets)]
+    #[cycle(put_part_targets)]
     fn find_hidden(&mut self, number: u32, into: &mut Vec<u32, A>) -> Result<(), AllocError>
         requires number { number < length self.old.table.processes }
         requires hides { HidesEvents self.old number }
@@ -238,7 +280,7 @@ impl<A: Allocator + Copy> Transitions<A> {
 
     /// What the node's parts become by a hidden step: for a parallel with `SKIP` for each side that can end, for a hiding
     /// with what the part becomes by the hidden events, and for a name its body. The parts have numbers below `number`.
-    #[cycle(put_targets)]
+    #[cycle(put_part_targets)]
     fn hid_parts(
         &mut self,
         number: u32,
@@ -259,7 +301,7 @@ impl<A: Allocator + Copy> Transitions<A> {
         match node {
             Node::Ext(p, q) | Node::Intr(p, q) => { self.put_both(p, q, Label::Tau, lefts, rights) }
             Node::Par(_, p, q) => self.put_sides(p, q, lefts, rights),
-            Node::Seq(p, _) | Node::Ren(_, p) => self.put_targets(p, Label::Tau, lefts),
+            Node::Seq(p, _) | Node::Ren(_, p) => self.put_part_targets(p, Label::Tau, lefts),
             Node::Hide(set, p) => self.put_hidden(set, p, lefts),
             Node::Name(body) => self.put_body(body, lefts),
             Node::Stop | Node::Skip | Node::Prefix(_, _) | Node::Int(_, _) => Ok(()),
@@ -267,7 +309,7 @@ impl<A: Allocator + Copy> Transitions<A> {
     }
 
     /// What both sides of a parallel become by a hidden step, with `SKIP` for each that can end.
-    #[cycle(put_targets)]
+    #[cycle(put_part_targets)]
     fn put_sides(
         &mut self,
         p: u32,
@@ -290,7 +332,7 @@ impl<A: Allocator + Copy> Transitions<A> {
     }
 
     /// What a side of a parallel becomes by a hidden step, with `SKIP` where it can end.
-    #[cycle(put_targets)]
+    #[cycle(put_part_targets)]
     fn put_side(&mut self, p: u32, into: &mut Vec<u32, A>) -> Result<(), AllocError>
         requires side { p < length self.old.table.processes }
         requires hides { HidesEvents self.old p }
@@ -298,12 +340,12 @@ impl<A: Allocator + Copy> Transitions<A> {
         ensures cut { OnOk result (IsCutIn self.new.table (OrEnd (Hid (bodies_of self.new.bodies) (at self.new.table.processes p)) (at self.new.table.processes p)) most_states into.new.items) }
         ensures kept { KeepsNumbers self.old self.new }
     {
-        self.put_targets(p, Label::Tau, into)?;
+        self.put_part_targets(p, Label::Tau, into)?;
         self.put_end(p, into)
     }
 
     /// What the part of a hiding becomes by a hidden step or by one of the hidden events.
-    #[cycle(put_targets)]
+    #[cycle(put_part_targets)]
     fn put_hidden(&mut self, set: u32, p: u32, into: &mut Vec<u32, A>) -> Result<(), AllocError>
         requires set { set < length self.old.table.parameters.sets }
         requires small { (a : ℕ) → has (set_at self.old.table.parameters set) a ≡ true → a < 256 }
@@ -315,12 +357,12 @@ impl<A: Allocator + Copy> Transitions<A> {
     {
         let mut found = self.list();
         self.put_hidden_acts(set, p, &mut found)?;
-        self.put_targets(p, Label::Tau, into)?;
+        self.put_part_targets(p, Label::Tau, into)?;
         self.join(&found, into)
     }
 
     /// What the process becomes by one of the hidden events.
-    #[cycle(put_targets)]
+    #[cycle(put_part_targets)]
     fn put_hidden_acts(
         &mut self,
         set: u32,
@@ -365,4 +407,12 @@ impl<A: Allocator + Copy> Transitions<A> {
         into.push(stop)?;
         Ok(())
     }
+}
+
+/// Whether what the node becomes by steps is found from what its parts become.
+fn has_parts(node: Node) -> bool {
+    !matches!(
+        node,
+        Node::Stop | Node::Skip | Node::Prefix(_, _) | Node::Int(_, _) | Node::Name(_)
+    )
 }

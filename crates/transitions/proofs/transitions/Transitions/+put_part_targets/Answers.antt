@@ -13,10 +13,10 @@ use Rattle.nodes.proofs.Looking.{below-grown, set-within, set-grown}
 use Rattle.transitions.specs.Numbered.{AreTargets}
 use Rattle.transitions.proofs.Keeping.{at-kept, within-kept, node-kept, shape-kept, cut-kept, targets-kept, kept-on}
 use Rattle.transitions.proofs.Asking.{none-in, always, by-more, both-in, cut-in-to}
-use Rattle.transitions.proofs.transitions.Transitions.+put_targets.Goals as goal
+use Rattle.transitions.proofs.transitions.Transitions.+put_part_targets.Goals as goal
 
-pub put_targets-returns-then-not-may_step-clause-targets : goal.put_targets-returns-then-not-may_step-clause-targets
-put_targets-returns-then-not-may_step-clause-targets g t c =
+pub put_part_targets-returns-then-not-may_step-clause-targets : goal.put_part_targets-returns-then-not-may_step-clause-targets
+put_part_targets-returns-then-not-may_step-clause-targets g t c =
     let s = c.args.self.now in
     none-in s.table (Step (bodies_of s.bodies) (at s.table.processes c.args.number) c.args.label) most_states c.args.into.now.items c.requires.empty (c.may_step.ensures c.if-not-may_step.true)
 
@@ -52,10 +52,10 @@ find_hidden-returns-clause-targets g t c =
 pub put_both-returns-clause-lefts : goal.put_both-returns-clause-lefts
 put_both-returns-clause-lefts g t c =
     let s = c.args.self.now in
-    let m = c.put_targets.new.self in
-    let r = c.put_targets-2.new.self in
-    always c.put_targets-2.result (AreTargets r c.args.p c.args.label c.put_targets.new.into.items)
-    (targets-kept m r c.put_targets-2.ensures.kept c.args.p c.args.label c.put_targets.new.into.items (within-kept s m c.put_targets.ensures.kept c.args.p c.requires.left) c.in_ok-put_targets.ensures.targets)
+    let m = c.put_part_targets.new.self in
+    let r = c.put_part_targets-2.new.self in
+    always c.put_part_targets-2.result (AreTargets r c.args.p c.args.label c.put_part_targets.new.into.items)
+    (targets-kept m r c.put_part_targets-2.ensures.kept c.args.p c.args.label c.put_part_targets.new.into.items (within-kept s m c.put_part_targets.ensures.kept c.args.p c.requires.left) c.in_ok-put_part_targets.ensures.targets)
 
 pub put_sides-returns-clause-lefts : goal.put_sides-returns-clause-lefts
 put_sides-returns-clause-lefts g t c =
@@ -81,42 +81,42 @@ put_each-loop-event-preserved g t c =
 
 pub join_acts-join-requires-clause-here : goal.join_acts-join-requires-clause-here
 join_acts-join-requires-clause-here g t c =
-    below-grown c.args.self.now.table c.put_targets.new.self.table c.put_targets.ensures.kept.table c.args.into.now.items c.requires.here
+    below-grown c.args.self.now.table c.put_part_targets.new.self.table c.put_part_targets.ensures.kept.table c.args.into.now.items c.requires.here
 
 pub join_acts-returns-clause-cut : goal.join_acts-returns-clause-cut
 join_acts-returns-clause-cut g t c =
     let s = c.args.self.now in
-    let u = c.put_targets.new.self in
+    let u = c.put_part_targets.new.self in
     let p = c.args.p in
     let a = c.args.event in
-    let k = c.put_targets.ensures.kept in
-    let found = subst (λ (ns : List ℕ). IsCutIn u.table (Act (at u.table.processes p) a) most_states ns) (sym c.deref.ensures.value) c.in_ok-put_targets.ensures.targets in
+    let k = c.put_part_targets.ensures.kept in
+    let found = subst (λ (ns : List ℕ). IsCutIn u.table (Act (at u.table.processes p) a) most_states ns) (sym c.deref.ensures.value) c.in_ok-put_part_targets.ensures.targets in
     on-both c.join.result _ _ _ c.join.ensures.here c.join.ensures.joined
     (λ b j (es : List ℕ) old. by-more u.table es a most_states (at u.table.processes p) c.args.into.now.items c.deref.result.now c.join.new.into.items
     (cut-kept s u k (λ B P. ActsBy es P) p most_states c.args.into.now.items c.requires.part old) found b j)
 
 pub put_hidden-join-requires-clause-numbers : goal.put_hidden-join-requires-clause-numbers
 put_hidden-join-requires-clause-numbers g t c =
-    let u = c.put_targets.new.self in
+    let u = c.put_part_targets.new.self in
     subst (λ (ns : List ℕ). AllBelow (length u.table.processes) ns) (sym c.deref.ensures.value)
-    (below-grown c.put_hidden_acts.new.self.table u.table c.put_targets.ensures.kept.table c.put_hidden_acts.new.into.items c.in_ok-put_hidden_acts.ensures.cut.here)
+    (below-grown c.put_hidden_acts.new.self.table u.table c.put_part_targets.ensures.kept.table c.put_hidden_acts.new.into.items c.in_ok-put_hidden_acts.ensures.cut.here)
 
 pub put_hidden-returns-clause-cut : goal.put_hidden-returns-clause-cut
 put_hidden-returns-clause-cut g t c =
     let s = c.args.self.now in
     let m = c.put_hidden_acts.new.self in
-    let u = c.put_targets.new.self in
+    let u = c.put_part_targets.new.self in
     let p = c.args.p in
     let A = c.args.set in
     let k = c.put_hidden_acts.ensures.kept in
-    let l = c.put_targets.ensures.kept in
+    let l = c.put_part_targets.ensures.kept in
     let ns = c.put_hidden_acts.new.into.items in
     let there = cut-kept m u l (λ B P. ActsIn (set_at m.table.parameters A) P) p most_states ns (within-kept s m k p c.requires.part) c.in_ok-put_hidden_acts.ensures.cut in
     let cut : IsCutIn u.table (ActsIn (set_at u.table.parameters A) (at u.table.processes p)) most_states c.deref.result.now =
     subst (λ (ls : List ℕ). IsCutIn u.table (ActsIn (set_at u.table.parameters A) (at u.table.processes p)) most_states ls) (sym c.deref.ensures.value)
     (subst (λ (T : Set). IsCutIn u.table (ActsIn T (at u.table.processes p)) most_states ns) (sym (set-grown m.table u.table l.table A (set-within s.table m.table k.table A c.requires.set))) there) in
     on-both c.join.result _ _ _ c.join.ensures.here c.join.ensures.joined
-    (λ b j. both-in u.table (Hid (bodies_of u.bodies) (at u.table.processes p)) (ActsIn (set_at u.table.parameters A) (at u.table.processes p)) most_states c.put_targets.new.into.items c.deref.result.now c.join.new.into.items c.in_ok-put_targets.ensures.targets cut b j)
+    (λ b j. both-in u.table (Hid (bodies_of u.bodies) (at u.table.processes p)) (ActsIn (set_at u.table.parameters A) (at u.table.processes p)) most_states c.put_part_targets.new.into.items c.deref.result.now c.join.new.into.items c.in_ok-put_part_targets.ensures.targets cut b j)
 
 pub put_hidden_acts-returns-clause-cut : goal.put_hidden_acts-returns-clause-cut
 put_hidden_acts-returns-clause-cut g t c =

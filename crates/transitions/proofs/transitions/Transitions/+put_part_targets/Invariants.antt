@@ -3,10 +3,10 @@ use Rattle.term.specs.Limits.{most_states}
 use Rattle.nodes.specs.Shapes.{at}
 use Rattle.nodes.specs.Looks.{ActsBy, IsCutIn}
 use Rattle.transitions.specs.Numbered.{KeepsNumbers}
-use Rattle.transitions.proofs.transitions.Transitions.+put_targets.Given as goal
+use Rattle.transitions.proofs.transitions.Transitions.+put_part_targets.Given as goal
 
-abbrev pub decreases-put_targets : goal.decreases-put_targets
-decreases-put_targets g l = 8 * l.number + 7
+abbrev pub decreases-put_part_targets : goal.decreases-put_part_targets
+decreases-put_part_targets g l = 8 * l.number + 7
 
 abbrev pub decreases-find : goal.decreases-find
 decreases-find g l = 8 * l.number + 6
