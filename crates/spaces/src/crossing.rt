@@ -4,9 +4,10 @@
 //! session between threads.
 
 ghost use Rattle.std.specs.Thread.{IsSend};
-ghost use Rattle.spaces.specs.Crossings.{SpaceCrosses, TableCrosses, TransitionsCross};
+ghost use Rattle.spaces.specs.Crossings.{SetsCross, SpaceCrosses, TableCrosses, TransitionsCross};
 
-use crate::space::Space;
+use crate::found::FoundSets;
+use crate::space::{Answers, Space};
 use closures::{Table, Transitions};
 use std::alloc::Global;
 use term::Spec;
@@ -31,11 +32,20 @@ fn transitions_cross()
     crosses::<Transitions<Global>>();
 }
 
-/// That the sets of states found for a specification may.
-pub fn space_crosses()
-    ensures space { SpaceCrosses }
+// That the sets of states found for a specification may.
+fn sets_cross()
+    ensures sets { SetsCross }
 {
     transitions_cross();
     crosses::<Spec<Global>>();
+    crosses::<FoundSets<Global>>();
+}
+
+/// That these sets with the answers that are remembered may.
+pub fn space_crosses()
+    ensures space { SpaceCrosses }
+{
+    sets_cross();
+    crosses::<Answers<Global>>();
     crosses::<Space<Global>>();
 }

@@ -25,12 +25,15 @@ use term::Spec;
 /// The most answers that are remembered.
 pub const MOST_REMEMBERED: usize = 65_536;
 
+/// What comes of sets by events, by keys.
+pub(crate) type Answers<A> = IndexMap<u64, Option<StateSet>, Hashing, A>;
+
 /// The sets of states of a specification, each once. What comes of a set by an event is found once, and remembered as
 /// long as there is room.
 #[derive(Drop)]
 pub struct Space<A: Allocator> {
     found: FoundSets<A>,
-    answers: IndexMap<u64, Option<StateSet>, Hashing, A>,
+    answers: Answers<A>,
 }
 
 impl<A: Allocator> Model for Space<A> {
