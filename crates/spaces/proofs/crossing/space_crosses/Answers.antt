@@ -9,11 +9,13 @@ use Rattle.spaces.proofs.crossing.space_crosses.Goals as goal
 pub crosses-requires-2-send-T : goal.crosses-requires-2-send-T
 crosses-requires-2-send-T c κs =
     let space : IsSend (Space.the_row Global.the_row ghosts) = record {
-      owned = λ d vs x.
-          ((declared_send (Inside.the_type Global.the_row ghosts) (
-            record { owned = c.sets_cross.ensures.sets.owned; leaving = c.sets_cross.ensures.sets.leaving },
-            (record { owned = c.crosses.ensures.owned; leaving = λ k y w. search sendable }, tt),
-          )).owned x.0 vs, tt);
+      owned = λ d vs x. (
+        (declared_send (Inside.the_type Global.the_row ghosts) (
+          record { owned = c.sets_cross.ensures.sets.owned; leaving = c.sets_cross.ensures.sets.leaving },
+          (record { owned = c.crosses.ensures.owned; leaving = λ k y w. search sendable }, tt),
+        )).owned x.0 vs,
+        tt,
+      );
       leaving = λ k d w. tt;
     } in
     let sent = param_send 0 (Space.the_row Global.the_row ghosts) space in
