@@ -1,17 +1,17 @@
 //! What lies under the lock of a session that threads share.
 //!
-//! `Locked` judges, writes and publishes one report after the other, of seats that have seen its list of entries. It knows nothing of
-//! threads: whoever has it has it alone. `close` ends its board, which leaves the session and the book of the receipts.
+//! `Locked` judges, writes and publishes one report after the other, of seats that have seen its list of entries. Whoever has it has it
+//! alone; that threads share it is for `shared`. `close` ends its board, which leaves the session and the book of the receipts.
 #![tactic(auto)]
 
-mod ended;
+mod closing;
 mod fault;
 mod locked;
 
 pub use alphabet::{EventSet, Report};
 pub use board::{Board, Counts, Front, Looker, Naming, Opened, Publisher, Source, Spine, look};
+pub use closing::close;
 pub use disk::Disk;
-pub use ended::{Ended, close};
 pub use fault::SeatFault;
 pub use locked::Locked;
 pub use session::{

@@ -1,6 +1,6 @@
 -- The test whether two nodes are the same, and what a table by hash is fed of a node: a number for its operator and
 -- then its numbers.
-use Rattle.std.proofs.Common.{◌≡◌, ℕ, Bool, true, ◌&&◌, List, [], ◌∷◌, ◌++◌, get_or, nat_eq, refl, sym, ap, ◌∙◌, subst}
+use Rattle.std.proofs.Common.{◌≡◌, ℕ, ◌+◌, ◌*◌, ◌%◌, ◌^◌, Bool, true, ◌&&◌, List, [], ◌∷◌, ◌++◌, get_or, nat_eq, bit_or, refl, sym, ap, ◌∙◌, subst}
 use Rattle.std.proofs.lemmas.Bool.{eqb-true, eq-eqb}
 use Rattle.std.specs.Cmp.{IsEquivalence, IsPartialEquivalence, partial_equiv_from_equiv, both_ways}
 use Rattle.std.specs.Hash as fed
@@ -27,9 +27,9 @@ abbrev pub same_node : Node → Node → Bool
 same_node x y =
     nat_eq (key x).0 (key y).0 && (nat_eq (key x).1 (key y).1 && (nat_eq (key x).2 (key y).2 && nat_eq (key x).3 (key y).3))
 
--- What a hasher is fed.
+-- What a hasher is fed: two words.
 abbrev pub hash_writes : ℕ × ℕ × ℕ × ℕ → List (List ℕ)
-hash_writes k = fed.u8 k.0 ++ (fed.usize k.1 ++ (fed.u32 k.2 ++ fed.u32 k.3))
+hash_writes k = fed.u64 ((k.1 + (k.0 * 2 ^ 56) % 2 ^ 64) % 2 ^ 64) ++ fed.u64 (bit_or ((k.2 * 2 ^ 32) % 2 ^ 64) k.3)
 
 -- ---- a key is that of one node
 abbrev node_of : ℕ × ℕ × ℕ × ℕ → Node

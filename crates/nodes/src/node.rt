@@ -77,9 +77,7 @@ impl Hash for Node {
 
     fn hash<H: Hasher>(&self, state: &mut H) {
         let (operator, first, second, third) = self.key();
-        state.write_u8(operator);
-        state.write_usize(first);
-        state.write_u32(second);
-        state.write_u32(third);
+        state.write_u64((first as u64).wrapping_add(u64::from(operator) << 56));
+        state.write_u64(u64::from(second) << 32 | u64::from(third));
     }
 }

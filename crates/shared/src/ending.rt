@@ -37,7 +37,7 @@ impl<D: Disk, A: Allocator + Copy, N: Naming> Shared<D, A, N> {
         ensures whole { suc (length shares.items) ≡ N.all → apart shares.items ≡ true → IsSome result.1 }
     {
         let Shared { locked } = self;
-        let (session, front, book, rest, given) = close(rt, locked.into_inner()).into_parts();
+        let (session, front, book, rest, given) = close(rt, locked.into_inner());
         let _ = session.history();
         let count = audited(rt, &front, book, rest, given, shares);
         (session, count)

@@ -7,23 +7,23 @@ use Rattle.shared.proofs.Sums.{told_all}
 use Rattle.shared.proofs.seat.Shared.finish.Goals as goal
 
 module _ (g : _) (c : goal.After-drop-front-inside g) where
-  history : c.into_parts-session.result.0.history ≡ g.N.Naming.opening ++ c.into_parts-session.result.1
-  history = let i = c.into_parts-session.ensures in i.session.1 ∙ ap (λ (l : List Entry). g.N.Naming.opening ++ l) (sym i.front)
+  history : c.close-session.result.0.history ≡ g.N.Naming.opening ++ c.close-session.result.1
+  history = let i = c.close-session.ensures in i.session.1 ∙ ap (λ (l : List Entry). g.N.Naming.opening ++ l) (sym i.front)
 
-  told : IfSome c.audited-count.result (λ n. AllTold c.into_parts-session.result.0.history c.args.shares.items)
+  told : IfSome c.audited-count.result (λ n. AllTold c.close-session.result.0.history c.args.shares.items)
   told =
       let ps = c.args.shares.items in
       IfSome_then c.audited-count.result c.audited-count.ensures.told
-      (λ n t. subst (λ (h : List Entry). AllTold h ps) (sym history) (told_all g.N.Naming.opening c.into_parts-session.result.1 ps t.0 t.1 (sym t.3 ∙ t.2)))
+      (λ n t. subst (λ (h : List Entry). AllTold h ps) (sym history) (told_all g.N.Naming.opening c.close-session.result.1 ps t.0 t.1 (sym t.3 ∙ t.2)))
 
 pub returns-clause-session : goal.returns-clause-session
 returns-clause-session g c =
-    let i = c.into_parts-session.ensures.session in (i.0, (c.close.result, i.1), kept_legal _ _ _ i.0 c.history.ensures.judged)
+    let i = c.close-session.ensures.session in (i.0, (c.close-session.result.1, i.1), kept_legal _ _ _ i.0 c.history.ensures.judged)
 
 pub returns-clause-counted : goal.returns-clause-counted
 returns-clause-counted g c =
     IfSome_then c.audited-count.result c.audited-count.ensures.told
-    (λ n t. (omega (arith, ap length (history g c), length-append g.N.Naming.opening c.into_parts-session.result.1, t.2), t.3))
+    (λ n t. (omega (arith, ap length (history g c), length-append g.N.Naming.opening c.close-session.result.1, t.2), t.3))
 
 pub returns-clause-told : goal.returns-clause-told
 returns-clause-told g c = told g c
@@ -31,4 +31,4 @@ returns-clause-told g c = told g c
 pub returns-clause-crash : goal.returns-clause-crash
 returns-clause-crash g c =
     let kept = c.history.ensures.kept in
-    IfSome_then c.audited-count.result (told g c) (λ n t. all_left g.D.Disk.state c.into_parts-session.result.0 kept.0 kept.1 c.args.shares.items kept.2 t)
+    IfSome_then c.audited-count.result (told g c) (λ n t. all_left g.D.Disk.state c.close-session.result.0 kept.0 kept.1 c.args.shares.items kept.2 t)
