@@ -41,6 +41,15 @@ impl<A: Allocator + Copy> Numbers<A> {
         }
     }
 
+    /// No numbers, with room for so many.
+    pub(crate) fn with_room(alloc: A, room: usize) -> Result<Numbers<A>, AllocError>
+        ensures { IfOk result (λ numbers. numbers ≡ []) }
+    {
+        Ok(Numbers {
+            set: IndexSet::with_capacity(alloc, room)?,
+        })
+    }
+
     /// The list by itself.
     pub(crate) fn into_vec(self, alloc: A) -> Result<Vec<u32, A>, AllocError>
         ensures { IfOk result (λ list. list.items ≡ self) }
