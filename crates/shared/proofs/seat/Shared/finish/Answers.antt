@@ -18,7 +18,7 @@ module _ (g : _) (c : goal.After-drop-front-inside g) where
 
 pub returns-clause-session : goal.returns-clause-session
 returns-clause-session g c =
-    let i = c.close-session.ensures.session in (i.0, (c.close-session.result.1, i.1), kept_legal _ _ _ i.0 c.history.ensures.judged)
+    let i = c.close-session.ensures.session in (i.0, (c.into_inner.result, i.1), kept_legal _ _ _ i.0 c.history.ensures.judged)
 
 pub returns-clause-counted : goal.returns-clause-counted
 returns-clause-counted g c =
