@@ -147,7 +147,7 @@ pub fn first_level<A: Allocator + Copy>(
 {
     let events = spec.alphabet().len();
     prove!(events <= 256);
-    let mut first = Numbers::with_room(alloc, numbers.len())?;
+    let mut first = Numbers::with_room(alloc, numbers.len());
     let mut found = Vec::new(alloc);
     for number in numbers {
         put_targets(all, *number, Label::Event(event), &mut found, &mut first)?;

@@ -41,13 +41,14 @@ impl<A: Allocator + Copy> Numbers<A> {
         }
     }
 
-    /// No numbers, with room for so many.
-    pub(crate) fn with_room(alloc: A, room: usize) -> Result<Numbers<A>, AllocError>
-        ensures { IfOk result (λ numbers. numbers ≡ []) }
+    /// No numbers, with room for so many, unless memory is refused.
+    pub(crate) fn with_room(alloc: A, room: usize) -> Numbers<A>
+        ensures { result ≡ [] }
     {
-        Ok(Numbers {
-            set: IndexSet::with_capacity(alloc, room)?,
-        })
+        match IndexSet::with_capacity(alloc, room) {
+            Ok(set) => Numbers { set },
+            Err(_) => Numbers::new(alloc),
+        }
     }
 
     /// The list by itself.

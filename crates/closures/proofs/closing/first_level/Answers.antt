@@ -22,7 +22,7 @@ loop-number-init g c =
     let x = label.Event c.args.event in
     let B = bodies_of c.args.spec.now.bodies in
     let none : CutOf (TargetOf B [] x) most_states [] = cut-none (TargetOf B [] x) most_states (λ Q (P, i, d). elim i [ ]) in
-    let empty = sym c.in_ok-first.ensures in
+    let empty = sym c.with_room-first.ensures in
     record {
       kept = kept-same s;
       here = subst (λ (l : List ℕ). AllBelow (length s.table.processes) l) empty tt;
