@@ -13,9 +13,10 @@ use Rattle.nodes.specs.Looks.{look, AllBelow, IsCutIn}
 use Rattle.nodes.proofs.Putting.{same-grown, grown-on, longer}
 use Rattle.nodes.proofs.Listing.{within-more}
 use Rattle.nodes.proofs.Looking.{below-grown, at-grown, set-grown, relation-grown, look-grown, cut-grown, part-within}
-use Rattle.transitions.specs.Lists.{Kept}
+use Rattle.transitions.specs.Memory.{Kept}
 use Rattle.transitions.specs.Unfolding.{unfolded, capped}
-use Rattle.transitions.specs.Numbered.{Numbered, numbered, KeepsNumbers, AreTargets, HidesEvents, IsSound}
+use Rattle.transitions.specs.Numbered.{Numbered, numbered, KeepsNumbers, AreTargets, HidesEvents}
+use Rattle.transitions.specs.Memory.{IsSound}
 
 pub kept : (t u : Tabled) (ns : List ℕ) → AllBelow (length t.processes) ns → HasGrown t u → KeepsNumbers (numbered t ns) (numbered u ns)
 kept t u ns a g = record { table = g; bodies = look-grown t u g ns a }

@@ -12,8 +12,10 @@ use Rattle.nodes.specs.Shapes.{at}
 use Rattle.nodes.specs.Tables.{Tabled, HasGrown, IsNumber}
 use Rattle.nodes.specs.Looks.{look, AllBelow}
 use Rattle.nodes.proofs.Looking.{below-at, below-push, below-grown, look-grown}
-use Rattle.transitions.specs.Lists.{Kept, MayHave, MayHaveAt}
-use Rattle.transitions.specs.Numbered.{numbered, recalled, AreTargets, AllRemembered, IsRemembered, IsSmall, IsSound, MayRecall, key}
+use Rattle.transitions.specs.Lists.{MayHave, MayHaveAt}
+use Rattle.transitions.specs.Memory.{Kept}
+use Rattle.transitions.specs.Numbered.{numbered, AreTargets}
+use Rattle.transitions.specs.Memory.{recalled, AllRemembered, IsRemembered, IsSmall, IsSound, MayRecall, key}
 
 -- ---- a key is that of one number and one label
 key-same : (n m : ℕ) (l k : Label) → IsSmall l → IsSmall k → key n l ≡ key m k → (n ≡ m) × (l ≡ k)

@@ -30,8 +30,3 @@ KeepsPlaces old new = (x : ℕ) → get_or new x None ≡ get_or old x None
 -- Each number has the list that it had; this one may have these numbers.
 abbrev pub MayHaveAt : List (Option (List ℕ)) → List (Option (List ℕ)) → ℕ → List ℕ → Type 0
 MayHaveAt old new k ns = (x : ℕ) → (get_or new x None ≡ get_or old x None) ⊎ ((x ≡ k) × (get_or new x None ≡ Some ns))
-
--- ---- both
--- What is remembered: lists by key, and lists by number.
-abbrev pub Kept : Type 0
-Kept = List (ℕ × List ℕ) × List (Option (List ℕ))

@@ -1,7 +1,7 @@
 //! Numbers for processes with labels.
 
 ghost use Rattle.std.specs.Prelude.{◌≡◌, ◌<◌};
-ghost use Rattle.transitions.specs.Numbered.{IsSmall, key, label_code};
+ghost use Rattle.transitions.specs.Memory.{IsSmall, key, label_code};
 
 use alphabet::Event;
 use step::Label;

@@ -1,7 +1,7 @@
 //! What is remembered of steps.
 
 ghost use Rattle.std.specs.Prelude.{◌≡◌, [], option_map};
-ghost use Rattle.transitions.specs.Numbered.{IsSmall, MayRecall, recalled};
+ghost use Rattle.transitions.specs.Memory.{IsSmall, MayRecall, recalled};
 
 use crate::by_number::ListsByNumber;
 use crate::keys::key_of;
@@ -19,7 +19,7 @@ pub(crate) struct Memory<A: Allocator> {
 }
 
 impl<A: Allocator> Model for Memory<A> {
-    ghost use Rattle.transitions.specs.Lists.{Kept};
+    ghost use Rattle.transitions.specs.Memory.{Kept};
 
     ghost Value = { Kept };
 

@@ -40,7 +40,8 @@ pub struct Transitions<A: Allocator> {
 }
 
 impl<A: Allocator> Model for Transitions<A> {
-    ghost use Rattle.transitions.specs.Numbered.{IsSound, Numbered, numbered, numbered_code};
+    ghost use Rattle.transitions.specs.Numbered.{Numbered, numbered, numbered_code};
+    ghost use Rattle.transitions.specs.Memory.{IsSound};
 
     ghost Value = { Numbered };
 

@@ -1,6 +1,6 @@
 use Rattle.std.proofs.Common.{subst}
-use Rattle.transitions.specs.Lists.{Kept}
-use Rattle.transitions.specs.Numbered.{MayRecall}
+use Rattle.transitions.specs.Memory.{Kept}
+use Rattle.transitions.specs.Memory.{MayRecall}
 use Rattle.transitions.proofs.Remembering.{hidden-more, acts-more}
 use Rattle.transitions.proofs.memory.Memory.put.Goals as goal
 

@@ -1,5 +1,6 @@
 use Rattle.std.proofs.Common.{subst}
-use Rattle.transitions.specs.Numbered.{Numbered, AreTargets, recalled}
+use Rattle.transitions.specs.Numbered.{Numbered, AreTargets}
+use Rattle.transitions.specs.Memory.{recalled}
 use Rattle.transitions.proofs.Remembering.{found-said}
 use Rattle.transitions.proofs.transitions.Transitions.found.Goals as goal
 
