@@ -14,5 +14,6 @@ pub use Rattle.step.specs.Offers
 pub use Rattle.step.specs.Resting
 pub use Rattle.step.specs.declared.targets.Label
 pub use Rattle.targets.specs.Cuts
+pub use Rattle.transitions.specs.Memory
 pub use Rattle.transitions.specs.Numbered
 pub use Rattle.transitions.specs.contracts.transitions.Transitions as TransitionsContracts

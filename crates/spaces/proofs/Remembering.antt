@@ -6,7 +6,7 @@ use Rattle.indexmap.specs.IndexMap.{IndexMap, Updates, IsUnchanged, index_map_le
 use Rattle.alphabet.specs.declared.events.Event.{Event}
 use Rattle.alphabet.specs.declared.events.Event.TheVariants.{Tick as tick, Of as ev}
 use Rattle.closures.specs.Label.TheVariants as label
-use Rattle.closures.specs.Numbered.{IsSmall, key}
+use Rattle.closures.specs.Memory.{IsSmall, key}
 use Rattle.spaces.specs.Answers.{AllRemembered, IsAnswer, IsMemory, IsRemembered}
 use Rattle.spaces.specs.Spaces.{Spaced, most_remembered}
 

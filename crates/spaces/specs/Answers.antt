@@ -7,7 +7,7 @@ use Rattle.term.specs.Limits.{Advance, NoLimit, Terms}
 use Rattle.term.specs.Meaning.{Trace}
 use Rattle.term.specs.Proc.{Proc, bodies_of, root}
 use Rattle.term.specs.Traces.{In}
-use Rattle.closures.specs.Numbered.{IsSmall, key}
+use Rattle.closures.specs.Memory.{IsSmall, key}
 use Rattle.closures.specs.Closing.{IsClosure}
 use Rattle.spaces.specs.Spaces.{Spaced, Belongs, most_remembered, states}
 

@@ -2,7 +2,7 @@
 
 ghost use Rattle.std.specs.Prelude.{◌≡◌, ◌<◌};
 ghost use Rattle.closures.specs.Label.TheVariants as label;
-ghost use Rattle.closures.specs.Numbered.{IsSmall, key, label_code};
+ghost use Rattle.closures.specs.Memory.{IsSmall, key, label_code};
 
 use crate::states::StateSet;
 use alphabet::Event;
