@@ -34,7 +34,7 @@ pub(crate) type Hashing = BuildHasherDefault<FoldHasher>;
 type Lists<A> = IndexMap<Vec<u32, A>, SetFacts<A>, Hashing, A>;
 
 /// By how many processes a space grows at most until it is large.
-pub const MOST_NEW_PROCESSES: u32 = 1_048_576;
+pub const MOST_NEW_PROCESSES: u32 = 524_288;
 
 /// How many members all sets of a space have together at most until it is large.
 pub const MOST_MEMBERS: usize = 33_554_432;
