@@ -47,4 +47,4 @@ one_spec t root a b r q =
     let scopes : there ≡ here = λ i. record { entries = sym e i; channels = sym c i; known = sym k i; sets = sym sets i } in
     let (ks, bs) = one_reached here (root, []) r.keys q.keys r.bodies q.bodies r.reached (subst (λ (s : Scope). Reached s (root, []) q.keys q.bodies) scopes q.reached) in
     let bodies : a.bodies ≡ b.bodies = r.numbers ∙ ap₂ (λ ks bs. map (numbered (place ks)) bs) ks bs ∙ sym q.numbers in
-    λ i. record { alphabet = c i; bodies = bodies i }
+    λ i. record { alphabet = c i; bodies = bodies i; names = (r.steps ∙ sym q.steps) i }

@@ -4,6 +4,7 @@ use Rattle.std.specs.List.{flat_map}
 use Rattle.alphabet.specs.Channels.{Channel}
 use Rattle.term.specs.Proc.{Proc}
 use Rattle.term.specs.Specs.{Specified, IsClosed}
+use Rattle.term.specs.declared.names.Names.TheVariants.{Steps}
 use Rattle.syntax.specs.Grammar.{Syntax}
 use Rattle.syntax.specs.Script.{HasTree}
 use Rattle.values.specs.Values.{Name}
@@ -39,7 +40,7 @@ module _ (cs : List Channel) (known : Known) (es : List Entry) (root : Name) whe
   pub bodies_with : (sets : KnownEvents) (ps : List Proc) → EventsStand cs known es sets → AreBodies cs known es root ps → Gathered (with_sets sets) (root, []) ps
   bodies_with sets ps e a = subst (λ f. Gathered (with_sets f) (root, []) ps) (one_sets cs known es a.sets sets a.events e) a.gathered
 
-  pub bodies_closed : (ps : List Proc) → AreBodies cs known es root ps → IsClosed (record { alphabet = cs; bodies = ps })
+  pub bodies_closed : (ps : List Proc) → AreBodies cs known es root ps → IsClosed (record { alphabet = cs; bodies = ps; names = Steps })
   bodies_closed ps a = is_closed (with_sets a.sets) (root, []) ps a.gathered
 
   -- the root is a process
@@ -63,8 +64,8 @@ module _ (cs : List Channel) (known : Known) (es : List Entry) (root : Name) whe
 -- ---- trees
 
 module _ (t : Syntax) (root : Name) (es : List Entry) (known : Known) (cs : List Channel) (d : Declares t es known cs) where
-  pub bodies_denote : (spec : Specified) (ps : List Proc) → AreBodies cs known es root ps → spec.alphabet ≡ cs → spec.bodies ≡ ps → Denotes t root spec
-  bodies_denote spec ps a c p = subst (Denotes t root) (λ i. record { alphabet = sym c i; bodies = sym p i }) (denotes_from t root es known cs a.sets d a.events ps a.gathered)
+  pub bodies_denote : (spec : Specified) (ps : List Proc) → AreBodies cs known es root ps → spec.alphabet ≡ cs → spec.bodies ≡ ps → spec.names ≡ Steps → Denotes t root spec
+  bodies_denote spec ps a c p n = subst (Denotes t root) (λ i. record { alphabet = sym c i; bodies = sym p i; names = sym n i }) (denotes_from t root es known cs a.sets d a.events ps a.gathered)
 
   pub denoted_bodies : (spec : Specified) → Denotes t root spec → (spec.alphabet ≡ cs) × AreBodies cs known es root spec.bodies
   denoted_bodies spec a =

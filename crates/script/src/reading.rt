@@ -4,6 +4,7 @@ ghost use Rattle.denotation.specs.Denotes.{Denotes};
 ghost use Rattle.syntax.specs.View.{shape};
 ghost use Rattle.term.specs.Proc.{Proc, proc};
 ghost use Rattle.term.specs.Specs.{Specified};
+ghost use Rattle.term.specs.declared.names.Names.TheVariants.{Steps};
 ghost use Rattle.tokens.specs.declared.error.ScriptErrorKind.TheVariants.{Memory};
 ghost use Rattle.tokens.specs.declared.unread.Unread.TheVariants as unread;
 ghost use Rattle.values.specs.Tables.{table};
@@ -55,8 +56,8 @@ fn specified<A: Allocator + Copy>(
     names: Names<'_, A>,
     root: &[u8],
 ) -> Result<Spec<A>, Unread>
-    ensures found { IfOk result (λ spec. (spec.alphabet ≡ names.entry.sigma.alphabet) × AreBodies names.entry.sigma.alphabet (table names.entry.known) (entries_of names.entry.entries) root.now spec.bodies) }
-    ensures only { (spec : Specified) → spec.alphabet ≡ names.entry.sigma.alphabet → AreBodies names.entry.sigma.alphabet (table names.entry.known) (entries_of names.entry.entries) root.now spec.bodies
+    ensures found { IfOk result (λ spec. (spec.alphabet ≡ names.entry.sigma.alphabet) × (spec.names ≡ Steps) × AreBodies names.entry.sigma.alphabet (table names.entry.known) (entries_of names.entry.entries) root.now spec.bodies) }
+    ensures only { (spec : Specified) → spec.alphabet ≡ names.entry.sigma.alphabet → spec.names ≡ Steps → AreBodies names.entry.sigma.alphabet (table names.entry.known) (entries_of names.entry.entries) root.now spec.bodies
         → MatchResult result (λ s. s ≡ spec) (λ e. e ≡ unread.Memory) }
 {
     match bodies_of(alloc, &names, root) {

@@ -24,7 +24,7 @@ returns-clause-found g c =
     declares_so t c.args.root.now (entries c.in_ok-declared.declared.entries) (table c.in_ok-declared.declared.known) c.in_ok-declared.declared.alphabet c.in_ok-declared.ensures.found (entries n.entries) (table n.known) n.sigma.alphabet
     (ap entries c.in_ok-names.ensures.entries) (ap table c.in_ok-names.ensures.known) c.in_ok-names.ensures.alphabet in
     IfOk-weaker c.specified.result _ (λ spec. Denotes t c.args.root.now spec)
-    (λ spec a. bodies_denote t c.args.root.now (entries n.entries) (table n.known) n.sigma.alphabet so spec spec.bodies a.1 a.0 refl) c.specified.ensures.found
+    (λ spec a. bodies_denote t c.args.root.now (entries n.entries) (table n.known) n.sigma.alphabet so spec spec.bodies a.2 a.0 refl a.1) c.specified.ensures.found
 
 pub returns-clause-only : goal.returns-clause-only
 returns-clause-only g c = λ spec d.
@@ -34,4 +34,4 @@ returns-clause-only g c = λ spec d.
     declares_so t c.args.root.now (entries c.in_ok-declared.declared.entries) (table c.in_ok-declared.declared.known) c.in_ok-declared.declared.alphabet c.in_ok-declared.ensures.found (entries n.entries) (table n.known) n.sigma.alphabet
     (ap entries c.in_ok-names.ensures.entries) (ap table c.in_ok-names.ensures.known) c.in_ok-names.ensures.alphabet in
     let parts = denoted_bodies t c.args.root.now (entries n.entries) (table n.known) n.sigma.alphabet so spec d in
-    c.specified.ensures.only spec parts.0 parts.1
+    c.specified.ensures.only spec parts.0 d.steps parts.1
