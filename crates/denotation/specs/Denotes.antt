@@ -4,7 +4,6 @@ use Rattle.std.specs.List.{All, flat_map}
 use Rattle.term.specs.Proc.{Proc}
 use Rattle.term.specs.Sizes.{size, depth}
 use Rattle.term.specs.Specs.{Specified}
-use Rattle.term.specs.declared.names.Names.TheVariants.{Steps}
 use Rattle.alphabet.specs.Channels.{FieldValue, Values}
 use Rattle.syntax.specs.Grammar.{Syntax}
 use Rattle.values.specs.Values.{◌>>=◌, Name}
@@ -81,7 +80,7 @@ unfoldable pub nodes : List Proc → ℕ
 nodes [] = 0
 nodes (p ∷ ps) = size p + nodes ps
 
--- The script with this tree denotes this specification for a root.
+-- The script with this tree denotes the alphabet and the bodies of this specification for a root.
 pub record Denotes (t : Syntax) (root : Name) (spec : Specified) : Type 0 where
   pub entries : List Entry
   pub known : Known
@@ -97,5 +96,3 @@ pub record Denotes (t : Syntax) (root : Name) (spec : Specified) : Type 0 where
   -- the limits of bodies
   pub deep : All (λ p. depth p ≤ 200) spec.bodies
   pub large : nodes spec.bodies ≤ 65536
-  -- names stay names, whose unfolding is a hidden step
-  pub steps : spec.names ≡ Steps

@@ -145,5 +145,4 @@ module _ (t : Syntax) (root : Name) (spec : Specified) (d : Denotes t root spec)
     numbers = d.numbers ∙ sym (printed_numbers given_scope (root, []) d.keys d.bodies d.reached primes few_keys);
     deep = d.deep;
     large = d.large;
-    steps = d.steps;
   }

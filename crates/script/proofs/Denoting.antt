@@ -23,10 +23,10 @@ use Rattle.script.specs.Reading.{AreBodies, IsRead}
 use Rattle.script.proofs.Closed.{is_closed}
 
 -- one specification, where a text has one tree and a tree denotes one specification
-pub read_once : (trees : (text : List ℕ) (t u : Syntax) → HasTree text t → HasTree text u → t ≡ u) (specs : (script : Syntax) (root : Name) (first second : Specified) → Denotes script root first → Denotes script root second → first ≡ second)
-    → (text : List ℕ) (root : Name) (first second : Specified) → IsRead text root first → IsRead text root second → first ≡ second
-read_once trees specs text root first second a b =
-    specs b.tree root first second (subst (λ t. Denotes t root first) (trees text a.tree b.tree a.reads b.reads) a.denotes) b.denotes
+pub read_once : (trees : (text : List ℕ) (t u : Syntax) → HasTree text t → HasTree text u → t ≡ u) (specs : (script : Syntax) (root : Name) (first second : Specified) → Denotes script root first → Denotes script root second → first.names ≡ second.names → first ≡ second)
+    → (text : List ℕ) (root : Name) (first second : Specified) → IsRead text root first → IsRead text root second → first.names ≡ second.names → first ≡ second
+read_once trees specs text root first second a b n =
+    specs b.tree root first second (subst (λ t. Denotes t root first) (trees text a.tree b.tree a.reads b.reads) a.denotes) b.denotes n
 
 -- ---- bodies
 
@@ -64,8 +64,8 @@ module _ (cs : List Channel) (known : Known) (es : List Entry) (root : Name) whe
 -- ---- trees
 
 module _ (t : Syntax) (root : Name) (es : List Entry) (known : Known) (cs : List Channel) (d : Declares t es known cs) where
-  pub bodies_denote : (spec : Specified) (ps : List Proc) → AreBodies cs known es root ps → spec.alphabet ≡ cs → spec.bodies ≡ ps → spec.names ≡ Steps → Denotes t root spec
-  bodies_denote spec ps a c p n = subst (Denotes t root) (λ i. record { alphabet = sym c i; bodies = sym p i; names = sym n i }) (denotes_from t root es known cs a.sets d a.events ps a.gathered)
+  pub bodies_denote : (spec : Specified) (ps : List Proc) → AreBodies cs known es root ps → spec.alphabet ≡ cs → spec.bodies ≡ ps → Denotes t root spec
+  bodies_denote spec ps a c p = subst (Denotes t root) (λ i. record { alphabet = sym c i; bodies = sym p i; names = spec.names }) (denotes_from t root es known cs a.sets d a.events ps spec.names a.gathered)
 
   pub denoted_bodies : (spec : Specified) → Denotes t root spec → (spec.alphabet ≡ cs) × AreBodies cs known es root spec.bodies
   denoted_bodies spec a =
