@@ -6,11 +6,12 @@ use Rattle.alphabet.specs.declared.events.Report.TheVariants as report
 use Rattle.alphabet.specs.EventSets.{Set}
 use Rattle.alphabet.specs.Channels.{Channel}
 use Rattle.term.specs.Proc.{Proc, bodies_of}
-use Rattle.term.specs.Limits.{NoLimit, Advance, Opening, Terms}
 use Rattle.term.specs.Specs.{Specified}
 use Rattle.monitor.specs.AfterFault.{AfterFault}
 use Rattle.monitor.specs.AfterFault.TheVariants.{Depth, States, Memory}
-use Rattle.monitor.specs.Belonging.{MeetsLimit}
+use Rattle.term.specs.declared.names.Names.{Names}
+use Rattle.term.specs.declared.names.Names.TheVariants.{Steps, Bodies}
+use Rattle.monitor.specs.Limits.{EventMeetsBy, EventMeetsNoneBy, OpeningMeets, OpeningMeetsBy, OpeningMeetsNone, OpeningMeetsNoneBy, unfolding_depth}
 use Rattle.monitor.specs.Monitors.{MeetsNone, Stops}
 use Rattle.monitor.specs.TraceAfter.{trace_after}
 use Rattle.history.specs.declared.entry.Entry.{Entry}
@@ -77,18 +78,29 @@ both_true v w P p q e = p.1 (q.0 e) ∙ sym e
 
 -- ---- limits
 
-limited : (B : ℕ → Proc) (L : Terms) (fault : AfterFault) → NoLimit B L → MeetsLimit B L fault → fault ≡ Memory
-limited B L Depth below meets = absurd ((below meets.0).0 meets.1)
-limited B L States below meets = absurd ((below meets.0).1 meets.2)
-limited B L Memory below meets = refl
+opening_by : (names : Names) (B : ℕ → Proc) (n : ℕ) (fault : AfterFault) → OpeningMeetsNoneBy names B n → OpeningMeetsBy names B n fault → fault ≡ Memory
+opening_by Steps B n Depth below meets = absurd ((below meets.0).0 meets.1)
+opening_by Steps B n States below meets = absurd ((below meets.0).1 meets.2)
+opening_by Steps B n Memory below meets = refl
+opening_by Bodies B n Depth below meets = absurd ((below meets.0).0 meets.1)
+opening_by Bodies B n States below meets = absurd ((below meets.0).1 meets.1)
+opening_by Bodies B n Memory below meets = refl
+
+event_by : (names : Names) (B : ℕ → Proc) (n : ℕ) (u : List Event) (x : Event) (fault : AfterFault) → EventMeetsNoneBy names B n u x → EventMeetsBy names B n u x fault → fault ≡ Memory
+event_by Steps B n u x Depth below meets = absurd ((below meets.0).0 meets.1)
+event_by Steps B n u x States below meets = absurd ((below meets.0).1 meets.2)
+event_by Steps B n u x Memory below meets = refl
+event_by Bodies B n u x Depth below meets = absurd ((below meets.0).0 meets.1)
+event_by Bodies B n u x States below meets = absurd ((below meets.0).1 meets.1)
+event_by Bodies B n u x Memory below meets = refl
 
 -- what meets no limit is refused by memory alone
-pub opening_refused : (B : ℕ → Proc) (fault : AfterFault) → NoLimit B Opening → MeetsLimit B Opening fault → fault ≡ Memory
-opening_refused B fault below meets = limited B Opening fault below meets
+pub opening_refused : (spec : Specified) (fault : AfterFault) → OpeningMeetsNone spec → OpeningMeets spec fault → fault ≡ Memory
+opening_refused spec fault below meets = opening_by spec.names (bodies_of spec.bodies) (unfolding_depth spec) fault below meets
 
-pub report_refused : (B : ℕ → Proc) (u : List Event) (said : Report) (fault : AfterFault) → MeetsNone B u said → Stops B u said fault → fault ≡ Memory
-report_refused B u (report.Event x) fault below stops = limited B (Advance B u x) fault below stops
-report_refused B u (report.Refusal X) fault below stops = stops
+pub report_refused : (spec : Specified) (u : List Event) (said : Report) (fault : AfterFault) → MeetsNone spec u said → Stops spec u said fault → fault ≡ Memory
+report_refused spec u (report.Event x) fault below stops = event_by spec.names (bodies_of spec.bodies) (unfolding_depth spec) u x fault below stops
+report_refused spec u (report.Refusal X) fault below stops = stops
 
 pub on_ok : {T E P Q : Type 0} (r : Result T E) → (P → Q) → OnOk r P → OnOk r Q
 on_ok (Ok x) f all = f all

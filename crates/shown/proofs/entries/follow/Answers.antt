@@ -9,7 +9,7 @@ returns-then-not-entry-clause-trace g c before is = unmoved before c.args.entry.
 
 pub refused-requires : goal.refused-requires
 refused-requires g c =
-    report_refused (bodies_of c.args.monitor.now.spec.bodies) c.args.monitor.now.trace c.args.entry.now.report c.in-Err.fault c.requires.within c.in-Err.ensures.limit
+    report_refused c.args.monitor.now.spec c.args.monitor.now.trace c.args.entry.now.report c.in-Err.fault c.requires.within c.in-Err.ensures.limit
 
 pub returns-in-Ok-clause-trace : goal.returns-in-Ok-clause-trace
 returns-in-Ok-clause-trace g c before is =
