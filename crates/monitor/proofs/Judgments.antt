@@ -6,13 +6,9 @@ use Rattle.alphabet.specs.declared.events.Report.TheVariants as report
 use Rattle.term.specs.Proc.{Proc, bodies_of, root}
 use Rattle.term.specs.Meaning.{Trace}
 use Rattle.term.specs.Specs.{Specified}
-use Rattle.term.specs.declared.names.Names.{Names}
-use Rattle.term.specs.declared.names.Names.TheVariants.{Steps, Bodies}
 use Rattle.term.specs.Verdict.{Verdict}
-use Rattle.spaces.specs.AfterFault.TheVariants.{Memory}
-use Rattle.spaces.specs.Limits.{EventMeetsBy, unfolding_depth}
 use Rattle.spaces.specs.Spaces.{Spaced, Belongs, GrewFrom}
-use Rattle.monitor.specs.Monitors.{Monitoring, Judgment, Follows, IsJudgment, IsOf, Stops, space_of}
+use Rattle.monitor.specs.Monitors.{Monitoring, Judgment, Follows, IsJudgment, IsOf, space_of}
 use Rattle.monitor.specs.TraceAfter.{trace_after}
 
 -- an event is accepted where there are states after it
@@ -52,15 +48,6 @@ judgment-of s u r m e f h j k =
       follows = subst (λ w. Follows w m.trace j.report j.verdict j.next) (sym e) (subst (λ w. Follows s w j.report j.verdict j.next) (sym f) k.follows);
       room = h;
     }
-
-event_memory_by : (names : Names) (B : ℕ → Proc) (n : ℕ) (u : List Event) (x : Event) → EventMeetsBy names B n u x Memory
-event_memory_by Steps B n u x = tt
-event_memory_by Bodies B n u x = tt
-
--- out of memory says nothing
-pub stops-memory : (spec : Specified) (u : List Event) (r : Report) → Stops spec u r Memory
-stops-memory spec u (report.Event x) = event_memory_by spec.names (bodies_of spec.bodies) (unfolding_depth spec) u x
-stops-memory spec u (report.Refusal X) = refl
 
 -- an event with states after it makes the trace longer
 pub trace-longer : (s : Spaced) (u : List Event) (r : Report) (v : Bool) (next : Option ℕ) (x : Event) (set : ℕ) → Follows s u r v next → r ≡ report.Event x → next ≡ Some set → trace_after u r v ≡ u ++ x ∷ []

@@ -28,6 +28,25 @@ pub read_once : (trees : (text : List ℕ) (t u : Syntax) → HasTree text t →
 read_once trees specs text root first second a b n =
     specs b.tree root first second (subst (λ t. Denotes t root first) (trees text a.tree b.tree a.reads b.reads) a.denotes) b.denotes n
 
+-- how names are kept has no part in what is read
+pub read_with : (text : List ℕ) (root : Name) (spec other : Specified) → other.alphabet ≡ spec.alphabet → other.bodies ≡ spec.bodies → IsRead text root spec → IsRead text root other
+read_with text root spec other a b r =
+    let d = r.denotes in
+    let kept : Denotes r.tree root (record { alphabet = spec.alphabet; bodies = spec.bodies; names = other.names }) = record {
+      entries = d.entries;
+      known = d.known;
+      sets = d.sets;
+      declares = d.declares;
+      events = d.events;
+      keys = d.keys;
+      bodies = d.bodies;
+      reached = d.reached;
+      numbers = d.numbers;
+      deep = d.deep;
+      large = d.large;
+    } in
+    record { tree = r.tree; reads = r.reads; denotes = subst (Denotes r.tree root) (λ i. record { alphabet = sym a i; bodies = sym b i; names = other.names }) kept }
+
 -- ---- bodies
 
 module _ (cs : List Channel) (known : Known) (es : List Entry) (root : Name) where

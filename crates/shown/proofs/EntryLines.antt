@@ -7,12 +7,6 @@ use Rattle.alphabet.specs.EventSets.{Set}
 use Rattle.alphabet.specs.Channels.{Channel}
 use Rattle.term.specs.Proc.{Proc, bodies_of}
 use Rattle.term.specs.Specs.{Specified}
-use Rattle.monitor.specs.AfterFault.{AfterFault}
-use Rattle.monitor.specs.AfterFault.TheVariants.{Depth, States, Memory}
-use Rattle.term.specs.declared.names.Names.{Names}
-use Rattle.term.specs.declared.names.Names.TheVariants.{Steps, Bodies}
-use Rattle.monitor.specs.Limits.{EventMeetsBy, EventMeetsNoneBy, OpeningMeets, OpeningMeetsBy, OpeningMeetsNone, OpeningMeetsNoneBy, unfolding_depth}
-use Rattle.monitor.specs.Monitors.{MeetsNone, Stops}
 use Rattle.monitor.specs.TraceAfter.{trace_after}
 use Rattle.history.specs.declared.entry.Entry.{Entry}
 use Rattle.history.specs.Entries.{events}
@@ -75,32 +69,6 @@ moved before e trace old new said v is same at said_is v_is =
 
 pub both_true : (v w : Bool) (P : Type 0) → (IsTrue v ↔ P) → (IsTrue w ↔ P) → w ≡ true → v ≡ w
 both_true v w P p q e = p.1 (q.0 e) ∙ sym e
-
--- ---- limits
-
-opening_by : (names : Names) (B : ℕ → Proc) (n : ℕ) (fault : AfterFault) → OpeningMeetsNoneBy names B n → OpeningMeetsBy names B n fault → fault ≡ Memory
-opening_by Steps B n Depth below meets = absurd ((below meets.0).0 meets.1)
-opening_by Steps B n States below meets = absurd ((below meets.0).1 meets.2)
-opening_by Steps B n Memory below meets = refl
-opening_by Bodies B n Depth below meets = absurd ((below meets.0).0 meets.1)
-opening_by Bodies B n States below meets = absurd ((below meets.0).1 meets.1)
-opening_by Bodies B n Memory below meets = refl
-
-event_by : (names : Names) (B : ℕ → Proc) (n : ℕ) (u : List Event) (x : Event) (fault : AfterFault) → EventMeetsNoneBy names B n u x → EventMeetsBy names B n u x fault → fault ≡ Memory
-event_by Steps B n u x Depth below meets = absurd ((below meets.0).0 meets.1)
-event_by Steps B n u x States below meets = absurd ((below meets.0).1 meets.2)
-event_by Steps B n u x Memory below meets = refl
-event_by Bodies B n u x Depth below meets = absurd ((below meets.0).0 meets.1)
-event_by Bodies B n u x States below meets = absurd ((below meets.0).1 meets.1)
-event_by Bodies B n u x Memory below meets = refl
-
--- what meets no limit is refused by memory alone
-pub opening_refused : (spec : Specified) (fault : AfterFault) → OpeningMeetsNone spec → OpeningMeets spec fault → fault ≡ Memory
-opening_refused spec fault below meets = opening_by spec.names (bodies_of spec.bodies) (unfolding_depth spec) fault below meets
-
-pub report_refused : (spec : Specified) (u : List Event) (said : Report) (fault : AfterFault) → MeetsNone spec u said → Stops spec u said fault → fault ≡ Memory
-report_refused spec u (report.Event x) fault below stops = event_by spec.names (bodies_of spec.bodies) (unfolding_depth spec) u x fault below stops
-report_refused spec u (report.Refusal X) fault below stops = stops
 
 pub on_ok : {T E P Q : Type 0} (r : Result T E) → (P → Q) → OnOk r P → OnOk r Q
 on_ok (Ok x) f all = f all

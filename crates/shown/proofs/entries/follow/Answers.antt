@@ -1,7 +1,8 @@
 use Rattle.std.proofs.Common.{◌∙◌}
 use Rattle.term.specs.Proc.{bodies_of}
 use Rattle.term.specs.Verdict.{Verdict}
-use Rattle.shown.proofs.EntryLines.{both_true, moved, refusal_unmoved, report_refused, unmoved}
+use Rattle.history.proofs.Limits.{report_refused}
+use Rattle.shown.proofs.EntryLines.{both_true, moved, refusal_unmoved, unmoved}
 use Rattle.shown.proofs.entries.follow.Goals as goal
 
 pub returns-then-not-entry-clause-trace : goal.returns-then-not-entry-clause-trace

@@ -1,5 +1,4 @@
-use Rattle.term.specs.Proc.{bodies_of}
-use Rattle.shown.proofs.EntryLines.{opening_refused}
+use Rattle.history.proofs.Limits.{opening_refused}
 use Rattle.shown.proofs.whole.begin.Goals as goal
 
 pub refused-requires : goal.refused-requires
