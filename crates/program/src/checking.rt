@@ -101,7 +101,7 @@ fn hear_alone<R: Wait, D: Disk + Drop, A: Allocator + Copy + Drop, N: Naming, T:
     reader: &mut T,
     writer: &mut W,
 ) -> Result<Checked<D, A>, SessionError>
-    requires story { (session.spec ≡ N.spec) × (session.history ≡ N.opening) × (N.opening ≡ []) }
+    requires story { (session.spec ≡ N.spec) × (session.history ≡ N.opening) × (session.offered ≡ []) × (N.opening ≡ []) }
     requires book { opened.seen.book ≡ N.book }
     requires ledger { (blank.name ≡ N.name) × (blank.parts ≡ N.parts) × (N.all ≡ N.parts) × (N.all ≡ 2) }
     requires alphabet { alphabet.now ≡ N.spec.alphabet }
