@@ -4,6 +4,7 @@ ghost use Rattle.command_line.specs.Statuses.{run_exit};
 
 use crate::forms::put_out;
 use crate::journal_files::{journal_at, keep_name};
+use crate::limits::names_by;
 use crate::scripts::{tell_read, text_of};
 use crate::telling::{tell_fault, tell_open};
 use disk::Disk;
@@ -166,15 +167,24 @@ fn session_at<R: Files<File = File> + AllocGlobal, E: Write + IsTerminal>(
     script: &[u8],
     errors: &mut E,
 ) -> Result<Session<FileDisk<File>, Global>, Exit> {
+    let names = names_by(service.large);
     let file = journal_at(rt, service.journal, errors)?;
     match open(
         rt.alloc(),
         FileDisk::new(file),
         script,
         service.process.as_bytes(),
+        names,
     ) {
         Ok(session) => Ok(session),
-        Err((error, _)) => Err(tell_open(errors, service.spec, script, service.journal, error)),
+        Err((error, _)) => Err(tell_open(
+            errors,
+            service.spec,
+            script,
+            names,
+            service.journal,
+            error,
+        )),
     }
 }
 

@@ -101,7 +101,7 @@ impl<D: Disk, A: Allocator + Copy, N: Naming> Seat<'_, D, A, N> {
     pub fn report<R: Wait>(&mut self, rt: &R, report: Report) -> Result<Receipt, Fault>
         requires { IsReport N.spec.alphabet report }
         ensures answered { IfOk result (λ r. Answered (bodies_of N.spec.bodies) self.old.share self.new.share report r.verdict r.place) }
-        ensures refused { IfErr result (λ f. Refused (bodies_of N.spec.bodies) self.old.share self.new.share report f) }
+        ensures refused { IfErr result (λ f. Refused N.spec self.old.share self.new.share report f) }
     {
         let mut locked = caught_up(rt, &self.shared.locked, &mut self.share);
         let result = self.share.report(rt, &mut locked, &report);

@@ -7,8 +7,13 @@ use std::net::SocketAddrV4;
 /// What the words ask for. The words for a file are its name.
 #[derive(Clone, Copy)]
 pub enum Wish<'a> {
-    /// To judge the reports on standard input by the process of the script in the file `spec`.
-    Check { spec: &'a str, process: &'a str },
+    /// To judge the reports on standard input by the process of the script in the file `spec`, by the limits for large systems where
+    /// `large` says so.
+    Check {
+        spec: &'a str,
+        process: &'a str,
+        large: bool,
+    },
     /// To print what the script in the file `spec` denotes for the process.
     Print { spec: &'a str, process: &'a str },
     /// To judge the records of the journal in the file again.
@@ -32,6 +37,8 @@ pub struct Service<'a> {
     pub listen: &'a str,
     /// The address as it is read.
     pub address: SocketAddrV4,
+    /// Whether the limits are those for large systems.
+    pub large: bool,
     /// How many connections are served.
     pub connections: Connections,
 }
