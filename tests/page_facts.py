@@ -1,4 +1,4 @@
-"""What the pages say that other files of the repository know: words, release, wrong bodies, codes of faults, tables.
+"""What the pages say that other files of the repository know: words, files, release, wrong bodies, codes of faults, tables.
 
 `checks()` gives, for each comparison, where it is made and what is wrong there; None where nothing is.
 
@@ -33,6 +33,12 @@ BUDGETS = {
     "tests/README.md": 1800,
 }
 """How many words a page is to have. A page that isn't here may have any number."""
+
+COMING = {"docs/MONITOR-YOUR-SYSTEM.md", "docs/SCALING.md"}
+"""Pages that may be named before they are there."""
+
+PATH = re.compile(r"`((?:[\w.-]+/)+[\w.-]+\.(?:rt|antt|md|py|json|sh|rs|c|h|csp|txt|edit))`")
+"""A file's name on a page."""
 
 FAULT_ENUMS = {
     "crates/tokens/src/error.rt": "ScriptErrorKind",
@@ -73,6 +79,19 @@ def check_words():
         count = words(text_of(name))
         problem = "%d words, where %d are to be enough" % (count, budget)
         yield name, problem if count * 10 > budget * 11 else None
+
+
+# ---- files
+
+
+def check_files(pages):
+    """The files that the pages name are there, from the top, from crates/ or from the page's folder."""
+    for name in pages:
+        found = set(PATH.findall(text_of(name))) - COMING
+        found = {path for path in found if not re.search(r"\b(?:NAME|CRATE|FILE|DATE)\b", path)}
+        folders = "", "crates", os.path.dirname(name)
+        gone = [path for path in found if not any(os.path.exists(os.path.join(ROOT, folder, path)) for folder in folders)]
+        yield name, "names %s, and there is no such file" % ", ".join(sorted(gone)) if gone else None
 
 
 # ---- the release
@@ -201,6 +220,7 @@ def checks(pages):
     """Of each comparison its place, and what is wrong there or None."""
     pages = list(pages)
     yield from check_words()
+    yield from check_files(pages)
     yield from check_release(pages)
     yield from check_wrong_bodies(pages)
     yield from check_codes(pages)
