@@ -40,6 +40,9 @@ COMING = {"docs/MONITOR-YOUR-SYSTEM.md", "docs/SCALING.md"}
 PATH = re.compile(r"`((?:[\w.-]+/)+[\w.-]+\.(?:rt|antt|md|py|json|sh|rs|c|h|csp|txt|edit))`")
 """A file's name on a page."""
 
+OF_ANY_CRATE = re.compile(r"^(?:src|specs|proofs)/|\b(?:NAME|CRATE|FILE|DATE)\b")
+"""A file that is named as one of any crate, or with a word to be filled in."""
+
 FAULT_ENUMS = {
     "crates/tokens/src/error.rt": "ScriptErrorKind",
     "crates/journal/src/error.rt": "JournalError",
@@ -88,7 +91,7 @@ def check_files(pages):
     """The files that the pages name are there, from the top, from crates/ or from the page's folder."""
     for name in pages:
         found = set(PATH.findall(text_of(name))) - COMING
-        found = {path for path in found if not re.search(r"\b(?:NAME|CRATE|FILE|DATE)\b", path)}
+        found = {path for path in found if not OF_ANY_CRATE.search(path)}
         folders = "", "crates", os.path.dirname(name)
         gone = [path for path in found if not any(os.path.exists(os.path.join(ROOT, folder, path)) for folder in folders)]
         yield name, "names %s, and there is no such file" % ", ".join(sorted(gone)) if gone else None
