@@ -222,9 +222,10 @@ def check_tables():
 def checks(pages):
     """Of each comparison its place, and what is wrong there or None."""
     pages = list(pages)
+    of_today = [name for name in pages if name != "CHANGELOG.md"]
     yield from check_words()
     yield from check_files(pages)
-    yield from check_release(pages)
-    yield from check_wrong_bodies(pages)
+    yield from check_release(of_today)
+    yield from check_wrong_bodies(of_today)
     yield from check_codes(pages)
     yield from check_tables()
