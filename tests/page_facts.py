@@ -97,6 +97,14 @@ def check_files(pages):
         yield name, "names %s, and there is no such file" % ", ".join(sorted(gone)) if gone else None
 
 
+def check_map():
+    """docs/ARCHITECTURE.md has each crate."""
+    named = set(re.findall(r"`(\w+)`", text_of("docs/ARCHITECTURE.md")))
+    crates = re.findall(r"^(\w+)[^:\n#]*:", text_of("crates.txt"), re.MULTILINE)
+    gone = [crate for crate in crates if crate not in named]
+    yield "docs/ARCHITECTURE.md", "hasn't the crates %s" % ", ".join(gone) if gone else None
+
+
 # ---- the release
 
 
@@ -225,6 +233,7 @@ def checks(pages):
     of_today = [name for name in pages if name != "CHANGELOG.md"]
     yield from check_words()
     yield from check_files(pages)
+    yield from check_map()
     yield from check_release(of_today)
     yield from check_wrong_bodies(of_today)
     yield from check_codes(pages)
