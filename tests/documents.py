@@ -309,7 +309,7 @@ def with_free_ports(name, text):
 
 
 def run_page(name, template, paths):
-    """Of each block that does something its place, what is wrong (None where nothing is) or why it is passed over, and whether it is."""
+    """Of each block that does something its place, what is wrong (or None) or why it is passed over, and whether it is."""
     with open(os.path.join(ROOT, name), encoding="utf-8") as file:
         text = with_free_ports(name, file.read())
     if re.search(r"^cc ", text, re.MULTILINE) and shutil.which("cc") is None:

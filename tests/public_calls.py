@@ -9,11 +9,8 @@ FOR_TESTS = ("refusing", "rows", "serving_rows")
 """Libraries that only tests use."""
 
 Call = collections.namedtuple("Call", "crate name comment signature clauses file_text public")
-"""A call: its crate, its name there (`Monitor::judge`), its docstring, its signature, its clauses, the text of its file, and whether
-it is public."""
-
-SCOPE = re.compile(r"^(?:impl\b.*?(?:for )?(\w+)(?:<[^{]*>)?(?: where.*)?|pub trait (\w+)\b.*)\s*\{?$")
-"""The first line of a block of calls: of a type, or of a trait."""
+"""A call: its crate, its name there (`Monitor::judge`), its docstring, its signature, its clauses, the text of its file, and
+whether it is public."""
 
 CLAUSE = re.compile(r"^\s*(requires|ensures)\b ?(\w*) ?\{", re.MULTILINE)
 """The beginning of a clause, with its name."""
@@ -107,7 +104,7 @@ def find(path):
     crate, _, name = path.partition("::")
     found = [call for call in calls_of(crate) if call.name == name and call.public]
     if len(found) != 1:
-        raise LookupError("%s: there are %d such public calls" % (path, len(found)))
+        raise SystemExit("%s: there are %d public calls of this name" % (path, len(found)))
     return found[0]
 
 
