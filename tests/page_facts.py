@@ -127,6 +127,19 @@ def check_release(pages):
     yield "README.md", None if library in text_of("README.md") else "dist/RELEASE needs the GNU C library %s" % library
 
 
+# ---- ports
+
+
+def check_ports():
+    """THIRD-PARTY.md says of each port which crates name it, unless it says so in words."""
+    names = dict(re.findall(r"^(\w+)[^:\n#]*:(.*)$", text_of("crates.txt"), re.MULTILINE))
+    for port, used_by in re.findall(r"^\| `(\w+)` \| [^|]*\|[^|]*\| ([^|]*) \|$", text_of("THIRD-PARTY.md"), re.MULTILINE):
+        users = {crate for crate, below in names.items() if port in below.split()}
+        named = {crate for crate in re.findall(r"`(\w+)`", used_by) if crate in names}
+        wrong = named - users if re.search(r"\bthe \w", used_by) else named ^ users
+        yield "THIRD-PARTY.md", "%s: not so of %s" % (port, ", ".join(sorted(wrong))) if wrong else None
+
+
 # ---- wrong bodies
 
 
@@ -235,6 +248,7 @@ def checks(pages):
     yield from check_files(pages)
     yield from check_map()
     yield from check_release(of_today)
+    yield from check_ports()
     yield from check_wrong_bodies(of_today)
     yield from check_codes(pages)
     yield from check_tables()
