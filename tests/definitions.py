@@ -15,6 +15,7 @@ import sys
 from definition_graph import CRATES, ROOT, files_reached, spec_text
 from layout import laid_out
 from proved import CALLS_PAGE, TABLE_TITLE, line_count, quoted_calls, text_of
+from public_calls import calls_of, crates as libraries
 
 BELIEVE, STEPS = "To believe", "Steps of the program"
 
@@ -22,9 +23,8 @@ INTRODUCTION = """
 Files of `crates/CRATE/specs`, with their lines. **To believe**: a clause of a public call, of this crate or one above it,
 or what a public type shows, uses one of its definitions, directly or through others. In **bold** are those that the
 contracts quoted in `docs/PROVED.md` are made of. **Steps of the program**: only private functions, invariants and proofs use
-them; nobody has to read them to know what is promised. Six files among the steps have definitions that clauses of inner crates
-use: `syntax/Parsing` (`syntaxes`), `event_phrases/Leading` (the first values of a prefix), `denotation/Forms` (in `make`),
-`step/Targets` (the targets of a step as a list), `step/HiddenSets` (`SetsBelow`) and `after/Closing` (what `closures` promises).
+them; nobody has to read them to know what is promised. Calls of inner crates in the lists above also use definitions of these
+steps, which the quoted contracts don't: %s.
 
 | Crate | To believe | Lines | In bold | Steps of the program | Lines |
 |---|---|---|---|---|---|
@@ -88,13 +88,21 @@ def library_lines():
     return sum(len(spec_text(name, "Lib").splitlines()) for name in os.listdir(CRATES))
 
 
+def inner_steps():
+    """The files among the steps that public calls of inner crates use."""
+    calls = [call for crate in libraries() for call in calls_of(crate) if call.public]
+    parts = {"%s/%s" % (crate, name): part for crate in crates() for name, part in modules(crate).items()}
+    return sorted(name for name in files_reached(calls) if parts.get(name) == STEPS)
+
+
 def table():
     """The section, as it has to be."""
     bold = set(files_reached(quoted_calls()))
     rows = [row_of(crate, bold) for crate in crates()]
     sums = [sum(row[1][at] for row in rows) for at in range(3)]
     lines = [row for row, _ in rows] + ["| all | | %d | %d | | %d |" % tuple(sums)]
-    return laid_out(TABLE_TITLE + "\n" + INTRODUCTION) + "\n".join(lines) + "\n" + laid_out(CLOSING % library_lines())
+    introduction = INTRODUCTION % ", ".join("`%s`" % name for name in inner_steps())
+    return laid_out(TABLE_TITLE + "\n" + introduction) + "\n".join(lines) + "\n" + laid_out(CLOSING % library_lines())
 
 
 def problems():
