@@ -237,7 +237,8 @@ def check_codes(pages):
 def check_tables():
     for name in tables.PAGES:
         text = text_of(name)
-        yield name, None if tables.with_tables(text) == text else "its tables aren't those of bench/results: run bench/tables.py --write"
+        right = tables.with_tables(text) == text
+        yield name, None if right else "its tables aren't those of bench/results: run bench/tables.py --write"
         former = sorted(set(re.findall(r"\b0\.\d\.\d\b|\b20\d\d-\d\d-\d\d\b", text)))
         yield name, "names %s; CHANGELOG.md has former figures" % ", ".join(former) if former else None
     text = text_of("docs/PERFORMANCE.md")
