@@ -1,193 +1,147 @@
 #!/usr/bin/env python3
-"""Compares the table at the end of docs/PROVED.md with the files of definitions, which are crates/*/specs/*.antt.
+"""Compares the table at the end of docs/PROVED-CALLS.md with the files of definitions, which are crates/*/specs/*.antt.
 
     tests/definitions.py [--write]
 
 Each file is in the row of its crate once: under "To believe" or under "Steps of the program", as the `Lib.antt` beside it
-says, and with its number of lines. Each sum of a row, and those of the last one, are the sums of what they are said of; a
-name in bold counts for the five calls too. With --write the lines are counted again and the sums made again; rows and
-places stay. The last line is `N passed, M failed`.
+says, with its number of lines; in bold where the contracts that docs/PROVED.md quotes are made of one of its definitions. With
+--write the table is made again. The last line is `N passed, M failed`.
 """
 import argparse
-import collections
 import os
 import re
 import sys
 
-ROOT = os.path.dirname(os.path.dirname(os.path.abspath(__file__)))
-PAGE = os.path.join(ROOT, "docs", "PROVED.md")
-TITLE = "## How much there is to believe"
+from definition_graph import CRATES, ROOT, files_reached, spec_text
+from layout import laid_out
+from proved import CALLS_PAGE, TABLE_TITLE, line_count, quoted_calls, text_of
+from public_calls import calls_of, crates as libraries
+
 BELIEVE, STEPS = "To believe", "Steps of the program"
 
-Row = collections.namedtuple("Row", "crate believed steps sums")
-"""A row: its crate, the files of both columns in order, and what it says the sums are (to believe, for the five, steps)."""
+INTRODUCTION = """
+Files of `crates/CRATE/specs`, with their lines. **To believe**: a clause of a public call, of this crate or one above it,
+or what a public type shows, uses one of its definitions, directly or through others. In **bold** are those that the
+contracts quoted in `docs/PROVED.md` are made of. **Steps of the program**: only private functions, invariants and proofs use
+them; nobody has to read them to know what is promised. Calls of inner crates in the lists above also use definitions of these
+steps, which the quoted contracts don't: %s.
 
-File = collections.namedtuple("File", "name lines bold")
-"""A file as the table has it."""
+| Crate | To believe | Lines | In bold | Steps of the program | Lines |
+|---|---|---|---|---|---|
+"""
 
-
-def line_count(crate, name):
-    """The lines of a file of definitions; None where there is no such file."""
-    path = os.path.join(ROOT, "crates", crate, "specs", name + ".antt")
-    if not os.path.exists(path):
-        return None
-    with open(path, encoding="utf-8") as file:
-        return sum(1 for _ in file)
+CLOSING = """
+Lines are those of `wc -l`, comments included; the `Lib.antt` files, which only list modules, have %d more. Crates without a
+row have no definitions. A file counts whole where one of its definitions does.
+"""
 
 
 def modules(crate):
     """By the name of each file of the crate the part of `Lib.antt` in which it is listed; None where it is in neither."""
-    folder = os.path.join(ROOT, "crates", crate, "specs")
-    found = {name[:-5]: None for name in sorted(os.listdir(folder)) if name.endswith(".antt") and name != "Lib.antt"}
-    part = None
-    with open(os.path.join(folder, "Lib.antt"), encoding="utf-8") as file:
-        for line in file:
-            if line.startswith("-- "):
-                part = next((each for each in (BELIEVE, STEPS) if line.strip() == "-- %s." % each), None)
-            listed = re.match(r"pub mod (\w+)$", line)
-            if listed:
-                found[listed[1]] = part
+    folder = os.path.join(CRATES, crate, "specs")
+    found, part = {}, None
+    for line in spec_text(crate, "Lib").split("\n"):
+        if line.startswith("-- "):
+            part = next((each for each in (BELIEVE, STEPS) if line.strip() == "-- %s." % each), None)
+        listed = re.match(r"pub mod (\w+)$", line)
+        if listed:
+            found[listed[1]] = part
+    for name in sorted(os.listdir(folder)):
+        if name.endswith(".antt") and name != "Lib.antt":
+            found.setdefault(name[:-5], None)
     return found
 
 
 def crates():
-    """The crates that have definitions."""
-    top = os.path.join(ROOT, "crates")
-    names = [name for name in sorted(os.listdir(top)) if os.path.exists(os.path.join(top, name, "specs", "Lib.antt"))]
-    return [name for name in names if modules(name)]
+    """The crates that have definitions, in the order of crates.txt."""
+    with open(os.path.join(ROOT, "crates.txt"), encoding="utf-8") as file:
+        names = [line.partition(":")[0].split()[0] for line in file if ":" in line and not line.startswith("#")]
+    return [name for name in names if os.path.exists(os.path.join(CRATES, name, "specs", "Lib.antt")) and modules(name)]
 
 
-def files_of(cell):
-    """The files that a cell of the table names."""
-    parts = [part.strip() for part in cell.split(",") if part.strip() != "-"]
-    return [File(part.split()[0].strip("*"), int(part.split()[1]), part.startswith("*")) for part in parts]
-
-
-def row_of(line):
-    """The row of a crate; None for any other line."""
-    cells = [cell.strip() for cell in line.strip("|\n ").split("|")]
-    if not re.fullmatch(r"`\w+`", cells[0]) or len(cells) != 6:
-        return None
-    return Row(cells[0].strip("`"), files_of(cells[1]), files_of(cells[4]), tuple(int(cells[at]) for at in (2, 3, 5)))
-
-
-def sums_of(row):
-    return (
-        sum(file.lines for file in row.believed),
-        sum(file.lines for file in row.believed if file.bold),
-        sum(file.lines for file in row.steps),
-    )
-
-
-def counted(row):
-    """The row with its lines counted again; a file that isn't there has none."""
-
-    def again(files):
-        return [file._replace(lines=line_count(row.crate, file.name) or 0) for file in files]
-
-    row = row._replace(believed=again(row.believed), steps=again(row.steps))
-    return row._replace(sums=sums_of(row))
-
-
-def cell(files):
+def cell(crate, files, bold):
     """The cell of the table that names these files."""
-    return ", ".join("%s %d" % ("**%s**" % file.name if file.bold else file.name, file.lines) for file in files) or "-"
+    lines = [(name, line_count("%s/%s" % (crate, name)), "%s/%s" % (crate, name) in bold) for name in files]
+    return ", ".join("%s %d" % ("**%s**" % name if is_bold else name, count) for name, count, is_bold in lines) or "-"
 
 
-def written(row):
-    """The line of a row."""
-    believed, five, steps = row.sums
-    return "| `%s` | %s | %d | %d | %s | %d |" % (row.crate, cell(row.believed), believed, five, cell(row.steps), steps)
-
-
-def total(rows):
-    """The last line of the table."""
-    believed, five, steps = (sum(row.sums[at] for row in rows) for at in range(3))
-    return "| all | | %d | %d | | %d |" % (believed, five, steps)
+def row_of(crate, bold):
+    """The row of a crate, with its three sums: to believe, in bold, steps."""
+    listed = modules(crate)
+    believed = [name for name, part in listed.items() if part == BELIEVE]
+    steps = [name for name, part in listed.items() if part == STEPS]
+    counts = [sum(line_count("%s/%s" % (crate, name)) for name in files) for files in (believed, steps)]
+    strong = sum(line_count(name) for name in bold if name.startswith(crate + "/"))
+    row = "| `%s` | %s | %d | %d | %s | %d |" % (
+        crate,
+        cell(crate, believed, bold),
+        counts[0],
+        strong,
+        cell(crate, steps, bold),
+        counts[1],
+    )
+    return row, (counts[0], strong, counts[1])
 
 
 def library_lines():
     """The lines of all files `Lib.antt`."""
-    top = os.path.join(ROOT, "crates")
-    paths = [os.path.join(top, name, "specs", "Lib.antt") for name in os.listdir(top)]
-    found = 0
-    for path in paths:
-        if os.path.exists(path):
-            with open(path, encoding="utf-8") as file:
-                found += sum(1 for _ in file)
-    return found
+    return sum(len(spec_text(name, "Lib").splitlines()) for name in os.listdir(CRATES))
 
 
-def problems_of(row):
-    """What is wrong with a row."""
-    listed = modules(row.crate)
-    named = [(file, BELIEVE) for file in row.believed] + [(file, STEPS) for file in row.steps]
-    for file, part in named:
-        lines = line_count(row.crate, file.name)
-        if lines is None:
-            yield "%s/%s: there is no such file" % (row.crate, file.name)
-        elif lines != file.lines:
-            yield "%s/%s has %d lines, and not %d" % (row.crate, file.name, lines, file.lines)
-        elif listed[file.name] != part:
-            yield "%s/%s is under '%s' in the table, and under '%s' in Lib.antt" % (row.crate, file.name, part, listed[file.name])
-    for name in sorted(listed):
-        count = sum(1 for file, _ in named if file.name == name)
-        if count != 1:
-            yield "%s/%s is in the table %d times" % (row.crate, name, count)
-    if sums_of(row) != row.sums:
-        yield "%s: the sums are %d, %d and %d, and not %d, %d and %d" % ((row.crate,) + sums_of(row) + row.sums)
+def inner_steps():
+    """The files among the steps that public calls of inner crates use."""
+    calls = [call for crate in libraries() for call in calls_of(crate) if call.public]
+    parts = {"%s/%s" % (crate, name): part for crate in crates() for name, part in modules(crate).items()}
+    return sorted(name for name in files_reached(calls) if parts.get(name) == STEPS)
 
 
-def rows_of(table):
-    return [row for row in map(row_of, table.split("\n")) if row]
+def table():
+    """The section, as it has to be."""
+    bold = set(files_reached(quoted_calls()))
+    rows = [row_of(crate, bold) for crate in crates()]
+    sums = [sum(row[1][at] for row in rows) for at in range(3)]
+    lines = [row for row, _ in rows] + ["| all | | %d | %d | | %d |" % tuple(sums)]
+    introduction = INTRODUCTION % ", ".join("`%s`" % name for name in inner_steps())
+    return laid_out(TABLE_TITLE + "\n" + introduction) + "\n".join(lines) + "\n" + laid_out(CLOSING % library_lines())
 
 
-def counted_again(table):
-    """The table with all lines counted again, and all sums made again."""
-    rows, lines = [], []
-    for line in table.split("\n"):
-        row = row_of(line)
-        if row:
-            rows.append(counted(row))
-            line = written(rows[-1])
-        elif line.startswith("| all "):
-            line = total(rows)
-        lines.append(line)
-    return re.sub(r"have \d+ more\.", "have %d more." % library_lines(), "\n".join(lines))
+def problems():
+    """What is wrong with the lists of the crates themselves."""
+    bold = set(files_reached(quoted_calls()))
+    for crate in crates():
+        for name, part in modules(crate).items():
+            if not spec_text(crate, name):
+                yield "%s/%s: there is no such file" % (crate, name)
+            elif part is None:
+                yield "%s/%s is in neither part of Lib.antt" % (crate, name)
+            elif part == STEPS and "%s/%s" % (crate, name) in bold:
+                yield "%s/%s is among the steps, and a quoted contract uses it" % (crate, name)
 
 
-def compare(table):
-    """How many comparisons pass, and what is wrong with the others."""
-    rows, passed, problems = rows_of(table), 0, []
-    for row in rows:
-        found = list(problems_of(row))
-        problems += found
-        passed += not found
-    named = [row.crate for row in rows]
-    problems += ["%s has %d rows" % (crate, named.count(crate)) for crate in crates() if named.count(crate) != 1]
-    for wanted in total(rows), "have %d more." % library_lines():
-        if wanted in table:
-            passed += 1
-        else:
-            problems.append("the page hasn't: %s" % wanted)
-    return passed, problems
+def compare(text, wanted):
+    """How many lines of the section are as they have to be, and what is wrong with the others."""
+    here, there = text.split("\n"), wanted.split("\n")
+    wrong = ["the page hasn't: %s" % line for line in there if line not in here]
+    wrong += ["the page has what isn't so: %s" % line for line in here if line not in there]
+    return sum(1 for line in there if line.startswith("| ") and line in here), wrong
 
 
 def main():
     parser = argparse.ArgumentParser(description=__doc__.split("\n")[0])
-    parser.add_argument("--write", action="store_true", help="count the lines again, and make the sums again")
+    parser.add_argument("--write", action="store_true", help="make the table again")
     options = parser.parse_args()
-    with open(PAGE, encoding="utf-8") as file:
-        head, title, table = file.read().partition(TITLE)
+    head, _, rest = text_of(CALLS_PAGE).partition(TABLE_TITLE)
+    wanted = table()
     if options.write:
-        table = counted_again(table)
-        with open(PAGE, "w", encoding="utf-8") as file:
-            file.write(head + title + table)
-    passed, problems = compare(table)
-    for problem in problems:
+        with open(CALLS_PAGE, "w", encoding="utf-8") as file:
+            file.write(head + wanted)
+        rest = wanted[len(TABLE_TITLE) :]
+    passed, wrong = compare(TABLE_TITLE + rest, wanted)
+    wrong += problems()
+    for problem in wrong:
         print(problem)
-    print("%d passed, %d failed" % (passed, len(problems)))
-    return 1 if problems else 0
+    print("%d passed, %d failed" % (passed, len(wrong)))
+    return 1 if wrong else 0
 
 
 if __name__ == "__main__":

@@ -2,9 +2,13 @@
 """Runs the commands of the pages as they are written, and compares what they print with what the pages show.
 
     tests/documents.py [--program FILE] [PAGE ..]
+    tests/documents.py --facts
 
-Without a PAGE all pages (*.md) are taken, without --program the program is crates/cspwatch/out/cspwatch. Each page has a
-copy of the repository's own files to itself, with `cspwatch` on the PATH and no kit. Of its blocks
+Without a PAGE all pages (*.md) are taken, and what they say is compared with what other files of the repository know: the words
+of each page with its budget, kit and version of the release, how many wrong bodies there are, the numbers and words of faults
+in pages, clients and manual, and the tables of measurements (tests/page_facts.py says how). With --facts that alone is done,
+which needs no program. Without --program the program is crates/cspwatch/out/cspwatch. Each page has a copy of the repository's
+own files to itself, with `cspwatch` on the PATH and no kit. Of its blocks
 
 - one of `sh` is run as a whole, from the top of the copy. A block of `text` that follows at once shows what it prints; where
   none does, its last command has to end with status 0;
@@ -20,6 +24,7 @@ none. Any other block is only to be read. The last line is `N passed, M failed`.
 """
 import argparse
 import collections
+import itertools
 import os
 import queue
 import re
@@ -29,6 +34,8 @@ import subprocess
 import sys
 import tempfile
 import threading
+
+import page_facts
 
 ROOT = os.path.dirname(os.path.dirname(os.path.abspath(__file__)))
 PROGRAM = os.path.join("crates", "cspwatch", "out", "cspwatch")
@@ -302,7 +309,7 @@ def with_free_ports(name, text):
 
 
 def run_page(name, template, paths):
-    """Of each block that does something its place, what is wrong (None where nothing is) or why it is passed over, and whether it is."""
+    """Of each block that does something its place, what is wrong (or None) or why it is passed over, and whether it is."""
     with open(os.path.join(ROOT, name), encoding="utf-8") as file:
         text = with_free_ports(name, file.read())
     if re.search(r"^cc ", text, re.MULTILINE) and shutil.which("cc") is None:
@@ -368,32 +375,47 @@ def prepare(scratch, program):
     return template, os.pathsep.join([tools] + kept)
 
 
+def run_pages(names, program):
+    """Of each block and each server of these pages what `run_page` says of it."""
+    with tempfile.TemporaryDirectory() as scratch:
+        template, paths = prepare(scratch, program)
+        for name in names:
+            yield from run_page(name, template, paths)
+
+
+def count(results):
+    """Shows what is wrong or passed over; how many results are right, and how many wrong."""
+    passed = failed = 0
+    over = collections.Counter()
+    for place, problem, is_over in results:
+        if is_over:
+            over[problem] += 1
+            print("%s: passed over: %s" % (place, problem))
+        elif problem:
+            failed += 1
+            print("%s: %s" % (place, problem))
+        else:
+            passed += 1
+    if over:
+        print("passed over: %s" % ", ".join("%d (%s)" % (number, reason) for reason, number in sorted(over.items())))
+    return passed, failed
+
+
 def main():
     parser = argparse.ArgumentParser(description=__doc__.split("\n")[0])
     parser.add_argument("--program", default=os.path.join(ROOT, PROGRAM))
+    parser.add_argument("--facts", action="store_true", help="compare only what other files know, and run no command")
     parser.add_argument("pages", metavar="PAGE", nargs="*")
     options = parser.parse_args()
     program = os.path.abspath(options.program)
-    if not os.access(program, os.X_OK):
+    if not options.facts and not os.access(program, os.X_OK):
         print("%s: there is no such program" % program)
         print("0 passed, 1 failed")
         return 1
-    passed = failed = 0
-    over = collections.Counter()
-    with tempfile.TemporaryDirectory() as scratch:
-        template, paths = prepare(scratch, program)
-        for name in options.pages or pages():
-            for place, problem, is_over in run_page(name, template, paths):
-                if is_over:
-                    over[problem] += 1
-                    print("%s: passed over: %s" % (place, problem))
-                elif problem:
-                    failed += 1
-                    print("%s: %s" % (place, problem))
-                else:
-                    passed += 1
-    if over:
-        print("passed over: %s" % ", ".join("%d (%s)" % (count, reason) for reason, count in sorted(over.items())))
+    results = [] if options.facts else [run_pages(options.pages or pages(), program)]
+    if not options.pages:
+        results.append((place, problem, False) for place, problem in page_facts.checks(pages()))
+    passed, failed = count(itertools.chain.from_iterable(results))
     print("%d passed, %d failed" % (passed, failed))
     return 1 if failed else 0
 
