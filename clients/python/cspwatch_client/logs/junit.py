@@ -91,7 +91,7 @@ class Case:
 
     def written(self, suite: str) -> str:
         """The case as an element."""
-        parts = [failure.written() for failure in self.failures]
+        parts = [failure.written() for failure in sorted(self.failures, key=lambda failure: failure.index)]
         more = self.rejected + self.not_judged - len(self.failures)
         if more:
             parts.append("<system-out>%d more were rejected or not judged</system-out>" % more)

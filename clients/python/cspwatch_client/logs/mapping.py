@@ -73,6 +73,8 @@ class Rules:
         self.ignored = [pattern.search for pattern in found.ignored]
         self.events = events or ()
         self.alphabet = None if events is None else frozenset(events)
+        self.literal: Dict[int, Report] = {}
+        """The reports of rules without fields, which are always the same."""
         self.used = [False] * len(found.rules)
         """Which rules have taken a line."""
 
@@ -90,6 +92,16 @@ class Rules:
 
     def report(self, rule: Rule, groups: Groups, places: Places) -> Report:
         """What the rule reports of a line with these groups. `Unmapped` says why it is nothing that can be sent."""
+        found = self.literal.get(rule.number)
+        if found is not None:
+            return found
+        found = self.made(rule, groups, places)
+        if not any(template.fields for template in ([rule.event] if rule.event is not None else rule.refusal or ())):
+            self.literal[rule.number] = found
+        return found
+
+    def made(self, rule: Rule, groups: Groups, places: Places) -> Report:
+        """The report, put together."""
         if rule.event is not None:
             event = self.name(rule.event, groups, places)
             return Report("E " + event, event)

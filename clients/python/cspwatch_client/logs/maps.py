@@ -179,7 +179,7 @@ class Table:
         """A fault where the template has a field that isn't one of these groups."""
         for field in template.fields:
             if field not in groups:
-                raise self.fault(key, "%s has no group %r, which %r asks for" % (whose, field, template.source))
+                raise self.fault(key, "%s group %r, which %r asks for" % (whose, field, template.source))
 
 
 class Reader:
@@ -256,7 +256,7 @@ class Reader:
         refusal = table.templates("refusal") if "refusal" in table else None
         for key, template in [("event", event)] + [("refusal", one) for one in refusal or ()]:
             if template is not None:
-                table.need(key, template, list(pattern.groupindex), "`match`")
+                table.need(key, template, list(pattern.groupindex), "`match` has no")
         return Rule(number, line_of(self.lines, table.path), pattern, event, refusal)
 
     def join(self, table: Table) -> Join:
@@ -264,7 +264,7 @@ class Reader:
         shared = tuple(name for name in begin.groupindex if name in end.groupindex)
         if not shared:
             raise table.fault("end", "`begin` and `end` have no group in common, by which lines belong together")
-        table.need("line", line, [*begin.groupindex, *end.groupindex], "neither `begin` nor `end`")
+        table.need("line", line, [*begin.groupindex, *end.groupindex], "neither `begin` nor `end` has a")
         return Join(begin, end, line, shared)
 
     def sessions(self) -> Optional[Sessions]:

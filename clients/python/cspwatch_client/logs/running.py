@@ -11,13 +11,15 @@ from .mapping import Joiner, Report, Rules, Unmapped
 from .maps import Map, Rule
 from .places import Groups, Places
 from .reading import Line
-from .showing import Counts, Printer, kept
+from .showing import SHOWN, Counts, Printer, kept
 
 AHEAD = 8192
 """The most reports that are sent ahead of their replies, of all sessions together."""
 
 WINDOW = 65536
 """The most lines that are read after one whose report waits for its reply."""
+
+NO_GROUPS: Groups = {}
 
 LOST_STATUSES = {3: 3, 6: 6}
 """The statuses of a `check` that ended early which become the run's; any other is 5."""
@@ -68,23 +70,26 @@ class Run:
         """The events that were accepted."""
         self.stopped = False
         """Whether no more lines are wanted."""
+        self.has_ends = self.map.sessions is not None or bool(self.map.places)
+        """Whether an event may end something: the number of a name, or a session."""
+        self.single: Optional[Session] = None
+        """The one session, where the map has no sessions by keys."""
         if self.map.sessions is None:
-            session = self.session("")
-            self.open(session)
+            self.single = self.session("")
+            self.open(self.single)
 
     def take(self, lines: Sequence[Line]) -> None:
         """The next lines."""
+        counts, context, rules = self.counts, self.context, self.rules
         for line in lines:
-            if self.stopped:
-                return
-            self.counts.lines += 1
-            if self.context is not None:
-                self.context.add(kept(line))
+            counts.lines += 1
+            if context is not None:
+                context.add(kept(line))
             text = self.joiner.line(line.text) if self.map.joins else line.text
             if text is None:
-                self.counts.joined += 1
-            elif self.rules.is_ignored(text):
-                self.counts.ignored += 1
+                counts.joined += 1
+            elif rules.ignored and rules.is_ignored(text):
+                counts.ignored += 1
             else:
                 self.take_text(line, text)
         self.pump(0)
@@ -101,19 +106,20 @@ class Run:
                 self.printer.without_rule(kept(line))
             return
         rule, match = found
-        groups = match.groupdict()
+        groups = match.groupdict() if rule.pattern.groupindex else NO_GROUPS
         try:
-            if self.map.sessions is None:
-                session = self.sessions[""]
+            if self.single is not None:
+                session = self.single
                 report = self.rules.report(rule, groups, session.places)
             else:
                 session, report = self.in_session(rule, groups)
         except Unmapped as reason:
             self.not_mapped(line, groups, str(reason))
             return
-        if session.name in self.sessions:
+        if session is self.single or session.name in self.sessions:
             self.send(line, session, report)
-            self.after(session, report, groups)
+            if self.has_ends and report.event is not None:
+                self.after(session, report.event, groups)
         else:
             self.counts.outside += 1
 
@@ -153,25 +159,24 @@ class Run:
         return link
 
     def send(self, line: Line, session: Session, report: Report) -> None:
-        self.counts.reports += 1
-        if self.counts.earlier < self.wanted.skip:
-            self.counts.earlier += 1
+        counts = self.counts
+        counts.reports += 1
+        if counts.earlier < self.wanted.skip:
+            counts.earlier += 1
             return
         link = session.link or self.open(session)
-        sent = Sent(report, kept(line), self.counts.lines - 1, session)
+        sent = Sent(report, line if len(line.text) <= SHOWN else kept(line), counts.lines - 1, session)
         self.order.append(sent)
         link.send(sent)
         self.links.dirty.add(link)
 
-    def after(self, session: Session, report: Report, groups: Groups) -> None:
+    def after(self, session: Session, event: str, groups: Groups) -> None:
         """What the event ends: the numbers of names, and the session."""
-        if report.event is None:
-            return
         sessions = self.map.sessions
         ends = sessions is not None and any(
-            session.places.text(end.literals, end.fields, groups) == report.event for end in sessions.end
+            session.places.text(end.literals, end.fields, groups) == event for end in sessions.end
         )
-        session.places.after(report.event, groups)
+        session.places.after(event, groups)
         if ends:
             self.end(session)
 
