@@ -163,9 +163,14 @@ refusal = ["come.{client}", "lost.{client}"]
 """
 
     def test_the_lowest_free_number(self):
-        lines = ["come a", "come b", "come a", "gone a", "come c", "lost b", "none d", "come e"]
-        wanted = ["E come.0", "E come.1", "E come.0", "E gone.0", "E come.0", "E lost.1", "R come.1 lost.1"]
-        self.assertEqual(self.reports(self.rules(self.PLACES), lines), wanted + ["no place left for client 'e' (2)"])
+        lines = ["come a", "come b", "come a", "gone a", "come c", "lost b", "none d", "come e", "come f"]
+        wanted = ["E come.0", "E come.1", "E come.0", "E gone.0", "E come.0", "E lost.1", "R come.1 lost.1", "E come.1"]
+        self.assertEqual(self.reports(self.rules(self.PLACES), lines), wanted + ["no place left for client 'f' (2)"])
+
+    def test_a_refusal_keeps_no_number(self):
+        lines = ["none a", "none b", "come b", "none a", "none b", "come a", "none c"]
+        wanted = ["R come.0 lost.0", "R come.0 lost.0", "E come.0", "R come.1 lost.1", "R come.0 lost.0", "E come.1"]
+        self.assertEqual(self.reports(self.rules(self.PLACES), lines), wanted + ["no place left for client 'c' (2)"])
 
     def test_places_of_an_owner(self):
         lines = ["send a x", "send b x", "send a y", "send a z", "ack a x", "send a z", "send b y", "send b z"]
@@ -194,9 +199,9 @@ refusal = ["come.{client}", "lost.{client}"]
         places = Places(self.rules(self.PLACES).map.places)
         kind = places.kinds["client"]
         for name in "ab":
-            places.number(kind, {"client": name})
+            places.number(kind, {"client": name}, False)
         with self.assertRaises(NoPlace) as caught:
-            places.number(kind, {"client": "c9"})
+            places.number(kind, {"client": "c9"}, False)
         self.assertEqual(str(caught.exception), "no place left for client 'c9' (2)")
 
 

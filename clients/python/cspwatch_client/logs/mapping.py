@@ -105,17 +105,21 @@ class Rules:
         if rule.event is not None:
             event = self.name(rule.event, groups, places)
             return Report("E " + event, event)
-        names = [self.name(template, groups, places) for template in rule.refusal or ()]
+        try:
+            # What is refused hasn't happened: a name that has no number yet gets none that it keeps.
+            names = [self.name(template, groups, places, lend=True) for template in rule.refusal or ()]
+        finally:
+            places.take_back(groups)
         line = " ".join(["R"] + names)
         if len(line) > LINE_LIMIT:
             raise Unmapped("the report has %d bytes, and may have %d" % (len(line), LINE_LIMIT))
         return Report(line, None)
 
-    def name(self, template: Template, groups: Groups, places: Places) -> str:
+    def name(self, template: Template, groups: Groups, places: Places, lend: bool = False) -> str:
         """The event that the template is."""
         name = template.literals[0]
         for field, literal in zip(template.fields, template.literals[1:]):
-            name += self.value(field, groups, places) + literal
+            name += self.value(field, groups, places, lend) + literal
         if self.alphabet is not None:
             if name not in self.alphabet:
                 raise Unmapped("the script has no event %r" % shortened(name))
@@ -123,7 +127,7 @@ class Rules:
             raise Unmapped("%r can't be an event's name" % shortened(name))
         return name
 
-    def value(self, field: str, groups: Groups, places: Places) -> str:
+    def value(self, field: str, groups: Groups, places: Places, lend: bool) -> str:
         """The text of a field: a number of a place, a constant by a table of names, or the group's own text."""
         text = groups[field]
         if text is None:
@@ -131,7 +135,7 @@ class Rules:
         kind = self.map.places.get(field)
         if kind is not None:
             try:
-                return str(places.number(kind, groups))
+                return str(places.number(kind, groups, lend))
             except NoPlace as error:
                 raise Unmapped(str(error)) from None
         names: Optional[Mapping[str, str]] = self.map.names.get(field)

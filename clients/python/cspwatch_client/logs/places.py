@@ -47,14 +47,27 @@ class Places:
     def __init__(self, kinds: Mapping[str, PlaceKind]) -> None:
         self.kinds = kinds
         self.numbers: Dict[str, Dict[Tuple[str, ...], Numbers]] = {name: {} for name in kinds}
+        self.lent: List[PlaceKind] = []
+        """The kinds whose names got numbers for one report alone."""
 
-    def number(self, kind: PlaceKind, groups: Groups) -> int:
-        """The number of the name that the groups have for the kind. `NoPlace` where there is none left."""
-        owner = owner_of(kind, groups)
+    def number(self, kind: PlaceKind, groups: Groups, lend: bool) -> int:
+        """The number of the name that the groups have for the kind. `NoPlace` where there is none left.
+
+        lend -- whether a name that has none yet gets one only until `take_back`.
+        """
+        owner, name = owner_of(kind, groups), str(groups[kind.name])
         owners = self.numbers[kind.name]
         if owner not in owners:
             owners[owner] = Numbers()
-        return owners[owner].number(kind, str(groups[kind.name]))
+        if lend and name not in owners[owner].of:
+            self.lent.append(kind)
+        return owners[owner].number(kind, name)
+
+    def take_back(self, groups: Groups) -> None:
+        """Takes back what was lent to the names that these groups have."""
+        for kind in self.lent:
+            self.give_back(kind, groups, True)
+        self.lent.clear()
 
     def after(self, event: str, groups: Groups) -> None:
         """Gives back what is free after the event, which the rule with these groups reported."""
