@@ -55,7 +55,7 @@ class OverAStandIn(InFolder):
                          (2, [counts(2, 1, 1, 0, rest="0 ignored, 1 without a rule")], ["-:1: no rule takes this line: what"]))
 
     def test_coverage(self):
-        out = ["never came: open.1 close.0 close.1 bad _tick", "rules that took no line: m.toml:9, m.toml:17", "2 lines, 2 reports"]
+        out = ["never came: open.1 close.* bad _tick", "rules that took no line: m.toml:9, m.toml:17", "2 lines, 2 reports"]
         found = self.logs("--coverage", "m.toml", given=b"open 0\nbad\n")[1]
         self.assertEqual(found[2:4] + [found[4][:18]], out)
 

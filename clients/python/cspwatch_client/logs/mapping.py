@@ -2,10 +2,10 @@
 from __future__ import annotations
 
 import re
-from typing import Dict, List, Mapping, NamedTuple, Optional, Sequence, Tuple
+from typing import Dict, List, Mapping, NamedTuple, Optional, Sequence, Tuple, Union
 
 from ..client import LINE_LIMIT
-from .maps import Join, Map, Rule
+from .maps import Ignored, Join, Map, Rule
 from .places import Groups, NoPlace, Places
 from .templates import Template
 
@@ -69,8 +69,9 @@ class Rules:
     def __init__(self, found: Map, events: Optional[Sequence[str]]) -> None:
         """events -- all events of the script and termination, in their order; None where they aren't known."""
         self.map = found
-        self.searches = [(rule.pattern.search, rule) for rule in found.rules]
-        self.ignored = [pattern.search for pattern in found.ignored]
+        both: List[Union[Rule, Ignored]] = sorted([*found.rules, *found.ignored], key=lambda one: one.line)
+        self.searches = [(one.pattern.search, one if isinstance(one, Rule) else None) for one in both]
+        """What is tried with a line, in the order of the map; None for what ignores it."""
         self.events = events or ()
         self.alphabet = None if events is None else frozenset(events)
         self.literal: Dict[int, Report] = {}
@@ -78,15 +79,13 @@ class Rules:
         self.used = [False] * len(found.rules)
         """Which rules have taken a line."""
 
-    def is_ignored(self, text: str) -> bool:
-        return any(search(text) for search in self.ignored)
-
-    def match(self, text: str) -> Optional[Tuple[Rule, re.Match[str]]]:
-        """The first rule that takes the line, with its match."""
+    def match(self, text: str) -> Optional[Tuple[Optional[Rule], re.Match[str]]]:
+        """The first rule that takes the line, with its match; the rule is None where the line is to be ignored."""
         for search, rule in self.searches:
             found = search(text)
             if found is not None:
-                self.used[rule.number] = True
+                if rule is not None:
+                    self.used[rule.number] = True
                 return rule, found
         return None
 

@@ -67,6 +67,15 @@ class Rule:
 
 
 @dataclass(frozen=True)
+class Ignored:
+    """A line that matches is no report, and is no fault either."""
+
+    line: int
+    """Its line in the map."""
+    pattern: Pattern
+
+
+@dataclass(frozen=True)
 class Join:
     """Two lines that belong together and become one."""
 
@@ -95,7 +104,7 @@ class Map:
     places: Mapping[str, PlaceKind]
     names: Mapping[str, Mapping[str, str]]
     rules: Tuple[Rule, ...]
-    ignored: Tuple[Pattern, ...]
+    ignored: Tuple[Ignored, ...]
     joins: Tuple[Join, ...]
     sessions: Optional[Sessions]
     lines: Mapping[Path, int]
@@ -205,7 +214,7 @@ class Reader:
         if not rules:
             raise self.fault(("rule",), "there is no rule")
         joins = tuple(self.join(table) for table in self.tables("join", ("begin", "end", "line")))
-        ignored = tuple(table.pattern("match") for table in self.tables("ignore", ("match",)))
+        ignored = tuple(Ignored(line_of(self.lines, table.path), table.pattern("match")) for table in self.tables("ignore", ("match",)))
         found = Map(self.file, self.specification(), places, names, rules, ignored, joins, self.sessions(), self.lines)
         check_templates(found)
         return found

@@ -3,7 +3,7 @@ from __future__ import annotations
 
 from collections import deque
 from dataclasses import dataclass
-from typing import Callable, Deque, Dict, Optional, Sequence, Set, Tuple, Union
+from typing import Callable, Deque, Dict, List, Optional, Sequence, Set, Tuple, Union
 
 from .junit import Case, Context, JUnit
 from .links import Link, Links, Lost, Sent
@@ -80,7 +80,7 @@ class Run:
 
     def take(self, lines: Sequence[Line]) -> None:
         """The next lines."""
-        counts, context, rules = self.counts, self.context, self.rules
+        counts, context = self.counts, self.context
         for line in lines:
             counts.lines += 1
             if context is not None:
@@ -88,8 +88,6 @@ class Run:
             text = self.joiner.line(line.text) if self.map.joins else line.text
             if text is None:
                 counts.joined += 1
-            elif rules.ignored and rules.is_ignored(text):
-                counts.ignored += 1
             else:
                 self.take_text(line, text)
         self.pump(0)
@@ -106,6 +104,9 @@ class Run:
                 self.printer.without_rule(kept(line))
             return
         rule, match = found
+        if rule is None:
+            self.counts.ignored += 1
+            return
         groups = match.groupdict() if rule.pattern.groupindex else NO_GROUPS
         try:
             if self.single is not None:
@@ -306,6 +307,13 @@ class Run:
         self.printer.flush()
 
     def show_coverage(self) -> None:
-        never = [event for event in self.rules.events if event not in self.came]
+        never = by_channel(self.rules.events, self.came)
         unused = [rule.line for rule in self.map.rules if not self.rules.used[rule.number]]
         self.printer.coverage(never, unused, self.map.file)
+
+
+def by_channel(events: Sequence[str], came: Set[str]) -> List[str]:
+    """The events that never came; one word for all of a channel of which none came."""
+    some = {event.split(".")[0] for event in came}
+    never = [event if event.split(".")[0] in some or "." not in event else event.split(".")[0] + ".*" for event in events if event not in came]
+    return list(dict.fromkeys(never))
