@@ -96,6 +96,8 @@ class Run:
 
     def take_text(self, line: Line, text: str) -> None:
         """A line as the rules see it."""
+        if text is not line.text:
+            line = line._replace(text=text)
         found = self.rules.match(text)
         if found is None:
             self.counts.without_rule += 1
