@@ -24,8 +24,8 @@ LOGS = ["good", "bad"]
 SECONDS = 120
 
 RECORDER = """#!/bin/sh
-# The program, with a copy of what a check reads, in the order in which the checks were begun.
-if [ "$1" = check ] && [ "$2" != --help ]; then tee "$RECORDS/$(date +%s%N)" | "$RECORDED" "$@"; else exec "$RECORDED" "$@"; fi
+# The program, with a copy of what a check reads.
+if [ "$1" = check ] && [ "$2" != --help ]; then tee "$RECORDS/$$" | "$RECORDED" "$@"; else exec "$RECORDED" "$@"; fi
 """
 
 
@@ -49,7 +49,8 @@ def run(program, name, log):
         words = [sys.executable, "-B", COMMAND, "--program", recorder, name + ".toml", log + ".log"]
         environment = {**os.environ, "RECORDED": program, "RECORDS": records}
         done = subprocess.run(words, cwd=os.path.join(HERE, name), env=environment, stdout=subprocess.PIPE, stderr=subprocess.STDOUT, timeout=SECONDS)
-        reports = [text_of(records, each).splitlines() for each in sorted(os.listdir(records))]
+        # Sorted, since checks that begin at once come in any order.
+        reports = sorted(text_of(records, each).splitlines() for each in os.listdir(records))
     return without_reasons(done.stdout.decode("utf-8")), reports
 
 
