@@ -115,3 +115,56 @@ class CheckServer(Listener):
             with link:
                 done = subprocess.run(self.words, stdin=link.fileno(), stdout=link.fileno(), timeout=SECONDS)
             self.statuses.append(done.returncode)
+
+
+class SeatService(Listener):
+    """A service that gives seats by number: it answers `I n` by how many reports of the seat it has, and each report by `OK`.
+
+    It takes connections until it is closed. With `cut`, a connection ends without a word after so many answers, the last report
+    being kept and not answered. `reports` has the lines of each seat, and `taken` seats that another connection has.
+    """
+
+    def __init__(self, cut=None, taken=()):
+        super().__init__()
+        self.cut = cut
+        self.taken = set(taken)
+        self.reports = {}
+        self.is_closed = False
+
+    def __exit__(self, *_):
+        self.is_closed = True
+        socket.create_connection(self.socket.getsockname()).close()
+        super().__exit__()
+
+    def run(self):
+        while True:
+            link, _ = self.socket.accept()
+            with link:
+                if self.is_closed:
+                    return
+                link.settimeout(SECONDS)
+                try:
+                    self.serve(link)
+                except OSError:
+                    pass
+
+    def serve(self, link):
+        own, answers = None, 0
+        for line in link.makefile("rb"):
+            words = line.decode("ascii").split()
+            if words[0] == "I" and own is None and int(words[1]) in self.taken:
+                link.sendall(b"ERR 27 taken\n")
+            elif words[0] == "I" and own is None:
+                own = self.reports.setdefault(int(words[1]), [])
+                link.sendall(b"I %s %d\n" % (words[1].encode("ascii"), len(own)))
+            elif words[0] in ("E", "R"):
+                own = self.reports.setdefault(1001, []) if own is None else own
+                own.append(line.decode("ascii").rstrip("\n"))
+                if answers == self.cut:
+                    self.cut = None
+                    return
+                answers += 1
+                link.sendall(b"OK %d\n" % sum(len(lines) for lines in self.reports.values()))
+            elif words[0] == "Q":
+                link.sendall(b"BYE\n")
+                return

@@ -1,36 +1,32 @@
 #!/usr/bin/env python3
 """Compares what `cspwatch print` makes of scripts with what a second reader of the language makes of them.
 
-    compare_scripts.py REFERENCE [SEED] [COUNT] [--program FILE] [--keep FOLDER]
+    compare_scripts.py [SEED] [COUNT] [--program FILE] [--reference PATH] [--jobs N] [--seconds S] [--plain]
 
-REFERENCE is a folder with the package `cspref`, a reader in Python that was written apart from this one. The scripts are
-made from the seed: they declare channels, datatypes, numbers, truths, sets and processes with and without parameters, have conditions,
-guards and replicated forms, and most are at fault somewhere or other.
-Each is printed by the program (crates/cspwatch/out/cspwatch, or FILE) and by the reference; their texts, or the line, the
-number and the word of the fault, have to be the same. Differences that docs/DECISIONS.md explains are counted; each other one
-is printed, and the exit status is 1 where there is one. The scripts of all are kept in FOLDER.
+The scripts are made at random: they declare channels, datatypes, numbers, truths, sets and processes with and without
+parameters, have conditions, guards and replicated forms, and most are at fault somewhere or other. The printed text, or
+the line, the number and the word of the fault, have to be the same. The last line is `N passed, M failed`.
 """
-import argparse
-import collections
-import concurrent.futures
-import itertools
-import os
-import random
-import re
-import subprocess
-import sys
-import tempfile
+from __future__ import annotations
 
-TOP = os.path.dirname(os.path.dirname(os.path.abspath(__file__)))
-PROGRAM = os.path.join(TOP, "crates", "cspwatch", "out", "cspwatch")
-WORDS = {1: "byte", 2: "token", 3: "expected", 4: "unknown", 5: "redeclared", 6: "fields", 7: "range", 8: "events",
-         9: "depth", 10: "large", 11: "unsupported", 12: "process", 40: "memory"}
+import argparse
+import functools
+import random
+import sys
+
+import generated
+import opinions
+from generated import Outcome
+from reference import program as reference
+
+SECONDS = 20.0
+"""What the program may take for a script."""
 
 
 class Scripts:
     """One generated script: what it has declared so far, and its text."""
 
-    def __init__(self, rng):
+    def __init__(self, rng: random.Random) -> None:
         self.rng = rng
         # how often a part is chosen without regard to its kind or its declaration
         self.wild = rng.choice([0, 0, 0.004, 0.02, 0.06])
@@ -314,98 +310,38 @@ class Scripts:
         if self.chance(0.5):
             rng.shuffle(self.lines)
         root = "P" if self.chance(0.95) else rng.choice(["Q", "N", "S", "a", "X", "x", "D", "A", "B1", "Q1"])
-        return ("\n".join(self.lines) + "\n").encode("ascii"), root
+        text = "\n".join(self.lines) + "\n"
+        return (self.broken(text) if self.chance(0.3) else text).encode("ascii"), root
+
+    def broken(self, text):
+        """The text with some of its blanks made ends of lines, since a fault is reported with its line."""
+        return "".join("\n" if letter == " " and self.chance(0.3) else letter for letter in text)
 
 
-def reference_answers(folder, cases):
-    sys.path.insert(0, folder)
-    os.environ["CSPREF_STAGE"] = "15"
-    sys.setrecursionlimit(100_000)
-    from cspref.elaborate import read
-    from cspref.faults import ScriptFault
-    from cspref.printing import print_spec
-    for text, root in cases:
-        try:
-            printed = print_spec(read(text, root.encode()))
-            yield printed.encode("latin-1") if isinstance(printed, str) else printed
-        except ScriptFault as fault:
-            yield b"p.csp:%d: %d %s\n" % (fault.line, fault.code, WORDS[fault.code].encode())
+def compared(text: bytes, root: str, given: argparse.Namespace) -> Outcome:
+    """Compares both opinions on a script, read for a root."""
+    question = opinions.Question(("print", "p.csp", root), {"p.csp": text})
+    wanted = opinions.second(question, lambda: reference.print_script(text, root), given.reference, given.seconds)
+    if wanted is None:
+        return Outcome("passed over")
+    own = opinions.of_program(given.program, question, SECONDS)
+    if own == wanted:
+        return Outcome(wanted.errors.decode("latin-1").split(": ")[-1].strip() or "printed")
+    answer = f"takes more than {SECONDS:.0f} seconds" if own is None else own
+    return Outcome("different", f"root {root}\n{text.decode('latin-1')}\nprogram: {answer}\nreference: {wanted}\n")
 
 
-def own_answer(program, case):
-    text, root = case
-    with tempfile.TemporaryDirectory(prefix="script-") as folder:
-        with open(os.path.join(folder, "p.csp"), "wb") as file:
-            file.write(text)
-        done = subprocess.run([program, "print", "p.csp", root], cwd=folder, stdin=subprocess.DEVNULL, capture_output=True, timeout=120)
-        return done.stdout + done.stderr
+def attempt(rng: random.Random, given: argparse.Namespace) -> Outcome:
+    text, root = Scripts(rng).text()
+    return compared(text, root, given)
 
 
-BODY = rb"(?m)^([A-Za-z][A-Za-z0-9_]*'*) = \(*(?:if\b|[A-Za-z][A-Za-z0-9_]*'*\().*$"
-"""The definition of a name whose body is a condition or a call: each definition of a script that is made here has a line of its own."""
-
-
-def decided_elsewhere(folder, case, own, wanted):
-    """Whether both report a fault, and the reference reports the program's where some of the names that have a condition or a call as body
-    are STOP: those that the program hasn't made yet, since it looks into such a body when it makes it. Or else the program's fault is in
-    such a body, and is the kind of fault that the reference reports at a use of its name; or it is 3, since the condition chooses no
-    process, where the reference reports a fault of what is chosen."""
-    text, root = case
-    faults = [re.fullmatch(rb"p\.csp:(\d+): (\d+) [a-z]+\n", answer) for answer in (own, wanted)]
-    if None in faults:
-        return False
-    late = [name for name in re.findall(BODY, text) if name.decode() != root]
-    for count in range(1, len(late) + 1):
-        for some in itertools.combinations(late, count):
-            later = re.sub(BODY, lambda found: found[1] + b" = STOP" if found[1] in some else found[0], text)
-            if next(reference_answers(folder, [(later, root)])) == own:
-                return True
-    line = text.split(b"\n")[int(faults[0][1]) - 1]
-    return any(line.startswith(name + b" = ") for name in late) and (faults[0][2] == faults[1][2] or faults[0][2] == b"3" and faults[0][1] == faults[1][1])
-
-
-def reason(folder, case, own, wanted):
-    """Why the two answers may differ, as docs/DECISIONS.md says; None where they may not."""
-    text, root = case
-    if decided_elsewhere(folder, case, own, wanted):
-        return "a condition or a call as the body of a name, which the program looks into when it makes that body, and the reference at a use of the name"
-    return None
-
-
-def main():
-    words = argparse.ArgumentParser(description=__doc__, formatter_class=argparse.RawDescriptionHelpFormatter)
-    words.add_argument("reference")
-    words.add_argument("seed", nargs="?", type=int, default=random.randrange(1_000_000))
-    words.add_argument("count", nargs="?", type=int, default=10_000)
-    words.add_argument("--program", default=PROGRAM)
-    words.add_argument("--keep")
-    given = words.parse_args()
-    print("seed %d, %d scripts" % (given.seed, given.count), flush=True)
-    rng = random.Random(given.seed)
-    cases = [Scripts(rng).text() for _ in range(given.count)]
-    outcomes, reasons, differences = collections.Counter(), collections.Counter(), 0
-    with concurrent.futures.ThreadPoolExecutor(max_workers=os.cpu_count()) as pool:
-        answers = pool.map(lambda case: own_answer(given.program, case), cases)
-        for place, (case, own, wanted) in enumerate(zip(cases, answers, reference_answers(given.reference, cases))):
-            outcomes[wanted.split(b": ")[-1].decode().strip() if wanted.startswith(b"p.csp:") else "printed"] += 1
-            if own == wanted:
-                continue
-            why = reason(given.reference, case, own, wanted)
-            reasons[why] += 1
-            if given.keep:
-                with open(os.path.join(given.keep, "%d.csp" % place), "wb") as file:
-                    file.write(case[0])
-            if why is not None:
-                continue
-            differences += 1
-            if differences <= 20:
-                print("---- %d, root %s\n%s\nreference: %s\nown:       %s" % (place, case[1], case[0].decode(), wanted[:600], own[:600]))
-    print(", ".join("%d %s" % (times, outcome) for outcome, times in outcomes.most_common()))
-    for why, times in reasons.most_common():
-        if why is not None:
-            print("%d differ by %s" % (times, why))
-    print("%d further differences" % differences)
-    return 1 if differences else 0
+def main() -> int:
+    parser = argparse.ArgumentParser(description=__doc__.split("\n", maxsplit=1)[0])
+    generated.add_options(parser, 10_000)
+    opinions.add_options(parser)
+    given = parser.parse_args()
+    return generated.run(functools.partial(attempt, given=given), given)
 
 
 if __name__ == "__main__":

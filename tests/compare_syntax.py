@@ -1,14 +1,17 @@
 #!/usr/bin/env python3
-"""Compares the trees and faults of `syntax::parse` with those of a second reader of the language, on generated texts.
+"""Compares the trees and faults of texts with those of a second reader of the language.
 
-    compare_syntax.py REFERENCE [SEED] [COUNT]
+    compare_syntax.py [SEED] [COUNT] [--trees] [--program FILE] [--reference PATH] [--jobs N] [--seconds S] [--plain]
 
-REFERENCE is a folder with the package `cspref`, a reader in Python that was written apart from this one. The texts are
-made from the seed: valid ones, ones that were damaged at one place or several, and ones at the limits of heights and
-brackets. `tests/trees/main.rt.txt`, as the program `main.rt`, is run by `rt try` (or by what the variable RT names) in a folder of its own. Each difference is
-printed; the exit status is 1 where there is one. Where both find a text too deep, their lines may differ: this reader
-tells the first token with which every tree is too high, the reference the next one in some forms.
+The texts are made at random: valid ones, ones that were damaged at one place or several, and ones at the limits of
+heights and brackets. `cspwatch print` has to report the same fault on the same line, or print the same. With `--trees`
+the trees themselves are compared, which needs the kit: `tests/trees/main.rt.txt`, as the program `main.rt`, is run by
+`rt try` (or by what the variable RT names) in a folder of its own. The last line is `N passed, M failed`.
 """
+from __future__ import annotations
+
+import argparse
+import functools
 import os
 import random
 import re
@@ -18,10 +21,15 @@ import subprocess
 import sys
 import tempfile
 
+import generated
+import opinions
+from compare_scripts import compared
+from generated import Outcome
+from reference import program as reference
+
 TOP = os.path.dirname(os.path.dirname(os.path.abspath(__file__)))
-# `rt try` gives a program two minutes, and runs it with checks.
 BATCH = 2_500
-WORDS = {1: "byte", 2: "token", 3: "expected", 7: "range", 9: "depth", 10: "large", 11: "unsupported"}
+"""How many texts a run of `rt try` reads: it gives a program two minutes, and runs it with checks."""
 
 
 # ---- texts, as lists of tokens
@@ -31,7 +39,9 @@ BINARY = ["*", "%", "+", "-", "==", "!=", "<", "<=", ">", ">=", "and", "or", "&"
 
 
 class Texts:
-    def __init__(self, rng):
+    """Texts that are made at random: scripts, damaged ones, and ones at the limits of heights and brackets."""
+
+    def __init__(self, rng: random.Random) -> None:
         self.rng = rng
 
     def name(self):
@@ -115,18 +125,13 @@ class Texts:
             return part() + ["["] + part() + ["||"] + part() + ["]"] + part()
         return self.atom(depth)
 
-    def field_set(self, depth):
-        """An `if` or a replicated form stands in brackets here: the reference lets a dot follow it, this language doesn't."""
-        atom = self.atom(depth)
-        return ["("] + atom + [")"] if atom[0] in REPLICATED or atom[0] == "if" or ":" in atom else atom
-
     def declaration(self, depth):
         rng = self.rng
         kind = rng.randrange(6)
         if kind == 0:
             out = ["channel"] + self.listed(self.name, ",")
             if rng.random() < 0.6:
-                out = out + [":"] + self.listed(lambda: self.field_set(depth - 2), ".")
+                out = out + [":"] + self.listed(lambda: self.atom(depth - 2), ".")
             return out
         if kind == 1:
             return ["datatype"] + self.name() + ["="] + self.listed(self.name, "|")
@@ -218,87 +223,7 @@ class Texts:
         return text
 
 
-# ---- the reference's answer, in the form of this reader's
-
-def marked(form, parts):
-    return "(%s)" % " ".join([form] + parts)
-
-
-OPERATIONS = {"*": "Times", "%": "Remainder", "+": "Plus", "-": "Minus", "and": "And", "or": "Or", "prefix": "Prefix",
-              "guard": "Guard", "sequence": "Sequence", "interrupt": "Interrupt", "external": "ExternalChoice",
-              "internal": "InternalChoice", "share": "Sharing", "alphabetised": "Alphabetised",
-              "interleave": "Interleaving", "hide": "Hiding"}
-COMPARED = {"==": "Equal", "!=": "NotEqual", "<": "Less", "<=": "LessOrEqual", ">": "Greater", ">=": "GreaterOrEqual"}
-PLAIN = {"STOP": "Stop", "SKIP": "Skip", "Events": "Events", "true": "True", "false": "False", "bracket": "Brackets",
-         "empty": "EmptySet", "range": "Range", "union": "Union", "inter": "Intersection", "diff": "Difference",
-         "if": "If", "minus": "Negation", "not": "Not"}
-REPLICATED = {"[]": "ReplicatedExternal", "|~|": "ReplicatedInternal", "|||": "ReplicatedInterleaving"}
-
-
-def field(part):
-    if part[0] == "?":
-        if part[3] is None:
-            return marked("Input", [part[1]])
-        return marked("RestrictedInput", [part[1], shown(part[3])])
-    return marked("Given", [shown(part[1])])
-
-
-def shown(node):
-    form, parts = node.form, node.parts
-    if form == "number":
-        return "#%d" % parts[0]
-    if form == "name":
-        return marked("Event", [parts[0]])
-    if form == "event":
-        return marked("Event", [parts[0]] + [field(part) for part in parts[1]])
-    if form == "compare":
-        return marked("Operation(%s)" % COMPARED[parts[0]], [shown(parts[1]), shown(parts[2])])
-    if form == "rename":
-        pairs = [marked("Pair", [shown(left), shown(right)]) for left, right in parts[1]]
-        return marked("Operation(Renaming)", [shown(parts[0])] + pairs)
-    if form in OPERATIONS:
-        return marked("Operation(%s)" % OPERATIONS[form], [shown(part) for part in parts])
-    if form == "call":
-        return marked("Call", [parts[0]] + [shown(part) for part in parts[1]])
-    if form == "list":
-        return marked("Set", [shown(part) for part in parts[0]])
-    if form == "productions":
-        return marked("Productions" if parts[0] else "NoProductions", [shown(part) for part in parts[0]])
-    if form == "replicated":
-        generators = [marked("Generator", [name, shown(within)]) for name, _, within in parts[1]]
-        return marked(REPLICATED[parts[0]], [marked("Generators", generators), shown(parts[2])])
-    return marked(PLAIN[form], [shown(part) for part in parts])
-
-
-def declared(declaration):
-    parts = declaration.parts
-    if declaration.form == "channel":
-        names = marked("Names", [name for name, _ in parts[0]])
-        if not parts[1]:
-            return marked("Channels", [names])
-        return marked("ChannelsWithFields", [names, marked("FieldSets", [shown(part) for part in parts[1]])])
-    if declaration.form == "datatype":
-        return marked("Datatype", [parts[0][0], marked("Constants", [name for name, _ in parts[1]])])
-    if parts[1] is None:
-        return marked("Definition", [parts[0][0], shown(parts[2])])
-    names = marked("Names", [name for name, _ in parts[1]])
-    return marked("DefinitionWithParameters", [parts[0][0], names, shown(parts[2])])
-
-
-def reference_answer(parse, fault, text):
-    try:
-        return marked("Script", [declared(one) for one in parse(text)])
-    except fault as found:
-        return "%d: %d %s" % (found.line, found.code, WORDS[found.code])
-
-
-def alike(answer):
-    """What the reference's tree doesn't keep: the sign before a field's value, and that a number was written with `-`."""
-    answer = re.sub(r"\((?:Dotted|Output) ", "(Given ", answer)
-    return re.sub(r"\(NegativeNumber #(\d+)\)", lambda m: "#%d" % -int(m.group(1)), answer)
-
-
-# ---- runs
+# ---- trees
 
 def own_answers(texts):
     with tempfile.TemporaryDirectory() as folder:
@@ -326,32 +251,39 @@ def answers_of(folder, texts):
     return answers[:len(texts)]
 
 
-def main():
-    if len(sys.argv) < 2:
-        sys.exit(__doc__)
-    sys.path.insert(0, sys.argv[1])
-    sys.setrecursionlimit(100_000)
-    from cspref.faults import ScriptFault
-    from cspref.syntax import parse
-    seed = int(sys.argv[2]) if len(sys.argv) > 2 else random.randrange(1_000_000)
-    count = int(sys.argv[3]) if len(sys.argv) > 3 else 10_000
-    print("seed %d, %d texts" % (seed, count), flush=True)
-    made = Texts(random.Random(seed))
-    texts = [made.text() for _ in range(count)]
-    trees, lines, differences = 0, 0, 0
+# ---- all
+
+def attempt(rng: random.Random, given: argparse.Namespace) -> Outcome:
+    return compared(Texts(rng).text(), "P", given)
+
+
+def compare_trees(given: argparse.Namespace) -> int:
+    """Compares the trees of all texts; the exit status."""
+    texts = [Texts(random.Random(f"{given.seed}-{number}")).text() for number in range(given.count)]
+    differences = trees = 0
     for text, own in zip(texts, own_answers(texts)):
-        wanted = reference_answer(parse, ScriptFault, text)
-        trees += wanted.startswith("(")
-        if alike(own) == wanted:
+        wanted = opinions.of_reference(lambda: reference.tree(text), given.seconds)
+        if wanted is None:
             continue
-        if own.endswith(": 9 depth") and wanted.endswith(": 9 depth"):
-            lines += 1
-            continue
-        differences += 1
-        if differences <= 20:
-            print("---- %r\nreference: %s\nown:       %s" % (text[:1500], wanted[:400], own[:400]))
-    print("%d of the texts have a tree; %d too deep on different lines; %d differences" % (trees, lines, differences))
+        answer = (wanted.output or wanted.errors.removeprefix(b"p.csp:")).decode().strip()
+        trees += bool(wanted.output)
+        if own != answer:
+            differences += 1
+            print(f"---- {text[:1500]!r}\nreference: {answer[:400]}\nprogram:   {own[:400]}")
+    print(f"{trees} of the texts have a tree")
+    print(f"{given.count - differences} passed, {differences} failed")
     return 1 if differences else 0
+
+
+def main() -> int:
+    parser = argparse.ArgumentParser(description=__doc__.split("\n", maxsplit=1)[0])
+    generated.add_options(parser, 10_000)
+    opinions.add_options(parser)
+    parser.add_argument("--trees", action="store_true", help="compare the trees, by `rt try`")
+    given = parser.parse_args()
+    if given.trees:
+        return compare_trees(given)
+    return generated.run(functools.partial(attempt, given=given), given)
 
 
 if __name__ == "__main__":

@@ -4,10 +4,33 @@
   if (!list) return;
   const get = (id) => document.getElementById(id);
   const placeOf = (row) => Number(row.id.slice(1));
-  const rejected = Array.from(list.querySelectorAll("li.no"));
-  const places = rejected.map(placeOf);
+  const groups = Array.from(list.querySelectorAll("ol"));
+  const firsts = groups.map((group) => Number(group.dataset.first));
+  const places = groups.flatMap((group) => group.dataset.no.split(" ").filter(Boolean).map(Number));
+  const handed = get("rows") && JSON.parse(get("rows").textContent);
   const only = get("only"), said = get("said"), whole = get("whole");
   let current = null, goal = null;
+
+  // Draws the rows of a group, where that was left to this script.
+  function draw(group) {
+    if (!handed || group.firstElementChild) return;
+    const numbers = handed.groups[groups.indexOf(group)], text = (at) => handed.texts[numbers[at]];
+    const rows = [];
+    for (let at = 0; at < numbers.length; at += 8) {
+      const [place, column, seat, number] = numbers.slice(at, at + 4);
+      const parts = [place, text(at + 4), place, text(at + 5), column, seat, number, text(at + 6), text(at + 7)];
+      rows.push(handed.row.replace(/%[ds]/g, () => parts.shift()));
+    }
+    group.innerHTML = rows.join("");
+  }
+
+  // The row of a place; null where the page has none.
+  function rowOf(place) {
+    const after = firsts.findIndex((first) => first > place);
+    const group = groups[(after < 0 ? groups.length : after) - 1];
+    if (group) draw(group);
+    return get("p" + place);
+  }
 
   // The place of the row at this height of the window: 0 above the first row, Infinity below the last.
   function placeAt(height) {
@@ -20,7 +43,7 @@
       if (row && list.contains(row)) return placeOf(row);
       // A group whose rows are not laid out yet.
       const group = found && found.closest("ol");
-      if (group && list.contains(group)) return placeOf(group.firstElementChild);
+      if (group && list.contains(group)) return Number(group.dataset.first);
     }
     return 0;
   }
@@ -50,12 +73,12 @@
   }
 
   function showRejected(index) {
-    show(rejected[index]);
-    said.textContent = `Rejected entry ${index + 1} of ${rejected.length}: place ${places[index]}`;
+    show(rowOf(places[index]));
+    said.textContent = `Rejected entry ${index + 1} of ${places.length}: place ${places[index]}`;
   }
 
   function go(step) {
-    if (!rejected.length) return;
+    if (!places.length) return;
     const [above, below] = seen();
     let from = null;
     if (current) {
@@ -73,15 +96,16 @@
     const place = current && current.getBoundingClientRect().height ? placeOf(current) : placeAt((above + below) / 2);
     list.classList.toggle("only", only.checked);
     const index = places.findIndex((one) => one >= place);
-    const row = only.checked ? rejected[index < 0 ? rejected.length - 1 : index] : get("p" + place);
-    if (row && place > 0 && place < Infinity) show(row);
+    const shown = place > 0 && place < Infinity;
+    const row = shown && rowOf(only.checked ? places[index < 0 ? places.length - 1 : index] : place);
+    if (row) show(row);
     else mark();
     only.focus({ preventScroll: true });
-    said.textContent = only.checked ? `${rejected.length} rejected entries are shown` : "All entries are shown";
+    said.textContent = only.checked ? `${places.length} rejected entries are shown` : "All entries are shown";
   }
 
   function goTo(place) {
-    const row = get("p" + place);
+    const row = rowOf(place);
     if (!row) {
       said.textContent = `Place ${place} isn't on this page`;
       return;
@@ -106,13 +130,19 @@
     part.style.width = (100 * (to - from)) / last + "%";
   }
 
+  if (handed) {
+    // Groups are drawn a little before they are seen, and all of them before they are printed.
+    const near = new IntersectionObserver((seen) => seen.forEach((one) => one.isIntersecting && draw(one.target)), { rootMargin: "1000px" });
+    groups.forEach((group) => near.observe(group));
+    addEventListener("beforeprint", () => groups.forEach(draw));
+  }
   get("tools").hidden = false;
   get("next").onclick = () => go(1);
   get("previous").onclick = () => go(-1);
-  get("next").disabled = get("previous").disabled = !rejected.length;
+  get("next").disabled = get("previous").disabled = !places.length;
   if (only) {
     only.checked = false;
-    only.disabled = !rejected.length;
+    only.disabled = !places.length;
     only.onchange = filter;
   }
   get("to").onsubmit = (event) => {

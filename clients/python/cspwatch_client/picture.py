@@ -5,6 +5,7 @@
 from __future__ import annotations
 
 import argparse
+import json
 import math
 import pkgutil
 import sys
@@ -19,6 +20,12 @@ TITLE = "A journal of cspwatch"
 
 GROUP = 200
 """How many rows a group has. A browser lays out only the groups that are seen."""
+
+STATIC = 10000
+"""The most entries whose rows are in the page as they are. Of more, the page's script draws the groups that are seen."""
+
+FEW = 8
+"""The most events of a reason. Of more, those that are nearest to the report are shown, and how many more there are."""
 
 LONG = 160
 """The most characters of a row's text. The whole of a longer one is a note at the end of the page."""
@@ -90,6 +97,14 @@ ONLY = """<label><input type="checkbox" id="only"> Rejected only <kbd>r</kbd></l
 """
 
 
+ROW = (
+    '<li id="p%d" class="%s"><span>%d</span><i class="%s" style="--c:%d"></i><span>%d</span><span>%d</span>%s<span>%s</span></li>'
+)
+"""The row of an entry: place, kinds, place, mark, column, seat, number, report, verdict. The page's script fills it in too."""
+
+Row = Tuple[int, str, int, str, int, int, int, str, str]
+
+
 class Notes:
     """The texts that are too long for their rows. Each is kept once."""
 
@@ -100,13 +115,21 @@ class Notes:
         """The text, or its beginning and a link to the note that has all of it."""
         if len(text) <= LONG:
             return "<code>%s</code>" % escape(text)
-        number = self.numbers.setdefault(text, len(self.numbers) + 1)
         end = text.rfind(" ", 0, LONG)
-        return '<code>%s …</code> <a href="#note%d">all in note %d</a>' % (
-            escape(text[: end if end > 0 else LONG]),
-            number,
-            number,
-        )
+        return '<code>%s …</code> %s' % (escape(text[: end if end > 0 else LONG]), self.link(text))
+
+    def first(self, names: Names, text: str) -> str:
+        """As many of the names as a row has room for, how many more there are, and a link to the note that has the whole text."""
+        shown = [name for at, name in enumerate(names[:FEW]) if at == 0 or len(" ".join(names[: at + 1])) <= LONG]
+        if len(shown) == len(names) and len(text) <= LONG:
+            return "<code>%s</code>" % escape(text)
+        more = len(names) - len(shown)
+        return "<code>%s</code>%s %s" % (escape(" ".join(shown)[:LONG]), " and %d more," % more if more else " …", self.link(text))
+
+    def link(self, text: str) -> str:
+        """A link to the note that has this text."""
+        number = self.numbers.setdefault(text, len(self.numbers) + 1)
+        return '<a href="#note%d">all in note %d</a>' % (number, number)
 
     def page(self) -> str:
         """The notes, as a part of the page."""
@@ -232,8 +255,9 @@ def whole(shown: Shown) -> str:
 
 
 def groups(entries: Tuple[Entry, ...], column: Dict[int, int], notes: Notes) -> str:
-    """The rows of the entries, in groups."""
+    """The rows of the entries, in groups. Where there are many, the rows are handed to the page's script."""
     written = []
+    handed = Handed() if len(entries) > STATIC else None
     before: Optional[Entry] = None
     for begin in range(0, len(entries), GROUP):
         group = entries[begin : begin + GROUP]
@@ -241,25 +265,65 @@ def groups(entries: Tuple[Entry, ...], column: Dict[int, int], notes: Notes) -> 
         for entry in group:
             rows.append(row(entry, before, column[entry.seat], notes))
             before = entry
-        written.append(
-            '<ol aria-label="Places %d to %d" style="--all:%d;--no:%d">\n%s\n</ol>'
-            % (group[0].place, group[-1].place, len(group), sum(not entry.accepted for entry in group), "\n".join(rows))
-        )
-    return '<div class="entries" id="entries">\n<div class="lanes" aria-hidden="true">%s</div>\n%s\n</div>' % (
+        if handed is not None:
+            handed.add(rows)
+        written.append(group_of(group, "" if handed is not None else "\n%s\n" % "\n".join(ROW % one for one in rows)))
+    return '<div class="entries" id="entries">\n<div class="lanes" aria-hidden="true">%s</div>\n%s\n</div>%s' % (
         "".join('<i style="--c:%d"></i>' % at for at in column.values() if width_of(len(column)) >= CROWDED),
         "\n".join(written),
+        handed.page() if handed is not None else "",
     )
 
 
-def row(entry: Entry, before: Optional[Entry], column: int, notes: Notes) -> str:
-    """The row of an entry. `before` is the one above it on the page."""
+def group_of(group: Tuple[Entry, ...], rows: str) -> str:
+    """A group of entries, with what the page's script has to know of it."""
+    rejected = [entry.place for entry in group if not entry.accepted]
+    return '<ol aria-label="Places %d to %d" data-first="%d" data-no="%s" style="--all:%d;--no:%d">%s</ol>' % (
+        group[0].place,
+        group[-1].place,
+        group[0].place,
+        " ".join(map(str, rejected)),
+        len(group),
+        len(rejected),
+        rows,
+    )
+
+
+class Handed:
+    """Rows that are handed to the page's script: of each the numbers of its texts, and each text once."""
+
+    def __init__(self) -> None:
+        self.texts: Dict[str, int] = {}
+        self.groups: List[List[int]] = []
+
+    def add(self, rows: List[Row]) -> None:
+        """The rows of the next group."""
+        numbers: List[int] = []
+        for place, kinds, _, mark, column, seat, number, *words in rows:
+            numbers += (place, column, seat, number)
+            numbers += (self.texts.setdefault(text, len(self.texts)) for text in (kinds, mark, *words))
+        self.groups.append(numbers)
+
+    def page(self) -> str:
+        """The rows, as a part of the page."""
+        found = {"row": ROW, "texts": list(self.texts), "groups": self.groups}
+        # Names are escaped, so the only text that could end the element is that of a closing tag.
+        text = json.dumps(found, ensure_ascii=False, separators=(",", ":")).replace("</", "<\\/")
+        return (
+            "\n<noscript><p>Without JavaScript this page doesn't show the entries of so long a journal.</p></noscript>"
+            '\n<script type="application/json" id="rows">%s</script>' % text
+        )
+
+
+def row(entry: Entry, before: Optional[Entry], column: int, notes: Notes) -> Row:
+    """The row of an entry, as what `ROW` takes. `before` is the entry above it on the page."""
     kinds = ["row"] + ([] if entry.accepted else ["no"])
     if before is not None and before.place < entry.place - 1:
         kinds.append("gap")
     elif before is not None and not entry.accepted and before.accepted:
         # Among the rejected entries alone there is a gap above this one.
         kinds.append("alone")
-    return '<li id="p%d" class="%s"><span>%d</span><i class="%s" style="--c:%d"></i><span>%d</span><span>%d</span>%s<span>%s</span></li>' % (
+    return (
         entry.place,
         " ".join(kinds),
         entry.place,
@@ -282,10 +346,33 @@ def report(entry: Entry, notes: Notes) -> str:
 def reason(entry: Entry, notes: Notes) -> str:
     """Why the entry was rejected."""
     if not entry.refusal:
-        return "expected " + (notes.short(" ".join(entry.expected)) if entry.expected else "nothing")
+        if not entry.expected:
+            return "expected nothing"
+        return "expected " + notes.first(nearest(entry.expected, entry.events[0]), " ".join(entry.expected))
     if not entry.acceptances:
         return "never comes to rest"
-    return "must offer one of " + notes.short(" ".join(braced(one) for one in entry.acceptances))
+    sets = tuple(braced(offered_first(one, entry.events)) for one in entry.acceptances)
+    return "must offer one of " + notes.first(sets, " ".join(braced(one) for one in entry.acceptances))
+
+
+def nearest(names: Names, event: str) -> Names:
+    """The events in their order where they are few; else those of the event's channel first, then those that share a value with it."""
+    if len(names) <= FEW and len(" ".join(names)) <= LONG:
+        return names
+    channel, *values = event.split(".")
+
+    def distance(name: str) -> int:
+        own, *others = name.split(".")
+        return 0 if own == channel else 1 if set(values) & set(others) else 2
+
+    return tuple(sorted(names, key=distance))
+
+
+def offered_first(names: Names, refused: Names) -> Names:
+    """The events of a set in their order where they are few; else first those that were reported to be refused."""
+    if len(names) <= FEW:
+        return names
+    return tuple(sorted(names, key=lambda name: name not in refused))
 
 
 def braced(names: Names) -> str:

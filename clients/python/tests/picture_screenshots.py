@@ -19,8 +19,9 @@ import sys
 STEPS = [
     ("top", "scrollTo(0, 0)"),
     ("next", "for (let turn = 0; turn < 3; turn++) document.getElementById('next').click()"),
-    ("middle", "(() => { const rows = document.querySelectorAll('#entries li'); document.getElementById('place').value = rows[rows.length >> 1].id.slice(1);"
-               " document.querySelector('#to button').click(); })()"),
+    ("middle", "(() => { const groups = document.querySelectorAll('#entries ol'), rows = document.querySelectorAll('#entries li');"
+               " const middle = groups.length > 1 ? groups[groups.length >> 1].dataset.first : rows[rows.length >> 1].id.slice(1);"
+               " document.getElementById('place').value = middle; document.querySelector('#to button').click(); })()"),
     ("only", "scrollTo(0, 0); document.getElementById('only')?.click()"),
     ("coverage", "document.querySelector('a[href=\"#coverage\"]')?.click()"),
 ]

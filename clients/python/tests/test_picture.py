@@ -2,6 +2,7 @@
 import html.parser
 import json
 import os
+import re
 import subprocess
 import sys
 import tempfile
@@ -11,7 +12,7 @@ HERE = os.path.dirname(os.path.abspath(__file__))
 sys.path[:0] = [os.path.dirname(HERE)]
 
 from cspwatch_client import BadLine, Status  # noqa: E402
-from cspwatch_client.picture import render  # noqa: E402
+from cspwatch_client.picture import ROW, STATIC, nearest, render  # noqa: E402
 from cspwatch_client.shown import Count, Coverage, Entry, read  # noqa: E402
 
 # They show each form, and are not of one process.
@@ -282,10 +283,30 @@ class Pictures(unittest.TestCase):
         self.assertEqual(text.count("x" * 4000), 1)
         self.assertEqual(page.ids[-2:], ["note1", "note2"])
         what, verdict = texts(page)[0]
-        self.assertTrue(verdict.startswith("rejected: expected channel.0 channel.1 "))
-        self.assertTrue(verdict.endswith(" … all in note 1"))
+        self.assertEqual(verdict, "rejected: expected %s and 249 more, all in note 1" % " ".join(names[:8]))
         self.assertEqual(texts(page)[2][0], "event %s … all in note 2" % ("x" * 160))
         self.assertNotIn("notes", Page(render(ENTRIES + [SUMMARY])).ids)
+
+    def test_the_nearest_events_are_shown_first(self):
+        names = ["x.%d" % number for number in range(6)] + ["put.7", "get.3.1", "get.4.1", "y.3"]
+        page = Page(render([event(1, "get.3.0", verdict="NO", expected=names), summary(1, 1)]))
+        shown = "get.3.1 get.4.1 x.0 x.3 y.3 x.1 x.2 x.4"
+        self.assertEqual(texts(page)[0][1], "rejected: expected %s and 2 more, all in note 1" % shown)
+        self.assertIn(" ".join(names), page.words)
+        self.assertEqual(nearest(tuple(names[:8]), "get.3.0"), tuple(names[:8]))
+
+    def test_few_events_with_long_names(self):
+        names = ["%s.%d" % (letter * 70, number) for number, letter in enumerate("abcd")]
+        page = Page(render([event(1, "c" * 70 + ".9", verdict="NO", expected=names), summary(1, 1)]))
+        self.assertEqual(texts(page)[0][1], "rejected: expected %s %s and 2 more, all in note 1" % (names[2], names[0]))
+        page = Page(render([event(1, verdict="NO", expected=["x" * 300]), summary(1, 1)]))
+        self.assertEqual(texts(page)[0][1], "rejected: expected %s … all in note 1" % ("x" * 160))
+
+    def test_acceptances_are_cut_between_sets(self):
+        sets = [["a.%d" % number, "b.%d" % number] for number in range(20)]
+        page = Page(render([event(1, verdict="NO", report="refusal", events=["a.1"], acceptances=sets), summary(1, 1)]))
+        shown = " ".join("{a.%d b.%d}" % (number, number) for number in range(8))
+        self.assertEqual(texts(page)[0][1], "rejected: must offer one of %s and 12 more, all in note 1" % shown)
 
     def test_names_and_titles_are_escaped(self):
         name = "</code><script>alert('\"&amp;\")</script>"
@@ -336,9 +357,25 @@ class Pictures(unittest.TestCase):
         page = Page(text)
         self.assertEqual(len(page.rows), 10000)
         self.assertEqual(text.count("<ol aria-label="), 50)
-        self.assertIn('<ol aria-label="Places 201 to 400" style="--all:200;--no:2">', text)
+        self.assertIn('<ol aria-label="Places 201 to 400" data-first="201" data-no="300 400" style="--all:200;--no:2">', text)
         self.assertIn('data-last="10000"', text)
         self.assertLess(len(text), 2500000)
+
+    def test_of_many_entries_the_script_draws_those_that_are_seen(self):
+        count = STATIC + 400
+        lines = [event(place, "</script>" if place == count else "a") for place in range(1, count)]
+        text = render(lines + [event(count, "</script><!--", verdict="NO", expected=["b"]), summary(count, 1)])
+        page = Page(text)
+        self.assertEqual(page.rows, [])
+        self.assertIn('<ol aria-label="Places 10201 to 10400" data-first="10201" data-no="10400" style="--all:200;--no:1"></ol>', text)
+        handed = json.loads(re.search(r'<script type="application/json" id="rows">(.*?)</script>', text, re.DOTALL)[1])
+        self.assertEqual((handed["row"], len(handed["groups"]), len(handed["groups"][51])), (ROW, 52, 200 * 8))
+        place, column, seat, number, *words = handed["groups"][51][-8:]
+        kinds, mark, report, verdict = (handed["texts"][word] for word in words)
+        row = Page(handed["row"] % (place, kinds, place, mark, column, seat, number, report, verdict)).rows[0]
+        self.assertEqual((row[0], row[1]), ("p10400", ["row", "no", "alone"]))
+        self.assertEqual(row[2][4:], ["event </script><!--", "rejected: expected b"])
+        self.assertIn("Without JavaScript this page doesn't show the entries of so long a journal.", page.words)
 
 
 class Runs(unittest.TestCase):

@@ -1,0 +1,36 @@
+# Completion for bash. Source this file, or copy it as `cspwatch-logs` to the folder of bash's completions.
+_cspwatch_logs() {
+    local current=${COMP_WORDS[COMP_CWORD]} previous=${COMP_WORDS[COMP_CWORD-1]} word index place=0
+    COMPREPLY=()
+    case $previous in
+        --server)
+            COMPREPLY=($(compgen -W "127.0.0.1:" -- "$current"))
+            return
+            ;;
+        --seat) return ;;
+    esac
+    if [[ $current == -* ]]; then
+        COMPREPLY=($(compgen -W "--follow --server --seat --strict --quiet --first --coverage --junit --annotations --program --help -h" -- "$current"))
+        return
+    fi
+    # How many words are before the cursor, without options and what follows them. Bash takes an address as three words.
+    for ((index = 1; index < COMP_CWORD; index++)); do
+        word=${COMP_WORDS[index]}
+        case $word in
+            --server | --seat | --junit | --program)
+                index=$((index + 1))
+                [[ ${COMP_WORDS[index + 1]} != : ]] || index=$((index + 2))
+                ;;
+            -*) ;;
+            *) place=$((place + 1)) ;;
+        esac
+    done
+    compopt -o filenames 2>/dev/null
+    if [[ $place == 0 && $previous != --junit && $previous != --program ]]; then
+        mapfile -t COMPREPLY < <(compgen -f -X '!*.toml' -- "$current"; compgen -d -- "$current")
+    else
+        mapfile -t COMPREPLY < <(compgen -f -- "$current")
+    fi
+}
+
+complete -F _cspwatch_logs cspwatch-logs

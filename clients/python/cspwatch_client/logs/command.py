@@ -1,0 +1,206 @@
+"""The command `cspwatch-logs`: its words, and a run from them."""
+from __future__ import annotations
+
+import argparse
+import os
+import shutil
+import signal
+import sys
+from typing import Callable, List, Optional, Sequence, TextIO
+
+from ..client import split_address
+
+if sys.version_info < (3, 11):
+    raise SystemExit("cspwatch-logs needs Python 3.11 or later, this is %d.%d" % sys.version_info[:2])
+
+from .junit import JUnit, suite_of
+from .links import Check, Connection, Link, Lost
+from .mapping import Rules
+from .maps import Map, MapFault, Specification, read_map
+from .program import Program, ProgramFault, check_events, events_of, program_at
+from .reading import Source, cut_lines, sources_of
+from .running import Run, Wanted
+from .showing import Printer
+
+LOOK_SECONDS = 0.2
+"""How often a followed file is looked at."""
+
+MOST_SEATS = 1000
+"""The greatest number of a seat that a component may ask for."""
+
+EPILOG = """exit status: 0 all reports were accepted; 1 one was rejected; 2 bad use, a fault in the map, or a line that wasn't
+judged; 3 the script was refused; 4 the server couldn't write its journal; 5 a file, the program or the connection failed;
+6 a limit was met. Of several, the first of 4, 5, 1, 6, 2, 0."""
+
+
+class BadUse(Exception):
+    """Words that don't fit together, or not with the map."""
+
+
+def parser() -> argparse.ArgumentParser:
+    """The words of the command."""
+    found = argparse.ArgumentParser(
+        prog="cspwatch-logs", description="Maps the lines of logs to reports, and has them judged by cspwatch.", epilog=EPILOG
+    )
+    found.add_argument("map", metavar="MAP", help="the map, a file of TOML")
+    found.add_argument("logs", metavar="LOG", nargs="*", help="the logs, one after the other; standard input where there is none")
+    found.add_argument("--follow", action="store_true", help="wait for more lines, also after a log was rotated or cut")
+    found.add_argument("--server", metavar="ADDR", help="report to the server at HOST:PORT, in place of a check of its own")
+    found.add_argument("--seat", metavar="N", type=seat, help="be seat N of the server, and go on after its last report (1 to 1000)")
+    found.add_argument("--strict", action="store_true", help="a line that no rule takes is a fault")
+    found.add_argument("--quiet", action="store_true", help="print the rejected reports alone, without their lines and the counts")
+    found.add_argument("--first", action="store_true", help="end at the first rejected report")
+    found.add_argument("--coverage", action="store_true", help="print which events never came, and which rules took no line")
+    found.add_argument("--junit", metavar="FILE", help="write the verdicts to FILE as test cases")
+    found.add_argument("--annotations", action="store_true", help="print rejected reports as annotations of GitHub too")
+    found.add_argument("--program", metavar="FILE", help="the program cspwatch; $CSPWATCH or the one on the PATH where left out")
+    return found
+
+
+def seat(text: str) -> int:
+    number = int(text)
+    if not 1 <= number <= MOST_SEATS:
+        raise ValueError(text)
+    return number
+
+
+def main(words: Optional[Sequence[str]] = None) -> int:
+    """Runs the command with these words, and answers its status."""
+    options = parser().parse_args(words)
+    for stream in (sys.stdout, sys.stderr):
+        stream.reconfigure(errors="backslashreplace")  # type: ignore[attr-defined]
+    try:
+        return run(options, sys.stdout, sys.stderr)
+    except MapFault as fault:
+        return said(fault, 2)
+    except BadUse as fault:
+        return said("cspwatch-logs: %s" % fault, 2)
+    except (ProgramFault, Lost) as fault:
+        return said(fault, fault.status)
+    except BrokenPipeError:
+        # Nobody reads the verdicts any more; the interpreter would fail again when it flushes at its end.
+        os.dup2(os.open(os.devnull, os.O_WRONLY), sys.stdout.fileno())
+        return 5
+    except OSError as fault:
+        return said("%s: %s" % (fault.filename or "cspwatch-logs", fault.strerror or fault), 5)
+
+
+def said(fault: object, status: int) -> int:
+    """Says what is wrong."""
+    print(fault, file=sys.stderr)
+    return status
+
+
+def run(options: argparse.Namespace, out: TextIO, errors: TextIO) -> int:
+    """The whole run."""
+    found = read_map(options.map)
+    check_use(options, found)
+    program = program_for(options, found)
+    rules = Rules(found, events_for(found, program))
+    start, skip = judge_of(options, found, program)
+    sources = sources_of(options.logs, options.follow)
+    junit = JUnit(options.junit, suite_of(options.map)) if options.junit is not None else None
+    printer = Printer(out, errors, options.quiet, options.annotations)
+    wanted = Wanted(options.strict, options.first, options.coverage, skip)
+    running = Run(rules, start, printer, wanted, junit)
+    try:
+        read_all(running, sources, options.follow)
+        running.finish()
+    except Lost as fault:
+        running.counts.statuses[fault.status] = True
+        printer.flush()
+        said(fault, fault.status)
+        running.abandon()
+        running.close(cut_lines(sources))
+        return fault.status
+    if running.counts.earlier < skip and not running.stopped:
+        said("cspwatch-logs: %d reports of the seat stand in the history, and the log has %d" % (skip, running.counts.earlier), 2)
+        running.counts.statuses[2] = True
+    running.close(cut_lines(sources))
+    return running.counts.status()
+
+
+def check_use(options: argparse.Namespace, found: Map) -> None:
+    """Finds words that don't fit together, or not with the map."""
+    if options.server is None and options.seat is not None:
+        raise BadUse("--seat goes with --server")
+    if options.server is not None:
+        if found.sessions is not None:
+            raise BadUse("a map with [sessions] starts a check for each; it can't go with --server, which has one history")
+        try:
+            split_address(options.server)
+        except ValueError as error:
+            raise BadUse(str(error)) from None
+    if found.specification is None:
+        for word, given in (("--seat", options.seat is not None), ("--coverage", options.coverage), ("a run without --server", options.server is None)):
+            if given:
+                raise found.fault(("specification",), "this table is missing, and %s needs it" % word)
+
+
+def program_for(options: argparse.Namespace, found: Map) -> Optional[Program]:
+    """The program, where the map says what it is to judge by. A map that asks for more than it has is at fault."""
+    if found.specification is None:
+        return None
+    name = options.program or os.environ.get("CSPWATCH") or "cspwatch"
+    path = shutil.which(name)
+    if path is None:
+        raise ProgramFault("%s: there is no such program; --program FILE or the variable CSPWATCH says where it is" % name, 5)
+    program = program_at(path)
+    if found.specification.large and not program.is_large and options.server is None:
+        reason = "this needs `check --large`, which came after cspwatch 0.5.1; %s is %s" % (path, program.version)
+        raise found.fault(("specification", "large"), reason)
+    return program
+
+
+def events_for(found: Map, program: Optional[Program]) -> Optional[Sequence[str]]:
+    """The events of the script, where it is known. A map that names others is at fault."""
+    if program is None or found.specification is None:
+        return None
+    events = events_of(program, found.specification)
+    check_events(found, events)
+    return events
+
+
+def judge_of(options: argparse.Namespace, found: Map, program: Optional[Program]) -> tuple[Callable[[], Link], int]:
+    """What starts the judge of a session, and how many reports stand in the history."""
+    if options.server is not None:
+        connection = Connection(options.server, options.seat)
+        return lambda: connection, connection.reported
+    specification: Optional[Specification] = found.specification
+    assert program is not None and specification is not None
+    checker, judged = program, specification
+    return lambda: Check(checker.check(judged), checker.explains), 0
+
+
+class Stop:
+    """Whether a signal has asked for the end. A second one ends at once."""
+
+    def __init__(self) -> None:
+        self.asked = False
+        for number in (signal.SIGINT, signal.SIGTERM):
+            signal.signal(number, self.ask)
+
+    def ask(self, number: int, _: object) -> None:
+        self.asked = True
+        signal.signal(number, signal.SIG_DFL)
+
+
+def read_all(running: Run, sources: List[Source], follow: bool) -> None:
+    """Reads the logs to their ends: one after the other, or side by side where they are followed."""
+    stop = Stop()
+    while not (stop.asked or running.stopped or all(source.ended for source in sources)):
+        open_ones = [source for source in sources if not source.ended]
+        current = open_ones if follow else open_ones[:1]
+        came = False
+        for source in current:
+            if source.is_ready():
+                lines = source.read()
+                came = came or bool(lines) or source.ended
+                running.take(lines)
+        if not came:
+            ends = [end for end in (source.waits_on() for source in current) if end is not None]
+            running.pump(LOOK_SECONDS, ends)
+        running.printer.flush()
+    for source in sources:
+        if not source.ended:
+            running.take(source.close())

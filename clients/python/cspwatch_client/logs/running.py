@@ -1,0 +1,321 @@
+"""A run: lines become reports, reports are sent to what judges, and verdicts are shown in the order of the lines."""
+from __future__ import annotations
+
+from collections import deque
+from dataclasses import dataclass
+from typing import Callable, Deque, Dict, List, Optional, Sequence, Set, Tuple, Union
+
+from .junit import Case, Context, JUnit
+from .links import Link, Links, Lost, Sent
+from .mapping import Joiner, Report, Rules, Unmapped
+from .maps import Map, Rule
+from .places import Groups, Places
+from .reading import Line
+from .showing import SHOWN, Counts, Printer, kept
+
+AHEAD = 8192
+"""The most reports that are sent ahead of their replies, of all sessions together."""
+
+WINDOW = 65536
+"""The most lines that are read after one whose report waits for its reply."""
+
+NO_GROUPS: Groups = {}
+
+LOST_STATUSES = {3: 3, 6: 6}
+"""The statuses of a `check` that ended early which become the run's; any other is 5."""
+
+
+class Session:
+    """One history: what judges it, and the numbers of its names."""
+
+    def __init__(self, name: str, places: Places) -> None:
+        self.name = name
+        """Its key; empty where there is one session for all."""
+        self.places = places
+        self.link: Optional[Link] = None
+        """None before its first report."""
+        self.case = Case(name or "reports")
+        self.is_over = False
+        """Whether its last report was sent, and each was answered."""
+
+
+@dataclass
+class Wanted:
+    """What a run is to do beside judging."""
+
+    strict: bool = False
+    first: bool = False
+    coverage: bool = False
+    skip: int = 0
+    """How many reports stand in the history already."""
+
+
+class Run:
+    """A run over lines."""
+
+    def __init__(self, rules: Rules, start: Callable[[], Link], printer: Printer, wanted: Wanted, junit: Optional[JUnit]) -> None:
+        """start -- starts what judges a session."""
+        self.rules, self.start, self.printer, self.wanted, self.junit = rules, start, printer, wanted, junit
+        self.map: Map = rules.map
+        self.joiner = Joiner(self.map.joins)
+        self.links = Links()
+        self.counts = Counts()
+        self.order: Deque[Union[Sent, Session]] = deque()
+        """The reports without a complete answer in the order of their lines, and sessions where they end."""
+        self.sessions: Dict[str, Session] = {}
+        """Those that are open, by their keys."""
+        self.by_link: Dict[Link, Session] = {}
+        self.context = Context(WINDOW + AHEAD) if junit is not None else None
+        self.came: Set[str] = set()
+        """The events that were accepted."""
+        self.stopped = False
+        """Whether no more lines are wanted."""
+        self.has_ends = self.map.sessions is not None or bool(self.map.places)
+        """Whether an event may end something: the number of a name, or a session."""
+        self.single: Optional[Session] = None
+        """The one session, where the map has no sessions by keys."""
+        if self.map.sessions is None:
+            self.single = self.session("")
+            self.open(self.single)
+
+    def take(self, lines: Sequence[Line]) -> None:
+        """The next lines."""
+        counts, context = self.counts, self.context
+        for line in lines:
+            counts.lines += 1
+            if context is not None:
+                context.add(kept(line))
+            text = self.joiner.line(line.text) if self.map.joins else line.text
+            if text is None:
+                counts.joined += 1
+            else:
+                self.take_text(line, text)
+        self.pump(0)
+        while self.is_far_ahead():
+            self.pump(None)
+
+    def take_text(self, line: Line, text: str) -> None:
+        """A line as the rules see it."""
+        if text is not line.text:
+            line = line._replace(text=text)
+        found = self.rules.match(text)
+        if found is None:
+            self.counts.without_rule += 1
+            if self.wanted.strict:
+                self.counts.statuses[2] = True
+                self.printer.without_rule(kept(line))
+            return
+        rule, match = found
+        if rule is None:
+            self.counts.ignored += 1
+            return
+        groups = match.groupdict() if rule.pattern.groupindex else NO_GROUPS
+        try:
+            if self.single is not None:
+                session = self.single
+                report = self.rules.report(rule, groups, session.places)
+            else:
+                session, report = self.in_session(rule, groups)
+        except Unmapped as reason:
+            self.not_mapped(line, groups, str(reason))
+            return
+        if session is self.single or session.name in self.sessions:
+            self.send(line, session, report)
+            if self.has_ends and report.event is not None:
+                self.after(session, report.event, groups)
+        else:
+            self.counts.outside += 1
+
+    def in_session(self, rule: Rule, groups: Groups) -> Tuple[Session, Report]:
+        """The session of the line and what it reports. The session isn't among the open ones where the line belongs to none."""
+        assert self.map.sessions is not None
+        begin, key = self.map.sessions.begin, self.map.sessions.key.filled_from(groups)
+        if key is None:
+            raise Unmapped("a group of sessions.key took no part in the match")
+        session = self.sessions.get(key)
+        if begin is None:
+            session = session or self.session(key)
+            return session, self.rules.report(rule, groups, session.places)
+        fresh = Session(key, Places(self.map.places))
+        if rule.event is not None and begin.may_equal(rule.event):
+            report = self.rules.report(rule, groups, fresh.places)
+            if report.event == fresh.places.text(begin.literals, begin.fields, groups):
+                if session is not None:
+                    self.end(session)
+                self.sessions[key] = fresh
+                return fresh, report
+        if session is None:
+            return fresh, Report("", None)
+        return session, self.rules.report(rule, groups, session.places)
+
+    def session(self, key: str) -> Session:
+        """A new session."""
+        session = self.sessions[key] = Session(key, Places(self.map.places))
+        return session
+
+    def open(self, session: Session) -> Link:
+        """Starts what judges the session."""
+        session.link = link = self.start()
+        self.by_link[link] = session
+        self.links.add(link)
+        self.counts.sessions += 1
+        return link
+
+    def send(self, line: Line, session: Session, report: Report) -> None:
+        counts = self.counts
+        counts.reports += 1
+        if counts.earlier < self.wanted.skip:
+            counts.earlier += 1
+            return
+        link = session.link or self.open(session)
+        sent = Sent(report, line if len(line.text) <= SHOWN else kept(line), counts.lines - 1, session)
+        self.order.append(sent)
+        link.send(sent)
+        self.links.dirty.add(link)
+
+    def after(self, session: Session, event: str, groups: Groups) -> None:
+        """What the event ends: the numbers of names, and the session."""
+        sessions = self.map.sessions
+        ends = sessions is not None and any(
+            session.places.text(end.literals, end.fields, groups) == event for end in sessions.end
+        )
+        session.places.after(event, groups)
+        if ends:
+            self.end(session)
+
+    def end(self, session: Session) -> None:
+        """Sends nothing more for the session. Its end is shown after its last verdict."""
+        del self.sessions[session.name]
+        if session.link is not None:
+            session.link.finish()
+            if session.link.outgoing:
+                self.links.dirty.add(session.link)
+            self.order.append(session)
+
+    def not_mapped(self, line: Line, groups: Groups, reason: str) -> None:
+        """A line of which a rule makes nothing that can be judged."""
+        key = self.map.sessions.key.filled_from(groups) if self.map.sessions is not None else ""
+        session = self.sessions.get(key or "")
+        self.counts.reports += 1
+        self.counts.statuses[2] = True
+        self.unjudged(kept(line), self.counts.lines - 1, session, reason)
+
+    def unjudged(self, line: Line, index: int, session: Optional[Session], reason: str) -> None:
+        self.counts.not_judged += 1
+        self.printer.not_judged(line, session.name if session else "", reason)
+        if self.context is not None and session is not None:
+            session.case.add(self.context.failure("error", index, line, "not judged: " + reason))
+
+    def is_far_ahead(self) -> bool:
+        """Whether replies have to be waited for before more is read."""
+        if self.stopped or not self.order:
+            return False
+        front = self.order[0]
+        return len(self.order) > AHEAD or isinstance(front, Sent) and self.counts.lines - front.index > WINDOW
+
+    def pump(self, seconds: Optional[float], also: Sequence[int] = ()) -> None:
+        """Writes and reads what it can, waits so long for anything, and shows the verdicts that are complete."""
+        for link in self.links.pump(seconds, also):
+            self.link_ended(link)
+        self.show()
+
+    def link_ended(self, link: Link) -> None:
+        """Nothing more comes from this one. `Lost` where it should have answered more."""
+        session = self.by_link.pop(link)
+        status = link.status()
+        if link.waiting or not (link.finishing or self.stopped):
+            self.show()
+            said = "\n".join(link.errors) or ("it ended with status %d" % status if status is not None else "the connection has ended")
+            count = len(link.waiting)
+            text = "%s: %s" % (link.name, said) if not link.errors else said
+            raise Lost("%s (%d reports were not answered)" % (text, count) if count else text, LOST_STATUSES.get(status or 0, 5))
+        link.close()
+        session.is_over = True
+
+    def show(self) -> None:
+        """Shows the verdicts from the front on that are complete."""
+        order = self.order
+        while order and not self.stopped:
+            front = order[0]
+            if isinstance(front, Session):
+                if not front.is_over:
+                    return
+                self.session_over(front)
+            elif not front.done:
+                return
+            else:
+                self.show_sent(front)
+            order.popleft()
+
+    def show_sent(self, sent: Sent) -> None:
+        session = sent.session
+        assert isinstance(session, Session)
+        session.case.reports += 1
+        if sent.accepted:
+            self.counts.accepted += 1
+            if sent.report.event is not None:
+                self.came.add(sent.report.event)
+            return
+        self.counts.statuses[sent.status] = True
+        if sent.fault:
+            self.unjudged(sent.line, sent.index, session, "%s: ERR %s" % (sent.report.line, sent.fault))
+            return
+        self.counts.rejected += 1
+        self.printer.rejected(sent, session.name)
+        if self.context is not None:
+            text = "%s: NO %s%s" % (sent.report.line, sent.place, ", " + sent.reason if sent.reason else "")
+            session.case.add(self.context.failure("failure", sent.index, sent.line, text))
+        else:
+            session.case.rejected += 1
+        self.stopped = self.stopped or self.wanted.first
+
+    def session_over(self, session: Session) -> None:
+        self.counts.bad_sessions += session.case.rejected > 0
+        if self.junit is not None:
+            self.junit.add(session.case)
+
+    def finish(self) -> None:
+        """Ends all sessions, and waits for what is still to come."""
+        for session in list(self.sessions.values()):
+            self.end(session)
+        while self.by_link and not self.stopped:
+            self.pump(None)
+        if self.stopped:
+            self.abandon()
+        self.counts.without_rule += self.joiner.waiting()
+        self.counts.joined -= self.joiner.waiting()
+
+    def abandon(self) -> None:
+        """Ends at once, with the cases as they are."""
+        for link in self.by_link:
+            link.close()
+        over = {id(session): session for session in [*self.by_link.values(), *self.sessions.values()]}
+        for waiting in self.order:
+            if isinstance(waiting, Session):
+                over[id(waiting)] = waiting
+        for session in over.values():
+            self.session_over(session)
+        self.by_link.clear()
+
+    def close(self, cut: int) -> None:
+        """Shows coverage and counts, and writes the file of JUnit."""
+        self.counts.cut = cut
+        if self.context is not None and self.junit is not None:
+            self.context.complete(True)
+            self.junit.close()
+        if self.wanted.coverage:
+            self.show_coverage()
+        self.printer.counts(self.counts, self.map.sessions is not None)
+        self.printer.flush()
+
+    def show_coverage(self) -> None:
+        never = by_channel(self.rules.events, self.came)
+        unused = [rule.line for rule in self.map.rules if not self.rules.used[rule.number]]
+        self.printer.coverage(never, unused, self.map.file)
+
+
+def by_channel(events: Sequence[str], came: Set[str]) -> List[str]:
+    """The events that never came; one word for all of a channel of which none came."""
+    some = {event.split(".")[0] for event in came}
+    never = [event if event.split(".")[0] in some or "." not in event else event.split(".")[0] + ".*" for event in events if event not in came]
+    return list(dict.fromkeys(never))

@@ -1,0 +1,149 @@
+"""What is printed: a line for each rejected report, what wasn't judged, and the counts."""
+from __future__ import annotations
+
+import re
+from dataclasses import dataclass, field
+from typing import Dict, List, TextIO
+
+from .links import Sent
+from .reading import Line
+
+SHOWN = 1000
+"""The most characters of a log's line that are kept and printed."""
+
+MOST_MESSAGES = 20
+"""How many messages on lines that weren't judged are printed. Further ones are only counted."""
+
+CONTROLS = re.compile(r"[\x00-\x08\x0a-\x1f\x7f-\x9f]")
+"""Characters that a terminal would obey, or that a page of XML can't have."""
+
+ORDER = (4, 5, 1, 6, 2, 0)
+"""Of several statuses, the first of these counts."""
+
+
+def kept(line: Line) -> Line:
+    """The line with no more of its text than is printed."""
+    if len(line.text) <= SHOWN:
+        return line
+    return line._replace(text="%s … (%d characters)" % (line.text[:SHOWN], len(line.text)))
+
+
+def printable(text: str) -> str:
+    """The text without characters that a terminal would obey."""
+    return CONTROLS.sub(lambda found: "\\x%02x" % ord(found[0]), text)
+
+
+def verdict(sent: Sent) -> str:
+    """The report with what was answered, and why."""
+    if sent.fault:
+        return "%s: ERR %s" % (sent.report.line, sent.fault)
+    answer = "NO" if not sent.accepted else "OK"
+    return "%s: %s %s%s" % (sent.report.line, answer, sent.place, ", " + sent.reason if sent.reason else "")
+
+
+@dataclass
+class Counts:
+    """How many lines and reports there were, by what became of them."""
+
+    lines: int = 0
+    reports: int = 0
+    """All reports that a rule made; those that were not judged among them."""
+    accepted: int = 0
+    rejected: int = 0
+    not_judged: int = 0
+    earlier: int = 0
+    """Reports that stood in the history already, and weren't sent."""
+    ignored: int = 0
+    joined: int = 0
+    """First halves of joined lines."""
+    without_rule: int = 0
+    outside: int = 0
+    """Lines of no session: before the event that begins one, or after its end."""
+    sessions: int = 0
+    bad_sessions: int = 0
+    """Sessions with a rejected report."""
+    cut: int = 0
+    """Lines that were longer than they may be."""
+    statuses: Dict[int, bool] = field(default_factory=dict)
+    """The statuses that something asks for."""
+
+    def status(self) -> int:
+        """The status of the run."""
+        return next((status for status in ORDER if status in self.statuses), 0)
+
+    def text(self, in_sessions: bool) -> str:
+        """The last line of a run."""
+        first = "%d lines, %d reports: %d accepted, %d rejected, %d not judged" % (
+            self.lines,
+            self.reports,
+            self.accepted,
+            self.rejected,
+            self.not_judged,
+        )
+        named = [(self.earlier, "in the history before")] if self.earlier else []
+        parts = ["%d %s" % pair for pair in named + [(self.ignored, "ignored"), (self.without_rule, "without a rule")]]
+        more = [(self.joined, "joined"), (self.outside, "outside a session"), (self.cut, "cut")]
+        parts += ["%d %s" % pair for pair in more if pair[0]]
+        if in_sessions:
+            parts.append("%d sessions, %d with a rejected report" % (self.sessions, self.bad_sessions))
+        return "%s; %s" % (first, ", ".join(parts))
+
+
+class Printer:
+    """Prints on two streams: verdicts on one, what is wrong on the other."""
+
+    def __init__(self, out: TextIO, errors: TextIO, quiet: bool, annotations: bool) -> None:
+        self.out, self.errors = out, errors
+        self.quiet, self.annotations = quiet, annotations
+        self.messages = 0
+
+    def rejected(self, sent: Sent, session: str) -> None:
+        """A rejected report, with its line below it."""
+        text = (session + ": " if session else "") + verdict(sent)
+        print("%s:%d: %s" % (sent.line.file, sent.line.number, printable(text)), file=self.out)
+        if not self.quiet:
+            print("    " + printable(sent.line.text), file=self.out)
+        if self.annotations:
+            self.annotate("error", sent.line, text)
+
+    def not_judged(self, line: Line, session: str, reason: str) -> None:
+        """A report that wasn't judged."""
+        text = (session + ": " if session else "") + "not judged: " + reason
+        self.message(line, text)
+
+    def without_rule(self, line: Line) -> None:
+        """A line that no rule takes, where there is to be none."""
+        self.message(line, "no rule takes this line: " + line.text)
+
+    def message(self, line: Line, text: str) -> None:
+        self.messages += 1
+        if self.messages <= MOST_MESSAGES:
+            print("%s:%d: %s" % (line.file, line.number, printable(text)), file=self.errors)
+            if self.annotations:
+                self.annotate("warning", line, text)
+        elif self.messages == MOST_MESSAGES + 1:
+            print("further lines that were not judged are only counted", file=self.errors)
+
+    def annotate(self, kind: str, line: Line, text: str) -> None:
+        """The same as an annotation of GitHub."""
+        words = "file=%s,line=%d,title=cspwatch" % (escaped(line.file, in_field=True), line.number)
+        print("::%s %s::%s" % (kind, words, escaped(printable(text), in_field=False)), file=self.out)
+
+    def coverage(self, never_came: List[str], unused: List[int], map_file: str) -> None:
+        """Which events never came, and which rules took no line."""
+        print("never came: %s" % (" ".join(never_came) or "none"), file=self.out)
+        print("rules that took no line: %s" % (", ".join("%s:%d" % (map_file, line) for line in unused) or "none"), file=self.out)
+
+    def counts(self, counts: Counts, in_sessions: bool) -> None:
+        if not self.quiet:
+            print(counts.text(in_sessions), file=self.out)
+
+    def flush(self) -> None:
+        self.out.flush()
+
+
+def escaped(text: str, in_field: bool) -> str:
+    """The text as an annotation has it."""
+    for plain, code in (("%", "%25"), ("\r", "%0D"), ("\n", "%0A")) + ((((":", "%3A"), (",", "%2C"))) if in_field else ()):
+        text = text.replace(plain, code)
+    return text

@@ -1,0 +1,168 @@
+"""The reference as a program, with the words of cspwatch.
+
+    check SPEC PROCESS [--large]
+    print SPEC PROCESS
+    tree SPEC
+    replay JOURNAL [--large]
+    show JOURNAL [--rejected] [--coverage] [--format json] [--large]
+
+The calls below work on bytes, and answer what the program would write and its exit status.
+"""
+
+from __future__ import annotations
+
+import argparse
+import sys
+import threading
+from collections.abc import Callable
+from typing import NamedTuple, TypeVar
+
+from . import trees
+from .elaboration import read
+from .faults import GivesUp, JournalFault, JudgeFault, ScriptFault
+from .journal import opened
+from .printing import printed
+from .protocol import COMMAND, EVENT, LINE, Conversation
+from .session import Session, replayed
+from .showing import shown
+from .syntax import parse
+
+DONE, REJECTED, BAD_USE, BAD_SCRIPT, BAD_JOURNAL, LIMIT, NO_OPINION = 0, 1, 2, 3, 4, 6, 99
+
+STACK_BYTES = 512 * 1024 * 1024
+DEEPEST_CALLS = 200_000
+
+Result = TypeVar("Result")
+
+
+class Answer(NamedTuple):
+    output: bytes
+    errors: bytes
+    status: int
+
+
+def failed(message: str, status: int) -> Answer:
+    return Answer(b"", message.encode("latin-1") + b"\n", status)
+
+
+def print_script(text: bytes, root: str, name: str = "p.csp") -> Answer:
+    """What `print` answers for a script."""
+    try:
+        return Answer(printed(read(text, root)).encode(), b"", DONE)
+    except ScriptFault as fault:
+        return failed(f"{name}:{fault}", BAD_SCRIPT)
+
+
+def tree(text: bytes, name: str = "p.csp") -> Answer:
+    """The tree of a script as text."""
+    try:
+        return Answer(trees.shown(parse(text)).encode() + b"\n", b"", DONE)
+    except ScriptFault as fault:
+        return failed(f"{name}:{fault}", BAD_SCRIPT)
+
+
+def check(text: bytes, root: str, lines: bytes, large: bool = False, name: str = "p.csp") -> Answer:
+    """What `check` answers for a script and the lines of a conversation."""
+    try:
+        conversation = Conversation(Session(read(text, root), large))
+    except ScriptFault as fault:
+        return failed(f"{name}:{fault}", BAD_SCRIPT)
+    except JudgeFault as fault:
+        return failed(f"{name}: {fault}", LIMIT)
+    output = "".join(reply + "\n" for reply in conversation.replies(lines)).encode()
+    own = {COMMAND, EVENT, LINE}
+    if "rejected" in conversation.outcomes:
+        return Answer(output, b"", REJECTED)
+    if conversation.outcomes - own:
+        return Answer(output, b"", LIMIT)
+    return Answer(output, b"", BAD_USE if conversation.outcomes else DONE)
+
+
+def with_journal(file: bytes, name: str, large: bool, output: Callable[[Session], str]) -> Answer:
+    """What is made of the session of a journal, or the fault that it has."""
+    try:
+        session = replayed(opened(file), large, watches=True)
+    except JournalFault as fault:
+        return failed(f"{name}: {fault}", BAD_JOURNAL)
+    except ScriptFault as fault:
+        return failed(f"{name}: script {fault}", BAD_JOURNAL)
+    except JudgeFault as fault:
+        return failed(f"{name}: {fault}", LIMIT)
+    return Answer(output(session).encode(), b"", REJECTED if session.counts()[3] else DONE)
+
+
+def replay(file: bytes, name: str = "j", large: bool = False) -> Answer:
+    """What `replay` answers for the bytes of a journal."""
+    return with_journal(file, name, large, lambda session: session.summary() + "\n")
+
+
+def show(file: bytes, name: str = "j", rejected: bool = False, coverage: bool = False, as_json: bool = False, large: bool = False) -> Answer:
+    """What `show` answers for the bytes of a journal."""
+    return with_journal(file, name, large, lambda session: shown(session, rejected, coverage, as_json))
+
+
+def with_deep_stack(call: Callable[[], Result]) -> Result:
+    """Runs a call with room for deep recursion, since scripts and terms are walked by recursion."""
+    results: list[Result] = []
+    errors: list[BaseException] = []
+
+    def run() -> None:
+        try:
+            results.append(call())
+        except BaseException as error:
+            errors.append(error)
+
+    sys.setrecursionlimit(DEEPEST_CALLS)
+    threading.stack_size(STACK_BYTES)
+    thread = threading.Thread(target=run)
+    thread.start()
+    thread.join()
+    if errors:
+        raise errors[0]
+    return results[0]
+
+
+def words() -> argparse.ArgumentParser:
+    parser = argparse.ArgumentParser(prog="reference", description="A second opinion on cspwatch.")
+    commands = parser.add_subparsers(dest="command", required=True)
+    for command in ("check", "print", "tree"):
+        one = commands.add_parser(command)
+        one.add_argument("spec")
+        if command != "tree":
+            one.add_argument("process")
+    for command in ("replay", "show"):
+        commands.add_parser(command).add_argument("journal")
+    for command in ("check", "replay", "show"):
+        commands.choices[command].add_argument("--large", action="store_true")
+    show_words = commands.choices["show"]
+    show_words.add_argument("--rejected", action="store_true")
+    show_words.add_argument("--coverage", action="store_true")
+    show_words.add_argument("--format", choices=["text", "json"], default="text")
+    return parser
+
+
+def answer(given: argparse.Namespace) -> Answer:
+    name = given.journal if given.command in ("replay", "show") else given.spec
+    with open(name, "rb") as file:
+        content = file.read()
+    if given.command == "print":
+        return print_script(content, given.process, name)
+    if given.command == "tree":
+        return tree(content, name)
+    if given.command == "check":
+        return check(content, given.process, sys.stdin.buffer.read(), given.large, name)
+    if given.command == "replay":
+        return replay(content, name, given.large)
+    return show(content, name, given.rejected, given.coverage, given.format == "json", given.large)
+
+
+def main() -> int:
+    given = words().parse_args()
+    try:
+        found = with_deep_stack(lambda: answer(given))
+    except GivesUp:
+        found = failed("no opinion: there is too much to list", NO_OPINION)
+    sys.stdout.buffer.write(found.output)
+    sys.stdout.flush()
+    sys.stderr.buffer.write(found.errors)
+    return found.status
