@@ -9,7 +9,7 @@ use Rattle.term.specs.declared.names.Names.{Names}
 use Rattle.term.specs.declared.names.Names.TheVariants.{Steps, Bodies}
 use Rattle.spaces.specs.AfterFault.{AfterFault}
 use Rattle.spaces.specs.AfterFault.TheVariants.{Depth, States, Memory}
-use Rattle.spaces.specs.Limits.{EventMeetsBy, EventMeetsNoneBy, OpeningMeets, OpeningMeetsBy, OpeningMeetsNone, OpeningMeetsNoneBy, unfolding_depth}
+use Rattle.spaces.specs.Limits.{EventMeetsBy, EventMeetsNoneBy, OpeningMeets, OpeningMeetsBy, OpeningMeetsNone, OpeningMeetsNoneBy}
 use Rattle.monitor.specs.Monitors.{MeetsNone, Stops}
 
 -- ---- out of memory says nothing
@@ -19,7 +19,7 @@ event_memory_by Steps B n u x = tt
 event_memory_by Bodies B n u x = tt
 
 pub stops-memory : (spec : Specified) (u : List Event) (r : Report) → Stops spec u r Memory
-stops-memory spec u (report.Event x) = event_memory_by spec.names (bodies_of spec.bodies) (unfolding_depth spec) u x
+stops-memory spec u (report.Event x) = event_memory_by spec.names (bodies_of spec.bodies) _ u x
 stops-memory spec u (report.Refusal X) = refl
 
 -- ---- what meets no limit is refused by memory alone
@@ -41,8 +41,8 @@ event_by Bodies B n u x States below meets = absurd ((below meets.0).1 meets.1)
 event_by Bodies B n u x Memory below meets = refl
 
 pub opening_refused : (spec : Specified) (fault : AfterFault) → OpeningMeetsNone spec → OpeningMeets spec fault → fault ≡ Memory
-opening_refused spec fault below meets = opening_by spec.names (bodies_of spec.bodies) (unfolding_depth spec) fault below meets
+opening_refused spec fault below meets = opening_by spec.names (bodies_of spec.bodies) _ fault below meets
 
 pub report_refused : (spec : Specified) (u : List Event) (said : Report) (fault : AfterFault) → MeetsNone spec u said → Stops spec u said fault → fault ≡ Memory
-report_refused spec u (report.Event x) fault below stops = event_by spec.names (bodies_of spec.bodies) (unfolding_depth spec) u x fault below stops
+report_refused spec u (report.Event x) fault below stops = event_by spec.names (bodies_of spec.bodies) _ u x fault below stops
 report_refused spec u (report.Refusal X) fault below stops = stops
