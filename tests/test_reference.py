@@ -41,8 +41,10 @@ def answer(case: Case) -> Answer | None:
         return reference.check(files[words[1]], words[2], given, name=words[1])
     if words[0] == "print" and len(words) == 3:
         return reference.print_script(files[words[1]], words[2], words[1])
-    if words[0] in ("replay", "show") and len(words) == 2:
-        return (reference.replay if words[0] == "replay" else reference.show)(files[words[1]], words[1])
+    if words[0] == "replay" and len(words) == 2:
+        return reference.replay(files[words[1]], words[1])
+    if words[0] == "show" and len(words) == 2:
+        return reference.show(files[words[1]], words[1])
     return None
 
 
