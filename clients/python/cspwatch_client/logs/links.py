@@ -56,6 +56,13 @@ class Sent:
         self.reason = ""
         """Why the report was rejected, where that is known."""
 
+    @classmethod
+    def unjudged(cls, line: Line, index: int, session: object, reason: str) -> Sent:
+        """What stands for a line of which no report could be made."""
+        found = cls(Report("", None), line, index, session)
+        found.done, found.fault, found.status = True, reason, 2
+        return found
+
     def answer(self, reply: bytes) -> bool:
         """Takes the reply. False where the protocol has no such reply."""
         verdict = VERDICT.fullmatch(reply)
