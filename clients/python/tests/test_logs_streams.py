@@ -132,11 +132,11 @@ class Streams(InFolder):
     def environment(self, **more):
         return super().environment(CSPWATCH=PROGRAM, **more)
 
-    def work(self, *words):
-        """A run of the command by a Python that has the package redis, in a group of processes of its own."""
+    def work(self, *words, out=subprocess.PIPE):
+        """A run of the command by a Python that has the package redis."""
         return subprocess.Popen(
             [PYTHON, "-m", "cspwatch_client.logs", *words],
-            cwd=self.folder, env=self.environment(), stdout=subprocess.PIPE, stderr=subprocess.PIPE, stdin=subprocess.DEVNULL,
+            cwd=self.folder, env=self.environment(), stdout=out, stderr=subprocess.PIPE, stdin=subprocess.DEVNULL,
         )
 
     def histories(self, name):
@@ -152,6 +152,11 @@ class Streams(InFolder):
         self.assertIn(worker.returncode, (0, 1), errors.decode())
         return out
 
+    def wait_for(self, worker, name, size):
+        """Waits until the record has so many bytes, or the worker has ended."""
+        while worker.poll() is None and not (os.path.exists(self.path(name)) and os.path.getsize(self.path(name)) > size):
+            time.sleep(0.01)
+
     def test_killed_workers_give_the_histories_of_one_run(self):
         lines = lines_of(LINES, SESSIONS)
         self.file("whole.log", "".join(line + "\n" for line in lines))
@@ -160,21 +165,23 @@ class Streams(InFolder):
 
         def begin(number):
             words = ["--quiet", "--stream", self.url, "--partition", "%d/%d" % (number, WORKERS), "--record", "part%d" % number]
-            return self.work(*words, "m.toml")
+            return self.work(*words, "m.toml", out=subprocess.DEVNULL)
 
         chance = random.Random(LINES)
+        size = os.path.getsize(self.path("whole")) / WORKERS
         workers = {number: begin(number) for number in range(1, WORKERS + 1)}
-        kills = 0
-        while kills < KILLS:
-            time.sleep(chance.random() * LINES / 50000)
+        amid = 0
+        for when in sorted(chance.random() for _ in range(KILLS)):
             number = chance.randint(1, WORKERS)
-            if workers[number].poll() is not None:
-                # It has ended already. As after a kill, a part of its record may be all that is left.
-                os.truncate(self.path("part%d" % number), chance.randrange(os.path.getsize(self.path("part%d" % number))))
+            # Three of four are killed amid what they add, the others amid what stands in the record already.
+            if chance.random() < 0.75:
+                self.wait_for(workers[number], "part%d" % number, 0.9 * when * size)
+                amid += workers[number].poll() is None
+            time.sleep(chance.random() * 0.1)
             workers[number].kill()
             workers[number].communicate()
             workers[number] = begin(number)
-            kills += 1
+        self.assertGreater(amid, KILLS // 4)
         for worker in workers.values():
             self.finish(worker)
         wanted, found = self.histories("whole"), {}

@@ -31,6 +31,7 @@ LINES = [
     (["m.toml", ""], {"m.toml", "a.log"}),
     (["--server", "127.0.0.1", ":", "4050", "--seat", "3", "m.toml", "a"], {"a.log"}),
     (["--junit", ""], {"m.toml", "a.log"}),
+    (["--stream", "redis", ":", "//127.0.0.1", ":", "6379/log", "--partition", "1/4", ""], {"m.toml"}),
 ]
 
 
