@@ -114,7 +114,7 @@ def run(options: argparse.Namespace, out: TextIO, errors: TextIO) -> int:
     try:
         is_whole = read_all(running, sources, options.follow)
         running.finish()
-    except (Lost, StreamFault) as fault:
+    except (Lost, StreamFault, RecordFault) as fault:
         running.counts.statuses[fault.status] = True
         printer.flush()
         said(fault, fault.status)

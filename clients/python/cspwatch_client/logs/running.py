@@ -308,8 +308,6 @@ class Run:
         is_whole -- whether the whole log was read and judged.
         """
         self.counts.cut = cut
-        if self.wanted.record is not None:
-            self.wanted.record.close(is_whole)
         if self.context is not None and self.junit is not None:
             self.context.complete(True)
             self.junit.close()
@@ -317,6 +315,8 @@ class Run:
             self.show_coverage()
         self.printer.counts(self.counts, self.map.sessions is not None)
         self.printer.flush()
+        if self.wanted.record is not None:
+            self.wanted.record.close(is_whole)
 
     def show_coverage(self) -> None:
         never = by_channel(self.rules.events, self.came)
