@@ -36,7 +36,18 @@ SECONDS = 30
 class Sent:
     """A report that was sent, and what became of it."""
 
-    __slots__ = ("report", "line", "index", "session", "done", "accepted", "place", "fault", "status", "reason")
+    # Most reports are accepted, so what is as it is at the beginning is kept once for all of them.
+    done = False
+    """Whether the answer is complete."""
+    accepted = False
+    place: Optional[int] = None
+    """The place in the history; None where the report wasn't judged."""
+    fault = ""
+    """What was answered in place of a verdict, as `21 states`; empty where there is a verdict."""
+    status = 0
+    """What the answer asks for as the status of the run."""
+    reason = ""
+    """Why the report was rejected, where that is known."""
 
     def __init__(self, report: Report, line: Line, index: int, session: object) -> None:
         self.report = report
@@ -44,17 +55,6 @@ class Sent:
         self.index = index
         """The number of the line among all lines that were read."""
         self.session = session
-        self.done = False
-        """Whether the answer is complete."""
-        self.accepted = False
-        self.place: Optional[int] = None
-        """The place in the history; None where the report wasn't judged."""
-        self.fault = ""
-        """What was answered in place of a verdict, as `21 states`; empty where there is a verdict."""
-        self.status = 0
-        """What the answer asks for as the status of the run."""
-        self.reason = ""
-        """Why the report was rejected, where that is known."""
 
     @classmethod
     def unjudged(cls, line: Line, index: int, session: object, reason: str) -> Sent:
@@ -67,8 +67,11 @@ class Sent:
         """Takes the reply. False where the protocol has no such reply."""
         verdict = VERDICT.fullmatch(reply)
         if verdict is not None:
-            self.accepted, self.place = verdict[1] == b"OK", int(verdict[2])
-            self.status = 0 if self.accepted else 1
+            self.place = int(verdict[2])
+            if verdict[1] == b"OK":
+                self.accepted = True
+            else:
+                self.status = 1
             return True
         fault = FAULT.fullmatch(reply)
         if fault is not None:
