@@ -10,7 +10,7 @@ from collections import deque
 from typing import Deque, Dict, List, Optional, Sequence, Set
 
 from ..client import split_address
-from ..replies import FAULT, VERDICT, FaultCode
+from ..replies import FAULT, FaultCode
 from .mapping import Report
 from .reading import Line
 
@@ -25,6 +25,9 @@ EXPLAINED = re.compile(r"line (\d+): .*?: NO \d+, (.*)")
 
 SEATED = re.compile(rb"I ([1-9][0-9]*) (0|[1-9][0-9]*)")
 """The reply to a line `I n`: the seat, and how many of its reports stand in the history."""
+
+PLACE_DIGITS = 20
+"""The most digits of a place."""
 
 LAST_LINES = 20
 """How many lines of the program's standard error are kept, for what it says when it ends."""
@@ -65,10 +68,11 @@ class Sent:
 
     def answer(self, reply: bytes) -> bool:
         """Takes the reply. False where the protocol has no such reply."""
-        verdict = VERDICT.fullmatch(reply)
-        if verdict is not None:
-            self.place = int(verdict[2])
-            if verdict[1] == b"OK":
+        # Most replies are these, so they are read without a regular expression.
+        kind, place = reply[:3], reply[3:]
+        if kind in (b"OK ", b"NO ") and place.isdigit() and place[:1] != b"0" and len(place) <= PLACE_DIGITS:
+            self.place = int(place)
+            if kind == b"OK ":
                 self.accepted = True
             else:
                 self.status = 1

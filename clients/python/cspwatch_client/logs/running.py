@@ -14,10 +14,13 @@ from .reading import Line
 from .record import Record
 from .showing import SHOWN, Counts, Printer, kept, verdict
 
-AHEAD = 8192
+AHEAD = 32768
 """The most reports that are sent ahead of their replies, of all sessions together."""
 
-WINDOW = 65536
+BATCH = 16384
+"""How many reports of many sessions are gathered, while there is more to be read: a large write for each costs less than many."""
+
+WINDOW = 32768
 """The most lines that are read after one whose report waits for its reply."""
 
 NO_GROUPS: Groups = {}
@@ -94,7 +97,8 @@ class Run:
                 counts.joined += 1
             else:
                 self.take_text(line, text)
-        self.pump(0)
+        if self.single is not None or len(self.order) >= BATCH:
+            self.pump(0)
         while self.is_far_ahead():
             self.pump(None)
 
