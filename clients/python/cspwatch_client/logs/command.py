@@ -115,7 +115,7 @@ def run(options: argparse.Namespace, out: TextIO, errors: TextIO) -> int:
         is_whole = read_all(running, sources, options.follow)
         running.finish()
     except (Lost, StreamFault, RecordFault) as fault:
-        running.counts.statuses[fault.status] = True
+        running.counts.statuses.add(fault.status)
         printer.flush()
         said(fault, fault.status)
         running.abandon()
@@ -124,7 +124,7 @@ def run(options: argparse.Namespace, out: TextIO, errors: TextIO) -> int:
     is_whole = is_whole and not running.stopped
     if running.counts.earlier < skip and is_whole:
         said("cspwatch-logs: %d reports of the seat stand in the history, and the log has %d" % (skip, running.counts.earlier), 2)
-        running.counts.statuses[2] = True
+        running.counts.statuses.add(2)
     running.close(cut_lines(sources), is_whole)
     return running.counts.status()
 

@@ -110,7 +110,7 @@ class Run:
         if found is None:
             self.counts.without_rule += 1
             if self.wanted.strict:
-                self.counts.statuses[2] = True
+                self.counts.statuses.add(2)
                 self.printer.without_rule(kept(line))
             return
         rule, match = found
@@ -260,7 +260,7 @@ class Run:
             if sent.report.event is not None:
                 self.came.add(sent.report.event)
             return
-        self.counts.statuses[sent.status] = True
+        self.counts.statuses.add(sent.status)
         if sent.fault:
             self.counts.not_judged += 1
             text = "not judged: " + ("%s: ERR %s" % (sent.report.line, sent.fault) if sent.report.line else sent.fault)

@@ -3,7 +3,7 @@ from __future__ import annotations
 
 import re
 from dataclasses import dataclass, field
-from typing import Dict, List, TextIO
+from typing import List, Set, TextIO
 
 from .links import Sent
 from .reading import Line
@@ -61,7 +61,7 @@ class Counts:
     """Sessions with a rejected report."""
     cut: int = 0
     """Lines that were longer than they may be."""
-    statuses: Dict[int, bool] = field(default_factory=dict)
+    statuses: Set[int] = field(default_factory=set)
     """The statuses that something asks for."""
 
     def status(self) -> int:
