@@ -35,6 +35,15 @@ class OverAStandIn(InFolder):
                counts(6, 4, 2, 2, rest="1 ignored, 1 without a rule")]
         self.assertEqual(self.logs("m.toml", given=given), (1, out, []))
 
+    def test_a_reason_that_does_not_come(self):
+        self.file("p.csp", "channel open : {0, 1}\nchannel close : {0, 1}\nchannel bad\nno|E bad|\nno|R open.0|offers close.0\n")
+        run = self.start("--quiet", "m.toml")
+        run.stdin.write(b"bad\n")
+        run.stdin.flush()
+        self.assertEqual(run.stdout.readline(), b"-:1: E bad: NO 1\n")
+        out = run.communicate(b"bad\nno 0\nbad\n", SECONDS)[0]
+        self.assertEqual(out, b"-:2: E bad: NO 2\n-:3: R open.0: NO 3, offers close.0\n-:4: E bad: NO 4\n")
+
     def test_a_program_without_explanations(self):
         out = ["-:1: E bad: NO 1", "    bad", counts(1, 1, 0, 1)]
         self.assertEqual(self.logs("m.toml", given=b"bad\n", STAND_IN_OPTIONS=""), (1, out, []))

@@ -6,6 +6,7 @@ import re
 import selectors
 import socket
 import subprocess
+import time
 from collections import deque
 from typing import Deque, Dict, List, Optional, Sequence, Set
 
@@ -32,6 +33,9 @@ PLACE_DIGITS = 20
 LAST_LINES = 20
 """How many lines of the program's standard error are kept, for what it says when it ends."""
 
+REASON_SECONDS = 2
+"""How long the reason of a rejected report may come after its verdict."""
+
 SECONDS = 30
 """How long a server may take to be connected to, and to give a seat."""
 
@@ -51,6 +55,8 @@ class Sent:
     """What the answer asks for as the status of the run."""
     reason = ""
     """Why the report was rejected, where that is known."""
+    since = 0.0
+    """Since when its reason is waited for, by the clock `monotonic`."""
 
     def __init__(self, report: Report, line: Line, index: int, session: object) -> None:
         self.report = report
@@ -65,6 +71,12 @@ class Sent:
         found = cls(Report("", None), line, index, session)
         found.done, found.fault, found.status = True, reason, 2
         return found
+
+    def is_complete(self) -> bool:
+        """Whether its answer is complete, or its reason has been waited for long enough."""
+        if not self.done and self.since and time.monotonic() - self.since > REASON_SECONDS:
+            self.done = True
+        return self.done
 
     def answer(self, reply: bytes) -> bool:
         """Takes the reply. False where the protocol has no such reply."""
@@ -192,10 +204,11 @@ class Link:
             self.answered += 1
             if not sent.answer(reply):
                 raise Lost("%s: %r was answered by %r" % (self.name, sent.report.line, reply[:200]))
-            if sent.accepted or sent.fault or not self.explains or self.told not in self.open:
+            if sent.accepted or sent.fault or sent.reason or not self.explains or self.told not in self.open:
                 sent.done = True
             else:
                 self.unexplained[self.answered] = sent
+                sent.since = time.monotonic()
 
     def take_error(self, line: str) -> None:
         """A line of standard error. A reason may come before its verdict is read."""
@@ -204,6 +217,9 @@ class Link:
             self.errors.append(line)
             return
         number = int(found[1])
+        for earlier in [one for one in self.unexplained if one < number]:
+            # Reasons come in the order of the reports, so these have none.
+            self.unexplained.pop(earlier).done = True
         sent = self.unexplained.pop(number, None)
         if sent is None and 0 < number - self.answered <= len(self.waiting):
             self.waiting[number - self.answered - 1].reason = found[2]
@@ -323,10 +339,10 @@ class Links:
         for end in link.open:
             self.selector.register(end, selectors.EVENT_READ, link)
 
-    def pump(self, seconds: Optional[float], also: Sequence[int] = ()) -> List[Link]:
+    def pump(self, seconds: float, also: Sequence[int] = ()) -> List[Link]:
         """Writes what can be written, and reads what has come; waits so long for anything. Answers the links that have ended.
 
-        seconds -- the longest wait; None for ever.
+        seconds -- the longest wait.
         also -- descriptors that end the waiting too, such as a log's.
         """
         for link in self.dirty:

@@ -23,6 +23,9 @@ BATCH = 16384
 WINDOW = 32768
 """The most lines that are read after one whose report waits for its reply."""
 
+WAIT_SECONDS = 1
+"""How long replies are waited for before it is looked whether a reason has been waited for long enough."""
+
 NO_GROUPS: Groups = {}
 
 LOST_STATUSES = {3: 3, 6: 6}
@@ -100,7 +103,7 @@ class Run:
         if self.single is not None or len(self.order) >= BATCH:
             self.pump(0)
         while self.is_far_ahead():
-            self.pump(None)
+            self.pump(WAIT_SECONDS)
 
     def take_text(self, line: Line, text: str) -> None:
         """A line as the rules see it."""
@@ -214,7 +217,7 @@ class Run:
         front = self.order[0]
         return len(self.order) > AHEAD or isinstance(front, Sent) and self.counts.lines - front.index > WINDOW
 
-    def pump(self, seconds: Optional[float], also: Sequence[int] = ()) -> None:
+    def pump(self, seconds: float, also: Sequence[int] = ()) -> None:
         """Writes and reads what it can, waits so long for anything, and shows the verdicts that are complete."""
         for link in self.links.pump(seconds, also):
             self.link_ended(link)
@@ -244,7 +247,7 @@ class Run:
                 if not front.is_over:
                     return
                 self.session_over(front)
-            elif not front.done:
+            elif not front.is_complete():
                 return
             else:
                 self.show_sent(front)
@@ -287,7 +290,7 @@ class Run:
         for session in list(self.sessions.values()):
             self.end(session)
         while self.by_link and not self.stopped:
-            self.pump(None)
+            self.pump(WAIT_SECONDS)
         if self.stopped:
             self.abandon()
         self.counts.without_rule += self.joiner.waiting()
