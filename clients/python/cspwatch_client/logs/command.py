@@ -12,7 +12,8 @@ from typing import Callable, List, Optional, Sequence, TextIO
 from ..client import split_address
 
 if sys.version_info < (3, 11):
-    raise SystemExit("cspwatch-logs needs Python 3.11 or later, this is %d.%d" % sys.version_info[:2])
+    print("cspwatch-logs needs Python 3.11 or later, this is %d.%d" % sys.version_info[:2], file=sys.stderr)
+    raise SystemExit(2)
 
 from .junit import JUnit, suite_of
 from .links import Check, Connection, Link, Lost
