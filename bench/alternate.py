@@ -4,7 +4,11 @@
 alternate.py PROVED PLAIN LINES TURNS: both read the file LINES, and write into a file beside it, into a pipe to `cat`, and into
 /dev/null. Which one goes first changes with each turn. A ratio is PLAIN's time over PROVED's.
 """
-import os, statistics, subprocess, sys, time
+import os
+import statistics
+import subprocess
+import sys
+import time
 
 TIMES = ("wall", "user", "system", "user + system")
 

@@ -107,9 +107,12 @@ def empty_last_set():
     return "P = [] x:{0..65535}, y:{0..65535}, z:{} @ STOP\n"
 
 
-KINDS = [("definitions", definitions), ("names", names), ("names turned round", names_turned_round), ("sets of values", sets_of_values), ("sets of events", sets_of_events),
-         ("a wide body", long_choice), ("inputs", inputs), ("printed form", printed), ("instances", instances), ("instances of two", pairs), ("replicated", replicated),
-         ("generators", generators), ("without end", without_end), ("without events", without_events), ("doubled", doubled), ("an empty last set", empty_last_set)]
+KINDS = [("definitions", definitions), ("names", names), ("names turned round", names_turned_round), ("sets of values", sets_of_values),
+         ("sets of events", sets_of_events),
+         ("a wide body", long_choice), ("inputs", inputs), ("printed form", printed), ("instances", instances), ("instances of two", pairs),
+         ("replicated", replicated),
+         ("generators", generators), ("without end", without_end), ("without events", without_events), ("doubled", doubled),
+         ("an empty last set", empty_last_set)]
 
 
 def timed(program, path, root, processor):

@@ -7,7 +7,8 @@ The journal is a file in memory (/dev/shm). Each line is the report of an event 
 peer run in turn, and which one goes first changes with each turn. A ratio is the peer's time over the program's, of the medians and as the
 median of the pairs; above 1 the program is faster. In the last measurements the journal is in DIR (the project's folder, if not said), with so
 many records; the peer is the plain server again, then a loop that writes a record, syncs, writes its gate, and syncs, and then the same loop with
-a reply after each record. With "polling" the client doesn't sleep for replies, so none of them has to wake it. With --sync the journal is in memory there too, and a sync takes so many nanoseconds (slow_sync.c); nothing
+a reply after each record. With "polling" the client doesn't sleep for replies, so none of them has to wake it. With --sync the journal is in memory there
+too, and a sync takes so many nanoseconds (slow_sync.c); nothing
 else is measured then.
 """
 import argparse

@@ -10,7 +10,8 @@ The program bench/shared_speed has to be proved to be built (its files end in .t
 of a crate for one that was forgotten). That is done in DIR, a copy of the crates that it stands on with their proved
 libraries (crates/*/out/rlib, 3 GB; where one is missing or old, it is proved there anew). Without --folder it is a temporary folder, which is removed; a
 folder that is kept serves again. Program and peer (shared_peer.rs) run in turn, and which one goes first changes with each turn. The peer
-judges as the program does, by numbered sets of terms and remembered answers; the row `by a table` has a peer that judges by a table of two states. A ratio is the peer's time
+judges as the program does, by numbered sets of terms and remembered answers; the row `by a table` has a peer that judges by a table of two
+states. A ratio is the peer's time
 over the program's: above 1 the program is faster.
 """
 import argparse
@@ -100,7 +101,9 @@ def reports(program, peer, threads, places, each, turns):
             times[it].append(seconds)
     ours = times.pop("program")
     for it, theirs in times.items():
-        print("%2d threads, %2d places: program %8.0f reports a second, plain Rust %s %8.0f, ratio of the medians %.2f, of the shortest %.2f, median of the pairs %.2f" % (
+        line = ("%2d threads, %2d places: program %8.0f reports a second, plain Rust %s %8.0f, ratio of the medians %.2f, of the shortest %.2f, "
+                "median of the pairs %.2f")
+        print(line % (
             threads, places, threads * each / statistics.median(ours), {"numbers": "by numbered sets", "table": "by a table      "}[it],
             threads * each / statistics.median(theirs), statistics.median(theirs) / statistics.median(ours), min(theirs) / min(ours),
             statistics.median(b / a for a, b in zip(ours, theirs))), flush=True)

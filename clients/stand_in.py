@@ -17,7 +17,7 @@ HOLD = object()
 RESET = object()
 """As the last step of a conversation: the connection is cut, not ended."""
 
-SECONDS = 20
+SECONDS = 60
 """The longest that a test waits for anything."""
 
 

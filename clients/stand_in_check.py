@@ -2,8 +2,8 @@
 """A program with the words of `cspwatch` and the newer options of `check`, for the tests of `cspwatch-logs`. It judges nothing.
 
 The script is a list of lines: `channel ..` as `print` writes them, `no|REPORT|REASON` for a report that is rejected, with the reason
-that `--explain` gives, `fault|REPORT|CODE WORD` for one that is answered by `ERR`, and `end|REPORT|STATUS TEXT` for one at which the
-program ends. The variable STAND_IN_OPTIONS has the options that its `check` has.
+that `--explain` gives (none where it is empty), `fault|REPORT|CODE WORD` for one that is answered by `ERR`, and
+`end|REPORT|STATUS TEXT` for one at which the program ends. The variable STAND_IN_OPTIONS has the options that its `check` has.
 """
 import os
 import sys
@@ -28,7 +28,7 @@ def check(spec, explains):
             print(text, file=sys.stderr)
             return int(status)
         print({"ok": "OK %d" % place, "no": "NO %d" % place}.get(kind, "ERR " + text), flush=True)
-        if kind == "no" and explains:
+        if kind == "no" and text and explains:
             print("line %d: %s: NO %d, %s" % (number, line, place, text), file=sys.stderr, flush=True)
     return 0
 

@@ -23,6 +23,10 @@ SECONDS = 20.0
 """What the program may take for a script."""
 
 
+AGAIN = ["P = STOP", "channel a", "datatype P = q", "K(n) = STOP", "N = 1", "L = Q", "P2 = (P)", "K(n, n) = STOP", "L = if 1 < 2 then 1 else STOP"]
+"""Declarations of names that may be declared already, and others."""
+
+
 class Scripts:
     """One generated script: what it has declared so far, and its text."""
 
@@ -30,11 +34,17 @@ class Scripts:
         self.rng = rng
         # how often a part is chosen without regard to its kind or its declaration
         self.wild = rng.choice([0, 0, 0.004, 0.02, 0.06])
-        self.numbers, self.truths, self.value_sets, self.event_sets, self.processes = [], [], [], [], []
+        self.numbers: list[str] = []
+        self.truths: list[str] = []
+        self.value_sets: list[str] = []
+        self.event_sets: list[str] = []
+        self.processes: list[str] = []
         # the names of definitions with parameters, and how many each has
-        self.calls = {}
-        self.constants, self.datatypes, self.channels = [], [], {}
-        self.lines = []
+        self.calls: dict[str, int] = {}
+        self.constants: list[str] = []
+        self.datatypes: list[str] = []
+        self.channels: dict[str, list[str]] = {}
+        self.lines: list[str] = []
 
     def chance(self, share):
         return self.rng.random() < share
@@ -302,7 +312,7 @@ class Scripts:
                 parameters[-1] = rng.choice(["x", "n"] + self.constants[:1])
             self.add("%s(%s) = %s" % (name, ", ".join(parameters), self.ended(parameters)))
         if self.chance(self.wild):
-            self.add(rng.choice(["P = STOP", "channel a", "datatype P = q", "K(n) = STOP", "N = 1", "L = Q", "P2 = (P)", "K(n, n) = STOP", "L = if 1 < 2 then 1 else STOP"]))
+            self.add(rng.choice(AGAIN))
 
     def text(self):
         self.declare()

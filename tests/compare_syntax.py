@@ -14,7 +14,6 @@ import argparse
 import functools
 import os
 import random
-import re
 import resource
 import shutil
 import subprocess

@@ -329,7 +329,8 @@ def try_streams(options, library, book):
         write_file(os.path.join(folder, "p.csp"), SCRIPT)
         calls_file = os.path.join(folder, "calls")
         for descriptor in (0, 1):
-            for how, fault, always in (("nothing", errno.EIO, 0), ("nothing", errno.EIO, ALWAYS), ("nothing", errno.EINTR, 0), ("short", errno.EIO, 0), ("short", errno.EIO, ALWAYS)):
+            for how, fault, always in (("nothing", errno.EIO, 0), ("nothing", errno.EIO, ALWAYS), ("nothing", errno.EINTR, 0),
+                                       ("short", errno.EIO, 0), ("short", errno.EIO, ALWAYS)):
                 for call in range(1, 1000):
                     write_file(calls_file, b"")
                     environment = failing(library, call, max(call, always), how, fault, FAILING_FD=descriptor, FAILING_CALLS=calls_file)
@@ -339,7 +340,8 @@ def try_streams(options, library, book):
                         break
                     problems = stream_problems(done, wanted, descriptor, how, fault)
                     book.count("streams", ("input " if descriptor == 0 else "output ") + how)
-                    book.note("streams", ["descriptor %d, call %d %s %s: %s" % (descriptor, call, how, errno.errorcode[fault], problem) for problem in problems], {"p.csp": SCRIPT, "input": given})
+                    where = "descriptor %d, call %d %s %s" % (descriptor, call, how, errno.errorcode[fault])
+                    book.note("streams", ["%s: %s" % (where, problem) for problem in problems], {"p.csp": SCRIPT, "input": given})
 
 
 def stream_problems(done, wanted, descriptor, how, fault):
@@ -526,7 +528,8 @@ def explained(memory, lines, replies, words):
     closed = False
     for line, reply in zip(lines, replies):
         wrong_place = reply == b"ERR 31 closed" and not closed or closed and report_of(line) and reply not in (b"ERR 31 closed", b"ERR 11 event")
-        if wrong_place or reply in (b"ERR 40 memory", b"ERR 30 journal", b"ERR 31 closed") and line in (b"S", b"Q") or reply[4:6] in (b"30", b"31") and line == b"N":
+        never = reply in (b"ERR 40 memory", b"ERR 30 journal", b"ERR 31 closed") and line in (b"S", b"Q")
+        if wrong_place or never or reply[4:6] in (b"30", b"31") and line == b"N":
             return False
         if line == b"S" and reply.endswith(b"closed") != closed:
             return False

@@ -1,7 +1,7 @@
 #!/usr/bin/env python3
 """Scripts, lines and journals that were damaged at random, and each limit: the built program has to answer as the documents say.
 
-    tests/hostile.py [--program FILE] [--each 2000] [--seed 1] [--jobs 4] [--only KIND ..] [--keep DIR] [--folder DIR]
+    tests/hostile.py [--program FILE] [--each 2000] [--seed 1] [--jobs 4] [--only KIND ..] [--keep DIR] [--folder DIR] [--plain]
 
 The kinds are
 - `scripts`: `print` tells a fault of docs/LANGUAGE.md, or prints a script that prints the same again; `check` tells the same fault, or
@@ -15,7 +15,8 @@ The kinds are
 - `limits`: what stands at a limit, and one beyond.
 
 No run may end by a signal, take more than ten seconds (--seconds), or end with another status than the one that its output calls for. An input that
-fails is kept (--keep). The last line is `N passed, M failed`, over the inputs.
+fails is kept (--keep). Where hypothesis is installed it makes some further inputs of each kind, and makes one that fails
+small. The last line is `N passed, M failed`, over the inputs.
 """
 import argparse
 import concurrent.futures
@@ -28,6 +29,7 @@ import tempfile
 
 sys.dont_write_bytecode = True
 
+import generated  # noqa: E402
 from contents import octets  # noqa: E402
 from sweeping import (  # noqa: E402
     HERE, NAMES, REPLY, SCRIPT, SCRIPT_WORDS, Book, History, Link, Run, Server, add_options, begin, journal_bytes, journal_of,
@@ -91,8 +93,10 @@ def damaged(rng, data, words):
 TOKENS = [
     b"channel ", b"datatype ", b"STOP", b"SKIP", b"Events", b"union(", b"inter(", b"diff(", b"if ", b" then ", b" else ", b" and ", b" or ", b"not ", b"true",
     b"false", b" -> ", b" <- ", b" [] ", b" |~| ", b" ||| ", b" ; ", b" /\\ ", b" \\ ", b" [| ", b" |] ", b"[", b" || ", b"]", b"[[", b"]]", b"{", b"}", b"{| ",
-    b" |}", b"(", b")", b"..", b".", b"?", b"!", b", ", b":", b" = ", b"|", b"@", b"&", b"+", b"-", b"*", b"%", b"==", b"!=", b"<", b"<=", b">", b">=", b"[>", b"/",
-    b"_", b"let ", b"within ", b"assert ", b"--", b"{-", b"-}", b"\n", b" ", b"\t", b"\r", b"\0", b"\x80", b"a", b"b", b"c", b"P", b"Q", b"x", b"CHAOS", b"0", b"1", b"2",
+    b" |}", b"(", b")", b"..", b".", b"?", b"!", b", ", b":", b" = ", b"|", b"@", b"&", b"+", b"-", b"*", b"%", b"==", b"!=", b"<", b"<=", b">", b">=",
+    b"[>", b"/",
+    b"_", b"let ", b"within ", b"assert ", b"--", b"{-", b"-}", b"\n", b" ", b"\t", b"\r", b"\0", b"\x80", b"a", b"b", b"c", b"P", b"Q", b"x",
+    b"CHAOS", b"0", b"1", b"2",
     b"-1", b"1000000", b"1000001", b"{0..255}", b"{0..65536}", b"P = P\n", b"channel a\n",
 ]
 
@@ -111,7 +115,8 @@ class Maker:
         return self.rng.choice(["{}", "{a}", "{a, b}", "{| c |}", "{c.0, b}", "{| d.0, a |}", "Events", "union({a}, {| e |})", "diff(Events, {b})", "{e.v}"])
 
     def pairs(self):
-        return ", ".join(self.rng.choice(["a <- b", "b <- a", "c <- c", "c.0 <- c.1", "a <- c.2", "d.0 <- d.1", "e.u <- a"]) for _ in range(self.rng.randint(1, 3)))
+        pairs = ["a <- b", "b <- a", "c <- c", "c.0 <- c.1", "a <- c.2", "d.0 <- d.1", "e.u <- a"]
+        return ", ".join(self.rng.choice(pairs) for _ in range(self.rng.randint(1, 3)))
 
     def condition(self, bound):
         numbers = ["0", "1", "2", "N"] + list(bound)
@@ -132,9 +137,11 @@ class Maker:
         if rng.random() < 0.2:
             return rng.choice(["(%s & %%s)" % self.condition(bound), "(%s v:%s @ %%s)" % self.replicated()]) % self.phrase(depth - 1, bound)
         left, right = self.phrase(depth - 1, bound), self.phrase(depth - 1, bound)
-        return rng.choice(["(if %s then %%s else %%s)" % self.condition(bound).replace("%", "%%"),
+        form = rng.choice([
+            "(if %s then %%s else %%s)" % self.condition(bound).replace("%", "%%"),
             "(%s [] %s)", "(%s |~| %s)", "(%s ; %s)", "(%s ||| %s)", "(%s /\\ %s)", "(%s [| " + self.events() + " |] %s)",
-            "(%s [ " + self.events() + " || " + self.events() + " ] %s)", "(%s [] %s) \\ " + self.events(), "(%s |~| %s)[[" + self.pairs() + "]]"]) % (left, right)
+            "(%s [ " + self.events() + " || " + self.events() + " ] %s)", "(%s [] %s) \\ " + self.events(), "(%s |~| %s)[[" + self.pairs() + "]]"])
+        return form % (left, right)
 
     def text(self):
         lines = ["datatype D = u | v", "channel a, b", "channel c : {0..2}", "channel d : {0..1}.{0..1}", "channel e : D"]
@@ -231,8 +238,7 @@ def again_problems(program, folder, text):
     return [] if again == Run(text, b"", 0) else ["print of a printed text: %s" % (again,)]
 
 
-def try_script(options, number):
-    rng = random.Random("%d scripts %d" % (options.seed, number))
+def try_script(options, number, rng):
     text, process = (Maker(rng).text(), b"P") if rng.random() < 0.4 else rng.choice(options.bases)
     if rng.random() < 0.95:
         text = damaged(rng, text, TOKENS)
@@ -243,7 +249,8 @@ def try_script(options, number):
 
 # --- Lines ---
 
-PIECES = [b"E ", b"R ", b"S", b"N", b"E", b"R", b"\n", b" ", b"  ", b"\r", b"\0", b"\xff", b"a", b"b", b"c.0", b"c.1", b"c.2", b"c", b"c.3", b"c.01", b"_tick", b"\t", b"e a", b"x" * 4100]
+PIECES = [b"E ", b"R ", b"S", b"N", b"E", b"R", b"\n", b" ", b"  ", b"\r", b"\0", b"\xff", b"a", b"b", b"c.0", b"c.1", b"c.2", b"c",
+          b"c.3", b"c.01", b"_tick", b"\t", b"e a", b"x" * 4100]
 
 
 def a_line(rng):
@@ -271,9 +278,8 @@ def counts_of(replies):
     return counts
 
 
-def try_lines(options, number):
+def try_lines(options, number, rng):
     """Lines to the process of two states."""
-    rng = random.Random("%d lines %d" % (options.seed, number))
     given = some_lines(rng, LINES_OF_A_RUN)
     replies = History().answers(given)
     with tempfile.TemporaryDirectory(prefix="hostile-", dir=options.folder) as folder:
@@ -303,13 +309,14 @@ def alone_problems(program, folder, example, lines, replies, at):
     return ["%s after %s: %s, wanted %s" % (lines[at], before, alone[-1:], replies[at])]
 
 
-def try_example(options, number):
+def try_example(options, number, rng):
     """Lines to an example."""
-    rng = random.Random("%d examples %d" % (options.seed, number))
     example = rng.choice(options.examples)
     base = [line for line in read_file(os.path.join(EXAMPLES, example + ".reports")).split(b"\n") if line and line != b"Q"]
     names = [word for line in base for word in line.split(b" ")[1:]]
-    lines = b"\n".join(rng.choice(base) if rng.random() < 0.6 else damaged(rng, rng.choice(base), PIECES[:-1] + names) for _ in range(LINES_OF_A_RUN)).split(b"\n")
+    words = PIECES[:-1] + names
+    made = [rng.choice(base) if rng.random() < 0.6 else damaged(rng, rng.choice(base), words) for _ in range(LINES_OF_A_RUN)]
+    lines = b"\n".join(made).split(b"\n")
     lines = [line for line in lines if line != b"Q" and len(line) <= 4096]
     with tempfile.TemporaryDirectory(prefix="hostile-", dir=options.folder) as folder:
         done, replies = answered(options.program, folder, example, lines)
@@ -336,8 +343,7 @@ def told_over(program, folder, given):
     return replies, server.end()
 
 
-def try_connection(options, number):
-    rng = random.Random("%d connections %d" % (options.seed, number))
+def try_connection(options, number, rng):
     given = some_lines(rng, LINES_OF_A_RUN)
     history = History()
     wanted = history.answers(given)
@@ -355,7 +361,8 @@ def try_connection(options, number):
 
 # --- Journals ---
 
-JOURNAL_PIECES = [b"+", b".", b"\n", b" ", b"x", b"E+", b"E-", b"R+", b"R-", b"1", b"0", b"65535", b"65536", b"1000001", b" a", b" b", b" c.1", b" _tick", b" 1", b" 4", b" 6", b" 7", b" 01", b"root ", b"script ",
+JOURNAL_PIECES = [b"+", b".", b"\n", b" ", b"x", b"E+", b"E-", b"R+", b"R-", b"1", b"0", b"65535", b"65536", b"1000001", b" a", b" b", b" c.1",
+                  b" _tick", b" 1", b" 4", b" 6", b" 7", b" 01", b"root ", b"script ",
                   b"\n+1 1 E+ a\n.", b"\n+1 1 E+ 1\n.", b"cspwatch journal 1\n", b"cspwatch journal 2\n", b"cspwatch journal 3\n", b"\xff", b"\0"]
 REFUSED = re.compile(rb"j: (script [1-9][0-9]*: ([0-9]+) ([a-z]+)|(20 depth|21 states)|52 record ([1-9][0-9]*)|53 verdict ([1-9][0-9]*))\n")
 
@@ -440,8 +447,7 @@ def serve_problems(program, folder, data, replayed):
     return [] if good else ["serve: %s, %s, where replay says %s" % (replies, end, replayed)]
 
 
-def try_journal(options, number):
-    rng = random.Random("%d journals %d" % (options.seed, number))
+def try_journal(options, number, rng):
     data = a_journal(rng)
     if rng.random() < 0.95:
         data = damaged(rng, data, JOURNAL_PIECES)
@@ -464,7 +470,7 @@ def journals_to_cut(seed):
     return plain + [whole, whole.replace(b"\n+1 4", b"\nx1 4"), journal_bytes(history.entries, SCRIPT + b"-- " + b"x" * 500 + b"\n")]
 
 
-def try_cut(options, number):
+def try_cut(options, number, _):
     data = options.cut_journals[number]
     with tempfile.TemporaryDirectory(prefix="hostile-", dir=options.folder) as folder:
         problems, done = replay_problems(options.program, folder, data)
@@ -565,7 +571,7 @@ def journal_limits():
     ]
 
 
-def try_limit(options, number):
+def try_limit(options, number, _):
     """A limit by its place in the three lists, one after the other."""
     scripts, words, journals = script_limits(), words_limits(), journal_limits()
     with tempfile.TemporaryDirectory(prefix="hostile-", dir=options.folder) as folder:
@@ -607,12 +613,35 @@ def tasks_of(options, kind):
     }[kind]
 
 
+def tried(attempt, options, number):
+    """What came of an input that the seed alone makes."""
+    return attempt(options, number, random.Random("%d %s %d" % (options.seed, attempt.__name__, number)))
+
+
+def by_hypothesis(attempt, options, kind, count, book):
+    """Tries some more inputs, made by hypothesis where it is installed, and makes one that fails as small as it can."""
+    if options.plain or generated.hypothesis is None:
+        return
+
+    def outcome(rng):
+        problems, _, files = attempt(options, 1, rng)
+        return generated.Outcome("made by hypothesis", "%s\n%r" % ("; ".join(problems[:3]), files) if problems else "")
+
+    found = generated.by_hypothesis(outcome, generated.Chunk("%d %s" % (options.seed, attempt.__name__), min(100, max(5, count // 20))))
+    for problem in found.problems:
+        book.note(kind, [problem], {})
+    for what, times in found.counts.items():
+        book.passed += 0 if what.startswith("failed") else times
+        book.count(kind, what, times)
+
+
 def main():
     parser = argparse.ArgumentParser(description=__doc__.split("\n")[0])
     add_options(parser, "hostile")
     parser.add_argument("--each", type=int, default=2000, help="how many scripts, lines and journals")
     parser.add_argument("--jobs", type=int, default=4)
     parser.add_argument("--only", nargs="+", choices=KINDS, default=KINDS)
+    parser.add_argument("--plain", action="store_true", help="without hypothesis, also where it is installed")
     options = parser.parse_args()
     if not begin(options):
         return 1
@@ -623,10 +652,12 @@ def main():
     with concurrent.futures.ThreadPoolExecutor(max_workers=options.jobs) as pool:
         for kind in options.only:
             for attempt, count in tasks_of(options, kind):
-                for problems, counts, files in pool.map(lambda number, attempt=attempt: attempt(options, number), range(count)):
+                for problems, counts, files in pool.map(lambda number, attempt=attempt: tried(attempt, options, number), range(count)):
                     book.note(kind, problems, files)
                     for what, times in counts.items():
                         book.count(kind, what, times)
+                if attempt not in (try_cut, try_limit):
+                    by_hypothesis(attempt, options, kind, count, book)
             book.tell(kind)
     return book.end()
 

@@ -23,7 +23,8 @@ SECONDS = 1200
 BATCH = 5000
 # An event that the process accepts in both of its states, so that connections need no order.
 EVENT = b"E c.1\n"
-FULL = [(b"E c.1", b"ERR 23 history"), (b"R a b", b"ERR 23 history"), (b"N", b"N a c.0 c.1 c.2"), (b"S", b"S 1000000 1000000 0 0 open"), (b"R", b"ERR 23 history"),
+FULL = [(b"E c.1", b"ERR 23 history"), (b"R a b", b"ERR 23 history"), (b"N", b"N a c.0 c.1 c.2"), (b"S", b"S 1000000 1000000 0 0 open"),
+        (b"R", b"ERR 23 history"),
         (b"N", b"N a c.0 c.1 c.2")]
 
 
@@ -114,7 +115,8 @@ def reopened_problems(options, folder, summary):
     server = Server(options.program, folder, 1, SECONDS)
     if not server.listening():
         return problems + ["serve: %s" % (server.end(),)]
-    print("replay of 1,000,000 records: %.1f s; serve listens after %.1f s, with %.0f MB" % (replayed, time.monotonic() - start, used(server.process)[0]), flush=True)
+    listens = time.monotonic() - start
+    print("replay of 1,000,000 records: %.1f s; serve listens after %.1f s, with %.0f MB" % (replayed, listens, used(server.process)[0]), flush=True)
     problems += full_problems(server.port)
     end = server.end()
     problems += [] if end == Run(summary, b"", 6) else ["serve ended with %s" % (end,)]

@@ -1,23 +1,20 @@
 #!/usr/bin/env python3
 """Compares the help of the built program with its manual page and its completions.
 
-    tests/man_page.py [--program FILE]
+    python3 -m pytest tests/man_page.py [--program FILE]
 
 The page's version is that of `cspwatch --version`. Every command, option and operand that `cspwatch --help` and the help of
 each command show has to be in man/cspwatch.1, and every command and option in each file of completions/; and no option or
 command of those may be one that no help shows. What bash offers for some lines is tried, and what fish offers where there is one.
-Without --program the program is crates/cspwatch/out/cspwatch. The last line is `N passed, M failed`.
 """
-import argparse
 import os
 import re
 import shutil
 import subprocess
-import sys
-import tempfile
+
+import pytest
 
 ROOT = os.path.dirname(os.path.dirname(os.path.abspath(__file__)))
-PROGRAM = os.path.join(ROOT, "crates", "cspwatch", "out", "cspwatch")
 PAGE = os.path.join(ROOT, "man", "cspwatch.1")
 COMPLETIONS = os.path.join(ROOT, "completions")
 SECONDS = 60
@@ -104,33 +101,45 @@ def has_word(text, word):
     return re.search(r"(?<![\w-])%s(?![\w-])" % re.escape(word), text) is not None
 
 
-def page_problems(version, commands, options, operands):
-    """A line for each comparison with the page: None where it is right, else what is wrong."""
+@pytest.fixture(scope="session")
+def helped(program):
+    """The commands, options and operands of all help texts."""
+    commands, options, operands = shown(program)
+    assert commands and options and operands
+    return commands, options, operands
+
+
+def test_page_is_of_this_version(program):
+    assert has_word(page_text(PAGE).splitlines()[0], version_of(program))
+
+
+def test_page_has_all_that_the_help_shows(helped):
+    commands, options, operands = helped
     text = page_text(PAGE)
-    yield None if has_word(text.splitlines()[0], version) else "man/cspwatch.1 is not of %s" % version
-    for name in sorted(commands | options | operands):
-        yield None if has_word(text, name) else "man/cspwatch.1 has no %s" % name
-    for name in sorted(set(re.findall(r"(?<![\w-])--[a-z][a-z-]*", text))):
-        yield None if name in options else "man/cspwatch.1 has %s, which no help shows" % name
+    assert [name for name in sorted(commands | options | operands) if not has_word(text, name)] == []
+
+
+def test_page_has_nothing_else(helped):
+    commands, options, _ = helped
+    text = page_text(PAGE)
+    assert set(re.findall(r"(?<![\w-])--[a-z][a-z-]*", text)) <= options
     synopsis = text.split("SYNOPSIS", 1)[1].split("DESCRIPTION", 1)[0]
-    for name in sorted(set(re.findall(r"^ cspwatch ([a-z]+)", synopsis, re.MULTILINE))):
-        yield None if name in commands else "man/cspwatch.1 has the command %s, which no help shows" % name
+    assert set(re.findall(r"^ cspwatch ([a-z]+)", synopsis, re.MULTILINE)) <= commands
 
 
-def completion_problems(name, commands, options):
-    """The same for a file of completions."""
+@pytest.mark.parametrize("name", sorted(os.listdir(COMPLETIONS)))
+def test_completions(helped, name):
+    """A file of completions has all commands and options, and no other."""
+    commands, options, _ = helped
     with open(os.path.join(COMPLETIONS, name), encoding="ascii") as file:
         text = re.sub(r"^\s*#.*$", "", file.read(), flags=re.MULTILINE)
     fish = name.endswith(".fish")
     if fish:
         text = "".join(re.findall(r"^complete .*\n", text, re.MULTILINE))
     written = {option: option.replace("--", "-l ") if option.startswith("--") else "-s " + option[1:] for option in options}
-    for word in sorted(commands | options):
-        wanted = written.get(word, word) if fish else word
-        yield None if has_word(text, wanted) else "completions/%s has no %s" % (name, word)
+    assert [word for word in sorted(commands | options) if not has_word(text, written.get(word, word) if fish else word)] == []
     found = {"--" + word for word in re.findall(r"-l ([a-z-]+)", text)} if fish else set(re.findall(r"--[a-z][a-z-]*", text))
-    for word in sorted(found):
-        yield None if word in options else "completions/%s has %s, which no help shows" % (name, word)
+    assert found <= options
 
 
 def offers(shell, words, folder):
@@ -145,40 +154,10 @@ def offers(shell, words, folder):
     return set(done.stdout.decode("utf-8").splitlines())
 
 
-def tried_problems():
-    """The same for the lines that are tried."""
-    with tempfile.TemporaryDirectory() as folder:
-        with open(os.path.join(folder, "p.csp"), "w", encoding="ascii") as file:
-            file.write(SCRIPT)
-        for shell in "bash", "fish":
-            if shutil.which(shell) is None:
-                continue
-            for words, wanted in LINES:
-                missing = wanted - offers(shell, words, folder)
-                yield "%s doesn't offer %s for %s" % (shell, " ".join(sorted(missing)), " ".join(words)) if missing else None
-
-
-def main():
-    parser = argparse.ArgumentParser(description=__doc__.split("\n")[0])
-    parser.add_argument("--program", default=PROGRAM)
-    options = parser.parse_args()
-    program = os.path.abspath(options.program)
-    if not os.access(program, os.X_OK):
-        print("%s: there is no such program" % program)
-        print("0 passed, 1 failed")
-        return 1
-    commands, switches, operands = shown(program)
-    problems = [None if commands and switches and operands else "the help shows no commands, options or operands"]
-    problems += page_problems(version_of(program), commands, switches, operands)
-    for name in sorted(os.listdir(COMPLETIONS)):
-        problems += completion_problems(name, commands, switches)
-    problems += tried_problems()
-    wrong = [problem for problem in problems if problem]
-    for problem in wrong:
-        print(problem)
-    print("%d passed, %d failed" % (len(problems) - len(wrong), len(wrong)))
-    return 1 if wrong else 0
-
-
-if __name__ == "__main__":
-    sys.exit(main())
+@pytest.mark.parametrize("words, wanted", LINES, ids=[" ".join(words) for words, _ in LINES])
+@pytest.mark.parametrize("shell", ["bash", "fish"])
+def test_offers(tmp_path, shell, words, wanted):
+    if shutil.which(shell) is None:
+        pytest.skip("there is no %s" % shell)
+    (tmp_path / "p.csp").write_text(SCRIPT, encoding="ascii")
+    assert wanted - offers(shell, words, tmp_path) == set()

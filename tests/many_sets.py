@@ -1,22 +1,20 @@
 #!/usr/bin/env python3
 """Many reports each of which leads to a set of states that was never met: the answers, and how much memory they take.
 
-    tests/many_sets.py [--program FILE] [--lines 150000]
+    python3 -m pytest tests/many_sets.py [--program FILE]
 
 Three counters side by side go up and down between 0 and 300, so hardly any set of states comes twice; some lines ask for a step down from 0. How each
 line has to be answered is counted here. The space of sets begins anew where it has grown large (docs/DECISIONS.md), so it takes bounded memory, to which
-the history adds some for each report. Without --program the program is crates/cspwatch/out/cspwatch. The last line is `N passed, M failed`.
+the history adds some for each report.
 """
-import argparse
 import os
 import random
-import resource
 import subprocess
-import sys
 import tempfile
 
-ROOT = os.path.dirname(os.path.dirname(os.path.abspath(__file__)))
-PROGRAM = os.path.join(ROOT, "crates", "cspwatch", "out", "cspwatch")
+import pytest
+
+LINES = 150_000
 COUNTERS = 3
 MOST = 300
 # The bound, in bytes: for the space of sets, and for each report.
@@ -42,31 +40,30 @@ def walk(lines, rng):
         yield "E %s%d" % ("up" if rises else "down", counter), True
 
 
-def main():
-    parser = argparse.ArgumentParser(description=__doc__.split("\n")[0])
-    parser.add_argument("--program", default=PROGRAM)
-    parser.add_argument("--lines", type=int, default=150_000)
-    options = parser.parse_args()
-    talk = list(walk(options.lines, random.Random(1)))
+@pytest.fixture(scope="module")
+def ran(program):
+    """What the program answered, what was wanted, and the most memory that it took, in bytes."""
+    talk = list(walk(LINES, random.Random(1)))
     wanted = "".join("%s %d\n" % ("OK" if accepted else "NO", n) for n, (_, accepted) in enumerate(talk, 1))
     with tempfile.TemporaryDirectory() as folder:
-        with open(os.path.join(folder, "p.csp"), "w", encoding="utf-8") as file:
-            file.write(SCRIPT)
-        asked = "".join(line + "\n" for line, _ in talk)
-        ran = subprocess.run([os.path.abspath(options.program), "check", "p.csp", "P"], cwd=folder, input=asked, capture_output=True, text=True)
-    peak = resource.getrusage(resource.RUSAGE_CHILDREN).ru_maxrss * 1024
-    most = SPACE + REPORT * options.lines
-    checks = [
-        ("the answers to %d lines" % options.lines, ran.stdout == wanted, ran.stdout[:100] + ran.stderr[:300]),
-        ("the status", ran.returncode == 1, ran.returncode),
-        ("at most %d MB (%d MB were taken)" % (most / 1e6, peak / 1e6), peak <= most, peak),
-    ]
-    for name, passes, shown in checks:
-        print("%s: %s" % (name, "passed" if passes else "FAILED: %r" % shown))
-    passed = sum(1 for _, passes, _ in checks if passes)
-    print("%d passed, %d failed" % (passed, len(checks) - passed))
-    return 0 if passed == len(checks) else 1
+        for name, content in (("p.csp", SCRIPT), ("lines", "".join(line + "\n" for line, _ in talk))):
+            with open(os.path.join(folder, name), "w", encoding="utf-8") as file:
+                file.write(content)
+        with open(os.path.join(folder, "lines"), "rb") as lines, tempfile.TemporaryFile() as out:
+            child = subprocess.Popen([program, "check", "p.csp", "P"], cwd=folder, stdin=lines, stdout=out)
+            _, status, used = os.wait4(child.pid, 0)
+            child.returncode = os.waitstatus_to_exitcode(status)
+            out.seek(0)
+            return out.read().decode(), wanted, child.returncode, used.ru_maxrss * 1024
 
 
-if __name__ == "__main__":
-    sys.exit(main())
+def test_answers(ran):
+    assert ran[0] == ran[1]
+
+
+def test_status(ran):
+    assert ran[2] == 1
+
+
+def test_memory(ran):
+    assert ran[3] <= SPACE + REPORT * LINES

@@ -108,7 +108,7 @@ def is_talked(text, came, talked):
             continue
         seat, _, lines = given.partition(" ")
         replies = [reply for reply in replies.split("$") if reply]
-        lines, tail = lines.split("$"), lines.endswith("$")
+        lines = lines.split("$")
         answered = [(line, reply) for line, reply in zip(lines, replies) if reply not in REFUSALS]
         refused = len(replies) - len(answered)
         kept.append("%s %s" % (seat, "".join(line + "$" for line, reply in zip(lines, replies + [""] * len(lines)) if line and reply not in REFUSALS)))

@@ -129,7 +129,8 @@ def play_refused(program, counts):
     count[1] += sum(int(points) for _, points in POINTS.findall(errors))
     problems = ["%s: %d lines for %d rows" % (program, len(lines), len(rows))] if len(lines) < len(rows) else []
     for (way, row, full), line in zip(rows, lines):
-        problems += refused_rows.problems(way, row, full, line, lambda begin, asked: checked(begin, tuple(asked)), lambda begin, asked: talked(begin, tuple(asked)))
+        problems += refused_rows.problems(way, row, full, line, lambda begin, asked: checked(begin, tuple(asked)),
+                                          lambda begin, asked: talked(begin, tuple(asked)))
     return problems
 
 

@@ -4,7 +4,8 @@
     tests/run_cases.py [--program FILE] [--only TEXT] [FILE ..]
 
 Without --program the program is crates/cspwatch/out/cspwatch, without a FILE all files of tests/cases are run, and then the rows of the
-sweeps over the libraries, where the gate has built their programs (`tests/row_sweeps.py`). tests/README.md has the form of a case. The last line is `N passed, M failed`; the status is 0 where none failed.
+sweeps over the libraries, where the gate has built their programs (`tests/row_sweeps.py`). tests/README.md has the form of a case. The
+last line is `N passed, M failed`; the status is 0 where none failed.
 """
 import argparse
 import concurrent.futures

@@ -1,25 +1,21 @@
 #!/usr/bin/env python3
 """Looks at the system calls of `cspwatch serve` by `strace`: that each report is on the device before it is answered, and the reply goes out at once.
 
-    tests/system_calls.py [--program FILE]
+    python3 -m pytest tests/system_calls.py [--program FILE]
 
 No contract can say that a sync reaches the system, since a real file claims nothing. Here it is seen: a new journal is
 synced before the server listens; for each report the record is written and synced, then its gate is written and synced,
 and only then the reply is sent. The connection was asked to send without delay (`TCP_NODELAY`) before. Where there is no `strace`, or it may not be used,
 nothing is tested, and that is said.
-Without --program the program is crates/cspwatch/out/cspwatch. The last line is `N passed, M failed`.
 """
-import argparse
 import os
 import re
 import shutil
 import socket
 import subprocess
-import sys
-import tempfile
 
-ROOT = os.path.dirname(os.path.dirname(os.path.abspath(__file__)))
-PROGRAM = os.path.join(ROOT, "crates", "cspwatch", "out", "cspwatch")
+import pytest
+
 SCRIPT = "channel a, b\nP = a -> b -> P\n"
 TALK = [("E a", "OK 1"), ("E a", "NO 2"), ("R a", "OK 3"), ("E b", "OK 4")]
 CALLS = "openat,pwrite64,fsync,fdatasync,write,sendto,close,accept4,setsockopt"
@@ -119,33 +115,32 @@ def sends_at_once(lines):
     return False
 
 
-def main():
-    parser = argparse.ArgumentParser(description=__doc__.split("\n")[0])
-    parser.add_argument("--program", default=PROGRAM)
-    program = os.path.abspath(parser.parse_args().program)
+@pytest.fixture(scope="module")
+def served(program, tmp_path_factory):
+    """The replies, the lines of the trace, what happened before the server listened, and after it."""
     if not has_strace():
-        print("the system's calls were not looked at: strace is not there, or may not be used")
-        print("0 passed, 0 failed")
-        return 0
-    with tempfile.TemporaryDirectory() as folder:
-        replies, lines = traced(program, folder)
+        pytest.skip("strace is not there, or may not be used")
+    replies, lines = traced(program, str(tmp_path_factory.mktemp("served")))
     happened = happenings(lines)
-    opening = happened[: happened.index("listening")] if "listening" in happened else []
-    checks = [
-        ("the replies", replies == [reply for _, reply in TALK], replies),
-        ("a new journal is synced before the server listens", "synced" in opening, opening),
-        ("the folder is synced after it", "folder" in opening[opening.index("synced") :] if "synced" in opening else False, opening),
-    ]
-    checks.append(("replies go out at once", sends_at_once(lines), [line for line in lines if "sockopt" in line]))
-    rest = happened[len(opening) + 1 :]
-    wanted = [step for _, reply in TALK for step in ("written", "synced", "gate", "synced", reply)]
-    checks.append(("each report is synced twice before it is answered", rest == wanted, rest))
-    for name, passes, shown in checks:
-        print("%s: %s" % (name, "passed" if passes else "FAILED: %s" % shown))
-    passed = sum(1 for _, passes, _ in checks if passes)
-    print("%d passed, %d failed" % (passed, len(checks) - passed))
-    return 0 if passed == len(checks) else 1
+    listens = happened.index("listening")
+    return replies, lines, happened[:listens], happened[listens + 1:]
 
 
-if __name__ == "__main__":
-    sys.exit(main())
+def test_replies(served):
+    assert served[0] == [reply for _, reply in TALK]
+
+
+def test_a_new_journal_is_synced_before_the_server_listens(served):
+    assert "synced" in served[2]
+
+
+def test_the_folder_is_synced_after_the_journal(served):
+    assert "folder" in served[2][served[2].index("synced"):]
+
+
+def test_replies_go_out_at_once(served):
+    assert sends_at_once(served[1]), [line for line in served[1] if "sockopt" in line]
+
+
+def test_each_report_is_synced_twice_before_it_is_answered(served):
+    assert served[3] == [step for _, reply in TALK for step in ("written", "synced", "gate", "synced", reply)]

@@ -1,20 +1,16 @@
 #!/usr/bin/env python3
 """What the built program shows on a terminal below a fault, and that it shows nothing of it elsewhere.
 
-    tests/terminal.py [--program FILE]
+    python3 -m pytest tests/terminal.py [--program FILE]
 
-Standard error is a pseudo-terminal of its own. Without --program the program is crates/cspwatch/out/cspwatch. The last line
-is `N passed, M failed`.
+Standard error is a pseudo-terminal of its own.
 """
-import argparse
 import os
 import pty
 import subprocess
-import sys
-import tempfile
 
-ROOT = os.path.dirname(os.path.dirname(os.path.abspath(__file__)))
-PROGRAM = os.path.join(ROOT, "crates", "cspwatch", "out", "cspwatch")
+import pytest
+
 SECONDS = 60
 
 UNKNOWN = "        a name isn't declared, or a value depends on itself"
@@ -76,25 +72,12 @@ def elsewhere(command, folder):
     return done.stderr.decode("utf-8", "replace").splitlines(), done.returncode
 
 
-def main():
-    parser = argparse.ArgumentParser(description=__doc__.split("\n")[0])
-    parser.add_argument("--program", default=PROGRAM)
-    program = os.path.abspath(parser.parse_args().program)
-    passed = failed = 0
-    for name, words, script, fault, below, status in ROWS:
-        with tempfile.TemporaryDirectory() as folder:
-            with open(os.path.join(folder, "p.csp"), "wb") as file:
-                file.write(script)
-            shown = on_terminal([program] + words, folder)
-            plain = elsewhere([program] + words, folder)
-        fault = fault or plain[0]
-        if fault and shown == (fault + below, status) and plain == (fault, status):
-            passed += 1
-        else:
-            failed += 1
-            print("%s: on a terminal %r, elsewhere %r" % (name, shown, plain))
-    print("%d passed, %d failed" % (passed, failed))
-    sys.exit(1 if failed else 0)
-
-
-main()
+@pytest.mark.parametrize("words, script, fault, below, status", [row[1:] for row in ROWS], ids=[row[0] for row in ROWS])
+def test_row(program, tmp_path, words, script, fault, below, status):
+    (tmp_path / "p.csp").write_bytes(script)
+    shown = on_terminal([program] + words, tmp_path)
+    plain = elsewhere([program] + words, tmp_path)
+    fault = fault or plain[0]
+    assert fault
+    assert plain == (fault, status)
+    assert shown == (fault + below, status)

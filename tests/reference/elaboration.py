@@ -28,7 +28,7 @@ def interleaving(left: Term, right: Term) -> Term:
 
 
 BETWEEN: dict[str, Join] = {"Sequence": terms.sequence, "Interrupt": terms.interrupt, "ExternalChoice": terms.external,
-           "InternalChoice": terms.internal, "Interleaving": interleaving}
+                            "InternalChoice": terms.internal, "Interleaving": interleaving}
 REPLICATED: dict[str, Join] = {"ReplicatedExternal": terms.external, "ReplicatedInternal": terms.internal,
                                "ReplicatedInterleaving": interleaving}
 

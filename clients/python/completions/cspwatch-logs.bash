@@ -7,26 +7,30 @@ _cspwatch_logs() {
             COMPREPLY=($(compgen -W "127.0.0.1:" -- "$current"))
             return
             ;;
-        --seat) return ;;
+        --stream)
+            COMPREPLY=($(compgen -W "redis://127.0.0.1:" -- "$current"))
+            return
+            ;;
+        --seat | --partition) return ;;
     esac
     if [[ $current == -* ]]; then
-        COMPREPLY=($(compgen -W "--follow --server --seat --strict --quiet --first --coverage --junit --annotations --program --help -h" -- "$current"))
+        COMPREPLY=($(compgen -W "--follow --server --seat --strict --quiet --first --coverage --junit --annotations --record --stream --partition --program --help -h" -- "$current"))
         return
     fi
-    # How many words are before the cursor, without options and what follows them. Bash takes an address as three words.
+    # How many words are before the cursor, without options and what follows them. Bash takes a colon for a word of its own.
     for ((index = 1; index < COMP_CWORD; index++)); do
         word=${COMP_WORDS[index]}
         case $word in
-            --server | --seat | --junit | --program)
+            --server | --seat | --junit | --record | --stream | --partition | --program)
                 index=$((index + 1))
-                [[ ${COMP_WORDS[index + 1]} != : ]] || index=$((index + 2))
+                while [[ ${COMP_WORDS[index + 1]} == : ]]; do index=$((index + 2)); done
                 ;;
             -*) ;;
             *) place=$((place + 1)) ;;
         esac
     done
     compopt -o filenames 2>/dev/null
-    if [[ $place == 0 && $previous != --junit && $previous != --program ]]; then
+    if [[ $place == 0 && $previous != --junit && $previous != --record && $previous != --program ]]; then
         mapfile -t COMPREPLY < <(compgen -f -X '!*.toml' -- "$current"; compgen -d -- "$current")
     else
         mapfile -t COMPREPLY < <(compgen -f -- "$current")

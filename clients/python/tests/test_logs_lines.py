@@ -11,7 +11,7 @@ from logs_folder import NEEDS, RULES, SPECIFICATION, InFolder  # noqa: E402
 if sys.version_info >= (3, 11):
     from cspwatch_client.logs.junit import MOST_FAILURES
     from cspwatch_client.logs.reading import LONGEST, Followed, Source, Splitter
-    from cspwatch_client.logs.showing import MOST_MESSAGES, SHOWN, escaped, kept, printable
+    from cspwatch_client.logs.showing import MOST_MESSAGES, SHOWN, escaped, printable
 
 
 def texts(lines):

@@ -35,6 +35,15 @@ class OverAStandIn(InFolder):
                counts(6, 4, 2, 2, rest="1 ignored, 1 without a rule")]
         self.assertEqual(self.logs("m.toml", given=given), (1, out, []))
 
+    def test_a_reason_that_does_not_come(self):
+        self.file("p.csp", "channel open : {0, 1}\nchannel close : {0, 1}\nchannel bad\nno|E bad|\nno|R open.0|offers close.0\n")
+        run = self.start("--quiet", "m.toml")
+        run.stdin.write(b"bad\n")
+        run.stdin.flush()
+        self.assertEqual(run.stdout.readline(), b"-:1: E bad: NO 1\n")
+        out = run.communicate(b"bad\nno 0\nbad\n", SECONDS)[0]
+        self.assertEqual(out, b"-:2: E bad: NO 2\n-:3: R open.0: NO 3, offers close.0\n-:4: E bad: NO 4\n")
+
     def test_a_program_without_explanations(self):
         out = ["-:1: E bad: NO 1", "    bad", counts(1, 1, 0, 1)]
         self.assertEqual(self.logs("m.toml", given=b"bad\n", STAND_IN_OPTIONS=""), (1, out, []))
@@ -175,6 +184,51 @@ class InSessions(InFolder):
 
 
 @NEEDS
+class WithARecord(InFolder):
+    LINES = [
+        '{"line": 1, "session": "", "report": "E open.0", "verdict": "OK", "place": 1}',
+        '{"line": 2, "session": "", "report": "E bad", "verdict": "NO", "place": 2}',
+        '{"line": 4, "session": "", "report": "", "fault": "the script has no event \'open.7\'"}',
+        '{"line": 5, "session": "", "report": "R open.0", "verdict": "NO", "place": 3}',
+    ]
+    GIVEN = b"open 0\nbad\nwhat\nopen 7\nno 0\n"
+
+    def setUp(self):
+        super().setUp()
+        self.file("m.toml", SPECIFICATION + RULES)
+
+    def test_a_record_is_continued(self):
+        whole = "".join(line + "\n" for line in self.LINES)
+        first = self.logs("--record", "r", "m.toml", given=self.GIVEN)
+        self.assertEqual(self.text("r"), whole)
+        again = self.logs("--record", "r", "m.toml", given=self.GIVEN)
+        # All stands in the record: only the counts are shown again.
+        self.assertEqual(again, (first[0], first[1][-1:], []))
+        for size in (60, 150, len(whole) - 1):
+            self.file("r", whole[:size])
+            found = self.logs("--record", "r", "--quiet", "m.toml", given=self.GIVEN)
+            self.assertEqual((found[0], self.text("r")), (1, whole))
+            self.assertEqual(len(found[1]), 2 - whole[:size].count('"NO", "place": 2}\n') - whole[:size].count('"NO", "place": 3}\n'))
+
+    def test_a_record_of_something_else(self):
+        self.file("r", self.LINES[0] + "\n" + self.LINES[3] + "\n")
+        found = self.logs("--record", "r", "m.toml", given=self.GIVEN)
+        self.assertEqual((found[0], found[2]), (5, ["r: line 2 is %s and not %s, as this run has it" % (self.LINES[3], self.LINES[1])]))
+        self.file("r", "".join(line + "\n" for line in self.LINES))
+        found = self.logs("--record", "r", "m.toml", given=self.GIVEN[:11])
+        self.assertEqual((found[0], found[2]), (5, ["r: it has more lines than the 2 that this run has found"]))
+
+    def test_only_one_run_has_it(self):
+        run = self.start("--record", "r", "m.toml")
+        run.stdin.write(b"bad\n")
+        run.stdin.flush()
+        run.stdout.readline()
+        self.assertEqual(self.logs("--record", "r", "m.toml"), (5, [], ["r: another run has it open"]))
+        run.communicate(timeout=SECONDS)
+        self.assertEqual(self.logs("--record", "no/r", "m.toml"), (5, [], ["no/r: No such file or directory"]))
+
+
+@NEEDS
 class OverAServer(InFolder):
     def setUp(self):
         super().setUp()
@@ -224,8 +278,8 @@ class OverAServer(InFolder):
         with SeatService(taken=[3]) as service:
             found = self.logs("--server", service.address, "--seat", "3", "m.toml")
         self.assertEqual(found, (5, [], ["seat 3: another connection has this seat (ERR 27 taken)"]))
-        for reply, reason in [(b"ERR 10 command\n", "this server gives no seats by number (ERR 10 command); `serve` without `--connections` does, after version 0.5.1"),
-                              (b"I 4 0\n", "the server answered b'I 4 0'"), (b"I", "the server answered b'I'")]:
+        early = "this server gives no seats by number (ERR 10 command); `serve` without `--connections` does, after version 0.5.1"
+        for reply, reason in [(b"ERR 10 command\n", early), (b"I 4 0\n", "the server answered b'I 4 0'"), (b"I", "the server answered b'I'")]:
             with StandIn([(b"I 3", reply)]) as server:
                 found = self.logs("--server", server.address, "--seat", "3", "m.toml")
             self.assertEqual(found, (5, [], ["seat 3: " + reason]))

@@ -26,11 +26,12 @@ printf '%s\\n' "${COMPREPLY[@]}"
 """
 
 LINES = [
-    (["--s"], {"--server", "--seat", "--strict"}),
+    (["--s"], {"--server", "--seat", "--strict", "--stream"}),
     ([""], {"m.toml"}),
     (["m.toml", ""], {"m.toml", "a.log"}),
     (["--server", "127.0.0.1", ":", "4050", "--seat", "3", "m.toml", "a"], {"a.log"}),
     (["--junit", ""], {"m.toml", "a.log"}),
+    (["--stream", "redis", ":", "//127.0.0.1", ":", "6379/log", "--partition", "1/4", ""], {"m.toml"}),
 ]
 
 

@@ -37,6 +37,7 @@ workers() {
   worker bob 0.05 0.05 &
   all="$all $!"
   worker carol 0.1 0.05 &
+  # shellcheck disable=SC2086 # the numbers of the processes are words
   wait $all $!
 }
 

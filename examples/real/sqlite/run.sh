@@ -10,7 +10,7 @@ record() { # the log, a script for the shell; the names of the folder go out of 
   rm -f t.db*
   sqlite3 t.db 'create table t(x); insert into t values(0);'
   strace -f -y -s 0 -e trace=fcntl,pwrite64,fdatasync,fsync,unlink -o trace bash -c "$2"
-  sed "s|$(pwd -P)/||g" trace >"$here/$1"
+  sed "s|$(pwd -P)/||g; s|$(pwd -P)|.|g" trace >"$here/$1"
 }
 
 # Two processes that want to write at once, of which one is refused the lock; then a third, and a rollback.

@@ -3,6 +3,7 @@ from __future__ import annotations
 
 import argparse
 import os
+import resource
 import shutil
 import signal
 import sys
@@ -11,7 +12,8 @@ from typing import Callable, List, Optional, Sequence, TextIO
 from ..client import split_address
 
 if sys.version_info < (3, 11):
-    raise SystemExit("cspwatch-logs needs Python 3.11 or later, this is %d.%d" % sys.version_info[:2])
+    print("cspwatch-logs needs Python 3.11 or later, this is %d.%d" % sys.version_info[:2], file=sys.stderr)
+    raise SystemExit(2)
 
 from .junit import JUnit, suite_of
 from .links import Check, Connection, Link, Lost
@@ -19,8 +21,10 @@ from .mapping import Rules
 from .maps import Map, MapFault, Specification, read_map
 from .program import Program, ProgramFault, check_events, events_of, program_at
 from .reading import Source, cut_lines, sources_of
+from .record import Record, RecordFault
 from .running import Run, Wanted
 from .showing import Printer
+from .streams import Stream, StreamFault, partition
 
 LOOK_SECONDS = 0.2
 """How often a followed file is looked at."""
@@ -53,6 +57,9 @@ def parser() -> argparse.ArgumentParser:
     found.add_argument("--coverage", action="store_true", help="print which events never came, and which rules took no line")
     found.add_argument("--junit", metavar="FILE", help="write the verdicts to FILE as test cases")
     found.add_argument("--annotations", action="store_true", help="print rejected reports as annotations of GitHub too")
+    found.add_argument("--record", metavar="FILE", help="write each verdict to FILE, and go on with what stands in it")
+    found.add_argument("--stream", metavar="URL", help="read a stream of Redis, redis://HOST:PORT/NAME, in place of logs")
+    found.add_argument("--partition", metavar="K/N", type=partition, help="read partition K of N streams, which is NAME:K")
     found.add_argument("--program", metavar="FILE", help="the program cspwatch; $CSPWATCH or the one on the PATH where left out")
     return found
 
@@ -75,7 +82,7 @@ def main(words: Optional[Sequence[str]] = None) -> int:
         return said(fault, 2)
     except BadUse as fault:
         return said("cspwatch-logs: %s" % fault, 2)
-    except (ProgramFault, Lost) as fault:
+    except (ProgramFault, Lost, RecordFault, StreamFault) as fault:
         return said(fault, fault.status)
     except BrokenPipeError:
         # Nobody reads the verdicts any more; the interpreter would fail again when it flushes at its end.
@@ -95,35 +102,54 @@ def run(options: argparse.Namespace, out: TextIO, errors: TextIO) -> int:
     """The whole run."""
     found = read_map(options.map)
     check_use(options, found)
+    if found.sessions is not None:
+        raise_limit()
     program = program_for(options, found)
     rules = Rules(found, events_for(found, program))
     start, skip = judge_of(options, found, program)
-    sources = sources_of(options.logs, options.follow)
+    sources = sources_for(options)
     junit = JUnit(options.junit, suite_of(options.map)) if options.junit is not None else None
+    record = Record(options.record) if options.record is not None else None
     printer = Printer(out, errors, options.quiet, options.annotations)
-    wanted = Wanted(options.strict, options.first, options.coverage, skip)
-    running = Run(rules, start, printer, wanted, junit)
+    running = Run(rules, start, printer, Wanted(options.strict, options.first, options.coverage, skip, junit, record))
     try:
-        read_all(running, sources, options.follow)
+        is_whole = read_all(running, sources, options.follow)
         running.finish()
-    except Lost as fault:
-        running.counts.statuses[fault.status] = True
+    except (Lost, StreamFault, RecordFault) as fault:
+        running.counts.statuses.add(fault.status)
         printer.flush()
         said(fault, fault.status)
         running.abandon()
-        running.close(cut_lines(sources))
+        running.close(cut_lines(sources), is_whole=False)
         return fault.status
-    if running.counts.earlier < skip and not running.stopped:
+    is_whole = is_whole and not running.stopped
+    if running.counts.earlier < skip and is_whole:
         said("cspwatch-logs: %d reports of the seat stand in the history, and the log has %d" % (skip, running.counts.earlier), 2)
-        running.counts.statuses[2] = True
-    running.close(cut_lines(sources))
+        running.counts.statuses.add(2)
+    running.close(cut_lines(sources), is_whole)
     return running.counts.status()
+
+
+def sources_for(options: argparse.Namespace) -> List[Source]:
+    """What is read."""
+    if options.stream is None:
+        return sources_of(options.logs, options.follow)
+    try:
+        return [Stream(options.stream, options.partition, options.follow)]
+    except ValueError as error:
+        raise BadUse(str(error)) from None
 
 
 def check_use(options: argparse.Namespace, found: Map) -> None:
     """Finds words that don't fit together, or not with the map."""
     if options.server is None and options.seat is not None:
         raise BadUse("--seat goes with --server")
+    if options.stream is not None and options.logs:
+        raise BadUse("--stream is read in place of logs")
+    if options.partition is not None and options.stream is None:
+        raise BadUse("--partition goes with --stream")
+    if options.record is not None and options.server is not None:
+        raise BadUse("--record goes with a check; a server has its journal")
     if options.server is not None:
         if found.sessions is not None:
             raise BadUse("a map with [sessions] starts a check for each; it can't go with --server, which has one history")
@@ -135,6 +161,13 @@ def check_use(options: argparse.Namespace, found: Map) -> None:
         for word, given in (("--seat", options.seat is not None), ("--coverage", options.coverage), ("a run without --server", options.server is None)):
             if given:
                 raise found.fault(("specification",), "this table is missing, and %s needs it" % word)
+
+
+def raise_limit() -> None:
+    """Allows as many open descriptors as the system lets: each session has three."""
+    soft, hard = resource.getrlimit(resource.RLIMIT_NOFILE)
+    if soft != hard:
+        resource.setrlimit(resource.RLIMIT_NOFILE, (hard, hard))
 
 
 def program_for(options: argparse.Namespace, found: Map) -> Optional[Program]:
@@ -185,8 +218,8 @@ class Stop:
         signal.signal(number, signal.SIG_DFL)
 
 
-def read_all(running: Run, sources: List[Source], follow: bool) -> None:
-    """Reads the logs to their ends: one after the other, or side by side where they are followed."""
+def read_all(running: Run, sources: List[Source], follow: bool) -> bool:
+    """Reads the logs: one after the other, or side by side where they are followed. Answers whether it was to their ends."""
     stop = Stop()
     while not (stop.asked or running.stopped or all(source.ended for source in sources)):
         open_ones = [source for source in sources if not source.ended]
@@ -201,6 +234,8 @@ def read_all(running: Run, sources: List[Source], follow: bool) -> None:
             ends = [end for end in (source.waits_on() for source in current) if end is not None]
             running.pump(LOOK_SECONDS, ends)
         running.printer.flush()
+    is_whole = all(source.ended for source in sources)
     for source in sources:
         if not source.ended:
             running.take(source.close())
+    return is_whole

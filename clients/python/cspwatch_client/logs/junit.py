@@ -4,8 +4,8 @@ from __future__ import annotations
 import os
 import tempfile
 from collections import deque
+from html import escape
 from typing import Deque, List
-from xml.sax.saxutils import escape, quoteattr
 
 from .reading import Line
 from .showing import printable
@@ -15,6 +15,11 @@ AROUND = 3
 
 MOST_FAILURES = 100
 """The most failures of a test case that are written in full. Further ones are counted."""
+
+
+def quoted(text: str) -> str:
+    """The text as the value of an attribute."""
+    return '"%s"' % escape(printable(text))
 
 
 class Context:
@@ -64,9 +69,9 @@ class Failure:
 
     def written(self) -> str:
         """The failure as an element."""
-        message = quoteattr(printable("%s:%d: %s" % (self.line.file, self.line.number, self.text)))
+        message = quoted("%s:%d: %s" % (self.line.file, self.line.number, self.text))
         body = "\n".join(printable(line) for line in self.lines)
-        return "<%s message=%s>%s</%s>" % (self.kind, message, escape("\n" + body + "\n"), self.kind)
+        return "<%s message=%s>%s</%s>" % (self.kind, message, escape("\n" + body + "\n", quote=False), self.kind)
 
 
 class Case:
@@ -95,7 +100,7 @@ class Case:
         more = self.rejected + self.not_judged - len(self.failures)
         if more:
             parts.append("<system-out>%d more were rejected or not judged</system-out>" % more)
-        names = quoteattr(printable(suite)), quoteattr(printable(self.name)), self.reports
+        names = quoted(suite), quoted(self.name), self.reports
         return "<testcase classname=%s name=%s assertions=\"%d\">%s</testcase>\n" % (*names, "\n".join(parts))
 
 
@@ -129,7 +134,7 @@ class JUnit:
     def close(self) -> None:
         """Writes the file. All failures are complete by now."""
         self.write_complete()
-        name = quoteattr(printable(self.suite))
+        name = quoted(self.suite)
         counts = 'tests="%d" failures="%d" errors="%d"' % (self.tests, self.failed, self.not_judged)
         with self.file as file, self.cases as cases:
             file.write('<?xml version="1.0" encoding="UTF-8"?>\n<testsuites>\n<testsuite name=%s %s>\n' % (name, counts))

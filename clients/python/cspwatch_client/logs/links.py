@@ -6,11 +6,12 @@ import re
 import selectors
 import socket
 import subprocess
+import time
 from collections import deque
 from typing import Deque, Dict, List, Optional, Sequence, Set
 
 from ..client import split_address
-from ..replies import FAULT, VERDICT, FaultCode
+from ..replies import FAULT, FaultCode
 from .mapping import Report
 from .reading import Line
 
@@ -26,8 +27,14 @@ EXPLAINED = re.compile(r"line (\d+): .*?: NO \d+, (.*)")
 SEATED = re.compile(rb"I ([1-9][0-9]*) (0|[1-9][0-9]*)")
 """The reply to a line `I n`: the seat, and how many of its reports stand in the history."""
 
+PLACE_DIGITS = 20
+"""The most digits of a place."""
+
 LAST_LINES = 20
 """How many lines of the program's standard error are kept, for what it says when it ends."""
+
+REASON_SECONDS = 2
+"""How long the reason of a rejected report may come after its verdict."""
 
 SECONDS = 30
 """How long a server may take to be connected to, and to give a seat."""
@@ -36,7 +43,20 @@ SECONDS = 30
 class Sent:
     """A report that was sent, and what became of it."""
 
-    __slots__ = ("report", "line", "index", "session", "done", "accepted", "place", "fault", "status", "reason")
+    # Most reports are accepted, so what is as it is at the beginning is kept once for all of them.
+    done = False
+    """Whether the answer is complete."""
+    accepted = False
+    place: Optional[int] = None
+    """The place in the history; None where the report wasn't judged."""
+    fault = ""
+    """What was answered in place of a verdict, as `21 states`; empty where there is a verdict."""
+    status = 0
+    """What the answer asks for as the status of the run."""
+    reason = ""
+    """Why the report was rejected, where that is known."""
+    since = 0.0
+    """Since when its reason is waited for, by the clock `monotonic`."""
 
     def __init__(self, report: Report, line: Line, index: int, session: object) -> None:
         self.report = report
@@ -44,24 +64,30 @@ class Sent:
         self.index = index
         """The number of the line among all lines that were read."""
         self.session = session
-        self.done = False
-        """Whether the answer is complete."""
-        self.accepted = False
-        self.place: Optional[int] = None
-        """The place in the history; None where the report wasn't judged."""
-        self.fault = ""
-        """What was answered in place of a verdict, as `21 states`; empty where there is a verdict."""
-        self.status = 0
-        """What the answer asks for as the status of the run."""
-        self.reason = ""
-        """Why the report was rejected, where that is known."""
+
+    @classmethod
+    def unjudged(cls, line: Line, index: int, session: object, reason: str) -> Sent:
+        """What stands for a line of which no report could be made."""
+        found = cls(Report("", None), line, index, session)
+        found.done, found.fault, found.status = True, reason, 2
+        return found
+
+    def is_complete(self) -> bool:
+        """Whether its answer is complete, or its reason has been waited for long enough."""
+        if not self.done and self.since and time.monotonic() - self.since > REASON_SECONDS:
+            self.done = True
+        return self.done
 
     def answer(self, reply: bytes) -> bool:
         """Takes the reply. False where the protocol has no such reply."""
-        verdict = VERDICT.fullmatch(reply)
-        if verdict is not None:
-            self.accepted, self.place = verdict[1] == b"OK", int(verdict[2])
-            self.status = 0 if self.accepted else 1
+        # Most replies are these, so they are read without a regular expression.
+        kind, place = reply[:3], reply[3:]
+        if kind in (b"OK ", b"NO ") and place.isdigit() and place[:1] != b"0" and len(place) <= PLACE_DIGITS:
+            self.place = int(place)
+            if kind == b"OK ":
+                self.accepted = True
+            else:
+                self.status = 1
             return True
         fault = FAULT.fullmatch(reply)
         if fault is not None:
@@ -178,10 +204,11 @@ class Link:
             self.answered += 1
             if not sent.answer(reply):
                 raise Lost("%s: %r was answered by %r" % (self.name, sent.report.line, reply[:200]))
-            if sent.accepted or sent.fault or not self.explains or self.told not in self.open:
+            if sent.accepted or sent.fault or sent.reason or not self.explains or self.told not in self.open:
                 sent.done = True
             else:
                 self.unexplained[self.answered] = sent
+                sent.since = time.monotonic()
 
     def take_error(self, line: str) -> None:
         """A line of standard error. A reason may come before its verdict is read."""
@@ -190,6 +217,9 @@ class Link:
             self.errors.append(line)
             return
         number = int(found[1])
+        for earlier in [one for one in self.unexplained if one < number]:
+            # Reasons come in the order of the reports, so these have none.
+            self.unexplained.pop(earlier).done = True
         sent = self.unexplained.pop(number, None)
         if sent is None and 0 < number - self.answered <= len(self.waiting):
             self.waiting[number - self.answered - 1].reason = found[2]
@@ -309,10 +339,10 @@ class Links:
         for end in link.open:
             self.selector.register(end, selectors.EVENT_READ, link)
 
-    def pump(self, seconds: Optional[float], also: Sequence[int] = ()) -> List[Link]:
+    def pump(self, seconds: float, also: Sequence[int] = ()) -> List[Link]:
         """Writes what can be written, and reads what has come; waits so long for anything. Answers the links that have ended.
 
-        seconds -- the longest wait; None for ever.
+        seconds -- the longest wait.
         also -- descriptors that end the waiting too, such as a log's.
         """
         for link in self.dirty:

@@ -11,13 +11,20 @@ from .mapping import Joiner, Report, Rules, Unmapped
 from .maps import Map, Rule
 from .places import Groups, Places
 from .reading import Line
-from .showing import SHOWN, Counts, Printer, kept
+from .record import Record
+from .showing import SHOWN, Counts, Printer, kept, verdict
 
-AHEAD = 8192
+AHEAD = 32768
 """The most reports that are sent ahead of their replies, of all sessions together."""
 
-WINDOW = 65536
+BATCH = 16384
+"""How many reports of many sessions are gathered, while there is more to be read: a large write for each costs less than many."""
+
+WINDOW = 32768
 """The most lines that are read after one whose report waits for its reply."""
+
+WAIT_SECONDS = 1
+"""How long replies are waited for before it is looked whether a reason has been waited for long enough."""
 
 NO_GROUPS: Groups = {}
 
@@ -48,14 +55,17 @@ class Wanted:
     coverage: bool = False
     skip: int = 0
     """How many reports stand in the history already."""
+    junit: Optional[JUnit] = None
+    record: Optional[Record] = None
 
 
 class Run:
     """A run over lines."""
 
-    def __init__(self, rules: Rules, start: Callable[[], Link], printer: Printer, wanted: Wanted, junit: Optional[JUnit]) -> None:
+    def __init__(self, rules: Rules, start: Callable[[], Link], printer: Printer, wanted: Wanted) -> None:
         """start -- starts what judges a session."""
-        self.rules, self.start, self.printer, self.wanted, self.junit = rules, start, printer, wanted, junit
+        self.rules, self.start, self.printer, self.wanted = rules, start, printer, wanted
+        self.junit = wanted.junit
         self.map: Map = rules.map
         self.joiner = Joiner(self.map.joins)
         self.links = Links()
@@ -65,7 +75,7 @@ class Run:
         self.sessions: Dict[str, Session] = {}
         """Those that are open, by their keys."""
         self.by_link: Dict[Link, Session] = {}
-        self.context = Context(WINDOW + AHEAD) if junit is not None else None
+        self.context = Context(WINDOW + AHEAD) if self.junit is not None else None
         self.came: Set[str] = set()
         """The events that were accepted."""
         self.stopped = False
@@ -90,9 +100,10 @@ class Run:
                 counts.joined += 1
             else:
                 self.take_text(line, text)
-        self.pump(0)
+        if self.single is not None or len(self.order) >= BATCH:
+            self.pump(0)
         while self.is_far_ahead():
-            self.pump(None)
+            self.pump(WAIT_SECONDS)
 
     def take_text(self, line: Line, text: str) -> None:
         """A line as the rules see it."""
@@ -102,7 +113,7 @@ class Run:
         if found is None:
             self.counts.without_rule += 1
             if self.wanted.strict:
-                self.counts.statuses[2] = True
+                self.counts.statuses.add(2)
                 self.printer.without_rule(kept(line))
             return
         rule, match = found
@@ -195,16 +206,9 @@ class Run:
     def not_mapped(self, line: Line, groups: Groups, reason: str) -> None:
         """A line of which a rule makes nothing that can be judged."""
         key = self.map.sessions.key.filled_from(groups) if self.map.sessions is not None else ""
-        session = self.sessions.get(key or "")
         self.counts.reports += 1
-        self.counts.statuses[2] = True
-        self.unjudged(kept(line), self.counts.lines - 1, session, reason)
-
-    def unjudged(self, line: Line, index: int, session: Optional[Session], reason: str) -> None:
-        self.counts.not_judged += 1
-        self.printer.not_judged(line, session.name if session else "", reason)
-        if self.context is not None and session is not None:
-            session.case.add(self.context.failure("error", index, line, "not judged: " + reason))
+        session = self.sessions.get(key or "") or Session(key or "", Places({}))
+        self.order.append(Sent.unjudged(kept(line), self.counts.lines - 1, session, reason))
 
     def is_far_ahead(self) -> bool:
         """Whether replies have to be waited for before more is read."""
@@ -213,11 +217,13 @@ class Run:
         front = self.order[0]
         return len(self.order) > AHEAD or isinstance(front, Sent) and self.counts.lines - front.index > WINDOW
 
-    def pump(self, seconds: Optional[float], also: Sequence[int] = ()) -> None:
+    def pump(self, seconds: float, also: Sequence[int] = ()) -> None:
         """Writes and reads what it can, waits so long for anything, and shows the verdicts that are complete."""
         for link in self.links.pump(seconds, also):
             self.link_ended(link)
         self.show()
+        if self.wanted.record is not None:
+            self.wanted.record.flush()
 
     def link_ended(self, link: Link) -> None:
         """Nothing more comes from this one. `Lost` where it should have answered more."""
@@ -241,7 +247,7 @@ class Run:
                 if not front.is_over:
                     return
                 self.session_over(front)
-            elif not front.done:
+            elif not front.is_complete():
                 return
             else:
                 self.show_sent(front)
@@ -250,24 +256,29 @@ class Run:
     def show_sent(self, sent: Sent) -> None:
         session = sent.session
         assert isinstance(session, Session)
+        is_new = self.wanted.record is None or self.wanted.record.add(sent, session.name)
         session.case.reports += 1
         if sent.accepted:
             self.counts.accepted += 1
             if sent.report.event is not None:
                 self.came.add(sent.report.event)
             return
-        self.counts.statuses[sent.status] = True
+        self.counts.statuses.add(sent.status)
         if sent.fault:
-            self.unjudged(sent.line, sent.index, session, "%s: ERR %s" % (sent.report.line, sent.fault))
-            return
-        self.counts.rejected += 1
-        self.printer.rejected(sent, session.name)
-        if self.context is not None:
-            text = "%s: NO %s%s" % (sent.report.line, sent.place, ", " + sent.reason if sent.reason else "")
-            session.case.add(self.context.failure("failure", sent.index, sent.line, text))
+            self.counts.not_judged += 1
+            text = "not judged: " + ("%s: ERR %s" % (sent.report.line, sent.fault) if sent.report.line else sent.fault)
+            if is_new:
+                self.printer.not_judged(sent.line, session.name, text)
         else:
-            session.case.rejected += 1
-        self.stopped = self.stopped or self.wanted.first
+            self.counts.rejected += 1
+            text = verdict(sent)
+            if is_new:
+                self.printer.rejected(sent, session.name)
+                self.stopped = self.stopped or self.wanted.first
+        if self.context is not None:
+            session.case.add(self.context.failure("error" if sent.fault else "failure", sent.index, sent.line, text))
+        else:
+            session.case.rejected += not sent.fault
 
     def session_over(self, session: Session) -> None:
         self.counts.bad_sessions += session.case.rejected > 0
@@ -279,7 +290,7 @@ class Run:
         for session in list(self.sessions.values()):
             self.end(session)
         while self.by_link and not self.stopped:
-            self.pump(None)
+            self.pump(WAIT_SECONDS)
         if self.stopped:
             self.abandon()
         self.counts.without_rule += self.joiner.waiting()
@@ -297,8 +308,12 @@ class Run:
             self.session_over(session)
         self.by_link.clear()
 
-    def close(self, cut: int) -> None:
-        """Shows coverage and counts, and writes the file of JUnit."""
+    def close(self, cut: int, is_whole: bool) -> None:
+        """Shows coverage and counts, and ends the files that are written.
+
+        cut -- how many lines were longer than they may be.
+        is_whole -- whether the whole log was read and judged.
+        """
         self.counts.cut = cut
         if self.context is not None and self.junit is not None:
             self.context.complete(True)
@@ -307,6 +322,8 @@ class Run:
             self.show_coverage()
         self.printer.counts(self.counts, self.map.sessions is not None)
         self.printer.flush()
+        if self.wanted.record is not None:
+            self.wanted.record.close(is_whole)
 
     def show_coverage(self) -> None:
         never = by_channel(self.rules.events, self.came)

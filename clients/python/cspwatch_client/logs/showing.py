@@ -3,7 +3,7 @@ from __future__ import annotations
 
 import re
 from dataclasses import dataclass, field
-from typing import Dict, List, TextIO
+from typing import List, Set, TextIO
 
 from .links import Sent
 from .reading import Line
@@ -34,11 +34,8 @@ def printable(text: str) -> str:
 
 
 def verdict(sent: Sent) -> str:
-    """The report with what was answered, and why."""
-    if sent.fault:
-        return "%s: ERR %s" % (sent.report.line, sent.fault)
-    answer = "NO" if not sent.accepted else "OK"
-    return "%s: %s %s%s" % (sent.report.line, answer, sent.place, ", " + sent.reason if sent.reason else "")
+    """A rejected report, and why where that is known."""
+    return "%s: NO %s%s" % (sent.report.line, sent.place, ", " + sent.reason if sent.reason else "")
 
 
 @dataclass
@@ -64,7 +61,7 @@ class Counts:
     """Sessions with a rejected report."""
     cut: int = 0
     """Lines that were longer than they may be."""
-    statuses: Dict[int, bool] = field(default_factory=dict)
+    statuses: Set[int] = field(default_factory=set)
     """The statuses that something asks for."""
 
     def status(self) -> int:
@@ -106,10 +103,9 @@ class Printer:
         if self.annotations:
             self.annotate("error", sent.line, text)
 
-    def not_judged(self, line: Line, session: str, reason: str) -> None:
-        """A report that wasn't judged."""
-        text = (session + ": " if session else "") + "not judged: " + reason
-        self.message(line, text)
+    def not_judged(self, line: Line, session: str, text: str) -> None:
+        """A report that wasn't judged, and why."""
+        self.message(line, (session + ": " if session else "") + text)
 
     def without_rule(self, line: Line) -> None:
         """A line that no rule takes, where there is to be none."""
