@@ -47,7 +47,7 @@ PROVES = re.compile(r"(?:^|[;&|] *)(rt|\.ci/run)\b", re.MULTILINE)
 FORM = re.compile(r"\b(?:SPEC|PROCESS|JOURNAL|ADDR|COMMIT|VERSION|NAME|FILE)\b")
 """A word that the reader is to fill in."""
 
-TESTS = re.compile(r"\b(?:tests/\w+\.py|clients/run_tests\.py|dist/make_release\.py)")
+TESTS = re.compile(r"\b(?:tests/\w+\.py|clients/run_tests\.py|dist/make_release\.py|make (?:quick|lint|test|rows|gate|needs)\b)")
 """A test, which isn't called a second time."""
 
 ROOTS = re.compile(r"^install .* /(?:usr|etc)/", re.MULTILINE)
