@@ -1,5 +1,5 @@
 //! `cspwatch serve`: the reports of connections, judged by one session with a journal.
-ghost use Rattle.std.specs.Prelude.{◌≡◌};
+ghost use Rattle.std.specs.Prelude.{◌≡◌, [], IfOk};
 ghost use Rattle.command_line.specs.Statuses.{run_exit};
 
 use crate::forms::put_out;
@@ -114,7 +114,9 @@ fn serve_to_end<
     service: &Service<'_>,
     session: Session<D, Global>,
     listener: TcpListener,
-) -> Result<Ended, AllocError> {
+) -> Result<Ended, AllocError>
+    requires { session.offered ≡ [] }
+{
     let accept = TcpAccept::new(listener);
     match serve_session(rt, rt.alloc(), session, accept, service.connections) {
         Ok(closing) => {
@@ -146,7 +148,9 @@ fn serve_at<
     session: Session<D, Global>,
     output: &mut O,
     errors: &mut E,
-) -> Exit {
+) -> Exit
+    requires { session.offered ≡ [] }
+{
     let listener = match listen_at(rt, service, output, errors) {
         Ok(listener) => listener,
         Err(exit) => {
@@ -166,7 +170,9 @@ fn session_at<R: Files<File = File> + AllocGlobal, E: Write + IsTerminal>(
     service: &Service<'_>,
     script: &[u8],
     errors: &mut E,
-) -> Result<Session<FileDisk<File>, Global>, Exit> {
+) -> Result<Session<FileDisk<File>, Global>, Exit>
+    ensures { IfOk result (λ s. s.offered ≡ []) }
+{
     let names = names_by(service.large);
     let file = journal_at(rt, service.journal, errors)?;
     match open(
