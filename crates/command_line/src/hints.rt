@@ -97,11 +97,7 @@ fn meaning_of_limit(names: Names, error: SessionError) -> Option<&'static str> {
 }
 
 /// Shows, where the errors go to a terminal, what the limit means that an opening met, where names are kept so.
-pub(crate) fn show_limit<E: Write + IsTerminal>(
-    errors: &mut E,
-    names: Names,
-    error: SessionError,
-) {
+pub(crate) fn show_limit<E: Write + IsTerminal>(errors: &mut E, names: Names, error: SessionError) {
     if let Some(meaning) = meaning_of_limit(names, error) {
         if errors.is_terminal() {
             let _ = writeln!(errors, "        {meaning}");

@@ -15,6 +15,6 @@ pub use disk::Disk;
 pub use fault::SeatFault;
 pub use locked::Locked;
 pub use session::{
-    Entry, Failed, Fault, SeatNumber, Session, SessionError, Summary, crosses, legal_crosses, names_of,
-    read_as,
+    Entry, Failed, Fault, SeatNumber, Session, SessionError, Summary, crosses, legal_crosses,
+    names_of, read_as,
 };

@@ -92,7 +92,12 @@ fn lines_of<D: Disk, A: Allocator + Copy, W: Write>(
     requires { IsReadAs (names_kept header.now.version) header.now.script.items header.now.root.items session.now.spec }
     ensures { IfOk result (λ left. Writes options session.now.spec session.now.history (W.contents output.old) (W.contents output.new) left.items) }
 {
-    match read_as(alloc, &header.script, &header.root, names_of(header.version)) {
+    match read_as(
+        alloc,
+        &header.script,
+        &header.root,
+        names_of(header.version),
+    ) {
         Ok(spec) => shown::show(alloc, spec, session.history(), options, output),
         Err(_) => Err(ShowError::Memory),
     }
