@@ -9,7 +9,6 @@ mod checking;
 mod forms;
 mod hints;
 mod journal_files;
-mod limits;
 mod patient;
 mod replaying;
 mod running;

@@ -5,7 +5,6 @@ ghost use Rattle.program.specs.Exits.{exit_code};
 
 use crate::checking::check;
 use crate::forms::print;
-use crate::limits::names_by;
 use crate::patient::Patient;
 use crate::replaying::replay;
 use crate::server::serve;
@@ -35,22 +34,10 @@ fn fulfil<
     E: Write + IsTerminal,
 >(rt: &R, wish: &Wish<'_>, input: &mut I, output: &mut O, errors: &mut E) -> Exit {
     match wish {
-        Wish::Check {
-            spec,
-            process,
-            large,
-        } => {
+        Wish::Check { spec, process } => {
             let mut reader = Plain::new(Patient::new(&mut *input));
             let mut writer = Plain::new(&mut *output);
-            check(
-                rt,
-                spec,
-                process,
-                names_by(*large),
-                &mut reader,
-                &mut writer,
-                errors,
-            )
+            check(rt, spec, process, &mut reader, &mut writer, errors)
         }
         Wish::Print { spec, process } => print(rt, spec, process, output, errors),
         Wish::Replay { journal } => replay(rt, journal, output, errors),

@@ -16,5 +16,4 @@ pub use fault::SeatFault;
 pub use locked::Locked;
 pub use session::{
     Entry, Failed, Fault, SeatNumber, Session, SessionError, Summary, crosses, legal_crosses,
-    names_of, read_as,
 };

@@ -6,5 +6,4 @@ pub mod Crossings
 pub use Rattle.spaces.specs.Acceptances
 pub use Rattle.spaces.specs.AfterFault
 pub use Rattle.spaces.specs.Belonging
-pub use Rattle.spaces.specs.Limits
 pub use Rattle.spaces.specs.Spaces

@@ -2,8 +2,7 @@
 use Rattle.std.specs.Prelude.{◌≡◌, ℕ, List, [], ◌∷◌, ◌++◌, length, Bool, true, not, ◌&&◌, ◌||◌, ◌==◌}
 use Rattle.std.specs.List.{sum_by}
 use Rattle.alphabet.specs.declared.events.Report.{Report}
-use Rattle.term.specs.Proc.{Proc, bodies_of}
-use Rattle.term.specs.Specs.{Specified}
+use Rattle.term.specs.Proc.{Proc}
 use Rattle.locked.specs.Entry.{Entry}
 use Rattle.locked.specs.Entries.{calls}
 use Rattle.locked.specs.Legal.{Legal}
@@ -36,11 +35,11 @@ pub record Answered (B : ℕ → Proc) (old new : SeatView) (report : Report) (v
 
 -- A fault. What the seat has seen is a legal history that begins with what it had seen; its own reports stay. It knows the session to be
 -- closed where this fault is one that closes, or one before was.
-pub record Refused (spec : Specified) (old new : SeatView) (report : Report) (f : Fault) : Type 0 where
-  pub legal : Legal (bodies_of spec.bodies) new.seen
+pub record Refused (B : ℕ → Proc) (old new : SeatView) (report : Report) (f : Fault) : Type 0 where
+  pub legal : Legal B new.seen
   pub begins : StartsWith new.seen old.seen
   pub same : new.mine ≡ old.mine
-  pub why : Answers spec new.seen old.seat old.mine report f
+  pub why : Answers B new.seen old.seat old.mine report f
   pub seat : new.seat ≡ old.seat
   pub closed : new.closed ≡ (closes f || old.closed)
 
