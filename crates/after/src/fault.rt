@@ -32,7 +32,9 @@ impl AfterFault {
         }
     }
 
-    /// The word of the fault.
+    /// The word of the fault. It is `depth`, `states` or `memory`. The fault's text is its number (`code`), a space and
+    /// this word: `20 depth`, which a client reads in the line `ERR 20 depth`. The number alone tells the faults apart;
+    /// the word is for the reader. Constant cost; takes no memory.
     pub fn word(&self) -> &'static str
         ensures { result.now ≡ word_of self.now }
     {

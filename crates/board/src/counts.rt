@@ -29,7 +29,9 @@ impl<N: Naming> Model for Counts<N> {
 }
 
 impl<N: Naming> Counts<N> {
-    /// The counts of the opening and this list.
+    /// The counts of the opening and this list. Whoever adds to the list knows both, and makes this for the board: so who looks
+    /// there learns the four numbers together with the list that they are of. Nothing is counted here: the contract asks that the
+    /// summary be that of the opening and the list. Constant cost; takes no memory.
     pub fn new(summary: Summary, front: Front<N>) -> Counts<N>
         requires { summary ≡ summary_of (N.opening ++ front) }
         ensures { result ≡ front }

@@ -28,7 +28,9 @@ pub struct Board<N: Naming, A: Allocator> {
 }
 
 impl<N: Naming, A: Allocator> Board<N, A> {
-    /// A board that shows these counts.
+    /// A board that shows these counts. A writer of `left_right` takes two with the same counts: readers look at one while it
+    /// changes the other. `source` is shared by both and by whoever publishes, who puts the next counts there first: an entry alone
+    /// is no evidence of a list, so the board takes the evidence from there. Constant cost; takes no memory.
     pub fn new(known: Counts<N>, source: Source<N, A>) -> Board<N, A>
         ensures { result.counts ≡ summary_of (N.opening ++ known) }
     {
@@ -84,7 +86,9 @@ pub type Publisher<N, A> = Writer<Board<N, A>, Entry, (), Unruled, A>;
 /// The end that looks.
 pub type Looker<N, A> = Reader<Board<N, A>, (), Unruled, A>;
 
-/// What is published now, with evidence. It waits for nobody. `None` where the reader gets no look.
+/// What is published now, with evidence. It waits for nobody. `None` where the reader gets no look. By this a status is answered
+/// while a report holds the lock. There is no look where the publisher is gone, or where the evidence is of other counts than the
+/// published ones. The reader comes back each time. Costs a few atomic steps; takes no memory.
 pub fn look<N: Naming, A: Allocator>(looker: Looker<N, A>) -> (Looker<N, A>, Option<Counts<N>>) {
     match looker.enter_as::<Unruled>() {
         Ok(reading) => {

@@ -64,7 +64,9 @@ fn tells_limit(fault: &Fault) -> bool
 }
 
 impl Ending {
-    /// Whether a report was rejected.
+    /// Whether a report was rejected. So it is where some report of the connection was judged and rejected, which is answered
+    /// `NO n`, also if reading or writing failed later; a connection without a place or a thread has reported nothing.
+    /// `Account::of` asks this of all connections, for the exit status 1. Constant cost: each answer was noted as it was made.
     pub fn has_rejected(&self) -> bool
         ensures { result ≡ has_rejected self.now }
     {
@@ -107,7 +109,13 @@ fn have_met_limit(endings: &[Ending]) -> bool
 }
 
 impl Account {
-    /// Of connections that ended so, after which another couldn't be taken, or all were.
+    /// Of connections that ended so, after which another couldn't be taken, or all were. `endings` has one for each connection of
+    /// the run, in any order; where it is empty, nothing was rejected and no limit was met. `accept_failed` says that another
+    /// couldn't be taken. The exit status of a run is found from this. Goes over the endings twice at most; takes no memory.
+    ///
+    /// ```text
+    /// let status = Account::of(&endings, accept_failed).status(closed).code(); // 0, 1, 4, 5 or 6
+    /// ```
     pub fn of(endings: &[Ending], accept_failed: bool) -> Account
         ensures rejected { result.rejected ≡ list_any has_rejected endings.now }
         ensures limit { result.limit ≡ list_any met_limit endings.now }

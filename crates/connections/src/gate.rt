@@ -55,7 +55,9 @@ pub trait Gate {
     /// be read before and after it, what is written before and after it, and how it ends.
     ghost serves: { Self → Self.Place → Self.Place → Tally → Option (List ℕ) → Option (List ℕ) → Option (List ℕ) → Option (List ℕ) → Result End WireError → Type 0 };
 
-    /// Gives a place, or says why there is none.
+    /// Gives a place, or says why there is none. The thread that takes connections asks for a place for each, before the connection
+    /// has a thread of its own; it may wait, as for a lock. The fault goes to the client as the only line (`ERR 22 seats`, say),
+    /// that connection is closed, and the next one is taken. `serve` gives the place back when its connection is over.
     fn place<T: Wait>(&self, rt: &T, alloc: Global) -> Result<Self::Place, Fault>
         ensures given { IfOk result (λ place. gives self.now place) }
         ensures refused { IfErr result (λ fault. refuses self.now fault) };

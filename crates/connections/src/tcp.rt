@@ -48,7 +48,9 @@ pub struct TcpAccept {
 }
 
 impl TcpAccept {
-    /// The connections of this listener.
+    /// The connections of this listener. It is bound to its address already, and is closed when this is dropped. `accept` then
+    /// waits for each connection without end, passes over one that its peer gave up before, and fails where the system does. No
+    /// clause says which connections come, since nothing is known of what the system does.
     pub fn new(listener: TcpListener) -> TcpAccept {
         TcpAccept { listener }
     }

@@ -20,7 +20,14 @@ impl Model for Count {
 }
 
 impl Count {
-    /// The count of something that has not happened yet.
+    /// The count of something that has not happened yet. A device has one from the beginning on, and puts the count
+    /// after it in its place at each failure: so a contract can say that the count has risen where a call fails. Proofs
+    /// alone read the number, which is 0 here and has no greatest value. It takes no memory.
+    ///
+    /// ```text
+    /// let mut failures = Count::new();
+    /// failures = Count::after(&failures); // in each call that fails
+    /// ```
     pub fn new() -> Count
         ensures { result.n ≡ 0 }
     {

@@ -32,7 +32,10 @@ impl<A: Allocator> Table<A> {
         Ok(())
     }
 
-    /// Appends the number, unless it is in the list or there are more than `most`.
+    /// Appends the number, unless it is in the list or there are more than `most`. So a list that began empty has no
+    /// number twice and at most `most` + 1 of them; `most` + 1 say that a limit of `most` is exceeded, and take no
+    /// memory for what comes after. The answer is `Ok` either way: the error is that memory was refused. The numbers
+    /// are those of processes in this table. Costs a comparison with each number in the list.
     pub fn add(&self, number: u32, most: usize, into: &mut Vec<u32, A>) -> Result<(), AllocError>
         requires number { number < length self.now.processes }
         requires here { AllBelow (length self.now.processes) into.old.items }

@@ -61,7 +61,11 @@ impl<A: Allocator + Copy> Table<A> {
         }
     }
 
-    /// The number of this relation. Numbers keep what they are of, also where memory is refused.
+    /// The number of this relation. Numbers keep what they are of, also where memory is refused. A relation is the `R`
+    /// of `P[[R]]`: pairs of numbers of events, first the event of `P` and then what it becomes. One with the same
+    /// pairs in the same order has its number already; a new one is copied and gets the next, counted from 0. Costs a
+    /// comparison with each relation here. The error is that memory was refused, or that all 4,294,967,295 numbers are
+    /// given.
     pub fn put_pairs(&mut self, pairs: &[(u8, u8)]) -> Result<u32, AllocError>
         ensures within { IfOk result (λ n. n < length self.new.parameters.relations) }
         ensures pairs { IfOk result (λ n. relation_at self.new.parameters n ≡ pairs.now) }
@@ -86,7 +90,17 @@ impl<A: Allocator + Copy> Table<A> {
 }
 
 impl<A: Allocator> Table<A> {
-    /// The number of this node's process. Numbers keep what they are of, also where memory is refused.
+    /// The number of this node's process. Numbers keep what they are of, also where memory is refused. The node's
+    /// parts, its set and its relation are in this table already, so a term is put from its leaves on. A process that
+    /// is here keeps its number; a new one gets the next, counted from 0, and what is known of it is found from its
+    /// parts. Costs a look-up by hash. The error is that memory was refused, or that all 4,294,967,295 numbers are
+    /// given.
+    ///
+    /// ```text
+    /// let stop = table.put(Node::Stop)?;
+    /// let first = table.put(Node::Prefix(0, stop))?; // event 0 of Sigma, then `STOP`
+    /// let again = table.put(Node::Prefix(0, stop))?; // the number of `first`
+    /// ```
     pub fn put(&mut self, node: Node) -> Result<u32, AllocError>
         requires { IsWithin self.old.parameters (length self.old.processes) node }
         ensures number { IfOk result (λ n. IsNumber self.new n (shape self.old.parameters self.old.processes node)) }
@@ -121,7 +135,9 @@ impl<A: Allocator> Table<A> {
         Ok(number as u32)
     }
 
-    /// Different numbers are those of different processes. Does nothing.
+    /// Different numbers are those of different processes. Does nothing. It is here for proofs: a caller that keeps
+    /// each number once in a list learns that each process is there once, and so compares numbers alone. Processes are
+    /// compared as terms: two that behave alike but are built in another way have two numbers.
     pub fn once(&self)
         ensures { NoneTwice stop self.now.processes }
     {
@@ -135,7 +151,9 @@ impl<A: Allocator> Table<A> {
         self.nodes.len() as u32
     }
 
-    /// The node with this number.
+    /// The node with this number. It is the one that `put` was given: an operator over the numbers of its parts. Those
+    /// are smaller than this number, so a walk from a process down to its parts ends. The number is below `len`.
+    /// Constant cost; takes no memory.
     pub fn node(&self, number: u32) -> Node
         requires { number < length self.now.processes }
         ensures within { IsWithin self.now.parameters number result }
@@ -147,7 +165,11 @@ impl<A: Allocator> Table<A> {
         }
     }
 
-    /// What is known of the process with this number.
+    /// What is known of the process with this number. It says, before any step is looked for, what `step::offers`,
+    /// `step::is_stable` and `step::can_tick` say of a term: which events of Sigma the process offers (never tick),
+    /// whether it has no hidden step, whether it can terminate; and its depth. It was found from the parts when the
+    /// process was put, so it costs one look-up by place, however large the process is, and no memory. The number is
+    /// below `len`.
     pub fn facts(&self, number: u32) -> Facts
         requires { number < length self.now.processes }
         ensures { IsKnown result (at self.now.processes number) }

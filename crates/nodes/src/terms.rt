@@ -36,7 +36,11 @@ impl Operator {
 }
 
 impl<A: Allocator + Copy> Table<A> {
-    /// The number of this term's process. Numbers keep what they are of, also where memory is refused.
+    /// The number of this term's process. Numbers keep what they are of, also where memory is refused. The parts are
+    /// put first, each different one once, so the table grows by at most the term's size; a prefix by tick is put as
+    /// `STOP`. The term stays, and may be in other memory. Costs a look-up by hash for each node, and a search among
+    /// the sets or relations here for each set or relation, in calls nested as deep as the term is. The errors are
+    /// those of `put`; parts that were put before an error stay.
     #[cycle(number_of_term)]
     pub fn number_of_term<B: Allocator>(&mut self, term: &Term<B>) -> Result<u32, AllocError>
         ensures number { IfOk result (λ n. IsNumber self.new n (proc term.now)) }

@@ -25,7 +25,15 @@ where
 }
 
 impl<'a, D: Disk, A: Allocator + Copy, N: Naming, R: Wait> SeatJudge<'a, D, A, N, R> {
-    /// The judge of this seat.
+    /// The judge of this seat. With it `wire::serve` answers the lines of a connection from a seat of a shared session. `rt` is the
+    /// right to wait for the session's lock: a report and `next` wait for it, a status doesn't. Nothing is reported here, and the
+    /// seat has seen what it had seen. Constant cost; takes no memory.
+    ///
+    /// ```text
+    /// let mut judge = SeatJudge::new(rt, seat);
+    /// let end = judge.serve(alloc, &mut reader, &mut writer, &alphabet, &mut tally);
+    /// let share = judge.end();
+    /// ```
     pub fn new(rt: &'a R, seat: Seat<'a, D, A, N>) -> SeatJudge<'a, D, A, N, R>
         ensures { result.seat.share ≡ seat.entry.share }
     {

@@ -24,7 +24,10 @@ where
 }
 
 impl<'a, D: Disk, N: Naming> SharedGate<'a, D, N> {
-    /// The gate to this session. The alphabet is that of its specification.
+    /// The gate to this session. The alphabet is that of its specification. By it `connections::serve_all` serves the session, each
+    /// connection at a seat of its own. The alphabet may be a copy (`seats::copy_of`): all threads read it, without the session's
+    /// lock. No seat is given yet: `place` gives one for each connection, or answers 22, 26, 31 or 40 (`seats::refusal_of`).
+    /// Constant cost; takes no memory.
     pub fn new(
         shared: &'a Shared<D, Global, N>,
         alphabet: &'a Alphabet<Global>,

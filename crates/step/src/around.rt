@@ -55,7 +55,15 @@ impl Operator {
 }
 
 impl<'a, A: Allocator + Clone> Around<'a, A> {
-    /// The term with this part in its place.
+    /// The term with this part in its place. So a step of a part becomes one of the whole: where `P` becomes `P'` by an
+    /// event, `P ; Q` becomes `P' ; Q`. The part is moved; what else the operator has (the other part, or the pairs of
+    /// a renaming) is copied into memory of `alloc`, which costs its size. The error is that memory was refused; the
+    /// part is gone then.
+    ///
+    /// ```text
+    /// Around::SeqLeft(&q).put(&alloc, p)  // p ; q
+    /// Around::ExtRight(&p).put(&alloc, q) // p [] q
+    /// ```
     pub fn put(&self, alloc: &A, part: Term<A>) -> Result<Term<A>, AllocError>
         ensures { IfOk result (λ whole. proc whole ≡ around self.now (proc part)) }
     {

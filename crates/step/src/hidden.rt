@@ -133,7 +133,10 @@ fn put_body<A: Allocator + Clone>(
     Ok(())
 }
 
-/// A copy of the body with this number; `STOP`, where there is none.
+/// A copy of the body with this number; `STOP`, where there is none. It is what a name becomes by its hidden step.
+/// Bodies are counted from 0, and the root is the name of body 0; in a specification every name has a body, so `STOP`
+/// comes for other numbers alone. The copy is in memory of `alloc` and costs the body's size. The error is that memory
+/// was refused.
 pub fn body_of<A: Allocator + Clone>(
     spec: &Spec<A>,
     number: usize,

@@ -51,7 +51,15 @@ impl<A: Allocator> Spec<A> {
         &self.alphabet
     }
 
-    /// The number of bodies.
+    /// The number of bodies. It is at least 1, since the root is the name of body 0; the bodies have the numbers below
+    /// it. The contract also says that the specification is closed (every name has a body, every event is in Sigma), so
+    /// a caller whose proof needs that calls this, too. Constant cost; takes no memory.
+    ///
+    /// ```text
+    /// for number in 0..spec.bodies() {
+    ///     let body = spec.body(number);
+    /// }
+    /// ```
     pub fn bodies(&self) -> usize
         ensures count { result ≡ length self.now.bodies }
         ensures closed { IsClosed self.now }
