@@ -45,7 +45,7 @@ pub fn print<A: Allocator + Copy>(
     ensures printed { IfOk result (λ text. IsPrinted script.now process.now text.items) }
 
     // Where the script denotes a specification, that is printed, unless memory runs out; and where it denotes none, nothing is.
-    ensures only { (spec : Specified) → IsRead script.now process.now spec → spec.names ≡ Names.Steps
+    ensures only { (spec : Specified) → IsRead script.now process.now spec
         → MatchResult result (λ text. text.items ≡ printed spec) IsUnprinted }
 {
     let spec = match read(alloc, script, process) {
