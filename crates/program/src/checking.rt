@@ -144,7 +144,8 @@ fn judge_by<R: Wait, D: Disk + Drop, A: Allocator + Copy + Drop, T: Source, W: S
     reader: &mut T,
     writer: &mut W,
 ) -> Result<Checked<D, A>, SessionError>
-    requires { session.history ≡ [] }
+    requires history { session.history ≡ [] }
+    requires offered { session.offered ≡ [] }
     ensures spec { IfOk result (λ c. c.session.spec ≡ session.spec) }
     ensures conversed { IfOk result (λ c. Conversed session.spec (T.left reader.old) (T.left reader.new) (W.contents writer.old) (W.contents writer.new)
         c.end c.session.history c.tally) }

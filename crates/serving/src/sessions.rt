@@ -13,7 +13,7 @@ ghost use Rattle.connections.specs.Outcomes.{ending_of, places_of};
 ghost use Rattle.serving.specs.Runs.{CameTo, Went};
 
 use crate::shared_gate::SharedGate;
-use alphabet::Alphabet;
+use alphabet::{Alphabet, EventSet};
 use connections::{Accept, Account, Connections, Ending, part, serve_all};
 use disk::Disk;
 use journal::{Journal, Prepared};
@@ -103,6 +103,7 @@ fn serve_at<D: Disk + Send, N: Naming + Send + Sync, T: Threads + Wait + Sync, L
     crosses::<ledger::Book<N>>();
     crosses::<ledger::Share<N>>();
     crosses::<Prepared<Global>>();
+    crosses::<EventSet>();
     let gate = SharedGate::new(shared, alphabet);
     let served = serve_all(rt, alloc, accept, &gate, count);
     gate.end();

@@ -11,7 +11,7 @@ use Rattle.program.proofs.Results.{match_from}
 use Rattle.program.proofs.forms.print.Goals as goal
 
 -- the same phrases, however their names are kept: the printed form has no part of that
-in_steps : Specified → Specified
+abbrev in_steps : Specified → Specified
 in_steps spec = record { alphabet = spec.alphabet; bodies = spec.bodies; names = Steps }
 
 read_in_steps : (text : List ℕ) (root : Name) (spec : Specified) → IsRead text root spec → IsRead text root (in_steps spec)

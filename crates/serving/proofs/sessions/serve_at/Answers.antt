@@ -19,7 +19,7 @@ serve_all-served-requires-sync-G g c κs within =
           (
             search sendable,
             (
-              search sendable,
+              record { owned = c.crosses-10.ensures.owned; leaving = λ k x w. search sendable },
               (
                 record { owned = c.crosses.ensures.owned; leaving = λ k x w. search sendable },
                 (
