@@ -278,7 +278,7 @@ class OverAServer(InFolder):
         with SeatService(taken=[3]) as service:
             found = self.logs("--server", service.address, "--seat", "3", "m.toml")
         self.assertEqual(found, (5, [], ["seat 3: another connection has this seat (ERR 27 taken)"]))
-        early = "this server gives no seats by number (ERR 10 command); `serve` without `--connections` does, after version 0.5.1"
+        early = "this server gives no seats by number (ERR 10 command)"
         for reply, reason in [(b"ERR 10 command\n", early), (b"I 4 0\n", "the server answered b'I 4 0'"), (b"I", "the server answered b'I'")]:
             with StandIn([(b"I 3", reply)]) as server:
                 found = self.logs("--server", server.address, "--seat", "3", "m.toml")

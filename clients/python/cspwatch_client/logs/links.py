@@ -320,7 +320,7 @@ class Connection(Link):
 
 
 SEAT_FAULTS = {
-    b"ERR 10 command": "this server gives no seats by number (ERR 10 command); `serve` without `--connections` does, after version 0.5.1",
+    b"ERR 10 command": "this server gives no seats by number (ERR 10 command)",
     b"ERR 27 taken": "another connection has this seat (ERR 27 taken)",
     b"ERR 22 seats": "the server has no free seat (ERR 22 seats)",
 }
