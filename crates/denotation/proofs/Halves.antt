@@ -1,5 +1,5 @@
 -- How many nodes bodies joined two and two have, and what there is room for.
-use Rattle.std.proofs.Common.{◌≡◌, ℕ, zero, suc, ◌+◌, ◌<◌, ◌≤◌, List, [], ◌∷◌, length, take, drop, Option, Some, None, refl, sym, ap, ◌∙◌, arith}
+use Rattle.std.proofs.Common.{◌≡◌, ◌⊎◌, inl, inr, ℕ, zero, suc, ◌+◌, ◌<◌, ◌≤◌, List, [], ◌∷◌, length, take, drop, Option, Some, None, refl, sym, ap, ◌∙◌, arith}
 use Rattle.std.proofs.lemmas.List.{length-take, length-drop}
 use Rattle.values.specs.Values.{◌>>=◌}
 use Rattle.event_phrases.proofs.Options.{bind_assoc, bind_none}
@@ -92,3 +92,29 @@ pub all_is : (j : Join) (room : ℕ) (o : Option (List Body)) → fits room (o >
 unfolding fit
 all_is j room None = refl
 all_is j room (Some bs) = joined_is room j bs
+
+-- ---- the joins of replicated forms
+
+pub no_join : (j : Join) (bs : List Body) (room : ℕ) → (j ≡ joins.Sequence) ⊎ (j ≡ joins.Interrupt) → spare_joined j bs room ≡ None
+unfolding spare_joined
+no_join j bs room (inl e) = ap (λ j. spare_joined j bs room) e
+no_join j bs room (inr e) = ap (λ j. spare_joined j bs room) e
+
+pub internal_none : (j : Join) (bs : List Body) (room : ℕ) → j ≡ joins.Internal → length bs < 1 → spare_joined j bs room ≡ None
+unfolding spare_joined
+internal_none j [] room e h = ap (λ j. spare_joined j [] room) e
+internal_none j (b ∷ bs) room e h = absurd (omega (arith, h))
+
+-- a join of bodies, with what is left of the room
+abbrev pub halved_by : Join → List Body → ℕ → Option (Body × ℕ)
+halved_by j bs room = spare (halved_nodes bs) (halved (join_of j) (none_of j) bs) room
+
+pub internal_some : (j : Join) (bs : List Body) (room : ℕ) → j ≡ joins.Internal → (length bs < 1 → ⊥) → spare_joined j bs room ≡ halved_by j bs room
+unfolding spare_joined
+internal_some j [] room e h = absurd (h (omega arith))
+internal_some j (b ∷ bs) room e h = ap (λ j. spare_joined j (b ∷ bs) room) e ∙ sym (ap (λ j. halved_by j (b ∷ bs) room) e)
+
+pub others_joined : (j : Join) (bs : List Body) (room : ℕ) → (j ≡ joins.External) ⊎ (j ≡ joins.Interleaving) → spare_joined j bs room ≡ halved_by j bs room
+unfolding spare_joined
+others_joined j bs room (inl e) = ap (λ j. spare_joined j bs room) e ∙ sym (ap (λ j. halved_by j bs room) e)
+others_joined j bs room (inr e) = ap (λ j. spare_joined j bs room) e ∙ sym (ap (λ j. halved_by j bs room) e)

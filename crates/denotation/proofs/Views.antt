@@ -3,16 +3,12 @@ use Rattle.std.proofs.Common.{◌≡◌, List, [], ◌∷◌, map, Option, Some,
 use Rattle.std.specs.Option.{option_map}
 use Rattle.syntax.specs.declared.form.Form.{Form}
 use Rattle.syntax.specs.declared.form.Form.TheVariants as forms
+use Rattle.syntax.specs.declared.operator.Operator.{Operator}
 use Rattle.syntax.specs.declared.operator.Operator.TheVariants as operators
 use Rattle.syntax.specs.Grammar.{Syntax, Called, Numeral, Node, Syntaxes, NoSyntax, MoreSyntax}
 use Rattle.values.specs.Values.{◌>>=◌}
 use Rattle.event_phrases.specs.Forms.{part_list, node_of, name_of, if_none, one_of, two_of, three_of, four_of, first_of}
 use Rattle.denotation.specs.Phrases.{Phrase, calling, renaming, operation_phrase, Part, part, parts_of, phrase_of, form_phrase, or_other}
-
-none_parts : {Y : Type 0} (ts : List Syntax) (y : Y) → if_none (map part ts) y ≡ if_none ts y
-unfolding if_none
-none_parts [] y = refl
-none_parts (t ∷ ts) y = refl
 
 pub one_part : (ts : List Syntax) → one_of (map part ts) ≡ (one_of ts >>= λ t. Some (part t))
 unfolding one_of if_none
@@ -44,11 +40,6 @@ four_parts (t ∷ u ∷ v ∷ []) = refl
 four_parts (t ∷ u ∷ v ∷ w ∷ []) = refl
 four_parts (t ∷ u ∷ v ∷ w ∷ x ∷ ts) = refl
 
-pub first_part : (ts : List Syntax) → first_of (map part ts) ≡ (first_of ts >>= λ p. Some (part p.0, map part p.1))
-unfolding first_of
-first_part [] = refl
-first_part (t ∷ ts) = refl
-
 -- the parts themselves
 pub back : (ts : List Syntax) → map (λ (t : Part). t.0) (map part ts) ≡ ts
 back [] = refl
@@ -76,3 +67,34 @@ pub renaming_parts : (ts : List Syntax) → operation_phrase operators.Renaming 
 unfolding operation_phrase first_of
 renaming_parts [] = refl
 renaming_parts (t ∷ ts) = ap (λ us. Some (renaming (phrase_of t) us)) (back ts)
+
+-- ---- what is no phrase for a process
+
+pub no_operation : (op : Operator) (ts : List Part) → (op ≡ operators.Prefix → ⊥) → (op ≡ operators.Sequence → ⊥) → (op ≡ operators.Interrupt → ⊥) → (op ≡ operators.ExternalChoice → ⊥) → (op ≡ operators.InternalChoice → ⊥) → (op ≡ operators.Interleaving → ⊥) → (op ≡ operators.Sharing → ⊥) → (op ≡ operators.Alphabetised → ⊥) → (op ≡ operators.Hiding → ⊥) → (op ≡ operators.Renaming → ⊥) → (op ≡ operators.Guard → ⊥) → operation_phrase op ts ≡ None
+unfolding operation_phrase
+no_operation operators.Prefix ts a b c d e f g h i j k = absurd (a refl)
+no_operation operators.Sequence ts a b c d e f g h i j k = absurd (b refl)
+no_operation operators.Interrupt ts a b c d e f g h i j k = absurd (c refl)
+no_operation operators.ExternalChoice ts a b c d e f g h i j k = absurd (d refl)
+no_operation operators.InternalChoice ts a b c d e f g h i j k = absurd (e refl)
+no_operation operators.Interleaving ts a b c d e f g h i j k = absurd (f refl)
+no_operation operators.Sharing ts a b c d e f g h i j k = absurd (g refl)
+no_operation operators.Alphabetised ts a b c d e f g h i j k = absurd (h refl)
+no_operation operators.Hiding ts a b c d e f g h i j k = absurd (i refl)
+no_operation operators.Renaming ts a b c d e f g h i j k = absurd (j refl)
+no_operation operators.Guard ts a b c d e f g h i j k = absurd (k refl)
+no_operation op ts a b c d e f g h i j k = refl
+
+pub no_form : (f : Form) (ts : List Part) → (f ≡ forms.Stop → ⊥) → (f ≡ forms.Skip → ⊥) → (f ≡ forms.Event → ⊥) → (f ≡ forms.If → ⊥) → (f ≡ forms.Brackets → ⊥) → ((op : Operator) → f ≡ forms.Operation op → ⊥) → (f ≡ forms.Call → ⊥) → (f ≡ forms.ReplicatedExternal → ⊥) → (f ≡ forms.ReplicatedInternal → ⊥) → (f ≡ forms.ReplicatedInterleaving → ⊥) → form_phrase f ts ≡ None
+unfolding form_phrase
+no_form forms.Stop ts a b c l d e g h i j = absurd (a refl)
+no_form forms.Skip ts a b c l d e g h i j = absurd (b refl)
+no_form forms.Event ts a b c l d e g h i j = absurd (c refl)
+no_form forms.If ts a b c l d e g h i j = absurd (l refl)
+no_form forms.Brackets ts a b c l d e g h i j = absurd (d refl)
+no_form (forms.Operation op) ts a b c l d e g h i j = absurd (e op refl)
+no_form forms.Call ts a b c l d e g h i j = absurd (g refl)
+no_form forms.ReplicatedExternal ts a b c l d e g h i j = absurd (h refl)
+no_form forms.ReplicatedInternal ts a b c l d e g h i j = absurd (i refl)
+no_form forms.ReplicatedInterleaving ts a b c l d e g h i j = absurd (j refl)
+no_form f ts a b c l d e g h i j = refl

@@ -44,40 +44,48 @@ pub(crate) fn numbered<A: Allocator + Copy>(
     match draft {
         Draft::Stop => Ok(Term::Stop),
         Draft::Skip => Ok(Term::Skip),
-        Draft::Prefix(event, p) => {
-            let p = numbered(alloc, Box::into_inner(p), met)?;
-            Ok(Term::Prefix(Event::Of(event), Box::new(alloc, p)?))
-        }
+        Draft::Prefix(event, p) => Ok(Term::Prefix(Event::Of(event), one(alloc, p, met)?)),
         Draft::Ext(p, q) => {
-            let (p, q) = both(alloc, Box::into_inner(p), Box::into_inner(q), met)?;
+            let (p, q) = both(alloc, p, q, met)?;
             Ok(Term::Ext(p, q))
         }
         Draft::Int(p, q) => {
-            let (p, q) = both(alloc, Box::into_inner(p), Box::into_inner(q), met)?;
+            let (p, q) = both(alloc, p, q, met)?;
             Ok(Term::Int(p, q))
         }
         Draft::Seq(p, q) => {
-            let (p, q) = both(alloc, Box::into_inner(p), Box::into_inner(q), met)?;
+            let (p, q) = both(alloc, p, q, met)?;
             Ok(Term::Seq(p, q))
         }
         Draft::Par(set, p, q) => {
-            let (p, q) = both(alloc, Box::into_inner(p), Box::into_inner(q), met)?;
+            let (p, q) = both(alloc, p, q, met)?;
             Ok(Term::Par(set, p, q))
         }
-        Draft::Hide(set, p) => {
-            let p = numbered(alloc, Box::into_inner(p), met)?;
-            Ok(Term::Hide(set, Box::new(alloc, p)?))
-        }
+        Draft::Hide(set, p) => Ok(Term::Hide(set, one(alloc, p, met)?)),
         Draft::Ren(pairs, p) => {
-            let p = numbered(alloc, Box::into_inner(p), met)?;
-            Ok(Term::Ren(pairs, Box::new(alloc, p)?))
+            let p = one(alloc, p, met)?;
+            Ok(Term::Ren(pairs, p))
         }
         Draft::Intr(p, q) => {
-            let (p, q) = both(alloc, Box::into_inner(p), Box::into_inner(q), met)?;
+            let (p, q) = both(alloc, p, q, met)?;
             Ok(Term::Intr(p, q))
         }
         Draft::Name(call) => Ok(Term::Name(placed(met, call)?)),
     }
+}
+
+/// The term of a body, in a place of its own in memory.
+#[cycle(numbering)]
+fn one<A: Allocator + Copy>(
+    alloc: A,
+    draft: Box<Draft<A>, A>,
+    met: &mut Met<A>,
+) -> Result<Box<Term<A>, A>, AllocError>
+    ensures keys { IfOk result (λ t. with_keys (map key met.old.keys) (names (body draft.value)) ≡ map key met.new.keys) }
+    ensures term { IfOk result (λ t. proc t.value ≡ numbered_by (place (map key met.new.keys)) (body draft.value)) }
+{
+    let term = numbered(alloc, Box::into_inner(draft), met)?;
+    Ok(Box::new(alloc, term)?)
 }
 
 /// The terms of two bodies, the first one numbered first.
@@ -85,17 +93,15 @@ pub(crate) fn numbered<A: Allocator + Copy>(
 #[tactic(auto, using(crate::proofs::Numbered::then_more, crate::proofs::Keys::keys_append))]
 fn both<A: Allocator + Copy>(
     alloc: A,
-    first: Draft<A>,
-    second: Draft<A>,
+    first: Box<Draft<A>, A>,
+    second: Box<Draft<A>, A>,
     met: &mut Met<A>,
 ) -> Result<(Box<Term<A>, A>, Box<Term<A>, A>), AllocError>
-    ensures keys { IfOk result (λ t. with_keys (map key met.old.keys) (names (body first) ++ names (body second)) ≡ map key met.new.keys) }
-    ensures first { IfOk result (λ t. proc t.0.value ≡ numbered_by (place (map key met.new.keys)) (body first)) }
-    ensures second { IfOk result (λ t. proc t.1.value ≡ numbered_by (place (map key met.new.keys)) (body second)) }
+    ensures keys { IfOk result (λ t. with_keys (map key met.old.keys) (names (body first.value) ++ names (body second.value)) ≡ map key met.new.keys) }
+    ensures first { IfOk result (λ t. proc t.0.value ≡ numbered_by (place (map key met.new.keys)) (body first.value)) }
+    ensures second { IfOk result (λ t. proc t.1.value ≡ numbered_by (place (map key met.new.keys)) (body second.value)) }
 {
-    let first = numbered(alloc, first, met)?;
-    let first = Box::new(alloc, first)?;
-    let second = numbered(alloc, second, met)?;
-    let second = Box::new(alloc, second)?;
+    let first = one(alloc, first, met)?;
+    let second = one(alloc, second, met)?;
     Ok((first, second))
 }

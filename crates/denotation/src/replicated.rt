@@ -35,7 +35,6 @@ pub(crate) fn values_of<A: Allocator + Copy, G: GlobalScope<A>>(
 }
 
 /// The bodies of a replicated form on this line, joined so.
-#[tactic(auto, unfolding(crate::specs::Rooms::spare_joined))]
 pub(crate) fn all_joined<A: Allocator + Copy>(
     alloc: A,
     join: Join,
