@@ -235,7 +235,7 @@ hides = refl
 
 -- STOP \ {1..0}: a set of values
 no_values : body_of (plain (joined operators.Hiding (stops ∷ part_of forms.Range (Numeral 1 ∷ Numeral 0 ∷ []) ∷ []))) (key P) ≡ None
-unfolding declared declared_by declared_by_all entries_of listed_names names_of meaning known_in worth_of channels_of with_channel fields_of is_process_in is_process_meaning is_process_by is_process_form is_process_operator event_set node_of name_of if_none first_of one_of two_of three_of four_of phrase_of parts_of form_phrase operation_phrase joined_phrase join_of denoted body_by body_of worth worths formed operated is_comparison the_only negated calculated set_with range_with union_with intersection_with difference_with
+unfolding declared declared_by declared_by_all entries_of listed_names names_of meaning known_in worth_of channels_of with_channel fields_of is_process_in is_process_meaning is_process_by is_process_form is_process_operator event_set node_of name_of if_none first_of one_of two_of three_of four_of phrase_of parts_of form_phrase operation_phrase joined_phrase join_of denoted body_by body_of worth worths formed operated is_comparison the_only negated calculated set_with range_with union_with intersection_with difference_with masked
 no_values = refl
 
 -- channel c, d : {0..1} and P = STOP[[ c <- d ]]
@@ -429,47 +429,47 @@ at n = then_does (event c (dot (named n) ∷ [])) stops
 
 -- [] x:{0..1}, y:{x..1} @ c.y -> STOP: the second set uses the first name, and goes faster
 triangle : body_of (over_three (replicated forms.ReplicatedExternal (from x (upto 1) ∷ from y (part_of forms.Range (named x ∷ Numeral 1 ∷ [])) ∷ []) (at y))) (key P) ≡ Some (ext (ext (prefix 0 stop) (prefix 1 stop)) (prefix 1 stop))
-unfolding declared declared_by declared_by_all entries_of listed_names names_of field_sets meaning known_in worth_of worth worths formed operated is_comparison the_two two_numbers the_number the_only the_value the_set the_truth limited range numbers_from set_of union fitting_set set_of_all all_values nothing_of is_among is_same channels_of with_channel fields_of is_constant is_process_in is_process_meaning is_process_by is_process_form is_process_operator fields_named field_value against against_input fits_field fitting has_all prefix_parts has_event at_no_fault branches event_fits prefixed_by is_for_all takes arguments called_with for_each generators_form generators_of replicated_phrase generator_form generator_of none_of all_joined over node_of name_of if_none first_of one_of two_of three_of four_of phrase_of parts_of form_phrase operation_phrase joined_phrase join_of denoted body_by paired called_by body_of halved_in halved set_with range_with truth_of condition comparison compared are_same
+unfolding declared declared_by declared_by_all entries_of listed_names names_of field_sets meaning known_in worth_of worth worths formed operated is_comparison the_two two_numbers the_number the_only the_value the_set the_truth limited range numbers_from set_of union fitting_set set_of_all all_values nothing_of is_among is_same channels_of with_channel fields_of is_constant is_process_in is_process_meaning is_process_by is_process_form is_process_operator fields_named field_value against against_input fits_field fitting has_all prefix_parts has_event at_no_fault branches event_fits prefixed_by is_for_all takes arguments called_with for_each generators_form generators_of replicated_phrase generator_form generator_of none_of all_joined over part_list node_of name_of if_none first_of one_of two_of three_of four_of phrase_of parts_of form_phrase operation_phrase joined_phrase join_of denoted body_by paired called_by body_of halved_in halved set_with range_with truth_of condition comparison compared are_same
 triangle = refl
 
 -- [] x:{0..1}, y:{x..0} @ c.y -> STOP: there is no y for 1
 partly : body_of (over_three (replicated forms.ReplicatedExternal (from x (upto 1) ∷ from y (part_of forms.Range (named x ∷ Numeral 0 ∷ [])) ∷ []) (at y))) (key P) ≡ Some (prefix 0 stop)
-unfolding declared declared_by declared_by_all entries_of listed_names names_of field_sets meaning known_in worth_of worth worths formed operated is_comparison the_two two_numbers the_number the_only the_value the_set the_truth limited range numbers_from set_of union fitting_set set_of_all all_values nothing_of is_among is_same channels_of with_channel fields_of is_constant is_process_in is_process_meaning is_process_by is_process_form is_process_operator fields_named field_value against against_input fits_field fitting has_all prefix_parts has_event at_no_fault branches event_fits prefixed_by is_for_all takes arguments called_with for_each generators_form generators_of replicated_phrase generator_form generator_of none_of all_joined over node_of name_of if_none first_of one_of two_of three_of four_of phrase_of parts_of form_phrase operation_phrase joined_phrase join_of denoted body_by paired called_by body_of halved_in halved set_with range_with truth_of condition comparison compared are_same
+unfolding declared declared_by declared_by_all entries_of listed_names names_of field_sets meaning known_in worth_of worth worths formed operated is_comparison the_two two_numbers the_number the_only the_value the_set the_truth limited range numbers_from set_of union fitting_set set_of_all all_values nothing_of is_among is_same channels_of with_channel fields_of is_constant is_process_in is_process_meaning is_process_by is_process_form is_process_operator fields_named field_value against against_input fits_field fitting has_all prefix_parts has_event at_no_fault branches event_fits prefixed_by is_for_all takes arguments called_with for_each generators_form generators_of replicated_phrase generator_form generator_of none_of all_joined over part_list node_of name_of if_none first_of one_of two_of three_of four_of phrase_of parts_of form_phrase operation_phrase joined_phrase join_of denoted body_by paired called_by body_of halved_in halved set_with range_with truth_of condition comparison compared are_same
 partly = refl
 
 -- [] x:{0..1}, y:{0..1} @ c.x -> c.y -> STOP: the last goes fastest
 last_fastest : body_of (over_three (replicated forms.ReplicatedExternal (from x (upto 1) ∷ from y (upto 1) ∷ []) (then_does (event c (dot (named x) ∷ [])) (at y)))) (key P) ≡ Some (ext (ext (prefix 0 (prefix 0 stop)) (prefix 0 (prefix 1 stop))) (ext (prefix 1 (prefix 0 stop)) (prefix 1 (prefix 1 stop))))
-unfolding declared declared_by declared_by_all entries_of listed_names names_of field_sets meaning known_in worth_of worth worths formed operated is_comparison the_two two_numbers the_number the_only the_value the_set the_truth limited range numbers_from set_of union fitting_set set_of_all all_values nothing_of is_among is_same channels_of with_channel fields_of is_constant is_process_in is_process_meaning is_process_by is_process_form is_process_operator fields_named field_value against against_input fits_field fitting has_all prefix_parts has_event at_no_fault branches event_fits prefixed_by is_for_all takes arguments called_with for_each generators_form generators_of replicated_phrase generator_form generator_of none_of all_joined over node_of name_of if_none first_of one_of two_of three_of four_of phrase_of parts_of form_phrase operation_phrase joined_phrase join_of denoted body_by paired called_by body_of halved_in halved set_with range_with truth_of condition comparison compared are_same
+unfolding declared declared_by declared_by_all entries_of listed_names names_of field_sets meaning known_in worth_of worth worths formed operated is_comparison the_two two_numbers the_number the_only the_value the_set the_truth limited range numbers_from set_of union fitting_set set_of_all all_values nothing_of is_among is_same channels_of with_channel fields_of is_constant is_process_in is_process_meaning is_process_by is_process_form is_process_operator fields_named field_value against against_input fits_field fitting has_all prefix_parts has_event at_no_fault branches event_fits prefixed_by is_for_all takes arguments called_with for_each generators_form generators_of replicated_phrase generator_form generator_of none_of all_joined over part_list node_of name_of if_none first_of one_of two_of three_of four_of phrase_of parts_of form_phrase operation_phrase joined_phrase join_of denoted body_by paired called_by body_of halved_in halved set_with range_with truth_of condition comparison compared are_same
 last_fastest = refl
 
 -- [] x:{x} @ STOP: a set does not see its own name
 not_its_own : body_of (over_three (replicated forms.ReplicatedExternal (from x (set (named x ∷ [])) ∷ []) stops)) (key P) ≡ None
-unfolding declared declared_by declared_by_all entries_of listed_names names_of field_sets meaning known_in worth_of worth worths formed operated is_comparison the_two two_numbers the_number the_only the_value the_set the_truth limited range numbers_from set_of union fitting_set set_of_all all_values nothing_of is_among is_same channels_of with_channel fields_of is_constant is_process_in is_process_meaning is_process_by is_process_form is_process_operator fields_named field_value against against_input fits_field fitting has_all prefix_parts has_event at_no_fault branches event_fits prefixed_by is_for_all takes arguments called_with for_each generators_form generators_of replicated_phrase generator_form generator_of none_of all_joined over node_of name_of if_none first_of one_of two_of three_of four_of phrase_of parts_of form_phrase operation_phrase joined_phrase join_of denoted body_by paired called_by body_of halved_in halved set_with range_with truth_of condition comparison compared are_same
+unfolding declared declared_by declared_by_all entries_of listed_names names_of field_sets meaning known_in worth_of worth worths formed operated is_comparison the_two two_numbers the_number the_only the_value the_set the_truth limited range numbers_from set_of union fitting_set set_of_all all_values nothing_of is_among is_same channels_of with_channel fields_of is_constant is_process_in is_process_meaning is_process_by is_process_form is_process_operator fields_named field_value against against_input fits_field fitting has_all prefix_parts has_event at_no_fault branches event_fits prefixed_by is_for_all takes arguments called_with for_each generators_form generators_of replicated_phrase generator_form generator_of none_of all_joined over part_list node_of name_of if_none first_of one_of two_of three_of four_of phrase_of parts_of form_phrase operation_phrase joined_phrase join_of denoted body_by paired called_by body_of halved_in halved set_with range_with truth_of condition comparison compared are_same
 not_its_own = refl
 
 -- ||| x:{0..1} @ c.x -> STOP
 interleaves : body_of (over_three (replicated forms.ReplicatedInterleaving (from x (upto 1) ∷ []) (at x))) (key P) ≡ Some (par 0 (prefix 0 stop) (prefix 1 stop))
-unfolding declared declared_by declared_by_all entries_of listed_names names_of field_sets meaning known_in worth_of worth worths formed operated is_comparison the_two two_numbers the_number the_only the_value the_set the_truth limited range numbers_from set_of union fitting_set set_of_all all_values nothing_of is_among is_same channels_of with_channel fields_of is_constant is_process_in is_process_meaning is_process_by is_process_form is_process_operator fields_named field_value against against_input fits_field fitting has_all prefix_parts has_event at_no_fault branches event_fits prefixed_by is_for_all takes arguments called_with for_each generators_form generators_of replicated_phrase generator_form generator_of none_of all_joined over node_of name_of if_none first_of one_of two_of three_of four_of phrase_of parts_of form_phrase operation_phrase joined_phrase join_of denoted body_by paired called_by body_of halved_in halved set_with range_with truth_of condition comparison compared are_same
+unfolding declared declared_by declared_by_all entries_of listed_names names_of field_sets meaning known_in worth_of worth worths formed operated is_comparison the_two two_numbers the_number the_only the_value the_set the_truth limited range numbers_from set_of union fitting_set set_of_all all_values nothing_of is_among is_same channels_of with_channel fields_of is_constant is_process_in is_process_meaning is_process_by is_process_form is_process_operator fields_named field_value against against_input fits_field fitting has_all prefix_parts has_event at_no_fault branches event_fits prefixed_by is_for_all takes arguments called_with for_each generators_form generators_of replicated_phrase generator_form generator_of none_of all_joined over part_list node_of name_of if_none first_of one_of two_of three_of four_of phrase_of parts_of form_phrase operation_phrase joined_phrase join_of denoted body_by paired called_by body_of halved_in halved set_with range_with truth_of condition comparison compared are_same
 interleaves = refl
 
 -- |~| x:{0..2} @ c.x -> STOP: the larger half comes first
 internal_three : body_of (over_three (replicated forms.ReplicatedInternal (from x (upto 2) ∷ []) (at x))) (key P) ≡ Some (int (int (prefix 0 stop) (prefix 1 stop)) (prefix 2 stop))
-unfolding declared declared_by declared_by_all entries_of listed_names names_of field_sets meaning known_in worth_of worth worths formed operated is_comparison the_two two_numbers the_number the_only the_value the_set the_truth limited range numbers_from set_of union fitting_set set_of_all all_values nothing_of is_among is_same channels_of with_channel fields_of is_constant is_process_in is_process_meaning is_process_by is_process_form is_process_operator fields_named field_value against against_input fits_field fitting has_all prefix_parts has_event at_no_fault branches event_fits prefixed_by is_for_all takes arguments called_with for_each generators_form generators_of replicated_phrase generator_form generator_of none_of all_joined over node_of name_of if_none first_of one_of two_of three_of four_of phrase_of parts_of form_phrase operation_phrase joined_phrase join_of denoted body_by paired called_by body_of halved_in halved set_with range_with truth_of condition comparison compared are_same
+unfolding declared declared_by declared_by_all entries_of listed_names names_of field_sets meaning known_in worth_of worth worths formed operated is_comparison the_two two_numbers the_number the_only the_value the_set the_truth limited range numbers_from set_of union fitting_set set_of_all all_values nothing_of is_among is_same channels_of with_channel fields_of is_constant is_process_in is_process_meaning is_process_by is_process_form is_process_operator fields_named field_value against against_input fits_field fitting has_all prefix_parts has_event at_no_fault branches event_fits prefixed_by is_for_all takes arguments called_with for_each generators_form generators_of replicated_phrase generator_form generator_of none_of all_joined over part_list node_of name_of if_none first_of one_of two_of three_of four_of phrase_of parts_of form_phrase operation_phrase joined_phrase join_of denoted body_by paired called_by body_of halved_in halved set_with range_with truth_of condition comparison compared are_same
 internal_three = refl
 
 -- [] x:{} @ Q, where Q is not declared
 external_none : body_of (over_three (replicated forms.ReplicatedExternal (from x (part_of forms.EmptySet []) ∷ []) (named Q))) (key P) ≡ Some stop
-unfolding declared declared_by declared_by_all entries_of listed_names names_of field_sets meaning known_in worth_of worth worths formed operated is_comparison the_two two_numbers the_number the_only the_value the_set the_truth limited range numbers_from set_of union fitting_set set_of_all all_values nothing_of is_among is_same channels_of with_channel fields_of is_constant is_process_in is_process_meaning is_process_by is_process_form is_process_operator fields_named field_value against against_input fits_field fitting has_all prefix_parts has_event at_no_fault branches event_fits prefixed_by is_for_all takes arguments called_with for_each generators_form generators_of replicated_phrase generator_form generator_of none_of all_joined over node_of name_of if_none first_of one_of two_of three_of four_of phrase_of parts_of form_phrase operation_phrase joined_phrase join_of denoted body_by paired called_by body_of halved_in halved set_with range_with truth_of condition comparison compared are_same
+unfolding declared declared_by declared_by_all entries_of listed_names names_of field_sets meaning known_in worth_of worth worths formed operated is_comparison the_two two_numbers the_number the_only the_value the_set the_truth limited range numbers_from set_of union fitting_set set_of_all all_values nothing_of is_among is_same channels_of with_channel fields_of is_constant is_process_in is_process_meaning is_process_by is_process_form is_process_operator fields_named field_value against against_input fits_field fitting has_all prefix_parts has_event at_no_fault branches event_fits prefixed_by is_for_all takes arguments called_with for_each generators_form generators_of replicated_phrase generator_form generator_of none_of all_joined over part_list node_of name_of if_none first_of one_of two_of three_of four_of phrase_of parts_of form_phrase operation_phrase joined_phrase join_of denoted body_by paired called_by body_of halved_in halved set_with range_with truth_of condition comparison compared are_same
 external_none = refl
 
 -- ||| x:{} @ Q, where Q is not declared
 interleaving_none : body_of (over_three (replicated forms.ReplicatedInterleaving (from x (part_of forms.EmptySet []) ∷ []) (named Q))) (key P) ≡ Some skip
-unfolding declared declared_by declared_by_all entries_of listed_names names_of field_sets meaning known_in worth_of worth worths formed operated is_comparison the_two two_numbers the_number the_only the_value the_set the_truth limited range numbers_from set_of union fitting_set set_of_all all_values nothing_of is_among is_same channels_of with_channel fields_of is_constant is_process_in is_process_meaning is_process_by is_process_form is_process_operator fields_named field_value against against_input fits_field fitting has_all prefix_parts has_event at_no_fault branches event_fits prefixed_by is_for_all takes arguments called_with for_each generators_form generators_of replicated_phrase generator_form generator_of none_of all_joined over node_of name_of if_none first_of one_of two_of three_of four_of phrase_of parts_of form_phrase operation_phrase joined_phrase join_of denoted body_by paired called_by body_of halved_in halved set_with range_with truth_of condition comparison compared are_same
+unfolding declared declared_by declared_by_all entries_of listed_names names_of field_sets meaning known_in worth_of worth worths formed operated is_comparison the_two two_numbers the_number the_only the_value the_set the_truth limited range numbers_from set_of union fitting_set set_of_all all_values nothing_of is_among is_same channels_of with_channel fields_of is_constant is_process_in is_process_meaning is_process_by is_process_form is_process_operator fields_named field_value against against_input fits_field fitting has_all prefix_parts has_event at_no_fault branches event_fits prefixed_by is_for_all takes arguments called_with for_each generators_form generators_of replicated_phrase generator_form generator_of none_of all_joined over part_list node_of name_of if_none first_of one_of two_of three_of four_of phrase_of parts_of form_phrase operation_phrase joined_phrase join_of denoted body_by paired called_by body_of halved_in halved set_with range_with truth_of condition comparison compared are_same
 interleaving_none = refl
 
 -- |~| x:{} @ Q, where Q is not declared
 internal_none : body_of (over_three (replicated forms.ReplicatedInternal (from x (part_of forms.EmptySet []) ∷ []) (named Q))) (key P) ≡ None
-unfolding declared declared_by declared_by_all entries_of listed_names names_of field_sets meaning known_in worth_of worth worths formed operated is_comparison the_two two_numbers the_number the_only the_value the_set the_truth limited range numbers_from set_of union fitting_set set_of_all all_values nothing_of is_among is_same channels_of with_channel fields_of is_constant is_process_in is_process_meaning is_process_by is_process_form is_process_operator fields_named field_value against against_input fits_field fitting has_all prefix_parts has_event at_no_fault branches event_fits prefixed_by is_for_all takes arguments called_with for_each generators_form generators_of replicated_phrase generator_form generator_of none_of all_joined over node_of name_of if_none first_of one_of two_of three_of four_of phrase_of parts_of form_phrase operation_phrase joined_phrase join_of denoted body_by paired called_by body_of halved_in halved set_with range_with truth_of condition comparison compared are_same
+unfolding declared declared_by declared_by_all entries_of listed_names names_of field_sets meaning known_in worth_of worth worths formed operated is_comparison the_two two_numbers the_number the_only the_value the_set the_truth limited range numbers_from set_of union fitting_set set_of_all all_values nothing_of is_among is_same channels_of with_channel fields_of is_constant is_process_in is_process_meaning is_process_by is_process_form is_process_operator fields_named field_value against against_input fits_field fitting has_all prefix_parts has_event at_no_fault branches event_fits prefixed_by is_for_all takes arguments called_with for_each generators_form generators_of replicated_phrase generator_form generator_of none_of all_joined over part_list node_of name_of if_none first_of one_of two_of three_of four_of phrase_of parts_of form_phrase operation_phrase joined_phrase join_of denoted body_by paired called_by body_of halved_in halved set_with range_with truth_of condition comparison compared are_same
 internal_none = refl
 
 -- datatype T = y | x, channel c : {0..1} and the body of P
@@ -478,10 +478,10 @@ with_constants t = scope (part_of forms.Datatype (Called T ∷ part_of forms.Con
 
 -- [] y:{0} @ STOP: a generator with the name of a constant
 constant_generator : body_of (with_constants (replicated forms.ReplicatedExternal (from y (set (Numeral 0 ∷ [])) ∷ []) stops)) (key P) ≡ None
-unfolding declared declared_by declared_by_all entries_of listed_names names_of field_sets meaning known_in worth_of worth worths formed operated is_comparison the_two two_numbers the_number the_only the_value the_set the_truth limited range numbers_from set_of union fitting_set set_of_all all_values nothing_of is_among is_same channels_of with_channel fields_of is_constant is_process_in is_process_meaning is_process_by is_process_form is_process_operator fields_named field_value against against_input fits_field fitting has_all prefix_parts has_event at_no_fault branches event_fits prefixed_by is_for_all takes arguments called_with for_each generators_form generators_of replicated_phrase generator_form generator_of none_of all_joined over node_of name_of if_none first_of one_of two_of three_of four_of phrase_of parts_of form_phrase operation_phrase joined_phrase join_of denoted body_by paired called_by body_of halved_in halved set_with range_with truth_of condition comparison compared are_same
+unfolding declared declared_by declared_by_all entries_of listed_names names_of field_sets meaning known_in worth_of worth worths formed operated is_comparison the_two two_numbers the_number the_only the_value the_set the_truth limited range numbers_from set_of union fitting_set set_of_all all_values nothing_of is_among is_same channels_of with_channel fields_of is_constant is_process_in is_process_meaning is_process_by is_process_form is_process_operator fields_named field_value against against_input fits_field fitting has_all prefix_parts has_event at_no_fault branches event_fits prefixed_by is_for_all takes arguments called_with for_each generators_form generators_of replicated_phrase generator_form generator_of none_of all_joined over part_list node_of name_of if_none first_of one_of two_of three_of four_of phrase_of parts_of form_phrase operation_phrase joined_phrase join_of denoted body_by paired called_by body_of halved_in halved set_with range_with truth_of condition comparison compared are_same
 constant_generator = refl
 
 -- [] b:{}, y:{0} @ STOP: it is not come to
 not_come_to : body_of (with_constants (replicated forms.ReplicatedExternal (from b (part_of forms.EmptySet []) ∷ from y (set (Numeral 0 ∷ [])) ∷ []) stops)) (key P) ≡ Some stop
-unfolding declared declared_by declared_by_all entries_of listed_names names_of field_sets meaning known_in worth_of worth worths formed operated is_comparison the_two two_numbers the_number the_only the_value the_set the_truth limited range numbers_from set_of union fitting_set set_of_all all_values nothing_of is_among is_same channels_of with_channel fields_of is_constant is_process_in is_process_meaning is_process_by is_process_form is_process_operator fields_named field_value against against_input fits_field fitting has_all prefix_parts has_event at_no_fault branches event_fits prefixed_by is_for_all takes arguments called_with for_each generators_form generators_of replicated_phrase generator_form generator_of none_of all_joined over node_of name_of if_none first_of one_of two_of three_of four_of phrase_of parts_of form_phrase operation_phrase joined_phrase join_of denoted body_by paired called_by body_of halved_in halved set_with range_with truth_of condition comparison compared are_same
+unfolding declared declared_by declared_by_all entries_of listed_names names_of field_sets meaning known_in worth_of worth worths formed operated is_comparison the_two two_numbers the_number the_only the_value the_set the_truth limited range numbers_from set_of union fitting_set set_of_all all_values nothing_of is_among is_same channels_of with_channel fields_of is_constant is_process_in is_process_meaning is_process_by is_process_form is_process_operator fields_named field_value against against_input fits_field fitting has_all prefix_parts has_event at_no_fault branches event_fits prefixed_by is_for_all takes arguments called_with for_each generators_form generators_of replicated_phrase generator_form generator_of none_of all_joined over part_list node_of name_of if_none first_of one_of two_of three_of four_of phrase_of parts_of form_phrase operation_phrase joined_phrase join_of denoted body_by paired called_by body_of halved_in halved set_with range_with truth_of condition comparison compared are_same
 not_come_to = refl
