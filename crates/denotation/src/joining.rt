@@ -7,10 +7,10 @@ ghost use Rattle.alphabet.specs.declared.events.Event.{Event as EventOf};
 ghost use Rattle.syntax.specs.Parsing.{syntaxes};
 ghost use Rattle.syntax.specs.View.{shapes};
 ghost use Rattle.values.specs.Tables.{input};
-ghost use Rattle.event_phrases.specs.Events.{pairs_of as pairs_of_all};
+ghost use Rattle.event_phrases.specs.Events.{in_order, pairs_of as pairs_of_all};
 ghost use Rattle.event_phrases.specs.Scopes.{Scope as ScopeOf, within};
 ghost use Rattle.values.specs.View.{Gives};
-ghost use Rattle.denotation.specs.Bodies.{hide, par, prefix, skip};
+ghost use Rattle.denotation.specs.Bodies.{hide, par, prefix, ren, skip};
 ghost use Rattle.denotation.specs.Phrases.{alphabetised_by, join_of, renamed as renamed_of};
 ghost use Rattle.denotation.specs.Rooms.{renaming_nodes, renamed_within, spare};
 ghost use Rattle.denotation.specs.View.{body};
@@ -69,8 +69,8 @@ pub(crate) fn joined_within<A: Allocator + Copy>(
 ) -> Result<Draft<A>, Unread>
     ensures { Gives (λ b. (body b, room.new)) result (spare 1 (join_of join (body first) (body second)) room.old) }
 {
-    spend_nodes(room, 1, line)?;
     let joined = joined(alloc, join, first, second)?;
+    spend_nodes(room, 1, line)?;
     Ok(joined)
 }
 
@@ -101,9 +101,10 @@ pub(crate) fn shared<A: Allocator + Copy>(
 ) -> Result<Draft<A>, Unread>
     ensures { Gives (λ b. (body b, room.new)) result (spare 1 (par set (body first) (body second)) room.old) }
 {
-    spend_nodes(room, 1, line)?;
     let (first, second) = boxed(alloc, first, second)?;
-    Ok(Draft::Par(set, first, second))
+    let shared = Draft::Par(set, first, second);
+    spend_nodes(room, 1, line)?;
+    Ok(shared)
 }
 
 /// The body with the events of the set hidden, where there is room for the node above it.
@@ -118,6 +119,21 @@ pub(crate) fn hidden<A: Allocator + Copy>(
 {
     spend_nodes(room, 1, line)?;
     Ok(Draft::Hide(set, Box::new(alloc, draft)?))
+}
+
+/// The body renamed by these pairs of so many events.
+fn renaming<A: Allocator + Copy>(
+    alloc: A,
+    events: usize,
+    pairs: &[(u8, u8)],
+    draft: Draft<A>,
+) -> Result<Draft<A>, AllocError>
+    requires { events ≤ 256 }
+    ensures { IfOk result (λ b. body b ≡ ren (in_order events pairs.now) (body draft)) }
+{
+    let draft = Box::new(alloc, draft)?;
+    let pairs = ordered(&alloc, events, pairs)?;
+    Ok(Draft::Ren(pairs, draft))
 }
 
 /// The body renamed by these pairs of so many events, if there are any pairs.
@@ -136,9 +152,8 @@ pub(crate) fn renamed<A: Allocator + Copy>(
     match pairs {
         [] => Ok(draft),
         [_, ..] => {
-            let pairs = ordered(&alloc, events, pairs)?;
             spend_nodes(room, 1, line)?;
-            Ok(Draft::Ren(pairs, Box::new(alloc, draft)?))
+            Ok(renaming(alloc, events, pairs, draft)?)
         }
     }
 }
@@ -202,7 +217,7 @@ pub(crate) fn alphabetised_within<A: Allocator + Copy, G: GlobalScope<A>>(
 ) -> Result<Draft<A>, Unread>
     ensures { Gives (λ b. (body b, room.new)) result (spare 5 (alphabetised_by (G.scope scope.now.global.now) sets (body first) (body second)) room.old) }
 {
-    spend_nodes(room, 5, scope.line)?;
     let joined = alphabetised(alloc, scope.global.sigma(), sets, first, second)?;
+    spend_nodes(room, 5, scope.line)?;
     Ok(joined)
 }
