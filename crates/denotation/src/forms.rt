@@ -11,7 +11,7 @@ use syntax::{Form, Operator, Tree};
 
 /// An operator between two processes that joins them without a set of events.
 #[derive(Clone, Copy, Debug, PartialEq, Eq)]
-pub(crate) enum Join {
+pub enum Join {
     /// `P ; Q`
     Sequence,
     /// `P /\ Q`

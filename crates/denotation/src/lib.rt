@@ -19,5 +19,6 @@ mod room;
 mod simple;
 mod walk;
 
+pub use forms::Join;
 pub use gathering::gathered;
 pub use law::one_specification;
