@@ -1,5 +1,5 @@
 -- What phrases denote has a text: its events, sets and pairs lie in Sigma, and its renamings are in order.
-use Rattle.std.proofs.Common.{◌≡◌, ℕ, zero, suc, ◌+◌, ◌<◌, ◌≤◌, List, [], ◌∷◌, ◌++◌, map, length, take, drop, nat_lt, Bool, true, false, cond, ◌&&◌, not, Option, Some, None, refl, sym, ap, subst, ◌∙◌, arith}
+use Rattle.std.proofs.Common.{◌≡◌, ℕ, zero, suc, ◌+◌, ◌<◌, ◌≤◌, List, [], ◌∷◌, ◌++◌, map, length, take, drop, nat_lt, Bool, true, false, cond, ◌&&◌, Option, Some, None, refl, sym, ap, subst, ◌∙◌, arith}
 use Rattle.std.proofs.lemmas.Bool.{ltb-true, false≢true}
 use Rattle.std.proofs.lemmas.List.{length-map}
 use Rattle.std.specs.List.{flat_map}
@@ -13,7 +13,7 @@ use Rattle.term.specs.Proc.{Proc, bodies_of}
 use Rattle.term.specs.Traces.{Pairs}
 use Rattle.term.specs.Specs.{SetInSigma}
 use Rattle.syntax.specs.declared.form.Form.TheVariants as forms
-use Rattle.syntax.specs.Grammar.{Syntax, Called, Numeral, Node, Syntaxes, NoSyntax, MoreSyntax}
+use Rattle.syntax.specs.Grammar.{Syntax, Called, Node, Syntaxes, NoSyntax, MoreSyntax}
 use Rattle.syntax.specs.Parsing.{syntaxes}
 use Rattle.values.specs.Values.{◌>>=◌, Name, is_among, is_same}
 use Rattle.values.specs.Worths.{Worth, one, many, truth, Known, worth, condition, the_set}
@@ -23,7 +23,7 @@ use Rattle.event_phrases.specs.EventForms.{event_fits, two_masked, outside}
 use Rattle.denotation.specs.Bodies.{Key, Body, stop, skip, prefix, ext, int, seq, par, hide, ren, intr, name, names, numbered, half, halved_in, halved, choice_of}
 use Rattle.event_phrases.specs.Fitting.{Fitting, against, against_input, against_part, fits_field, then_fits, fitting}
 use Rattle.event_phrases.specs.Prefixes.{prefix_parts}
-use Rattle.event_phrases.specs.Scopes.{Scope, within, with_input, unless_constant, events_by}
+use Rattle.event_phrases.specs.Scopes.{Scope, within, with_input, events_by}
 use Rattle.denotation.specs.declared.forms.Join.{Join}
 use Rattle.denotation.specs.declared.forms.Join.TheVariants as joins
 use Rattle.denotation.specs.Phrases.{Phrase, stops, skips, called, inside, prefixed, joined, sharing, alphabetised, hiding, renaming, conditional, guarded, calling, replicated, other, phrase_of, generator_of, branch_on, branches, prefixed_by, takes, arguments, called_with, generator_values, for_each, over, join_of, none_of, all_joined, renamed, alphabetised_by, denoted}
