@@ -14,7 +14,7 @@ use Rattle.values.specs.declared.value.Value.{Value}
 use Rattle.event_phrases.specs.Scopes.{Scope}
 use Rattle.event_phrases.specs.View.{listed}
 use Rattle.event_phrases.proofs.EventNumbers.{drop_item, drop_none}
-use Rattle.event_phrases.proofs.Options.{bind_assoc, step, fails_at}
+use Rattle.event_phrases.proofs.Options.{bind_assoc, step}
 use Rattle.event_phrases.proofs.Scopes.{hidden, seen}
 use Rattle.denotation.specs.Denotes.{paired}
 use Rattle.denotation.specs.Phrases.{is_for_all, takes, arguments, called_with}

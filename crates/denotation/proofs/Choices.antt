@@ -1,7 +1,6 @@
 -- The equations of joining a list in halves.
 use Rattle.std.proofs.Common.{◌≡◌, ℕ, zero, suc, ◌-◌, ◌/◌, ◌≤◌, List, [], ◌∷◌, length, take, drop, map, refl, sym, ap, ap₂, ◌∙◌, arith}
 use Rattle.std.proofs.lemmas.List.{length-take, length-drop, length-map, take-map, drop-map}
-
 use Rattle.denotation.specs.Bodies.{Body, halved_in, halved, half}
 
 module _ (join : Body → Body → Body) (none : Body) where

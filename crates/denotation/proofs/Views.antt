@@ -1,6 +1,5 @@
 -- Phrases and their parts.
-use Rattle.std.proofs.Common.{◌≡◌, List, [], ◌∷◌, map, Option, Some, None, refl, sym, ap, ◌∙◌}
-use Rattle.std.specs.Option.{option_map}
+use Rattle.std.proofs.Common.{◌≡◌, List, [], ◌∷◌, map, Some, None, refl, ap}
 use Rattle.syntax.specs.declared.form.Form.{Form}
 use Rattle.syntax.specs.declared.form.Form.TheVariants as forms
 use Rattle.syntax.specs.declared.operator.Operator.{Operator}
@@ -8,7 +7,7 @@ use Rattle.syntax.specs.declared.operator.Operator.TheVariants as operators
 use Rattle.syntax.specs.Grammar.{Syntax, Called, Numeral, Node, Syntaxes, NoSyntax, MoreSyntax}
 use Rattle.values.specs.Values.{◌>>=◌}
 use Rattle.event_phrases.specs.Forms.{part_list, node_of, name_of, if_none, one_of, two_of, three_of, four_of, first_of}
-use Rattle.denotation.specs.Phrases.{Phrase, calling, renaming, operation_phrase, Part, part, parts_of, phrase_of, form_phrase, or_other}
+use Rattle.denotation.specs.Phrases.{calling, renaming, operation_phrase, Part, part, parts_of, phrase_of, form_phrase, or_other}
 
 pub one_part : (ts : List Syntax) → one_of (map part ts) ≡ (one_of ts >>= λ t. Some (part t))
 unfolding one_of if_none

@@ -8,7 +8,7 @@ use Rattle.event_phrases.specs.Scopes.{Scope, with_input}
 use Rattle.event_phrases.proofs.Options.{some_is}
 use Rattle.denotation.specs.Bodies.{Body}
 use Rattle.denotation.specs.Phrases.{for_each, over, generator_of, generator_values}
-use Rattle.denotation.specs.Walks.{Visit, opens, fails, stands, behind_each, behind_found, found_generator, visits, on_visits, first_scope}
+use Rattle.denotation.specs.Walks.{Visit, opens, fails, stands, behind_each, behind_found, visits, on_visits, first_scope}
 
 abbrev some_all : List Body → Option (List Body)
 some_all ps = Some ps

@@ -19,10 +19,7 @@ type Hashing = BuildHasherDefault<FoldHasher>;
 pub(crate) type Met<A> = IndexSet<Call<A>, Hashing, A>;
 
 /// The number of a definition with these values, which is the next one where it wasn't met before. Costs one look-up by its hash.
-fn placed<A: Allocator>(
-    met: &mut Met<A>,
-    call: Call<A>,
-) -> Result<usize, AllocError>
+fn placed<A: Allocator>(met: &mut Met<A>, call: Call<A>) -> Result<usize, AllocError>
     ensures keys { IfOk result (λ n. with_key (map key met.old.keys) (key call) ≡ map key met.new.keys) }
     ensures number { IfOk result (λ n. place (with_key (map key met.old.keys) (key call)) (key call) ≡ n) }
 {

@@ -1,9 +1,9 @@
-use Rattle.std.proofs.Common.{ap, subst, sym}
+use Rattle.std.proofs.Common.{subst, sym}
 use Rattle.values.specs.View.{Gives}
 use Rattle.denotation.specs.Bodies.{Key}
 use Rattle.denotation.specs.Denotes.{body_of}
 use Rattle.denotation.specs.Rooms.{within_limits}
-use Rattle.denotation.specs.View.{body, key}
+use Rattle.denotation.specs.View.{body}
 use Rattle.denotation.proofs.Seen.{seen_key}
 use Rattle.denotation.proofs.gathering.numbered_body.Goals as goal
 

@@ -1,4 +1,4 @@
-use Rattle.std.proofs.Common.{List, length, map, sym, subst, ap, ap₂, ◌∙◌}
+use Rattle.std.proofs.Common.{map, sym, subst, ap₂, ◌∙◌}
 use Rattle.syntax.specs.Parsing.{syntaxes}
 use Rattle.syntax.specs.View.{shapes}
 use Rattle.term.specs.Traces.{Pairs}
@@ -10,7 +10,7 @@ use Rattle.event_phrases.specs.Events.{pairs_of}
 use Rattle.event_phrases.proofs.EventSetLaws.{count_is}
 use Rattle.event_phrases.proofs.Options.{step}
 use Rattle.denotation.specs.Phrases.{renamed}
-use Rattle.denotation.specs.Rooms.{renaming_nodes, renamed_within, spare}
+use Rattle.denotation.specs.Rooms.{renaming_nodes, spare}
 use Rattle.denotation.specs.View.{body}
 use Rattle.denotation.proofs.joining.renamed_by.Goals as goal
 

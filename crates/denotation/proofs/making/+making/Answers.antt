@@ -11,7 +11,7 @@ use Rattle.event_phrases.specs.EventForms.{event_fits}
 use Rattle.event_phrases.specs.Leading.{led_fits}
 use Rattle.event_phrases.specs.Scopes.{within}
 use Rattle.event_phrases.specs.View.{listed}
-use Rattle.event_phrases.proofs.FirstValues.{led_fits_is, none_if}
+use Rattle.event_phrases.proofs.FirstValues.{none_if}
 use Rattle.denotation.specs.Bodies.{size, stop}
 use Rattle.denotation.specs.Phrases.{phrase_of, weight, denoted, branches}
 use Rattle.denotation.specs.Places.{from_scope, innermost_first}
@@ -252,7 +252,7 @@ prefixed-returns-in_err-drafts g t c =
     let sets = map (λ v. listed v.items) q.sets.now in
     let same : denoted (phrase_of (shape q.then.now)) ≡ denoted (phrase_of (shape c.args.then.now)) = ap (λ t. denoted (phrase_of (shape t))) c.in_ok-prefix.ensures.then in
     let all = led_branches (denoted (phrase_of (shape q.then.now))) q.channel.now (shapes q.fields.now) sets s (listed q.leading.items) 0 (events s.channels) c.in_ok-prefix.ensures.leading
-        ∙ ap (λ next. branches (event_fits q.channel.now (syntaxes (shapes q.fields.now)) sets s) next 0 (events s.channels)) same in
+    ∙ ap (λ next. branches (event_fits q.channel.now (syntaxes (shapes q.fields.now)) sets s) next 0 (events s.channels)) same in
     let k = c.in_err-drafts.field-0.0 in
     let p = err_from_is_err_and c.from_residual-in_err-drafts.result c.from_residual-in_err-drafts.ensures.1 in
     rw (p.1, p.2) (branches_fail s c.args.room.now (shape c.args.event.now) (denoted (phrase_of (shape c.args.then.now))) q.channel.now (syntaxes (shapes q.fields.now)) sets c.in_ok-prefix.ensures.parts k (subst (λ o. Fails k (all_fit c.args.room.now o)) all c.in_err-drafts.ensures))
@@ -264,7 +264,7 @@ prefixed-returns g t c =
     let sets = map (λ v. listed v.items) q.sets.now in
     let same : denoted (phrase_of (shape q.then.now)) ≡ denoted (phrase_of (shape c.args.then.now)) = ap (λ t. denoted (phrase_of (shape t))) c.in_ok-prefix.ensures.then in
     let all = led_branches (denoted (phrase_of (shape q.then.now))) q.channel.now (shapes q.fields.now) sets s (listed q.leading.items) 0 (events s.channels) c.in_ok-prefix.ensures.leading
-        ∙ ap (λ next. branches (event_fits q.channel.now (syntaxes (shapes q.fields.now)) sets s) next 0 (events s.channels)) same in
+    ∙ ap (λ next. branches (event_fits q.channel.now (syntaxes (shapes q.fields.now)) sets s) next 0 (events s.channels)) same in
     subst (λ o. Gives (λ b. (body b, c.chosen.new.room)) c.chosen.result o)
     (sym (branches_made s c.args.room.now (shape c.args.event.now) (denoted (phrase_of (shape c.args.then.now))) q.channel.now (syntaxes (shapes q.fields.now)) sets c.in_ok-prefix.ensures.parts (map body c.in_ok-drafts.drafts.items, c.branches.new.room) (sym (ap (all_fit c.args.room.now) all) ∙ c.in_ok-drafts.ensures))) c.chosen.ensures
 
