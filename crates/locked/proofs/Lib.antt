@@ -1,5 +1,5 @@
 pub mod Faults
-pub mod Counting
+pub mod Stretches
 pub mod Crossings
 -- Of the layers below, for those above.
 pub use Rattle.session.proofs.Beginnings

@@ -19,7 +19,7 @@ use disk::Disk;
 use journal::{Journal, Prepared};
 use seats::copy_of;
 use shared::{
-    Failed, Front, Naming, Opened, Publisher, Session, Share, Shared, Source, Spine, crosses,
+    Counts, Failed, Naming, Opened, Publisher, Session, Share, Shared, Source, Spine, crosses,
     legal_crosses,
 };
 use std::alloc::{AllocError, Global};
@@ -97,7 +97,7 @@ fn serve_at<D: Disk + Send, N: Naming + Send + Sync, T: Threads + Wait + Sync, L
     crosses::<Journal<D>>();
     crosses::<Option<Failed>>();
     crosses::<Spine<N>>();
-    crosses::<Front<N>>();
+    crosses::<Counts<N>>();
     crosses::<Publisher<N, Global>>();
     crosses::<Source<N, Global>>();
     crosses::<ledger::Book<N>>();
@@ -186,7 +186,7 @@ fn over_seats<
     count: u8,
 ) -> Result<Closing<D>, (AllocError, L)>
     requires count { (1 ≤ count) × (count ≤ 64) }
-    requires story { (session.spec ≡ N.spec) × (session.history ≡ N.opening) }
+    requires story { (session.spec ≡ N.spec) × (session.history ≡ N.opening) × (session.offered ≡ []) }
     requires book { opened.seen.book ≡ N.book }
     requires ledger { (blank.name ≡ N.name) × (blank.parts ≡ N.parts) × (N.all ≡ N.parts) × (N.all ≡ count + 1) }
     requires alphabet { room.alphabet ≡ N.spec.alphabet }
@@ -201,7 +201,8 @@ fn over_seats<
         alphabet,
         mut endings,
     } = room;
-    let Ok(shared) = Shared::<D, Global, N>::new(alloc, session, opened, blank, u64::from(count))
+    let Ok(shared) =
+        Shared::<D, Global, N>::new(rt, alloc, session, opened, blank, u64::from(count))
     else {
         drop(alphabet);
         return Err((AllocError, accept));
@@ -222,9 +223,9 @@ fn over_seats<
 }
 
 /// Serves up to so many connections, each in a thread of its own at a seat of its own, and gives the session back once all are over, with
-/// how each connection ended. Its specification is as it was, and its history is legal and begins with the one that it had. The error is
-/// that memory ran out before the first connection, and comes with where connections come from; the session is gone then, and its file
-/// stays.
+/// how each connection ended. Nothing is offered to the session before. Its specification is as it was, and its history is legal and
+/// begins with the one that it had. The error is that memory ran out before the first connection, and comes with where connections come
+/// from; the session is gone then, and its file stays.
 pub fn serve_session<D: Disk + Drop + Send, T: Threads + Wait + Sync, L: Accept + Drop>(
     rt: &T,
     alloc: Global,
@@ -232,6 +233,7 @@ pub fn serve_session<D: Disk + Drop + Send, T: Threads + Wait + Sync, L: Accept 
     accept: L,
     connections: Connections,
 ) -> Result<Closing<D>, (AllocError, L)>
+    requires { session.offered ≡ [] }
     ensures session { IfOk result (λ c. (c.session.spec ≡ session.spec) × StartsWith c.session.history session.history × Legal (bodies_of session.spec.bodies) c.session.history) }
     ensures kept { IfOk result (λ c. (script : List ℕ) × (root : List ℕ) × IsFor D.state script root c.session) }
 

@@ -220,14 +220,14 @@ fn share<D: Disk + Drop, A: Allocator + Copy + Drop, N: Naming, T: Wait>(
     memory: Memory,
     out: &mut Output,
 )
-    requires story { (session.spec ≡ N.spec) × (session.history ≡ N.opening) }
+    requires story { (session.spec ≡ N.spec) × (session.history ≡ N.opening) × (session.offered ≡ []) }
     requires book { opened.seen.book ≡ N.book }
     requires ledger { (blank.name ≡ N.name) × (blank.parts ≡ N.parts) × (N.all ≡ N.parts) × (N.all ≡ 65) }
     requires events { event_count N.spec.alphabet ≡ event_count alphabet.now }
     requires places { (0 < talks.now.places) × (talks.now.places ≤ 64) }
 {
     let mut shares = Vec::new(alloc);
-    match Shared::<D, A, N>::new(alloc, session, opened, blank, talks.places) {
+    match Shared::<D, A, N>::new(rt, alloc, session, opened, blank, talks.places) {
         Ok(shared) => {
             if shares.reserve(talks.places as usize).is_ok() {
                 talk_in_turn(
