@@ -1,6 +1,6 @@
 //! Conversations with the seats of a shared session, one after the other.
 
-ghost use Rattle.std.specs.Prelude.{◌≡◌, ◌<◌, ◌≤◌};
+ghost use Rattle.std.specs.Prelude.{◌≡◌, ◌<◌, ◌≤◌, []};
 ghost use Rattle.alphabet.specs.Channels.{event_count};
 
 use crate::ends::{put_kept, put_looks, put_session, put_talk, put_unopened};

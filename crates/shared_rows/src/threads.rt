@@ -1,7 +1,7 @@
 //! A session of a process that ends at once, shared by callers on threads of their own. The first report of tick is accepted, and
 //! each further one rejected.
 
-ghost use Rattle.std.specs.Prelude.{◌≡◌};
+ghost use Rattle.std.specs.Prelude.{◌≡◌, []};
 
 use crate::callers::{Answers, Caller, Task, run_all};
 use crate::ends::put_receipts;
