@@ -24,7 +24,7 @@ receipts_reported B old new (r ∷ rs) (v ∷ vs) place (mid, one, others) = (mi
 -- no report is left
 pub all_reported : (B : ℕ → Proc) (old new : SeatView) (reports : List Report) (vs : List Bool) (count place : ℕ) (fault : Option SessionFault) → fault ≡ None → CameTo B old reports vs count place fault new
     → AllReported (Reports B) old (take count reports) (receipts_of (take count vs) place) new
-all_reported B old new reports vs count place (Some f) none c = absurd (cc (none))
+all_reported B old new reports vs count place (Some f) none c = absurd (let no : ⊥ = cc (none) in no)
 all_reported B old new reports vs count place None none c =
     let same = by (drop count reports) c.ends in
     subst (λ (t : SeatView). AllReported (Reports B) old (take count reports) (receipts_of (take count vs) place) t) (sym same) (receipts_reported B old c.mid (take count reports) (take count vs) place c.receipts)
@@ -34,15 +34,15 @@ all_reported B old new reports vs count place None none c =
     by (r ∷ left) e = absurd e
 
 take_next : (count : ℕ) (reports rest : List Report) (r : Report) → drop count reports ≡ r ∷ rest → take (count + 1) reports ≡ take count reports ++ r ∷ []
-take_next zero [] rest r is = absurd (cc (is))
+take_next zero [] rest r is = absurd (let no : ⊥ = cc (is) in no)
 take_next zero (q ∷ reports) rest r is = let same : q ≡ r = cc (is) in ap (λ (x : Report). x ∷ []) same
-take_next (suc n) [] rest r is = absurd (cc (is))
+take_next (suc n) [] rest r is = absurd (let no : ⊥ = cc (is) in no)
 take_next (suc n) (q ∷ reports) rest r is = ap (λ l. q ∷ l) (take_next n reports rest r is)
 
 -- the next report is refused
 pub part_reported : (B : ℕ → Proc) (old new : SeatView) (reports : List Report) (vs : List Bool) (count place : ℕ) (fault : Option SessionFault) (f : SessionFault) → fault ≡ Some f
     → CameTo B old reports vs count place fault new → AllReported (Reports B) old (take (count + 1) reports) (receipts_of (take count vs) place ++ Err (reported_as f) ∷ []) new
-part_reported B old new reports vs count place None f some c = absurd (cc (some))
+part_reported B old new reports vs count place None f some c = absurd (let no : ⊥ = cc (some) in no)
 part_reported B old new reports vs count place (Some g) f some c = by (drop count reports) refl c.ends
   where
     by : (left : List Report) → drop count reports ≡ left → Ends B c.mid left (Some g) new

@@ -1,5 +1,5 @@
 -- What some reports of a seat come to, by the settled entries of those that were taken.
-use Rattle.std.proofs.Common.{◌≡◌, ℕ, suc, ◌+◌, ◌<◌, ◌≤◌, Bool, true, false, Option, None, Some, List, [], ◌∷◌, ◌++◌, length, take, drop, refl, sym, ap, ◌∙◌, subst, arith}
+use Rattle.std.proofs.Common.{◌≡◌, ℕ, zero, suc, ◌+◌, ◌<◌, ◌≤◌, Bool, true, false, Option, None, Some, List, [], ◌∷◌, ◌++◌, length, take, drop, get_or, refl, sym, ap, ◌∙◌, subst, arith}
 use Rattle.std.specs.Prelude.{◌||◌, IfSome}
 use Rattle.std.proofs.lemmas.List.{length-take-le}
 use Rattle.alphabet.specs.declared.events.Report.{Report}
@@ -113,9 +113,9 @@ pub one_came : (B : ℕ → Proc) (old new : SeatView) (r : Report) (v : Bool) (
     → (fault ≡ None → Answered B old new r v place) × ((f : Fault) → fault ≡ Some f → Refused B old new r f)
 one_came B old new r v zero place None c = absurd c.ends
 one_came B old new r v zero place (Some g) c =
-    (λ none. absurd (cc (none)), λ f is. let same : g ≡ f = cc (is) in subst (λ (x : Fault). Refused B old new r x) same (subst (λ (t : SeatView). Refused B t new r g) c.receipts c.ends))
+    (λ none. absurd (let no : ⊥ = cc (none) in no), λ f is. let same : g ≡ f = cc (is) in subst (λ (x : Fault). Refused B old new r x) same (subst (λ (t : SeatView). Refused B t new r g) c.receipts c.ends))
 one_came B old new r v (suc m) place None c =
-    (λ none. let one = c.receipts in subst (λ (t : SeatView). Answered B old t r v place) (sym (c.ends ∙ last m one.0 c.mid one.2)) one.1, λ f is. absurd (cc (is)))
+    (λ none. let one = c.receipts in subst (λ (t : SeatView). Answered B old t r v place) (sym (c.ends ∙ last m one.0 c.mid one.2)) one.1, λ f is. absurd (let no : ⊥ = cc (is) in no))
   where
     last : (m : ℕ) (one mid : SeatView) → AllAnswered B one (take m []) (take m []) (place + 1) mid → mid ≡ one
     last zero one mid a = a
@@ -125,3 +125,8 @@ one_came B old new r v (suc m) place (Some g) c = absurd (ended m c.mid c.ends)
     ended : (m : ℕ) (mid : SeatView) → Ends B mid (drop m []) (Some g) new → ⊥
     ended zero mid e = e
     ended (suc m) mid e = e
+
+pub single : (vs : List Bool) → length vs ≡ 1 → vs ≡ get_or vs 0 false ∷ []
+single [] one = absurd (omega (arith, one))
+single (v ∷ []) one = refl
+single (v ∷ w ∷ vs) one = absurd (omega (arith, one))

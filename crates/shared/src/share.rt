@@ -123,14 +123,24 @@ fn closing(failed: Failed, seat: SeatNumber, number: u32, report: &Report) -> Fa
     }
 }
 
-// What closed the session, where a fault says that it is closed.
+// What closed the session, where the fault says that it is closed.
+fn closing_of(fault: Fault) -> Option<Failed>
+    ensures { is_some result ≡ closes fault }
+{
+    match fault {
+        Fault::Journal(failed) | Fault::Closed(failed) => Some(failed),
+        _ => None,
+    }
+}
+
+// What closed the session, where there is a fault that says that it is closed.
 fn closed_by(fault: Option<Fault>) -> Option<Failed>
     ensures none { fault ≡ None → result ≡ None }
     ensures some { IfSome fault (λ f. is_some result ≡ closes f) }
 {
     match fault {
-        Some(Fault::Journal(failed) | Fault::Closed(failed)) => Some(failed),
-        _ => None,
+        Some(fault) => closing_of(fault),
+        None => None,
     }
 }
 
