@@ -115,11 +115,14 @@ one_came B old new r v zero place None c = absurd c.ends
 one_came B old new r v zero place (Some g) c =
     (λ none. absurd (let no : ⊥ = cc (none) in no), λ f is. let same : g ≡ f = cc (is) in subst (λ (x : Fault). Refused B old new r x) same (subst (λ (t : SeatView). Refused B t new r g) c.receipts c.ends))
 one_came B old new r v (suc m) place None c =
-    (λ none. let one = c.receipts in subst (λ (t : SeatView). Answered B old t r v place) (sym (c.ends ∙ last m one.0 c.mid one.2)) one.1, λ f is. absurd (let no : ⊥ = cc (is) in no))
+    (λ none. let one = c.receipts in subst (λ (t : SeatView). Answered B old t r v place) (sym (ended m c.mid c.ends ∙ last m one.0 c.mid one.2)) one.1, λ f is. absurd (let no : ⊥ = cc (is) in no))
   where
     last : (m : ℕ) (one mid : SeatView) → AllAnswered B one (take m []) (take m []) (place + 1) mid → mid ≡ one
     last zero one mid a = a
     last (suc m) one mid a = a
+    ended : (m : ℕ) (mid : SeatView) → Ends B mid (drop m []) None new → new ≡ mid
+    ended zero mid e = e
+    ended (suc m) mid e = e
 one_came B old new r v (suc m) place (Some g) c = absurd (ended m c.mid c.ends)
   where
     ended : (m : ℕ) (mid : SeatView) → Ends B mid (drop m []) (Some g) new → ⊥
