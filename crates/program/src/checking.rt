@@ -101,7 +101,7 @@ fn hear_alone<R: Wait, D: Disk + Drop, A: Allocator + Copy + Drop, N: Naming, T:
     reader: &mut T,
     writer: &mut W,
 ) -> Result<Checked<D, A>, SessionError>
-    requires story { (session.spec ≡ N.spec) × (session.history ≡ N.opening) × (N.opening ≡ []) }
+    requires story { (session.spec ≡ N.spec) × (session.history ≡ N.opening) × (N.opening ≡ []) × (session.offered ≡ []) }
     requires book { opened.seen.book ≡ N.book }
     requires ledger { (blank.name ≡ N.name) × (blank.parts ≡ N.parts) × (N.all ≡ N.parts) × (N.all ≡ 2) }
     requires alphabet { alphabet.now ≡ N.spec.alphabet }
@@ -144,7 +144,7 @@ fn judge_by<R: Wait, D: Disk + Drop, A: Allocator + Copy + Drop, T: Source, W: S
     reader: &mut T,
     writer: &mut W,
 ) -> Result<Checked<D, A>, SessionError>
-    requires { session.history ≡ [] }
+    requires { (session.history ≡ []) × (session.offered ≡ []) }
     ensures spec { IfOk result (λ c. c.session.spec ≡ session.spec) }
     ensures conversed { IfOk result (λ c. Conversed session.spec (T.left reader.old) (T.left reader.new) (W.contents writer.old) (W.contents writer.new)
         c.end c.session.history c.tally) }
