@@ -1,6 +1,6 @@
 -- When an opening and an event meet a limit, by how the specification keeps names. These definitions say when a fault comes, and
 -- have no part in what is a trace or a failure. All of them are this project's own.
-use Rattle.std.specs.Prelude.{ℕ, List, length}
+use Rattle.std.specs.Prelude.{ℕ, List}
 use Rattle.alphabet.specs.declared.events.Event.{Event}
 use Rattle.term.specs.declared.names.Names.{Names}
 use Rattle.term.specs.declared.names.Names.TheVariants.{Steps, Bodies}
@@ -10,15 +10,7 @@ use Rattle.term.specs.Specs.{Specified}
 use Rattle.after.specs.declared.fault.AfterFault.{AfterFault}
 use Rattle.after.specs.declared.fault.AfterFault.TheVariants.{Depth, States, Memory}
 use Rattle.after.specs.Belonging.{MeetsLimit}
-use Rattle.unfolding.specs.Kept.{HasBroadBy, IsKeptDepth, IsKeptStates, KeptAdvance, KeptAfter, KeptOpening, NoKeptLimit}
-
--- How deep names are replaced: not at all, or as deep as there are bodies.
-abbrev pub depth_by : Names → ℕ → ℕ
-depth_by Steps n = 0
-depth_by Bodies n = n
-
-abbrev pub unfolding_depth : Specified → ℕ
-unfolding_depth spec = depth_by spec.names (length spec.bodies)
+use Rattle.unfolding.specs.Kept.{HasBroadBy, IsKeptDepth, IsKeptStates, KeptAdvance, KeptAfter, KeptOpening, NoKeptLimit, unfolding_depth}
 
 -- What a fault says of the levels that begin with L, where names are replaced n deep, and M says that a step to level 0 is broad.
 abbrev pub MeetsKeptLimit : (ℕ → Proc) → ℕ → Terms → Type 0 → AfterFault → Type 0
