@@ -7,7 +7,6 @@ use Rattle.nodes.specs.Looks.{look}
 use Rattle.term.specs.Limits.{Advance, NoLimit, Opening, Reach}
 use Rattle.term.specs.Proc.{Proc, bodies_of, root}
 use Rattle.term.specs.Specs.{Specified}
-use Rattle.term.specs.Traces.{In}
 use Rattle.term.specs.declared.names.Names.{Names}
 use Rattle.term.specs.declared.names.Names.TheVariants.{Steps, Bodies}
 use Rattle.after.specs.declared.fault.AfterFault.{AfterFault}

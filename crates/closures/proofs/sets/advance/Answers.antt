@@ -1,8 +1,7 @@
-use Rattle.std.proofs.Common.{◌≡◌, ◌∷◌, [], ◌++◌, ◌∙◌, ℕ, sym, subst}
+use Rattle.std.proofs.Common.{◌∷◌, [], ◌++◌, ◌∙◌, sym}
 use Rattle.std.proofs.lemmas.Result.{IfOk-weaker, IfErr-weaker}
 use Rattle.nodes.specs.Looks.{look}
-use Rattle.closures.specs.KeptBelonging.{KeptBelongs}
-use Rattle.closures.proofs.ByNames.{plain-depth, plain-belongs, plain-event, plain-event-none, kept-event, kept-event-none, kept-back, next-plain, next-kept}
+use Rattle.closures.proofs.ByNames.{plain-belongs, plain-event, plain-event-none, kept-event, kept-event-none, kept-back, next-plain, next-kept}
 use Rattle.closures.proofs.sets.advance.Goals as goal
 
 pub plain_advance-requires-clause-set : goal.plain_advance-requires-clause-set

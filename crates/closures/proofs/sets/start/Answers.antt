@@ -1,4 +1,4 @@
-use Rattle.std.proofs.Common.{◌≡◌, [], ◌∙◌, ℕ, sym, subst}
+use Rattle.std.proofs.Common.{[], ◌∙◌, ℕ, sym, subst}
 use Rattle.std.proofs.lemmas.Result.{IfOk-weaker, IfErr-weaker}
 use Rattle.nodes.specs.Looks.{look}
 use Rattle.closures.specs.KeptBelonging.{KeptBelongs}
