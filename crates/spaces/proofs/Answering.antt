@@ -1,5 +1,5 @@
 -- What comes of a set by an event.
-use Rattle.std.proofs.Common.{◌≡◌, ◌<◌, ℕ, Option, None, Some, IfNone, IfSome, Result, Ok, Err, IfOk, OnOk, List, [], ◌∷◌, ◌++◌, length, sym, subst}
+use Rattle.std.proofs.Common.{◌<◌, ℕ, Option, None, Some, IfNone, IfSome, Result, Ok, Err, IfOk, OnOk, List, [], ◌∷◌, ◌++◌, length, sym, subst}
 use Rattle.alphabet.specs.declared.events.Event.{Event}
 use Rattle.term.specs.Meaning.{Trace}
 use Rattle.term.specs.Proc.{Proc, bodies_of, root}

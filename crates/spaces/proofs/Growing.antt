@@ -1,15 +1,13 @@
 -- What holds of a space goes on to hold while it grows.
-use Rattle.std.proofs.Common.{◌≡◌, ◌↔◌, ℕ, suc, ◌<◌, ◌≤◌, Option, None, Some, List, [], ◌∷◌, ◌++◌, length, get_or, map, refl, sym, ap, ◌∙◌, subst, arith}
+use Rattle.std.proofs.Common.{◌≡◌, ℕ, suc, ◌<◌, ◌≤◌, Option, None, Some, List, [], ◌∷◌, ◌++◌, length, get_or, map, refl, sym, ap, ◌∙◌, subst, arith}
 use Rattle.std.proofs.lemmas.List.{get_or-map}
 use Rattle.std.proofs.lemmas.List.Elements.{All-weaker}
 use Rattle.std.specs.List.{All}
 use Rattle.std.specs.declared.vec.Vec.{Vec}
 use Rattle.alphabet.specs.declared.events.Event.{Event}
-use Rattle.closures.specs.Label.TheVariants as label
 use Rattle.term.specs.Meaning.{Trace}
 use Rattle.term.specs.Proc.{Proc, bodies_of, root}
 use Rattle.term.specs.Specs.{Specified}
-use Rattle.term.specs.Traces.{In}
 use Rattle.closures.specs.Looks.{look, AllBelow}
 use Rattle.closures.specs.Tables.{Tabled, Begins, HasGrown}
 use Rattle.closures.proofs.Listing.{begins-same, begins-at, begins-longer, begins-on}
