@@ -1,5 +1,5 @@
 #!/usr/bin/env python3
-"""A program with the words of `cspwatch` and the newer option of `check`, for the tests of `cspwatch-logs`. It judges nothing.
+"""A program with the words of `cspwatch` and the newer options of `check`, for the tests of `cspwatch-logs`. It judges nothing.
 
 The script is a list of lines: `channel ..` as `print` writes them, `no|REPORT|REASON` for a report that is rejected, with the reason
 that `--explain` gives (none where it is empty), `fault|REPORT|CODE WORD` for one that is answered by `ERR`, and
@@ -8,7 +8,7 @@ that `--explain` gives (none where it is empty), `fault|REPORT|CODE WORD` for on
 import os
 import sys
 
-OPTIONS = os.environ.get("STAND_IN_OPTIONS", "--explain").split()
+OPTIONS = os.environ.get("STAND_IN_OPTIONS", "--explain --large").split()
 
 
 def words_of(spec):

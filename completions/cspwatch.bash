@@ -27,7 +27,8 @@ _cspwatch() {
     esac
     if [[ $current == -* ]]; then
         case $command in
-            serve) COMPREPLY=($(compgen -W "--listen --connections --help -h" -- "$current")) ;;
+            check) COMPREPLY=($(compgen -W "--large --help -h" -- "$current")) ;;
+            serve) COMPREPLY=($(compgen -W "--listen --connections --large --help -h" -- "$current")) ;;
             show) COMPREPLY=($(compgen -W "--rejected --coverage --format --help -h" -- "$current")) ;;
             *) COMPREPLY=($(compgen -W "--help -h" -- "$current")) ;;
         esac

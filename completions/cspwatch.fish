@@ -37,6 +37,7 @@ complete -c cspwatch -n "not __fish_seen_subcommand_from $commands" -a show -d '
 complete -c cspwatch -n "not __fish_seen_subcommand_from $commands" -a print -d 'print what a process means'
 complete -c cspwatch -n "not __fish_seen_subcommand_from $commands" -a help -d 'print help'
 complete -c cspwatch -n "__fish_seen_subcommand_from help" -a "$commands"
+complete -c cspwatch -n "__fish_seen_subcommand_from check serve" -l large -d 'use the limits for large systems'
 complete -c cspwatch -n "__fish_seen_subcommand_from serve" -l listen -x -a '127.0.0.1:0' -d 'the address to listen on'
 complete -c cspwatch -n "__fish_seen_subcommand_from serve" -l connections -x -d 'how many connections are taken'
 complete -c cspwatch -n "__fish_seen_subcommand_from show" -l rejected -d 'print the rejected reports alone'

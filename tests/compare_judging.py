@@ -1,12 +1,12 @@
 #!/usr/bin/env python3
 """Compares what `cspwatch check` answers with what a second judge answers, on processes and reports made at random.
 
-    compare_judging.py [SEED] [COUNT] [--program FILE] [--reference PATH] [--jobs N] [--seconds S] [--plain]
+    compare_judging.py [SEED] [COUNT] [--large] [--program FILE] [--reference PATH] [--jobs N] [--seconds S] [--plain]
 
 Each case is a script with a few definitions under all operators, some of which grow until a limit is met, and some forty
-lines: events, refusals, `N` and `S`. Replies, messages and exit status have to be the same. A case for which the
-reference takes longer than S seconds is passed over, and counted; one for which the program takes longer than five
-seconds is a failure. The last line is `N passed, M failed`.
+lines: events, refusals, `N` and `S`. Replies, messages and exit status have to be the same. With `--large` both keep
+names as their bodies. A case for which the reference takes longer than S seconds is passed over, and counted; one for
+which the program takes longer than five seconds is a failure. The last line is `N passed, M failed`.
 """
 from __future__ import annotations
 
@@ -74,8 +74,9 @@ class Case:
 def attempt(rng: random.Random, given: argparse.Namespace) -> Outcome:
     """Compares both opinions on a case."""
     case = Case(rng)
-    question = opinions.Question(("check", "p.csp", "P"), {"p.csp": case.script.encode()}, case.lines.encode())
-    wanted = opinions.second(question, lambda: reference.check(case.script.encode(), "P", question.lines), given.reference, given.seconds)
+    words = ("check", "p.csp", "P") + (("--large",) if given.large else ())
+    question = opinions.Question(words, {"p.csp": case.script.encode()}, case.lines.encode())
+    wanted = opinions.second(question, lambda: reference.check(case.script.encode(), "P", question.lines, given.large), given.reference, given.seconds)
     if wanted is None:
         return Outcome("passed over")
     own = opinions.of_program(given.program, question, SECONDS)
@@ -90,6 +91,7 @@ def main() -> int:
     parser = argparse.ArgumentParser(description=__doc__.split("\n", maxsplit=1)[0])
     generated.add_options(parser, 1000)
     opinions.add_options(parser)
+    parser.add_argument("--large", action="store_true", help="names are kept as their bodies")
     given = parser.parse_args()
     return generated.run(functools.partial(attempt, given=given), given)
 

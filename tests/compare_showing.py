@@ -1,7 +1,7 @@
 #!/usr/bin/env python3
 """Compares what `cspwatch show` prints of journals made at random with what a second judge's states say.
 
-    compare_showing.py [SEED] [COUNT] [--program FILE] [--reference PATH] [--jobs N] [--seconds S] [--plain]
+    compare_showing.py [SEED] [COUNT] [--large] [--program FILE] [--reference PATH] [--jobs N] [--seconds S] [--plain]
 
 Each case is a script as in compare_judging.py, with a journal of up to sixty reports by three seats, some of them
 rejected. The text and the JSON of `show`, alone, with `--rejected`, with `--coverage` and with both, and the line and
@@ -35,11 +35,11 @@ WAYS = [(rejected, coverage, as_json) for rejected in (False, True) for coverage
 """With `--rejected`, with `--coverage`, as JSON."""
 
 
-def journal_of(case: Case) -> bytes | None:
+def journal_of(case: Case, large: bool) -> bytes | None:
     """A journal with the reports of a case, at random seats; None where the opening meets a limit."""
     script = case.script.encode()
     try:
-        session = Session(read(script, "P"))
+        session = Session(read(script, "P"), large)
     except JudgeFault:
         return None
     file = journal.header(script, b"P")
@@ -63,12 +63,12 @@ def damaged(rng: random.Random, file: bytes) -> bytes:
     return file[:at] + new + file[at + rng.randint(0, 1):]
 
 
-def words_of(rejected: bool, coverage: bool, as_json: bool) -> tuple[str, ...]:
-    words = ["show"] + ["--rejected"] * rejected + ["--coverage"] * coverage + ["--format", "json"] * as_json
+def words_of(rejected: bool, coverage: bool, as_json: bool, large: bool) -> tuple[str, ...]:
+    words = ["show"] + ["--rejected"] * rejected + ["--coverage"] * coverage + ["--format", "json"] * as_json + ["--large"] * large
     return tuple(words + ["j"])
 
 
-def wanted_of(file: bytes) -> list[Answer]:
+def wanted_of(file: bytes, large: bool) -> list[Answer]:
     """What the reference answers: to `replay`, and to `show` in all ways."""
     sessions: list[Session] = []
 
@@ -76,7 +76,7 @@ def wanted_of(file: bytes) -> list[Answer]:
         sessions.append(session)
         return session.summary() + "\n"
 
-    replayed = reference.with_journal(file, "j", summary)
+    replayed = reference.with_journal(file, "j", large, summary)
     if not sessions:
         return [replayed] * (1 + len(WAYS))
     return [replayed] + [Answer(shown(sessions[0], *way).encode(), b"", replayed.status) for way in WAYS]
@@ -85,14 +85,14 @@ def wanted_of(file: bytes) -> list[Answer]:
 def attempt(rng: random.Random, given: argparse.Namespace) -> Outcome:
     """Compares both opinions on a journal."""
     case = Case(rng)
-    made = opinions.of_reference(lambda: journal_of(case), given.seconds)
+    made = opinions.of_reference(lambda: journal_of(case, given.large), given.seconds)
     if made is None:
         return Outcome("passed over")
     file = damaged(rng, made) if rng.random() < 0.1 else made
-    wanted = opinions.of_reference(lambda: wanted_of(file), given.seconds)
+    wanted = opinions.of_reference(lambda: wanted_of(file, given.large), given.seconds)
     if wanted is None:
         return Outcome("passed over")
-    words = [("replay", "j")] + [words_of(rejected, coverage, as_json) for rejected, coverage, as_json in WAYS]
+    words = [("replay", *("--large",) * given.large, "j")] + [words_of(rejected, coverage, as_json, given.large) for rejected, coverage, as_json in WAYS]
     for question, answer in zip((opinions.Question(one, {"j": file}) for one in words), wanted):
         other = answer
         if given.reference and question.words[0] == "replay":
@@ -107,6 +107,7 @@ def main() -> int:
     parser = argparse.ArgumentParser(description=__doc__.split("\n", maxsplit=1)[0])
     generated.add_options(parser, 1000)
     opinions.add_options(parser)
+    parser.add_argument("--large", action="store_true", help="names are kept as their bodies")
     given = parser.parse_args()
     return generated.run(functools.partial(attempt, given=given), given)
 

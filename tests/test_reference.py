@@ -93,12 +93,13 @@ def compare(judge: Judge, meaning: Meaning, trace: tuple[int, ...], length: int)
             compare(judge, meaning, trace + (event,), length - 1)
 
 
+@pytest.mark.parametrize("large", [False, True])
 @pytest.mark.parametrize("seed", range(60))
-def test_steps_are_the_meaning(seed: int) -> None:
+def test_steps_are_the_meaning(seed: int, large: bool) -> None:
     rng = random.Random(seed)
     alphabet = Alphabet()
     for name in "ab":
         alphabet.declare(name, [])
     names = rng.choice([0, 0, 1, 2])
     spec = Spec(alphabet, [some_term(rng, 3, 2, names) for _ in range(max(names, 1))])
-    compare(Judge(spec), Meaning(spec, 4), (), 2)
+    compare(Judge(spec, large), Meaning(spec, 4), (), 2)

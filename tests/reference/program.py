@@ -1,10 +1,10 @@
 """The reference as a program, with the words of cspwatch.
 
-    check SPEC PROCESS
+    check SPEC PROCESS [--large]
     print SPEC PROCESS
     tree SPEC
-    replay JOURNAL
-    show JOURNAL [--rejected] [--coverage] [--format json]
+    replay JOURNAL [--large]
+    show JOURNAL [--rejected] [--coverage] [--format json] [--large]
 
 The calls below work on bytes, and answer what the program would write and its exit status.
 """
@@ -61,10 +61,10 @@ def tree(text: bytes, name: str = "p.csp") -> Answer:
         return failed(f"{name}:{fault}", BAD_SCRIPT)
 
 
-def check(text: bytes, root: str, lines: bytes, name: str = "p.csp") -> Answer:
+def check(text: bytes, root: str, lines: bytes, large: bool = False, name: str = "p.csp") -> Answer:
     """What `check` answers for a script and the lines of a conversation."""
     try:
-        conversation = Conversation(Session(read(text, root)))
+        conversation = Conversation(Session(read(text, root), large))
     except ScriptFault as fault:
         return failed(f"{name}:{fault}", BAD_SCRIPT)
     except JudgeFault as fault:
@@ -78,10 +78,10 @@ def check(text: bytes, root: str, lines: bytes, name: str = "p.csp") -> Answer:
     return Answer(output, b"", BAD_USE if conversation.outcomes else DONE)
 
 
-def with_journal(file: bytes, name: str, output: Callable[[Session], str]) -> Answer:
+def with_journal(file: bytes, name: str, large: bool, output: Callable[[Session], str]) -> Answer:
     """What is made of the session of a journal, or the fault that it has."""
     try:
-        session = replayed(opened(file), watches=True)
+        session = replayed(opened(file), large, watches=True)
     except JournalFault as fault:
         return failed(f"{name}: {fault}", BAD_JOURNAL)
     except ScriptFault as fault:
@@ -91,14 +91,14 @@ def with_journal(file: bytes, name: str, output: Callable[[Session], str]) -> An
     return Answer(output(session).encode(), b"", REJECTED if session.counts()[3] else DONE)
 
 
-def replay(file: bytes, name: str = "j") -> Answer:
+def replay(file: bytes, name: str = "j", large: bool = False) -> Answer:
     """What `replay` answers for the bytes of a journal."""
-    return with_journal(file, name, lambda session: session.summary() + "\n")
+    return with_journal(file, name, large, lambda session: session.summary() + "\n")
 
 
-def show(file: bytes, name: str = "j", rejected: bool = False, coverage: bool = False, as_json: bool = False) -> Answer:
+def show(file: bytes, name: str = "j", rejected: bool = False, coverage: bool = False, as_json: bool = False, large: bool = False) -> Answer:
     """What `show` answers for the bytes of a journal."""
-    return with_journal(file, name, lambda session: shown(session, rejected, coverage, as_json))
+    return with_journal(file, name, large, lambda session: shown(session, rejected, coverage, as_json))
 
 
 def with_deep_stack(call: Callable[[], Result]) -> Result:
@@ -132,6 +132,8 @@ def words() -> argparse.ArgumentParser:
             one.add_argument("process")
     for command in ("replay", "show"):
         commands.add_parser(command).add_argument("journal")
+    for command in ("check", "replay", "show"):
+        commands.choices[command].add_argument("--large", action="store_true")
     show_words = commands.choices["show"]
     show_words.add_argument("--rejected", action="store_true")
     show_words.add_argument("--coverage", action="store_true")
@@ -148,10 +150,10 @@ def answer(given: argparse.Namespace) -> Answer:
     if given.command == "tree":
         return tree(content, name)
     if given.command == "check":
-        return check(content, given.process, sys.stdin.buffer.read(), name)
+        return check(content, given.process, sys.stdin.buffer.read(), given.large, name)
     if given.command == "replay":
-        return replay(content, name)
-    return show(content, name, given.rejected, given.coverage, given.format == "json")
+        return replay(content, name, given.large)
+    return show(content, name, given.rejected, given.coverage, given.format == "json", given.large)
 
 
 def main() -> int:

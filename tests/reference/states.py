@@ -6,6 +6,7 @@ from collections.abc import Iterable, Set
 
 from . import terms
 from .faults import TOO_DEEP_STATE, TOO_MANY_STATES, JudgeFault
+from .keeping import Keeper
 from .steps import Steps, least
 from .terms import Spec, Term
 
@@ -15,11 +16,12 @@ MOST_STATES = 4_096
 
 class Judge:
     """Judges reports by a specification. `states` has all processes that the accepted events can have led to, by runs with
-    hidden steps anywhere, also at the end."""
+    hidden steps anywhere, also at the end. Where `large`, names are kept as their bodies."""
 
-    def __init__(self, spec: Spec) -> None:
+    def __init__(self, spec: Spec, large: bool = False) -> None:
         self.spec = spec
         self.steps = Steps(spec)
+        self.keeper = Keeper(spec) if large else None
         self.known: dict[tuple[frozenset[Term], int], frozenset[Term] | None | JudgeFault] = {}
         self.states = self.closed([{terms.name(0)}])
 
@@ -39,13 +41,18 @@ class Judge:
     def level(self, lists: Iterable[Set[Term]], found: set[Term]) -> set[Term]:
         """The members that a level adds to those that were found before."""
         new: set[Term] = set()
+        broad = False
         for targets in lists:
-            new |= targets
+            broad |= len(targets) > MOST_STATES
+            new |= targets if self.keeper is None else {self.keeper.kept(term) for term in targets}
         new -= found
         deep = any(term.depth > LARGEST_DEPTH for term in new)
         many = len(found) + len(new) > MOST_STATES
-        if deep or many:
-            raise JudgeFault(TOO_DEEP_STATE if deep else TOO_MANY_STATES)
+        if self.keeper is None:
+            if deep or many:
+                raise JudgeFault(TOO_DEEP_STATE if deep else TOO_MANY_STATES)
+        elif deep or many or broad:
+            raise JudgeFault(TOO_MANY_STATES if many or broad else TOO_DEEP_STATE)
         return new
 
     def after(self, event: int) -> frozenset[Term] | None:

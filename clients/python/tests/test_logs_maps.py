@@ -44,7 +44,8 @@ FAULTS = [
     ("[sessions]\nkey = 'x'\nbegin = 'b'\n[[rule]]\nmatch = 'a'\nevent = 'a'\n", 3, "sessions.begin", "no rule reports 'b'"),
     ("[places.c]\nsize = 1\n[places.p]\nsize = 1\nof = '{c}'\n[[rule]]\nmatch = '(?P<p>.)'\nevent = 'a.{p}'\n", 8, "rule.event",
      "`match` has no group 'c', which places.p.of asks for"),
-    ("[specification]\nscript = 's.csp'\n" + RULE, 1, "specification.process", "this key is missing"),
+    ("[specification]\nscript = 's.csp'\nlarge = true\n" + RULE, 1, "specification.process", "this key is missing"),
+    ("[specification]\nscript = 's.csp'\nprocess = 'P'\nlarge = 1\n" + RULE, 4, "specification.large", "true or false is wanted, not 1"),
     ("a = 1\n\nb = = 2\n", 3, "", "this isn't TOML: Invalid value"),
     ("a = [\n", 2, "", "this isn't TOML: Invalid value"),
 ]

@@ -9,7 +9,7 @@ import unittest
 
 sys.path[:0] = [os.path.dirname(os.path.abspath(__file__))]
 
-from logs_folder import NEEDS, RULES, SPECIFICATION, InFolder  # noqa: E402
+from logs_folder import NEEDS, RULES, SPECIFICATION, STAND_IN, InFolder  # noqa: E402
 from stand_in import SECONDS, SeatService, StandIn, has_serve, program  # noqa: E402
 
 PROGRAM = program()
@@ -47,6 +47,12 @@ class OverAStandIn(InFolder):
     def test_a_program_without_explanations(self):
         out = ["-:1: E bad: NO 1", "    bad", counts(1, 1, 0, 1)]
         self.assertEqual(self.logs("m.toml", given=b"bad\n", STAND_IN_OPTIONS=""), (1, out, []))
+
+    def test_large(self):
+        self.file("m.toml", SPECIFICATION + "large = true\n" + RULES)
+        self.assertEqual(self.logs("m.toml", given=b"open 0\n"), (0, [counts(1, 1, 1, 0)], []))
+        reason = "m.toml:4: specification.large: this needs `check --large`, which came after cspwatch 0.5.1; %s is cspwatch 0.0.0" % STAND_IN
+        self.assertEqual(self.logs("m.toml", STAND_IN_OPTIONS="--explain"), (2, [], [reason]))
 
     def test_quiet_first_and_strict(self):
         given = b"what\nbad\nbad\n"

@@ -54,7 +54,7 @@ class Words(unittest.TestCase):
     def test_the_manual_page(self):
         text = re.sub(r"\\f.", "", text_of(PAGE)).replace("\\-", "-").replace('"', " ")
         self.assertEqual([option for option in sorted(self.options) if not has_word(text, option)], [])
-        other = {"--connections", "--explain", "--rejected"}
+        other = {"--connections", "--explain", "--large", "--rejected"}
         self.assertEqual(set(re.findall(r"(?<![\w-])--[a-z][a-z-]*", text)) - other, self.options)
         version = re.search(r'^version = "(.*)"', text_of(PYTHON, "pyproject.toml"), re.MULTILINE)[1]
         self.assertIn("cspwatch-client " + version, text)

@@ -12,6 +12,7 @@ use std::alloc::Global;
 use std::io::{IsTerminal, Write};
 use std::rt::Files;
 use std::sync::Wait;
+use term::Names;
 use wire::{End, Sink, Source, WireError};
 
 // How a conversation ended, and the exit status that it asks for.
@@ -26,14 +27,15 @@ fn tell_unopened<E: Write + IsTerminal>(
     errors: &mut E,
     name: &str,
     script: &[u8],
+    names: Names,
     error: SessionError,
 ) -> Exit
     ensures { IsRefusal result }
 {
     match error {
         SessionError::Script(fault) => tell_script(errors, name, script, &fault),
-        SessionError::Device => tell_opening(errors, name, SessionError::Memory),
-        error => tell_opening(errors, name, error),
+        SessionError::Device => tell_opening(errors, name, names, SessionError::Memory),
+        error => tell_opening(errors, name, names, error),
     }
 }
 
@@ -61,12 +63,13 @@ fn talked_of<D: Disk + Drop>(checked: Checked<D>) -> Talked
     talked
 }
 
-// Judges the lines of the reader by what the script denotes for the process.
+// Judges the lines of the reader by what the script denotes for the process, with names kept so.
 fn talk<R: Wait, T: Source, W: Sink>(
     rt: &R,
     alloc: Global,
     script: &[u8],
     process: &[u8],
+    names: Names,
     reader: &mut T,
     writer: &mut W,
 ) -> Result<Talked, SessionError>
@@ -74,17 +77,18 @@ fn talk<R: Wait, T: Source, W: Sink>(
     ensures untouched { IfErr result (λ _. (reader.new ≡ reader.old) × (writer.new ≡ writer.old)) }
 {
     let disk = MemoryDisk::new(Vec::new(alloc));
-    match program::check(rt, alloc, disk, script, process, reader, writer) {
+    match program::check(rt, alloc, disk, script, process, names, reader, writer) {
         Ok(checked) => Ok(talked_of(checked)),
         Err(error) => Err(error),
     }
 }
 
-/// Judges the lines of the reader by the process of the script in the file, and answers the exit status.
+/// Judges the lines of the reader by the process of the script in the file, with names kept so, and answers the exit status.
 pub fn check<R: Files + AllocGlobal + Wait, T: Source, W: Sink, E: Write + IsTerminal>(
     rt: &R,
     name: &str,
     process: &str,
+    names: Names,
     reader: &mut T,
     writer: &mut W,
     errors: &mut E,
@@ -97,8 +101,9 @@ pub fn check<R: Files + AllocGlobal + Wait, T: Source, W: Sink, E: Write + IsTer
         Ok(script) => script,
         Err(exit) => return exit,
     };
-    match talk(rt, rt.alloc(), &script, process.as_bytes(), reader, writer) {
+    let process = process.as_bytes();
+    match talk(rt, rt.alloc(), &script, process, names, reader, writer) {
         Ok(talked) => tell_end(errors, name, talked),
-        Err(error) => tell_unopened(errors, name, &script, error),
+        Err(error) => tell_unopened(errors, name, &script, names, error),
     }
 }

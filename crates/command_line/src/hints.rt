@@ -1,6 +1,8 @@
-//! What a terminal shows below a fault: of a script its line and what it means, of the words an example.
+//! What a terminal shows below a fault: of a script its line and what it means, of a limit what it means, of the words an example.
 
+use program::SessionError;
 use std::io::{self, IsTerminal, Write};
+use term::Names;
 use tokens::{ScriptError, ScriptErrorKind};
 
 /// The most bytes of a line that are shown.
@@ -80,6 +82,37 @@ pub(crate) fn show_fault<E: Write + IsTerminal>(
         let _ = write_line(errors, from_line(script, fault.line));
     }
     let _ = writeln!(errors, "        {}", meaning_of(fault.kind));
+}
+
+/// What the limit means, where names are kept so.
+fn meaning_of_limit(names: Names, error: SessionError) -> Option<&'static str> {
+    match (error, names) {
+        (SessionError::Depth, _) => Some("a state is more than 1,000 deep"),
+        (SessionError::States, Names::Steps) => Some(
+            "more than 4,096 states at once; with --large, components that rest are one state",
+        ),
+        (SessionError::States, Names::Bodies) => Some("more than 4,096 states at once"),
+        _ => None,
+    }
+}
+
+/// Shows, where the errors go to a terminal, what the limit means that an opening met, where names are kept so.
+pub(crate) fn show_limit<E: Write + IsTerminal>(errors: &mut E, names: Names, error: SessionError) {
+    if let Some(meaning) = meaning_of_limit(names, error) {
+        if errors.is_terminal() {
+            let _ = writeln!(errors, "        {meaning}");
+        }
+    }
+}
+
+/// Shows, where the errors go to a terminal, when a journal is another's.
+pub(crate) fn show_other<E: Write + IsTerminal>(errors: &mut E) {
+    if errors.is_terminal() {
+        let _ = writeln!(
+            errors,
+            "        the journal is of another script or process, or it was made the other way, with or without --large"
+        );
+    }
 }
 
 /// Shows, where the errors go to a terminal, an example of the command, if there is one.

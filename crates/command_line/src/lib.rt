@@ -9,6 +9,7 @@ mod checking;
 mod forms;
 mod hints;
 mod journal_files;
+mod limits;
 mod patient;
 mod replaying;
 mod running;

@@ -5,6 +5,7 @@ ghost use Rattle.program.specs.Exits.{exit_code};
 
 use crate::checking::check;
 use crate::forms::print;
+use crate::limits::names_by;
 use crate::patient::Patient;
 use crate::replaying::replay;
 use crate::server::serve;
@@ -34,10 +35,22 @@ fn fulfil<
     E: Write + IsTerminal,
 >(rt: &R, wish: &Wish<'_>, input: &mut I, output: &mut O, errors: &mut E) -> Exit {
     match wish {
-        Wish::Check { spec, process } => {
+        Wish::Check {
+            spec,
+            process,
+            large,
+        } => {
             let mut reader = Plain::new(Patient::new(&mut *input));
             let mut writer = Plain::new(&mut *output);
-            check(rt, spec, process, &mut reader, &mut writer, errors)
+            check(
+                rt,
+                spec,
+                process,
+                names_by(*large),
+                &mut reader,
+                &mut writer,
+                errors,
+            )
         }
         Wish::Print { spec, process } => print(rt, spec, process, output, errors),
         Wish::Replay { journal } => replay(rt, journal, output, errors),

@@ -1,9 +1,10 @@
 //! `cspwatch serve`: the reports of connections, judged by one session with a journal.
-ghost use Rattle.std.specs.Prelude.{◌≡◌};
+ghost use Rattle.std.specs.Prelude.{◌≡◌, [], IfOk};
 ghost use Rattle.command_line.specs.Statuses.{run_exit};
 
 use crate::forms::put_out;
 use crate::journal_files::{journal_at, keep_name};
+use crate::limits::names_by;
 use crate::scripts::{tell_read, text_of};
 use crate::telling::{tell_fault, tell_open};
 use disk::Disk;
@@ -113,7 +114,9 @@ fn serve_to_end<
     service: &Service<'_>,
     session: Session<D, Global>,
     listener: TcpListener,
-) -> Result<Ended, AllocError> {
+) -> Result<Ended, AllocError>
+    requires { session.offered ≡ [] }
+{
     let accept = TcpAccept::new(listener);
     match serve_session(rt, rt.alloc(), session, accept, service.connections) {
         Ok(closing) => {
@@ -145,7 +148,9 @@ fn serve_at<
     session: Session<D, Global>,
     output: &mut O,
     errors: &mut E,
-) -> Exit {
+) -> Exit
+    requires { session.offered ≡ [] }
+{
     let listener = match listen_at(rt, service, output, errors) {
         Ok(listener) => listener,
         Err(exit) => {
@@ -165,16 +170,27 @@ fn session_at<R: Files<File = File> + AllocGlobal, E: Write + IsTerminal>(
     service: &Service<'_>,
     script: &[u8],
     errors: &mut E,
-) -> Result<Session<FileDisk<File>, Global>, Exit> {
+) -> Result<Session<FileDisk<File>, Global>, Exit>
+    ensures { IfOk result (λ s. s.offered ≡ []) }
+{
+    let names = names_by(service.large);
     let file = journal_at(rt, service.journal, errors)?;
     match open(
         rt.alloc(),
         FileDisk::new(file),
         script,
         service.process.as_bytes(),
+        names,
     ) {
         Ok(session) => Ok(session),
-        Err((error, _)) => Err(tell_open(errors, service.spec, script, service.journal, error)),
+        Err((error, _)) => Err(tell_open(
+            errors,
+            service.spec,
+            script,
+            names,
+            service.journal,
+            error,
+        )),
     }
 }
 

@@ -4,12 +4,13 @@ ghost use Rattle.program.specs.Exits.{script_exit, journal_exit, exit_code};
 ghost use Rattle.program.specs.declared.exit.Exit.TheVariants.{Limit};
 ghost use Rattle.command_line.specs.Statuses.{open_exit};
 
-use crate::hints::{show_example, show_fault};
+use crate::hints::{show_example, show_fault, show_limit, show_other};
 use clap::Error;
 use clap::error::ErrorKind;
 use program::{Exit, SessionError};
 use serving::OpenError;
 use std::io::{IsTerminal, Write};
+use term::Names;
 use tokens::ScriptError;
 
 /// Writes one line on the errors, and answers the status. Where that fails there is nobody to tell.
@@ -42,11 +43,18 @@ pub(crate) fn tell_script<E: Write + IsTerminal>(
     Exit::of_script(fault)
 }
 
-/// Reports which limit the specification's opening meets, or that memory ran out.
-pub(crate) fn tell_opening<E: Write>(errors: &mut E, name: &str, error: SessionError) -> Exit
+/// Reports which limit the specification's opening meets, where names are kept so, or that memory ran out; on a terminal with what the
+/// limit means.
+pub(crate) fn tell_opening<E: Write + IsTerminal>(
+    errors: &mut E,
+    name: &str,
+    names: Names,
+    error: SessionError,
+) -> Exit
     ensures { result ≡ Limit }
 {
     let _ = writeln!(errors, "{name}: {error}");
+    show_limit(errors, names, error);
     Exit::Limit
 }
 
@@ -83,6 +91,7 @@ pub(crate) fn tell_open<E: Write + IsTerminal>(
     errors: &mut E,
     spec: &str,
     script: &[u8],
+    names: Names,
     journal: &str,
     error: OpenError,
 ) -> Exit
@@ -93,10 +102,12 @@ pub(crate) fn tell_open<E: Write + IsTerminal>(
         OpenError::Begin(SessionError::Device) => {
             tell_journal(errors, journal, SessionError::Device)
         }
-        OpenError::Begin(error) => tell_opening(errors, spec, error),
+        OpenError::Begin(error) => tell_opening(errors, spec, names, error),
         OpenError::Replay(error) => tell_journal(errors, journal, error),
         OpenError::OtherSpecification => {
-            tell_fault(errors, journal, "54 specification", Exit::BadJournal)
+            let exit = tell_fault(errors, journal, "54 specification", Exit::BadJournal);
+            show_other(errors);
+            exit
         }
     }
 }

@@ -37,8 +37,8 @@ one_declared t es fs f g cs ds r q =
     let k : f ≡ g = one_known es f g r.stands (subst (λ (xs : List Entry). Stands xs g) (sym e) q.stands) in
     (e, k, some_is (sym r.fielded ∙ ap₂ channels_of k e ∙ q.fielded))
 
-pub one_spec : (t : Syntax) (root : Name) (a b : Specified) → Denotes t root a → Denotes t root b → a ≡ b
-one_spec t root a b r q =
+pub one_spec : (t : Syntax) (root : Name) (a b : Specified) → Denotes t root a → Denotes t root b → a.names ≡ b.names → a ≡ b
+one_spec t root a b r q n =
     let (e, k, c) = one_declared t r.entries q.entries r.known q.known a.alphabet b.alphabet r.declares q.declares in
     let all : (b.alphabet, q.known, q.entries) ≡ (a.alphabet, r.known, r.entries) = λ i. (sym c i, sym k i, sym e i) in
     let sets : r.sets ≡ q.sets = one_sets a.alphabet r.known r.entries r.sets q.sets r.events (subst (λ (x : List Channel × Known × List Entry). EventsStand x.0 x.1 x.2 q.sets) all q.events) in
@@ -47,4 +47,4 @@ one_spec t root a b r q =
     let scopes : there ≡ here = λ i. record { entries = sym e i; channels = sym c i; known = sym k i; sets = sym sets i } in
     let (ks, bs) = one_reached here (root, []) r.keys q.keys r.bodies q.bodies r.reached (subst (λ (s : Scope). Reached s (root, []) q.keys q.bodies) scopes q.reached) in
     let bodies : a.bodies ≡ b.bodies = r.numbers ∙ ap₂ (λ ks bs. map (numbered (place ks)) bs) ks bs ∙ sym q.numbers in
-    λ i. record { alphabet = c i; bodies = bodies i }
+    λ i. record { alphabet = c i; bodies = bodies i; names = n i }

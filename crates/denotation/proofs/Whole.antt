@@ -3,6 +3,7 @@ use Rattle.std.proofs.Common.{◌≡◌, List, [], sym, subst}
 use Rattle.alphabet.specs.Channels.{Channel}
 use Rattle.term.specs.Proc.{Proc}
 use Rattle.term.specs.Specs.{Specified}
+use Rattle.term.specs.declared.names.Names.{Names}
 use Rattle.syntax.specs.Grammar.{Syntax}
 use Rattle.values.specs.Values.{Name}
 use Rattle.values.specs.Worths.{Known}
@@ -18,8 +19,8 @@ module _ (t : Syntax) (root : Name) (es : List Entry) (known : Known) (cs : List
   abbrev here : Scope
   here = record { entries = es; channels = cs; known = known; sets = sets }
 
-  pub denotes_from : (ps : List Proc) → Gathered here (root, []) ps → Denotes t root (record { alphabet = cs; bodies = ps })
-  denotes_from ps g = record { entries = es; known = known; sets = sets; declares = d; events = e; keys = g.keys; bodies = g.bodies; reached = g.reached; numbers = g.numbers; deep = g.deep; large = g.large }
+  pub denotes_from : (ps : List Proc) (names : Names) → Gathered here (root, []) ps → Denotes t root (record { alphabet = cs; bodies = ps; names = names })
+  denotes_from ps names g = record { entries = es; known = known; sets = sets; declares = d; events = e; keys = g.keys; bodies = g.bodies; reached = g.reached; numbers = g.numbers; deep = g.deep; large = g.large }
 
   pub gathered_from : (spec : Specified) → Denotes t root spec → (spec.alphabet ≡ cs) × Gathered here (root, []) spec.bodies
   gathered_from spec a =

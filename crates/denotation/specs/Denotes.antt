@@ -80,7 +80,7 @@ unfoldable pub nodes : List Proc → ℕ
 nodes [] = 0
 nodes (p ∷ ps) = size p + nodes ps
 
--- The script with this tree denotes this specification for a root.
+-- The script with this tree denotes the alphabet and the bodies of this specification for a root.
 pub record Denotes (t : Syntax) (root : Name) (spec : Specified) : Type 0 where
   pub entries : List Entry
   pub known : Known

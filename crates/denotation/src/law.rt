@@ -8,9 +8,9 @@ ghost use Rattle.denotation.specs.Making.{Count, made, make};
 ghost use Rattle.event_phrases.specs.Scopes.{Scope};
 ghost use Rattle.denotation.specs.Phrases.{denoted};
 
-/// A script denotes one specification at most for a root.
+/// A script denotes one alphabet and one list of bodies at most for a root.
 pub fn one_specification()
-    ensures { (script : Syntax) (root : Name) (first second : Specified) → Denotes script root first → Denotes script root second → first ≡ second }
+    ensures { (script : Syntax) (root : Name) (first second : Specified) → Denotes script root first → Denotes script root second → first.names ≡ second.names → first ≡ second }
 {}
 
 /// What is made of a phrase from left to right, with numbers for definitions as they are met and nodes counted on the

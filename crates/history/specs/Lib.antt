@@ -10,4 +10,5 @@ pub mod Counts
 pub use Rattle.monitor.specs.Acceptances
 pub use Rattle.monitor.specs.AfterFault
 pub use Rattle.monitor.specs.Belonging
+pub use Rattle.monitor.specs.Limits
 pub use Rattle.monitor.specs.Monitors

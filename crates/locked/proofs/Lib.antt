@@ -1,6 +1,7 @@
 pub mod Faults
 pub mod Counting
 pub mod Crossings
+pub mod Stretches
 -- Of the layers below, for those above.
 pub use Rattle.session.proofs.Beginnings
 pub use Rattle.session.proofs.Histories

@@ -16,4 +16,5 @@ pub use fault::SeatFault;
 pub use locked::Locked;
 pub use session::{
     Entry, Failed, Fault, SeatNumber, Session, SessionError, Summary, crosses, legal_crosses,
+    names_of, read_as,
 };

@@ -7,9 +7,8 @@ use Rattle.term.specs.Proc.{Proc, bodies_of, root}
 use Rattle.term.specs.Meaning.{Trace}
 use Rattle.term.specs.Specs.{Specified}
 use Rattle.term.specs.Verdict.{Verdict}
-use Rattle.spaces.specs.AfterFault.TheVariants.{Memory}
 use Rattle.spaces.specs.Spaces.{Spaced, Belongs, GrewFrom}
-use Rattle.monitor.specs.Monitors.{Monitoring, Judgment, Follows, IsJudgment, IsOf, Stops, space_of}
+use Rattle.monitor.specs.Monitors.{Monitoring, Judgment, Follows, IsJudgment, IsOf, space_of}
 use Rattle.monitor.specs.TraceAfter.{trace_after}
 
 -- an event is accepted where there are states after it
@@ -49,11 +48,6 @@ judgment-of s u r m e f h j k =
       follows = subst (λ w. Follows w m.trace j.report j.verdict j.next) (sym e) (subst (λ w. Follows s w j.report j.verdict j.next) (sym f) k.follows);
       room = h;
     }
-
--- want of memory says nothing
-pub stops-memory : (B : ℕ → Proc) (u : List Event) (r : Report) → Stops B u r Memory
-stops-memory B u (report.Event x) = tt
-stops-memory B u (report.Refusal X) = refl
 
 -- an event with states after it makes the trace longer
 pub trace-longer : (s : Spaced) (u : List Event) (r : Report) (v : Bool) (next : Option ℕ) (x : Event) (set : ℕ) → Follows s u r v next → r ≡ report.Event x → next ≡ Some set → trace_after u r v ≡ u ++ x ∷ []

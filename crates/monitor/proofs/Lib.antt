@@ -1,3 +1,4 @@
 pub mod Judgments
+pub mod Limits
 -- Of the layers below, for those above.
 pub use Rattle.spaces.proofs.Growing

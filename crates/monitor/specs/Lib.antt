@@ -6,4 +6,5 @@ pub mod Crossings
 pub use Rattle.spaces.specs.Acceptances
 pub use Rattle.spaces.specs.AfterFault
 pub use Rattle.spaces.specs.Belonging
+pub use Rattle.spaces.specs.Limits
 pub use Rattle.spaces.specs.Spaces

@@ -9,11 +9,10 @@ use Rattle.alphabet.specs.contracts.events.Report as report_type
 use Rattle.term.specs.Proc.{Proc, bodies_of}
 use Rattle.term.specs.Codes.{proc_code}
 use Rattle.term.specs.Specs.{Specified, specified_code}
-use Rattle.term.specs.Limits.{Advance, NoLimit}
 use Rattle.term.specs.Verdict.{Verdict}
 use Rattle.spaces.specs.AfterFault.{AfterFault}
 use Rattle.spaces.specs.AfterFault.TheVariants.{Memory}
-use Rattle.spaces.specs.Belonging.{MeetsLimit}
+use Rattle.spaces.specs.Limits.{EventMeets, EventMeetsNone}
 use Rattle.spaces.specs.Spaces.{Spaced, Belongs}
 
 -- A monitor: its specification, the events that it accepted, for how many further ones it has room, and the sets of states
@@ -63,12 +62,12 @@ pub record IsOf (monitor : Monitoring) (judgment : Judgment) : Type 0 where
   pub room : 0 < monitor.room
 
 -- Judging the report after the trace u meets no limit; a refusal never does.
-abbrev pub MeetsNone : (ℕ → Proc) → List Event → Report → Type 0
-MeetsNone B u (report.Event x) = NoLimit B (Advance B u x)
-MeetsNone B u (report.Refusal X) = Unit {0}
+abbrev pub MeetsNone : Specified → List Event → Report → Type 0
+MeetsNone spec u (report.Event x) = EventMeetsNone spec u x
+MeetsNone spec u (report.Refusal X) = Unit {0}
 
 -- Why the report can't be judged after the trace u: the limit that the event's levels meet, or out of memory, which
 -- says nothing. A refusal meets no limit.
-abbrev pub Stops : (ℕ → Proc) → List Event → Report → AfterFault → Type 0
-Stops B u (report.Event x) fault = MeetsLimit B (Advance B u x) fault
-Stops B u (report.Refusal X) fault = fault ≡ Memory
+abbrev pub Stops : Specified → List Event → Report → AfterFault → Type 0
+Stops spec u (report.Event x) fault = EventMeets spec u x fault
+Stops spec u (report.Refusal X) fault = fault ≡ Memory

@@ -3,12 +3,11 @@
 ghost use Rattle.std.specs.Prelude.{IfOk, IfErr, OnOk, ◌≡◌, ◌++◌, [], ◌∷◌, ◌↔◌, IsTrue, List, length};
 ghost use Rattle.alphabet.specs.declared.events.Event.{Event};
 ghost use Rattle.alphabet.specs.EventSets.{member};
-ghost use Rattle.term.specs.Limits.{NoLimit, Opening};
 ghost use Rattle.term.specs.Meaning.{Trace};
 ghost use Rattle.term.specs.Proc.{bodies_of, root};
 ghost use Rattle.term.specs.Verdict.{Verdict};
 ghost use Rattle.spaces.specs.Acceptances.{AreAcceptances};
-ghost use Rattle.spaces.specs.Belonging.{MeetsLimit};
+ghost use Rattle.spaces.specs.Limits.{OpeningMeets, OpeningMeetsNone};
 ghost use Rattle.spaces.specs.Spaces.{Belongs, GrewFrom, IsSetOf};
 ghost use Rattle.monitor.specs.TraceAfter.{trace_after};
 ghost use Rattle.monitor.specs.Monitors.{IsJudgment, IsOf, MeetsNone, Stops, space_of};
@@ -92,8 +91,8 @@ impl<A: Allocator + Copy> Monitor<A> {
     pub fn new(alloc: A, spec: Spec<A>) -> Result<Monitor<A>, AfterFault>
         ensures spec { IfOk result (λ monitor. monitor.spec ≡ spec) }
         ensures trace { IfOk result (λ monitor. monitor.trace ≡ []) }
-        ensures within { OnOk result (NoLimit (bodies_of spec.bodies) Opening) }
-        ensures limit { IfErr result (MeetsLimit (bodies_of spec.bodies) Opening) }
+        ensures within { OnOk result (OpeningMeetsNone spec) }
+        ensures limit { IfErr result (OpeningMeets spec) }
     {
         let mut space = Space::new(alloc, spec);
         match StateSet::start(&mut space) {
@@ -114,8 +113,8 @@ impl<A: Allocator + Copy> Monitor<A> {
         // An event is accepted exactly where it makes the trace longer, a refusal exactly where it is a stable failure.
         ensures verdict { IfOk result (λ judged. IsTrue judged.verdict ↔ Verdict (bodies_of self.old.spec.bodies) self.old.trace report.now) }
         ensures judged { IfOk result (IsOf self.new) }
-        ensures within { OnOk result (MeetsNone (bodies_of self.old.spec.bodies) self.old.trace report.now) }
-        ensures limit { IfErr result (Stops (bodies_of self.old.spec.bodies) self.old.trace report.now) }
+        ensures within { OnOk result (MeetsNone self.old.spec self.old.trace report.now) }
+        ensures limit { IfErr result (Stops self.old.spec self.old.trace report.now) }
         ensures spec { self.new.spec ≡ self.old.spec }
         ensures trace { self.new.trace ≡ self.old.trace }
 
@@ -209,8 +208,8 @@ fn judge_by<A: Allocator + Copy>(
 ) -> Result<Judged, AfterFault>
     requires { IsSetOf space.old states }
     ensures judged { (u : List Event) → Belongs space.old states u → IfOk result (IsJudgment space.new u report.now) }
-    ensures within { (u : List Event) → Belongs space.old states u → OnOk result (MeetsNone (bodies_of space.old.spec.bodies) u report.now) }
-    ensures limit { (u : List Event) → Belongs space.old states u → IfErr result (Stops (bodies_of space.old.spec.bodies) u report.now) }
+    ensures within { (u : List Event) → Belongs space.old states u → OnOk result (MeetsNone space.old.spec u report.now) }
+    ensures limit { (u : List Event) → Belongs space.old states u → IfErr result (Stops space.old.spec u report.now) }
     ensures grown { GrewFrom space.old space.new }
 {
     match report {

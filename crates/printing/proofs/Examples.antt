@@ -5,6 +5,7 @@ use Rattle.alphabet.specs.EventSets.{members_below}
 use Rattle.alphabet.specs.Channels.{number, constant, Values, Channel, names}
 use Rattle.term.specs.Proc.{Proc, stop, skip, prefix, ext, int, seq, par, hide, ren, intr, name}
 use Rattle.term.specs.Specs.{Specified}
+use Rattle.term.specs.declared.names.Names.TheVariants.{Steps}
 use Rattle.printing.specs.Names.{first_from, with_names}
 use Rattle.printing.specs.Printed.{printed, process_text, set_text, shared_text}
 
@@ -24,7 +25,7 @@ abbrev xy : Values
 xy = constant (codes "x") ∷ constant (codes "y") ∷ []
 
 abbrev spec : List Channel → List Proc → Specified
-spec cs Ps = record { alphabet = cs; bodies = Ps }
+spec cs Ps = record { alphabet = cs; bodies = Ps; names = Steps }
 
 pub three_channels : printed (spec abc (prefix 0 (prefix 1 (name 0)) ∷ [])) ≡ codes "channel a\nchannel b\nchannel c\nP0 = (a -> (b -> P0))\n"
 unfolding process_text set_text shared_text names with_names digits first_from

@@ -72,9 +72,9 @@ answered_on B old new r v p a =
     subst (λ (k : ℕ). StartsWith (calls new.seen k) new.mine) (sym a.seat)
     (subst (λ (l : List Entry). StartsWith (calls new.seen old.seat) l) a.own (begins_self (calls new.seen old.seat)))
 
-reported_on : (B : ℕ → Proc) (old new : SeatView) (r : Report) (answer : Result Receipt Fault) → IsOwn old → seat.Reports B old r answer new → IsOwn new
-reported_on B old new r (Ok receipt) own h = answered_on B old new r receipt.verdict receipt.place h
-reported_on B old new r (Err fault) own h = let a = h.2 in looked_on old new a.begins a.seat a.same own
+reported_on : (spec : Specified) (old new : SeatView) (r : Report) (answer : Result Receipt Fault) → IsOwn old → seat.Reports spec old r answer new → IsOwn new
+reported_on spec old new r (Ok receipt) own h = answered_on (bodies_of spec.bodies) old new r receipt.verdict receipt.place h
+reported_on spec old new r (Err fault) own h = let a = h.2 in looked_on old new a.begins a.seat a.same own
 
 -- ---- what holds of each line since it holds at the end
 
@@ -124,37 +124,37 @@ closes_as (session.Journal e) = refl
 closes_as (session.Closed e) = refl
 closes_as session.Memory = refl
 
-why_as : (B : ℕ → Proc) (h : List Entry) (k : ℕ) (mine : List Entry) (r : Report) (f : SessionFault) → calls h k ≡ mine → Explains B h k mine r f → IsWhy B h r (reported_as f)
-why_as B h k mine r session.Depth all e = e
-why_as B h k mine r session.States all e = e
-why_as B h k mine r session.Seats all e = e
-why_as B h k mine r session.History all e = e
-why_as B h k mine r session.Turn all e = e all
-why_as B h k mine r session.Behind all e = e
-why_as B h k mine r (session.Journal x) all e = tt
-why_as B h k mine r (session.Closed x) all e = tt
-why_as B h k mine r session.Memory all e = tt
+why_as : (spec : Specified) (h : List Entry) (k : ℕ) (mine : List Entry) (r : Report) (f : SessionFault) → calls h k ≡ mine → Explains spec h k mine r f → IsWhy spec h r (reported_as f)
+why_as spec h k mine r session.Depth all e = e
+why_as spec h k mine r session.States all e = e
+why_as spec h k mine r session.Seats all e = e
+why_as spec h k mine r session.History all e = e
+why_as spec h k mine r session.Turn all e = e all
+why_as spec h k mine r session.Behind all e = e
+why_as spec h k mine r (session.Journal x) all e = tt
+why_as spec h k mine r (session.Closed x) all e = tt
+why_as spec h k mine r session.Memory all e = tt
 
-refused_back : (B : ℕ → Proc) (old new : SeatView) (r : Report) (f : SessionFault) → IsOwn old → IsAlone new → Refused B old new r f
-    → IsAlone old × Leaves B (course old) r (reported_as f) (course new)
-refused_back B old new r f own alone a =
+refused_back : (spec : Specified) (old new : SeatView) (r : Report) (f : SessionFault) → IsOwn old → IsAlone new → Refused spec old new r f
+    → IsAlone old × Leaves spec (course old) r (reported_as f) (course new)
+refused_back spec old new r f own alone a =
     let same : new.seen ≡ old.seen = stays old new a.begins a.same own alone in
     let before = looked_alone old new a.begins a.same alone in
-    let why : Explains B old.seen old.seat old.mine r f = subst (λ (l : List Entry). Explains B l old.seat old.mine r f) same a.why in (
+    let why : Explains spec old.seen old.seat old.mine r f = subst (λ (l : List Entry). Explains spec l old.seat old.mine r f) same a.why in (
       before,
       record {
-        why = why_as B old.seen old.seat old.mine r f (own_all old own before) why;
+        why = why_as spec old.seen old.seat old.mine r f (own_all old own before) why;
         same = same;
         closed = a.closed ∙ ap (λ (b : Bool). b || old.closed) (closes_as f);
       },
     )
 
-reported_back : (B : ℕ → Proc) (old new : SeatView) (r : Report) (answer : Result Receipt Fault) → IsOwn old → IsAlone new → seat.Reports B old r answer new
-    → IsAlone old × Reports B (course old) r answer (course new)
-reported_back B old new r (Ok receipt) own alone h = answered_back B old new r receipt own alone h
-reported_back B old new r (Err fault) own alone h =
-    let b = refused_back B old new r h.0 own alone h.2 in
-    (b.0, subst (λ (x : Fault). Leaves B (course old) r x (course new)) (sym h.1) b.1)
+reported_back : (spec : Specified) (old new : SeatView) (r : Report) (answer : Result Receipt Fault) → IsOwn old → IsAlone new → seat.Reports spec old r answer new
+    → IsAlone old × Reports spec (course old) r answer (course new)
+reported_back spec old new r (Ok receipt) own alone h = answered_back (bodies_of spec.bodies) old new r receipt own alone h
+reported_back spec old new r (Err fault) own alone h =
+    let b = refused_back spec old new r h.0 own alone h.2 in
+    (b.0, subst (λ (x : Fault). Leaves spec (course old) r x (course new)) (sym h.1) b.1)
 
 same_course : (old new : SeatView) → new.seen ≡ old.seen → new.closed ≡ old.closed → course new ≡ course old
 same_course old new seen closed = λ i. record { history = seen i; closed = closed i }
@@ -179,31 +179,31 @@ next_back B old new X own alone h =
 
 -- ---- the whole of a connection
 
-carried : (B : ℕ → Proc) → CarriesCalls (seat.Reports B) (seat.Statuses B) (seat.Nexts B) (Reports B) Statuses (Nexts B) course IsOwn IsAlone
-carried B = record {
-  report_on = λ j k r a own h. reported_on B j k r a own h;
-  report_back = λ j k r a own alone h. reported_back B j k r a own alone h;
+carried : (spec : Specified) → CarriesCalls (seat.Reports spec) (seat.Statuses (bodies_of spec.bodies)) (seat.Nexts (bodies_of spec.bodies)) (Reports spec) Statuses (Nexts (bodies_of spec.bodies)) course IsOwn IsAlone
+carried spec = record {
+  report_on = λ j k r a own h. reported_on spec j k r a own h;
+  report_back = λ j k r a own alone h. reported_back spec j k r a own alone h;
   status_on = λ j k s own h. let l = h.looked in looked_on j k l.begins l.seat l.mine own;
-  status_back = λ j k s own alone h. status_back B j k s own alone h;
+  status_back = λ j k s own alone h. status_back (bodies_of spec.bodies) j k s own alone h;
   next_on = λ j k x own h. let l = h.looked in looked_on j k l.begins l.seat l.mine own;
-  next_back = λ j k x own alone h. next_back B j k x own alone h;
+  next_back = λ j k x own alone h. next_back (bodies_of spec.bodies) j k x own alone h;
 }
 
 -- Of a seat that had reported nothing and knew of no closing, where the final history begins with all that it has seen and has as many
 -- entries as it has reports.
 pub conversed : (spec : Specified) (first last : SeatView) (tally : Tally) (left rest old new : Option (List ℕ)) (result : Result End WireError) (h : List Entry)
     → first.mine ≡ [] → first.closed ≡ false → StartsWith h last.seen → length h ≡ length last.mine
-    → Serves (LineReplies (seat.Reports (bodies_of spec.bodies)) (seat.Statuses (bodies_of spec.bodies)) (seat.Nexts (bodies_of spec.bodies)) spec.alphabet)
+    → Serves (LineReplies (seat.Reports spec) (seat.Statuses (bodies_of spec.bodies)) (seat.Nexts (bodies_of spec.bodies)) spec.alphabet)
     (noted first no_answers) (noted last tally) left rest old new result
     → Conversed spec left rest old new result h tally
 conversed spec first last tally left rest old new result h mine closed begins count serves =
     let B = bodies_of spec.bodies in
-    let Says = LineReplies (seat.Reports B) (seat.Statuses B) (seat.Nexts B) spec.alphabet in
-    let Other = LineReplies (Reports B) Statuses (Nexts B) spec.alphabet in
+    let Says = LineReplies (seat.Reports spec) (seat.Statuses B) (seat.Nexts B) spec.alphabet in
+    let Other = LineReplies (Reports spec) Statuses (Nexts B) spec.alphabet in
     let P : Noted SeatView → Type 0 = λ n. IsOwn n.judge in
     let Q : Noted SeatView → Type 0 = λ n. IsAlone n.judge in
     let f : Noted SeatView → Noted Course = λ n. noted (course n.judge) n.tally in
-    let by = lines_carried (seat.Reports B) (seat.Statuses B) (seat.Nexts B) (Reports B) Statuses (Nexts B) course IsOwn IsAlone (carried B) spec.alphabet in
+    let by = lines_carried (seat.Reports spec) (seat.Statuses B) (seat.Nexts B) (Reports spec) Statuses (Nexts B) course IsOwn IsAlone (carried spec) spec.alphabet in
     let own : IsOwn first = (calls first.seen first.seat, ap (λ (l : List Entry). l ++ calls first.seen first.seat) (sym mine)) in
     let alone : IsAlone last = omega (arith, ap length begins.1, length-append last.seen begins.0, count) in
     let late : IsOwn last = serves_on Says Other f P Q by (noted first no_answers) (noted last tally) left rest old new result own serves in

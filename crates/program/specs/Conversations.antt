@@ -18,5 +18,5 @@ no_answers = record { rejected = false; misuse = false; limit = false }
 pub record Conversed (spec : Specified) (left rest old new : Option (List ℕ)) (result : Result End WireError) (history : List Entry) (tally : Tally) : Type 0 where
   pub last : Course
   pub history_is : last.history ≡ history
-  pub serves : Serves (LineReplies (Reports (bodies_of spec.bodies)) Statuses (Nexts (bodies_of spec.bodies)) spec.alphabet)
+  pub serves : Serves (LineReplies (Reports spec) Statuses (Nexts (bodies_of spec.bodies)) spec.alphabet)
       (noted begun no_answers) (noted last tally) left rest old new result

@@ -3,7 +3,8 @@ use Rattle.std.specs.Prelude.{◌≡◌, ◌↔◌, ℕ, ◌||◌, List, [], ◌
 use Rattle.alphabet.specs.declared.events.Event.{Event}
 use Rattle.alphabet.specs.declared.events.Report.{Report}
 use Rattle.alphabet.specs.EventSets.{Set, member}
-use Rattle.term.specs.Proc.{Proc, root}
+use Rattle.term.specs.Proc.{Proc, bodies_of, root}
+use Rattle.term.specs.Specs.{Specified}
 use Rattle.term.specs.Meaning.{Trace}
 use Rattle.term.specs.Verdict.{Verdict}
 use Rattle.shared.specs.AfterFault.TheVariants as limit
@@ -38,17 +39,17 @@ pub record Adds (B : ℕ → Proc) (old : Course) (report : Report) (receipt : R
 
 -- Why a report isn't judged: 20 and 21 where judging it after the accepted events meets that limit, 23 where the history has
 -- 1,000,000 entries; 22, 24, 25 and 26 never. Of 30, 31 and 40 it says nothing.
-abbrev pub IsWhy : (ℕ → Proc) → List Entry → Report → Fault → Type 0
-IsWhy B h report Depth = Stops B (events h) report limit.Depth
-IsWhy B h report States = Stops B (events h) report limit.States
-IsWhy B h report History = length h ≡ 1000000
-IsWhy B h report Journal = Unit {0}
-IsWhy B h report Closed = Unit {0}
-IsWhy B h report Memory = Unit {0}
-IsWhy B h report Seats = ⊥
-IsWhy B h report Turn = ⊥
-IsWhy B h report Behind = ⊥
-IsWhy B h report Reader = ⊥
+abbrev pub IsWhy : Specified → List Entry → Report → Fault → Type 0
+IsWhy spec h report Depth = Stops spec (events h) report limit.Depth
+IsWhy spec h report States = Stops spec (events h) report limit.States
+IsWhy spec h report History = length h ≡ 1000000
+IsWhy spec h report Journal = Unit {0}
+IsWhy spec h report Closed = Unit {0}
+IsWhy spec h report Memory = Unit {0}
+IsWhy spec h report Seats = ⊥
+IsWhy spec h report Turn = ⊥
+IsWhy spec h report Behind = ⊥
+IsWhy spec h report Reader = ⊥
 
 -- the faults that close the session, or that only a closed one has: 30 and 31
 abbrev pub closes : Fault → Bool
@@ -57,15 +58,15 @@ closes Closed = true
 closes _ = false
 
 -- the report wasn't judged, and the history stays
-pub record Leaves (B : ℕ → Proc) (old : Course) (report : Report) (fault : Fault) (new : Course) : Type 0 where
-  pub why : IsWhy B old.history report fault
+pub record Leaves (spec : Specified) (old : Course) (report : Report) (fault : Fault) (new : Course) : Type 0 where
+  pub why : IsWhy spec old.history report fault
   pub same : new.history ≡ old.history
   pub closed : new.closed ≡ (closes fault || old.closed)
 
 -- a report, and its answer
-abbrev pub Reports : (ℕ → Proc) → Course → Report → Result Receipt Fault → Course → Type 0
-Reports B old report (Ok receipt) new = Adds B old report receipt new
-Reports B old report (Err fault) new = Leaves B old report fault new
+abbrev pub Reports : Specified → Course → Report → Result Receipt Fault → Course → Type 0
+Reports spec old report (Ok receipt) new = Adds (bodies_of spec.bodies) old report receipt new
+Reports spec old report (Err fault) new = Leaves spec old report fault new
 
 -- four counts, and whether the session is closed
 abbrev pub status_by : Summary → Bool → Status

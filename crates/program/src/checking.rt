@@ -5,10 +5,9 @@ ghost use Rattle.term.specs.Proc.{bodies_of};
 ghost use Rattle.term.specs.Specs.{Specified};
 ghost use Rattle.shared.specs.Legal.{Legal};
 ghost use Rattle.shared.specs.Beginnings.{StartsWith};
-ghost use Rattle.script.specs.Reading.{IsRead};
 ghost use Rattle.shared.specs.SessionFaults.{IsMemory};
 ghost use Rattle.shared.specs.Replays.{IsUnopened};
-ghost use Rattle.shared.specs.Scripts.{IsUnbegun};
+ghost use Rattle.shared.specs.Scripts.{IsReadAs, IsUnbegun};
 ghost use Rattle.shared.specs.SessionView.{IsFor};
 ghost use Rattle.shared.specs.View.{SeatView};
 ghost use Rattle.seats.specs.Judges.{Reports, Statuses, Nexts};
@@ -26,6 +25,7 @@ use std::alloc::{Allocator, Global};
 use std::marker::Brand;
 use std::sync::Wait;
 use std::sync::ledger::Blank;
+use term::Names;
 use wire::{End, Sink, Source, Tally, WireError};
 
 /// What a check comes to.
@@ -69,7 +69,7 @@ fn hear<R: Wait, D: Disk, A: Allocator + Copy + Drop, N: Naming, T: Source, W: S
     requires alphabet { alphabet.now ≡ N.spec.alphabet }
     requires none { shares.old.items ≡ [] }
     ensures serves { IfSome result (λ t. (first : SeatView) × (last : SeatView) × (first.mine ≡ []) × (first.closed ≡ false) × (shares.new.items ≡ last ∷ [])
-        × Serves (LineReplies (Reports (bodies_of N.spec.bodies)) (Statuses (bodies_of N.spec.bodies)) (Nexts (bodies_of N.spec.bodies)) N.spec.alphabet)
+        × Serves (LineReplies (Reports N.spec) (Statuses (bodies_of N.spec.bodies)) (Nexts (bodies_of N.spec.bodies)) N.spec.alphabet)
         (noted first no_answers) (noted last t.tally)
         (T.left reader.old) (T.left reader.new) (W.contents writer.old) (W.contents writer.new) t.end) }
     ensures untouched { IfNone result ((reader.new ≡ reader.old) × (writer.new ≡ writer.old)) }
@@ -101,7 +101,7 @@ fn hear_alone<R: Wait, D: Disk + Drop, A: Allocator + Copy + Drop, N: Naming, T:
     reader: &mut T,
     writer: &mut W,
 ) -> Result<Checked<D, A>, SessionError>
-    requires story { (session.spec ≡ N.spec) × (session.history ≡ N.opening) × (N.opening ≡ []) }
+    requires story { (session.spec ≡ N.spec) × (session.history ≡ N.opening) × (session.offered ≡ []) × (N.opening ≡ []) }
     requires book { opened.seen.book ≡ N.book }
     requires ledger { (blank.name ≡ N.name) × (blank.parts ≡ N.parts) × (N.all ≡ N.parts) × (N.all ≡ 2) }
     requires alphabet { alphabet.now ≡ N.spec.alphabet }
@@ -144,7 +144,8 @@ fn judge_by<R: Wait, D: Disk + Drop, A: Allocator + Copy + Drop, T: Source, W: S
     reader: &mut T,
     writer: &mut W,
 ) -> Result<Checked<D, A>, SessionError>
-    requires { session.history ≡ [] }
+    requires history { session.history ≡ [] }
+    requires offered { session.offered ≡ [] }
     ensures spec { IfOk result (λ c. c.session.spec ≡ session.spec) }
     ensures conversed { IfOk result (λ c. Conversed session.spec (T.left reader.old) (T.left reader.new) (W.contents writer.old) (W.contents writer.new)
         c.end c.session.history c.tally) }
@@ -173,10 +174,10 @@ fn judge_by<R: Wait, D: Disk + Drop, A: Allocator + Copy + Drop, T: Source, W: S
     )
 }
 
-/// Judges the lines of the reader by what the script denotes for the process, and answers them on the writer, each report as the next of
-/// the only seat of a new session on this disk.
+/// Judges the lines of the reader by what the script denotes for the process, with names kept so, and answers them on the writer, each
+/// report as the next of the only seat of a new session on this disk.
 ///
-/// The errors are those of `Session::create`: `Script`, then `Depth` or `States`, then `Device`, or `Memory`. Nothing is then read or
+/// The errors are those of `Session::create_as`: `Script`, then `Depth` or `States`, then `Device`, or `Memory`. Nothing is then read or
 /// written.
 pub fn check<R: Wait, D: Disk + Drop, A: Allocator + Copy + Drop, T: Source, W: Sink>(
     rt: &R,
@@ -184,11 +185,12 @@ pub fn check<R: Wait, D: Disk + Drop, A: Allocator + Copy + Drop, T: Source, W: 
     disk: D,
     script: &[u8],
     process: &[u8],
+    names: Names,
     reader: &mut T,
     writer: &mut W,
 ) -> Result<Checked<D, A>, SessionError>
     // The script denotes the session's specification for the process.
-    ensures read { IfOk result (λ c. IsRead script.now process.now c.session.spec) }
+    ensures read { IfOk result (λ c. IsReadAs names script.now process.now c.session.spec) }
 
     // The bytes out are the definition's replies to the bytes in, from the empty history to the session's.
     ensures conversed { IfOk result (λ c. Conversed c.session.spec (T.left reader.old) (T.left reader.new) (W.contents writer.old) (W.contents writer.new)
@@ -197,8 +199,8 @@ pub fn check<R: Wait, D: Disk + Drop, A: Allocator + Copy + Drop, T: Source, W: 
     ensures exit { IfOk result (λ c. c.exit ≡ exit_of c.end c.tally) }
 
     // Or there is no session for this reason. Where the script denotes a specification, no fault of the script but out of memory comes.
-    ensures fault { IfErr result (IsUnbegun script.now process.now) }
-    ensures only { (spec : Specified) → IsRead script.now process.now spec
+    ensures fault { IfErr result (IsUnbegun names script.now process.now) }
+    ensures only { (spec : Specified) → IsReadAs names script.now process.now spec
         → MatchResult result (λ c. c.session.spec ≡ spec) (λ error. IsMemory error ⊎ (IsUnopened spec error ⊎ (error ≡ SessionError.Device))) }
     ensures untouched { IfErr result (λ _. (reader.new ≡ reader.old) × (writer.new ≡ writer.old)) }
 
@@ -206,7 +208,7 @@ pub fn check<R: Wait, D: Disk + Drop, A: Allocator + Copy + Drop, T: Source, W: 
     ensures reader_failed { IfOk result (λ c. IsErrOf c.end WireError.Read → T.failures reader.old < T.failures reader.new) }
     ensures writer_failed { IfOk result (λ c. IsErrOf c.end WireError.Write → W.failures writer.old < W.failures writer.new) }
 {
-    match Session::create(alloc, disk, script, process) {
+    match Session::create_as(alloc, disk, script, process, names) {
         Ok(session) => judge_by(rt, alloc, session, reader, writer),
         Err((error, disk)) => {
             drop(disk);

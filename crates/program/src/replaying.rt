@@ -4,10 +4,10 @@ ghost use Rattle.std.specs.Prelude.{◌≡◌, ◌⊎◌, ℕ, List, false, IsTr
 ghost use Rattle.term.specs.Specs.{Specified};
 ghost use Rattle.journal.specs.Faults.{HasFault};
 ghost use Rattle.journal.specs.declared.error.JournalError.{JournalError};
-ghost use Rattle.script.specs.Reading.{IsRead};
 ghost use Rattle.shared.specs.Entry.{Entry};
 ghost use Rattle.shared.specs.SessionFaults.{journal_error};
-ghost use Rattle.shared.specs.Scripts.{HasNoSession, IsOutside, IsReplayOf};
+ghost use Rattle.shared.specs.Records.{names_of};
+ghost use Rattle.shared.specs.Scripts.{HasNoSession, IsOutside, IsReadAs, IsReplayOf};
 ghost use Rattle.wire.specs.Replies.{status_text};
 ghost use Rattle.program.specs.Courses.{status_of};
 ghost use Rattle.program.specs.Exits.{rejected_exit, replay_exit};
@@ -52,7 +52,7 @@ pub fn replay<D: Disk + Drop, A: Allocator + Copy>(
     // The file holds the session's history, of which each verdict is that of what its script denotes.
     ensures replayed { IfOk result (λ r. IsTrue (D.state disk).claims_bytes
         → IsReplayOf (D.state disk).bytes r.header.script.items r.header.root.items r.session.spec r.session.history) }
-    ensures read { IfOk result (λ r. IsRead r.header.script.items r.header.root.items r.session.spec) }
+    ensures read { IfOk result (λ r. IsReadAs (names_of r.header.version) r.header.script.items r.header.root.items r.session.spec) }
     ensures line { IfOk result (λ r. r.line.items ≡ status_text (status_of r.session.history false)) }
     ensures exit { IfOk result (λ r. r.exit ≡ replay_exit r.session.history) }
 

@@ -5,10 +5,10 @@ ghost use Rattle.std.specs.Io.KnownBytes.{Appends};
 ghost use Rattle.term.specs.Specs.{Specified};
 ghost use Rattle.journal.specs.Faults.{HasFault};
 ghost use Rattle.journal.specs.declared.error.JournalError.{JournalError};
-ghost use Rattle.script.specs.Reading.{IsRead};
 ghost use Rattle.shared.specs.Entry.{Entry};
 ghost use Rattle.shared.specs.SessionFaults.{journal_error};
-ghost use Rattle.shared.specs.Scripts.{IsReplayOf};
+ghost use Rattle.shared.specs.Records.{names_of as names_kept};
+ghost use Rattle.shared.specs.Scripts.{IsReadAs, IsReplayOf};
 ghost use Rattle.shown.specs.Shows.{Writes};
 ghost use Rattle.program.specs.Exits.{replay_exit};
 ghost use Rattle.program.specs.Showings.{HasNoDisplay, IsBeyond, WritesAll, summary_text};
@@ -19,8 +19,7 @@ use crate::replaying::{Replayed, replay};
 use crate::summaries::{add_json, add_line};
 use disk::Disk;
 use journal::Header;
-use script::read;
-use shared::{Session, SessionError, Summary};
+use shared::{Session, SessionError, Summary, names_of, read_as};
 use shown::{Format, Options, ShowError};
 use std::alloc::{AllocError, Allocator};
 use std::io::Write;
@@ -90,10 +89,15 @@ fn lines_of<D: Disk, A: Allocator + Copy, W: Write>(
     options: Options,
     output: &mut W,
 ) -> Result<Vec<u8, A>, ShowError>
-    requires { IsRead header.now.script.items header.now.root.items session.now.spec }
+    requires { IsReadAs (names_kept header.now.version) header.now.script.items header.now.root.items session.now.spec }
     ensures { IfOk result (λ left. Writes options session.now.spec session.now.history (W.contents output.old) (W.contents output.new) left.items) }
 {
-    match read(alloc, &header.script, &header.root) {
+    match read_as(
+        alloc,
+        &header.script,
+        &header.root,
+        names_of(header.version),
+    ) {
         Ok(spec) => shown::show(alloc, spec, session.history(), options, output),
         Err(_) => Err(ShowError::Memory),
     }
@@ -120,7 +124,7 @@ fn write_all<D: Disk, A: Allocator + Copy, W: Write>(
     options: Options,
     output: &mut W,
 ) -> Result<(), ShowError>
-    requires { IsRead header.now.script.items header.now.root.items session.now.spec }
+    requires { IsReadAs (names_kept header.now.version) header.now.script.items header.now.root.items session.now.spec }
     ensures { OnOk result (WritesAll session.now.spec session.now.history options (W.contents output.old) (W.contents output.new)) }
 {
     let mut left = lines_of(alloc, session, header, options, output)?;

@@ -11,6 +11,7 @@ use program::{
 use rows::{Output, first_word, parts};
 use std::alloc::Allocator;
 use std::sync::Wait;
+use term::Names;
 use wire::Plain;
 
 /// Appends the exit status.
@@ -42,7 +43,8 @@ fn put_checked<T: Wait, D: Disk + Drop, A: Allocator + Copy + Drop>(
     let mut reader = Client::new(lines.as_bytes(), memory);
     let mut writer = Plain::new(out.copy_of(b""));
     let (root, script) = (root.as_bytes(), script.as_bytes());
-    let came = check(rt, alloc, disk, script, root, &mut reader, &mut writer);
+    let names = Names::Steps;
+    let came = check(rt, alloc, disk, script, root, names, &mut reader, &mut writer);
     out.put_bytes(&writer.into_inner());
     match came {
         Ok(checked) => {

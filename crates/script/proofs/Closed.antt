@@ -6,6 +6,7 @@ use Rattle.alphabet.specs.Channels.{event_count}
 use Rattle.term.specs.Proc as procs
 use Rattle.term.specs.Proc.{Proc, bodies_of}
 use Rattle.term.specs.Specs.{LiesIn, IsClosed}
+use Rattle.term.specs.declared.names.Names.TheVariants.{Steps}
 use Rattle.denotation.specs.Bodies.{Key, names, numbered}
 use Rattle.event_phrases.specs.Scopes.{Scope}
 use Rattle.denotation.specs.Denotes.{place, met}
@@ -32,7 +33,7 @@ lies n m (procs.name k) h = h
 all_lie : (n m : ℕ) (ps : List Proc) → ((k : ℕ) → k < length ps → IsWritten n m (bodies_of ps k)) → All (LiesIn n m) ps
 all_lie n m ps h k d l = subst (LiesIn n m) (get_or_default ps k procs.stop d l) (lies n m (bodies_of ps k) (h k l))
 
-pub is_closed : (s : Scope) (root : Key) (ps : List Proc) → Gathered s root ps → IsClosed (record { alphabet = s.channels; bodies = ps })
+pub is_closed : (s : Scope) (root : Key) (ps : List Proc) → Gathered s root ps → IsClosed (record { alphabet = s.channels; bodies = ps; names = Steps })
 unfolding met
 is_closed s root ps g =
     let count : length ps ≡ length g.keys = ap length g.numbers ∙ length-map g.bodies (numbered (place g.keys)) ∙ sym (reached_many s root g.keys g.bodies g.reached) in

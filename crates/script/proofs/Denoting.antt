@@ -4,6 +4,7 @@ use Rattle.std.specs.List.{flat_map}
 use Rattle.alphabet.specs.Channels.{Channel}
 use Rattle.term.specs.Proc.{Proc}
 use Rattle.term.specs.Specs.{Specified, IsClosed}
+use Rattle.term.specs.declared.names.Names.TheVariants.{Steps}
 use Rattle.syntax.specs.Grammar.{Syntax}
 use Rattle.syntax.specs.Script.{HasTree}
 use Rattle.values.specs.Values.{Name}
@@ -22,10 +23,29 @@ use Rattle.script.specs.Reading.{AreBodies, IsRead}
 use Rattle.script.proofs.Closed.{is_closed}
 
 -- one specification, where a text has one tree and a tree denotes one specification
-pub read_once : (trees : (text : List ℕ) (t u : Syntax) → HasTree text t → HasTree text u → t ≡ u) (specs : (script : Syntax) (root : Name) (first second : Specified) → Denotes script root first → Denotes script root second → first ≡ second)
-    → (text : List ℕ) (root : Name) (first second : Specified) → IsRead text root first → IsRead text root second → first ≡ second
-read_once trees specs text root first second a b =
-    specs b.tree root first second (subst (λ t. Denotes t root first) (trees text a.tree b.tree a.reads b.reads) a.denotes) b.denotes
+pub read_once : (trees : (text : List ℕ) (t u : Syntax) → HasTree text t → HasTree text u → t ≡ u) (specs : (script : Syntax) (root : Name) (first second : Specified) → Denotes script root first → Denotes script root second → first.names ≡ second.names → first ≡ second)
+    → (text : List ℕ) (root : Name) (first second : Specified) → IsRead text root first → IsRead text root second → first.names ≡ second.names → first ≡ second
+read_once trees specs text root first second a b n =
+    specs b.tree root first second (subst (λ t. Denotes t root first) (trees text a.tree b.tree a.reads b.reads) a.denotes) b.denotes n
+
+-- how names are kept has no part in what is read
+pub read_with : (text : List ℕ) (root : Name) (spec other : Specified) → other.alphabet ≡ spec.alphabet → other.bodies ≡ spec.bodies → IsRead text root spec → IsRead text root other
+read_with text root spec other a b r =
+    let d = r.denotes in
+    let kept : Denotes r.tree root (record { alphabet = spec.alphabet; bodies = spec.bodies; names = other.names }) = record {
+      entries = d.entries;
+      known = d.known;
+      sets = d.sets;
+      declares = d.declares;
+      events = d.events;
+      keys = d.keys;
+      bodies = d.bodies;
+      reached = d.reached;
+      numbers = d.numbers;
+      deep = d.deep;
+      large = d.large;
+    } in
+    record { tree = r.tree; reads = r.reads; denotes = subst (Denotes r.tree root) (λ i. record { alphabet = sym a i; bodies = sym b i; names = other.names }) kept }
 
 -- ---- bodies
 
@@ -39,7 +59,7 @@ module _ (cs : List Channel) (known : Known) (es : List Entry) (root : Name) whe
   pub bodies_with : (sets : KnownEvents) (ps : List Proc) → EventsStand cs known es sets → AreBodies cs known es root ps → Gathered (with_sets sets) (root, []) ps
   bodies_with sets ps e a = subst (λ f. Gathered (with_sets f) (root, []) ps) (one_sets cs known es a.sets sets a.events e) a.gathered
 
-  pub bodies_closed : (ps : List Proc) → AreBodies cs known es root ps → IsClosed (record { alphabet = cs; bodies = ps })
+  pub bodies_closed : (ps : List Proc) → AreBodies cs known es root ps → IsClosed (record { alphabet = cs; bodies = ps; names = Steps })
   bodies_closed ps a = is_closed (with_sets a.sets) (root, []) ps a.gathered
 
   -- the root is a process
@@ -64,7 +84,7 @@ module _ (cs : List Channel) (known : Known) (es : List Entry) (root : Name) whe
 
 module _ (t : Syntax) (root : Name) (es : List Entry) (known : Known) (cs : List Channel) (d : Declares t es known cs) where
   pub bodies_denote : (spec : Specified) (ps : List Proc) → AreBodies cs known es root ps → spec.alphabet ≡ cs → spec.bodies ≡ ps → Denotes t root spec
-  bodies_denote spec ps a c p = subst (Denotes t root) (λ i. record { alphabet = sym c i; bodies = sym p i }) (denotes_from t root es known cs a.sets d a.events ps a.gathered)
+  bodies_denote spec ps a c p = subst (Denotes t root) (λ i. record { alphabet = sym c i; bodies = sym p i; names = spec.names }) (denotes_from t root es known cs a.sets d a.events ps spec.names a.gathered)
 
   pub denoted_bodies : (spec : Specified) → Denotes t root spec → (spec.alphabet ≡ cs) × AreBodies cs known es root spec.bodies
   denoted_bodies spec a =

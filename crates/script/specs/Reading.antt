@@ -18,7 +18,7 @@ pub record AreBodies (channels : List Channel) (known : Known) (entries : List E
   pub events : EventsStand channels known entries sets
   pub gathered : Gathered (record { entries = entries; channels = channels; known = known; sets = sets }) (root, []) bodies
 
--- The text has a tree that denotes the specification for the root.
+-- The text has a tree that denotes the alphabet and the bodies of the specification for the root.
 pub record IsRead (text : List ℕ) (root : Name) (spec : Specified) : Type 0 where
   pub tree : Syntax
   pub reads : HasTree text tree

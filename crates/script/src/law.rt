@@ -9,9 +9,9 @@ use declared_names::trees_have_names;
 use denotation::one_specification;
 use syntax::one_tree;
 
-/// A text is read as one specification at most for a root.
+/// A text is read as one alphabet and one list of bodies at most for a root.
 pub fn one_reading()
-    ensures { (text : List ℕ) (root : Name) (first second : Specified) → IsRead text root first → IsRead text root second → first ≡ second }
+    ensures { (text : List ℕ) (root : Name) (first second : Specified) → IsRead text root first → IsRead text root second → first.names ≡ second.names → first ≡ second }
 {
     one_tree();
     one_specification();

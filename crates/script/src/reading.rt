@@ -4,6 +4,7 @@ ghost use Rattle.denotation.specs.Denotes.{Denotes};
 ghost use Rattle.syntax.specs.View.{shape};
 ghost use Rattle.term.specs.Proc.{Proc, proc};
 ghost use Rattle.term.specs.Specs.{Specified};
+ghost use Rattle.term.specs.declared.names.Names.TheVariants.{Steps};
 ghost use Rattle.tokens.specs.declared.error.ScriptErrorKind.TheVariants.{Memory};
 ghost use Rattle.tokens.specs.declared.unread.Unread.TheVariants as unread;
 ghost use Rattle.values.specs.Tables.{table};
@@ -55,8 +56,8 @@ fn specified<A: Allocator + Copy>(
     names: Names<'_, A>,
     root: &[u8],
 ) -> Result<Spec<A>, Unread>
-    ensures found { IfOk result (λ spec. (spec.alphabet ≡ names.entry.sigma.alphabet) × AreBodies names.entry.sigma.alphabet (table names.entry.known) (entries_of names.entry.entries) root.now spec.bodies) }
-    ensures only { (spec : Specified) → spec.alphabet ≡ names.entry.sigma.alphabet → AreBodies names.entry.sigma.alphabet (table names.entry.known) (entries_of names.entry.entries) root.now spec.bodies
+    ensures found { IfOk result (λ spec. (spec.alphabet ≡ names.entry.sigma.alphabet) × (spec.names ≡ Steps) × AreBodies names.entry.sigma.alphabet (table names.entry.known) (entries_of names.entry.entries) root.now spec.bodies) }
+    ensures only { (spec : Specified) → spec.alphabet ≡ names.entry.sigma.alphabet → spec.names ≡ Steps → AreBodies names.entry.sigma.alphabet (table names.entry.known) (entries_of names.entry.entries) root.now spec.bodies
         → MatchResult result (λ s. s ≡ spec) (λ e. e ≡ unread.Memory) }
 {
     match bodies_of(alloc, &names, root) {
@@ -69,7 +70,8 @@ fn specified<A: Allocator + Copy>(
 fn denoted<A: Allocator + Copy>(alloc: A, tree: &Tree<A>, root: &[u8]) -> Result<Spec<A>, Unread>
     requires { IsTrue (has_names (shape tree.now)) }
     ensures found { IfOk result (λ spec. Denotes (shape tree.now) root.now spec) }
-    ensures only { (spec : Specified) → Denotes (shape tree.now) root.now spec → MatchResult result (λ s. s ≡ spec) (λ e. e ≡ unread.Memory) }
+    ensures names { IfOk result (λ spec. spec.names ≡ Steps) }
+    ensures only { (spec : Specified) → Denotes (shape tree.now) root.now spec → spec.names ≡ Steps → MatchResult result (λ s. s ≡ spec) (λ e. e ≡ unread.Memory) }
 {
     let declared = declare(alloc, tree)?;
     let names = names_of(alloc, declared)?;
@@ -89,8 +91,10 @@ fn denoted<A: Allocator + Copy>(alloc: A, tree: &Tree<A>, root: &[u8]) -> Result
 pub fn read<A: Allocator + Copy>(alloc: A, text: &[u8], root: &[u8]) -> Result<Spec<A>, ScriptError>
     // What is read is what the text denotes.
     ensures found { IfOk result (λ spec. IsRead text.now root.now spec) }
+    // Names stay names.
+    ensures names { IfOk result (λ spec. spec.names ≡ Steps) }
     // What the text denotes is read, and nothing else, unless memory runs out.
-    ensures only { (spec : Specified) → IsRead text.now root.now spec → MatchResult result (λ s. s ≡ spec) (λ e. e.kind ≡ Memory) }
+    ensures only { (spec : Specified) → IsRead text.now root.now spec → spec.names ≡ Steps → MatchResult result (λ s. s ≡ spec) (λ e. e.kind ≡ Memory) }
 {
     let tree = parse(alloc, text)?;
     trees_have_names();

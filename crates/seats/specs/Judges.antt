@@ -3,7 +3,8 @@ use Rattle.std.specs.Prelude.{◌≡◌, ◌↔◌, ℕ, [], ◌∷◌, ◌++◌
 use Rattle.alphabet.specs.declared.events.Event.{Event}
 use Rattle.alphabet.specs.declared.events.Report.{Report}
 use Rattle.alphabet.specs.EventSets.{Set, member}
-use Rattle.term.specs.Proc.{Proc, root}
+use Rattle.term.specs.Proc.{Proc, bodies_of, root}
+use Rattle.term.specs.Specs.{Specified}
 use Rattle.term.specs.Meaning.{Trace}
 use Rattle.shared.specs.Entries.{events, summary_of}
 use Rattle.shared.specs.Legal.{Legal}
@@ -18,9 +19,9 @@ use Rattle.seats.specs.Faults.{reported_as}
 
 -- A receipt is of the report's own entry, which ends what the seat has then seen: a legal history that begins with what it had seen.
 -- A fault leaves the seat's own reports as they were, and says why.
-abbrev pub Reports : (ℕ → Proc) → SeatView → Report → Result Receipt Fault → SeatView → Type 0
-Reports B old report (Ok receipt) new = Answered B old new report receipt.verdict receipt.place
-Reports B old report (Err fault) new = (f : SessionFault) × (fault ≡ reported_as f) × Refused B old new report f
+abbrev pub Reports : Specified → SeatView → Report → Result Receipt Fault → SeatView → Type 0
+Reports spec old report (Ok receipt) new = Answered (bodies_of spec.bodies) old new report receipt.verdict receipt.place
+Reports spec old report (Err fault) new = (f : SessionFault) × (fault ≡ reported_as f) × Refused spec old new report f
 
 -- The seat has seen a legal history that begins with what it had seen, and has reported nothing.
 pub record HasLooked (B : ℕ → Proc) (old new : SeatView) : Type 0 where

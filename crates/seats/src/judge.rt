@@ -56,7 +56,7 @@ impl<D: Disk, A: Allocator + Copy, N: Naming, R: Wait> Judge for SeatJudge<'_, D
 
     ghost event_count = { λ _. event_count N.spec.alphabet };
 
-    ghost reports = { λ j report answer k. Reports (bodies_of N.spec.bodies) j.seat.share report answer k.seat.share };
+    ghost reports = { λ j report answer k. Reports N.spec j.seat.share report answer k.seat.share };
 
     ghost statuses = { λ j status k. Statuses (bodies_of N.spec.bodies) j.seat.share status k.seat.share };
 
@@ -102,7 +102,7 @@ impl<D: Disk, A: Allocator + Copy + Drop, N: Naming, R: Wait> SeatJudge<'_, D, A
         tally: &mut Tally,
     ) -> Result<End, WireError>
         requires { event_count N.spec.alphabet ≡ event_count alphabet.now }
-        ensures serves { Serves (LineReplies (Reports (bodies_of N.spec.bodies)) (Statuses (bodies_of N.spec.bodies)) (Nexts (bodies_of N.spec.bodies)) alphabet.now)
+        ensures serves { Serves (LineReplies (Reports N.spec) (Statuses (bodies_of N.spec.bodies)) (Nexts (bodies_of N.spec.bodies)) alphabet.now)
             (noted self.old.seat.share tally.old) (noted self.new.seat.share tally.new)
             (T.left reader.old) (T.left reader.new) (W.contents writer.old) (W.contents writer.new) result }
         ensures handed_on { W.has_handed_on writer.old → result ≢ Err WireError.Write → W.has_handed_on writer.new }

@@ -35,7 +35,7 @@ IsRefusal fault = (why : SeatFault) × (fault ≡ refused_as why)
 -- and the place of that line's own entry, in a legal history that begins with all that the seat had seen.
 abbrev pub IsAnsweredAt : Specified → SeatView → SeatView → Tally → Option (List ℕ) → Option (List ℕ) → Option (List ℕ) → Option (List ℕ) → Result End WireError → Type 0
 IsAnsweredAt spec first last tally left rest old new end =
-    Serves (LineReplies (Reports (bodies_of spec.bodies)) (Statuses (bodies_of spec.bodies)) (Nexts (bodies_of spec.bodies)) spec.alphabet)
+    Serves (LineReplies (Reports spec) (Statuses (bodies_of spec.bodies)) (Nexts (bodies_of spec.bodies)) spec.alphabet)
     (noted first no_answers) (noted last tally) left rest old new end
 
 -- For an accept that takes such connections, or fails, of readers and writers that know these bytes.

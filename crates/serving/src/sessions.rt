@@ -13,7 +13,7 @@ ghost use Rattle.connections.specs.Outcomes.{ending_of, places_of};
 ghost use Rattle.serving.specs.Runs.{CameTo, Went};
 
 use crate::shared_gate::SharedGate;
-use alphabet::Alphabet;
+use alphabet::{Alphabet, EventSet};
 use connections::{Accept, Account, Connections, Ending, part, serve_all};
 use disk::Disk;
 use journal::{Journal, Prepared};
@@ -103,6 +103,7 @@ fn serve_at<D: Disk + Send, N: Naming + Send + Sync, T: Threads + Wait + Sync, L
     crosses::<ledger::Book<N>>();
     crosses::<ledger::Share<N>>();
     crosses::<Prepared<Global>>();
+    crosses::<EventSet>();
     let gate = SharedGate::new(shared, alphabet);
     let served = serve_all(rt, alloc, accept, &gate, count);
     gate.end();
@@ -186,7 +187,7 @@ fn over_seats<
     count: u8,
 ) -> Result<Closing<D>, (AllocError, L)>
     requires count { (1 ≤ count) × (count ≤ 64) }
-    requires story { (session.spec ≡ N.spec) × (session.history ≡ N.opening) }
+    requires story { (session.spec ≡ N.spec) × (session.history ≡ N.opening) × (session.offered ≡ []) }
     requires book { opened.seen.book ≡ N.book }
     requires ledger { (blank.name ≡ N.name) × (blank.parts ≡ N.parts) × (N.all ≡ N.parts) × (N.all ≡ count + 1) }
     requires alphabet { room.alphabet ≡ N.spec.alphabet }
@@ -222,7 +223,7 @@ fn over_seats<
 }
 
 /// Serves up to so many connections, each in a thread of its own at a seat of its own, and gives the session back once all are over, with
-/// how each connection ended. Its specification is as it was, and its history is legal and begins with the one that it had. The error is
+/// how each connection ended. Nothing is offered to the session before. Its specification is as it was, and its history is legal and begins with the one that it had. The error is
 /// that memory ran out before the first connection, and comes with where connections come from; the session is gone then, and its file
 /// stays.
 pub fn serve_session<D: Disk + Drop + Send, T: Threads + Wait + Sync, L: Accept + Drop>(
@@ -232,6 +233,7 @@ pub fn serve_session<D: Disk + Drop + Send, T: Threads + Wait + Sync, L: Accept 
     accept: L,
     connections: Connections,
 ) -> Result<Closing<D>, (AllocError, L)>
+    requires { session.offered ≡ [] }
     ensures session { IfOk result (λ c. (c.session.spec ≡ session.spec) × StartsWith c.session.history session.history × Legal (bodies_of session.spec.bodies) c.session.history) }
     ensures kept { IfOk result (λ c. (script : List ℕ) × (root : List ℕ) × IsFor D.state script root c.session) }
 

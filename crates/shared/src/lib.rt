@@ -10,7 +10,7 @@ mod share;
 
 pub use locked::{
     Board, Entry, Failed, Fault, Front, Naming, Opened, Publisher, SeatFault, SeatNumber, Session,
-    SessionError, Source, Spine, Summary, crosses, legal_crosses,
+    SessionError, Source, Spine, Summary, crosses, legal_crosses, names_of, read_as,
 };
 pub use seat::{Seat, Shared};
 pub use share::{Receipt, Share, Status};

@@ -41,7 +41,7 @@ where
 }
 
 impl<D: Disk + Drop, A: Allocator + Copy, N: Naming> Shared<D, A, N> {
-    /// A session that up to so many seats share. Where memory is refused, the session is gone, and its file stays.
+    /// A session that up to so many seats share, to which nothing is offered. Where memory is refused, the session is gone, and its file stays.
     pub fn new(
         alloc: A,
         session: Session<D, A>,
@@ -49,7 +49,7 @@ impl<D: Disk + Drop, A: Allocator + Copy, N: Naming> Shared<D, A, N> {
         blank: Blank,
         places: u64,
     ) -> Result<Shared<D, A, N>, Fault>
-        requires story { (session.spec ≡ N.spec) × (session.history ≡ N.opening) }
+        requires story { (session.spec ≡ N.spec) × (session.history ≡ N.opening) × (session.offered ≡ []) }
         requires book { opened.seen.book ≡ N.book }
         requires ledger { (blank.name ≡ N.name) × (blank.parts ≡ N.parts) × (N.all ≡ N.parts) }
         requires places { (0 < places) × (places ≤ 64) × (places < N.all) }
@@ -101,7 +101,7 @@ impl<D: Disk, A: Allocator + Copy, N: Naming> Seat<'_, D, A, N> {
     pub fn report<R: Wait>(&mut self, rt: &R, report: Report) -> Result<Receipt, Fault>
         requires { IsReport N.spec.alphabet report }
         ensures answered { IfOk result (λ r. Answered (bodies_of N.spec.bodies) self.old.share self.new.share report r.verdict r.place) }
-        ensures refused { IfErr result (λ f. Refused (bodies_of N.spec.bodies) self.old.share self.new.share report f) }
+        ensures refused { IfErr result (λ f. Refused N.spec self.old.share self.new.share report f) }
     {
         let mut locked = caught_up(rt, &self.shared.locked, &mut self.share);
         let result = self.share.report(rt, &mut locked, &report);

@@ -210,7 +210,7 @@ impl<N: Naming, A: Allocator + Copy> Share<N, A> {
         requires caught_up { self.old.front ≡ locked.old }
         requires report { IsReport N.spec.alphabet report.now }
         ensures answered { IfOk result (λ r. Answered (bodies_of N.spec.bodies) self.old self.new report.now r.verdict r.place) }
-        ensures refused { IfErr result (λ f. Refused (bodies_of N.spec.bodies) self.old self.new report.now f) }
+        ensures refused { IfErr result (λ f. Refused N.spec self.old self.new report.now f) }
         ensures same { self.new.seat ≡ self.old.seat }
     {
         let number = self.answered + 1;

@@ -1,12 +1,12 @@
 //! Callers, each on a thread of its own.
 
 use crate::held::Gate;
-use alphabet::{Event, Report};
+use alphabet::{Event, EventSet, Report};
 use disk::Disk;
 use journal::{Journal, Prepared};
 use shared::{
     Entry, Failed, Front, Naming, Publisher, Receipt, SeatNumber, Share, Shared, Source, Spine,
-    crosses, legal_crosses,
+    Summary, crosses, legal_crosses,
 };
 use std::alloc::{AllocError, Global};
 use std::sync::{Wait, ledger};
@@ -141,6 +141,8 @@ pub(crate) fn run_all<D: Disk + Send, N: Naming + Send + Sync, R: Threads + Wait
     crosses::<ledger::Book<N>>();
     crosses::<ledger::Share<N>>();
     crosses::<Prepared<Global>>();
+    crosses::<EventSet>();
+    crosses::<Summary>();
     let each = |caller: Caller<N>| run(rt, alloc, gate, shared, caller);
     map_vec(rt, callers, &each)
 }

@@ -1,6 +1,6 @@
 //! Conversations with the seats of a shared session, one after the other.
 
-ghost use Rattle.std.specs.Prelude.{◌≡◌, ◌<◌, ◌≤◌};
+ghost use Rattle.std.specs.Prelude.{[], ◌≡◌, ◌<◌, ◌≤◌};
 ghost use Rattle.alphabet.specs.Channels.{event_count};
 
 use crate::ends::{put_kept, put_looks, put_session, put_talk, put_unopened};
@@ -220,7 +220,7 @@ fn share<D: Disk + Drop, A: Allocator + Copy + Drop, N: Naming, T: Wait>(
     memory: Memory,
     out: &mut Output,
 )
-    requires story { (session.spec ≡ N.spec) × (session.history ≡ N.opening) }
+    requires story { (session.spec ≡ N.spec) × (session.history ≡ N.opening) × (session.offered ≡ []) }
     requires book { opened.seen.book ≡ N.book }
     requires ledger { (blank.name ≡ N.name) × (blank.parts ≡ N.parts) × (N.all ≡ N.parts) × (N.all ≡ 65) }
     requires events { event_count N.spec.alphabet ≡ event_count alphabet.now }

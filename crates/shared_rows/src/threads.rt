@@ -1,7 +1,7 @@
 //! A session of a process that ends at once, shared by callers on threads of their own. The first report of tick is accepted, and
 //! each further one rejected.
 
-ghost use Rattle.std.specs.Prelude.{◌≡◌};
+ghost use Rattle.std.specs.Prelude.{[], ◌≡◌};
 
 use crate::callers::{Answers, Caller, Task, run_all};
 use crate::ends::put_receipts;
@@ -174,7 +174,7 @@ fn share<D: Disk + Drop + Send, N: Naming + Send + Sync, T: Threads + Wait + Clo
     plan: &Plan,
     out: &mut Output,
 )
-    requires story { (session.spec ≡ N.spec) × (session.history ≡ N.opening) }
+    requires story { (session.spec ≡ N.spec) × (session.history ≡ N.opening) × (session.offered ≡ []) }
     requires book { opened.seen.book ≡ N.book }
     requires ledger { (blank.name ≡ N.name) × (blank.parts ≡ N.parts) × (N.all ≡ N.parts) × (N.all ≡ 65) }
 {

@@ -6,12 +6,7 @@ use Rattle.alphabet.specs.declared.events.Report.TheVariants as report
 use Rattle.alphabet.specs.EventSets.{Set}
 use Rattle.alphabet.specs.Channels.{Channel}
 use Rattle.term.specs.Proc.{Proc, bodies_of}
-use Rattle.term.specs.Limits.{NoLimit, Advance, Opening, Terms}
 use Rattle.term.specs.Specs.{Specified}
-use Rattle.monitor.specs.AfterFault.{AfterFault}
-use Rattle.monitor.specs.AfterFault.TheVariants.{Depth, States, Memory}
-use Rattle.monitor.specs.Belonging.{MeetsLimit}
-use Rattle.monitor.specs.Monitors.{MeetsNone, Stops}
 use Rattle.monitor.specs.TraceAfter.{trace_after}
 use Rattle.history.specs.declared.entry.Entry.{Entry}
 use Rattle.history.specs.Entries.{events}
@@ -74,21 +69,6 @@ moved before e trace old new said v is same at said_is v_is =
 
 pub both_true : (v w : Bool) (P : Type 0) → (IsTrue v ↔ P) → (IsTrue w ↔ P) → w ≡ true → v ≡ w
 both_true v w P p q e = p.1 (q.0 e) ∙ sym e
-
--- ---- limits
-
-limited : (B : ℕ → Proc) (L : Terms) (fault : AfterFault) → NoLimit B L → MeetsLimit B L fault → fault ≡ Memory
-limited B L Depth below meets = absurd ((below meets.0).0 meets.1)
-limited B L States below meets = absurd ((below meets.0).1 meets.2)
-limited B L Memory below meets = refl
-
--- what meets no limit is refused by memory alone
-pub opening_refused : (B : ℕ → Proc) (fault : AfterFault) → NoLimit B Opening → MeetsLimit B Opening fault → fault ≡ Memory
-opening_refused B fault below meets = limited B Opening fault below meets
-
-pub report_refused : (B : ℕ → Proc) (u : List Event) (said : Report) (fault : AfterFault) → MeetsNone B u said → Stops B u said fault → fault ≡ Memory
-report_refused B u (report.Event x) fault below stops = limited B (Advance B u x) fault below stops
-report_refused B u (report.Refusal X) fault below stops = stops
 
 pub on_ok : {T E P Q : Type 0} (r : Result T E) → (P → Q) → OnOk r P → OnOk r Q
 on_ok (Ok x) f all = f all

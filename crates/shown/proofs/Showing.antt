@@ -83,16 +83,16 @@ module _ (options : Options) (spec : Specified) (h : List Entry) (i : ℕ) (e : 
       let k : i + 1 ≡ suc i = omega arith in
       ap (λ (n : ℕ). take n h) k ∙ take-suc h i e l ∙ ap (λ x. take i h ++ x ∷ []) (sym is)
 
-  pub fits_here : (trace : List Event) → IsJudged B h → trace ≡ events (take i h) → IsTrue e.verdict ↔ Verdict B trace e.report
+  pub fits_here : (trace : List Event) → IsJudged spec h → trace ≡ events (take i h) → IsTrue e.verdict ↔ Verdict B trace e.report
   fits_here trace judged at = subst (λ u. IsTrue e.verdict ↔ Verdict B u e.report) (sym at) (judged.legal (take i h) e (drop (suc i) h) parted).verdict
 
-  pub within_here : (trace : List Event) → IsJudged B h → trace ≡ events (take i h) → MeetsNone B trace e.report
-  within_here trace judged at = subst (λ u. MeetsNone B u e.report) (sym at) (judged.within.reports (take i h) e (drop (suc i) h) parted)
+  pub within_here : (trace : List Event) → IsJudged spec h → trace ≡ events (take i h) → MeetsNone spec trace e.report
+  within_here trace judged at = subst (λ u. MeetsNone spec u e.report) (sym at) (judged.within.reports (take i h) e (drop (suc i) h) parted)
 
   pub place_here : (place : ℕ) → place ≡ i + 1 → place ≡ suc (length (take i h))
   place_here place at = omega (arith, at, length-take i h)
 
-  pub room_here : (text : List ℕ) (trace : List Event) (a r : List ℕ) (p : List Set) → IsJudged B h → IsShown options spec (take i h) text trace a r p → IsTrue options.coverage → HasRoom a r p
+  pub room_here : (text : List ℕ) (trace : List Event) (a r : List ℕ) (p : List Set) → IsJudged spec h → IsShown options spec (take i h) text trace a r p → IsTrue options.coverage → HasRoom a r p
   room_here text trace a r p judged shown wanted =
       room (event_count spec.alphabet) (take i h) shown.nexts a r p shown.same (omega (arith, length-take i h, judged.small)) (shown.counts_are wanted)
 

@@ -99,7 +99,7 @@ pub(crate) fn follow<A: Allocator + Copy>(
     monitor: &mut Monitor<A>,
     entry: &Entry,
 ) -> Result<(), AllocError>
-    requires within { MeetsNone (bodies_of monitor.old.spec.bodies) monitor.old.trace entry.now.report }
+    requires within { MeetsNone monitor.old.spec monitor.old.trace entry.now.report }
     requires verdict { IsTrue entry.now.verdict ↔ Verdict (bodies_of monitor.old.spec.bodies) monitor.old.trace entry.now.report }
     ensures spec { monitor.new.spec ≡ monitor.old.spec }
     ensures trace { (before : List entry_type) → monitor.old.trace ≡ events before → OnOk result (monitor.new.trace ≡ events (before ++ entry.now ∷ [])) }

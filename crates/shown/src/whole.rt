@@ -2,7 +2,7 @@
 
 ghost use Rattle.std.specs.Prelude.{◌≡◌, ◌+◌, ◌<◌, ◌++◌, ℕ, List, Option, [], IfOk, OnOk, length, take};
 ghost use Rattle.std.specs.Io.KnownBytes.{Appends};
-ghost use Rattle.term.specs.Limits.{NoLimit, Opening};
+ghost use Rattle.monitor.specs.Limits.{OpeningMeetsNone};
 ghost use Rattle.term.specs.Proc.{bodies_of};
 ghost use Rattle.history.specs.Legal.{IsJudged};
 ghost use Rattle.shown.specs.Shows.{Writes};
@@ -62,7 +62,7 @@ fn send_enough<A: Allocator, W: Write>(
 
 /// A monitor of the specification, before any event. That meets no limit, since it met none when the history was judged.
 fn begin<A: Allocator + Copy>(alloc: A, spec: Spec<A>) -> Result<Monitor<A>, AllocError>
-    requires { NoLimit (bodies_of spec.bodies) Opening }
+    requires { OpeningMeetsNone spec }
     ensures spec { IfOk result (λ monitor. monitor.spec ≡ spec) }
     ensures trace { IfOk result (λ monitor. monitor.trace ≡ []) }
 {
@@ -84,7 +84,7 @@ fn show_entry<A: Allocator + Copy>(
     options: Options,
 ) -> Result<(), AllocError>
     requires within { index < length history.now }
-    requires judged { IsJudged (bodies_of monitor.old.spec.bodies) history.now }
+    requires judged { IsJudged monitor.old.spec history.now }
     requires said { IsSaid options.format monitor.old.spec.alphabet said.old }
     requires shown { (sent : List ℕ) × IsShown options monitor.old.spec (take index history.now) (sent ++ text.old.items) monitor.old.trace
         counts.old.accepted.items counts.old.rejected.items counts.old.possible }
@@ -121,7 +121,7 @@ fn show_entries<A: Allocator + Copy, W: Write>(
     options: Options,
     output: &mut W,
 ) -> Result<(), ShowError>
-    requires judged { IsJudged (bodies_of monitor.old.spec.bodies) history.now }
+    requires judged { IsJudged monitor.old.spec history.now }
     requires said { IsSaid options.format monitor.old.spec.alphabet said.old }
     requires shown { IsShown options monitor.old.spec [] text.old.items monitor.old.trace
         counts.old.accepted.items counts.old.rejected.items counts.old.possible }
@@ -147,7 +147,7 @@ fn put_whole<A: Allocator + Copy, W: Write>(
     options: Options,
     output: &mut W,
 ) -> Result<(), ShowError>
-    requires judged { IsJudged (bodies_of monitor.old.spec.bodies) history.now }
+    requires judged { IsJudged monitor.old.spec history.now }
     requires said { IsSaid options.format monitor.old.spec.alphabet said.old }
     requires shown { IsShown options monitor.old.spec [] text.old.items monitor.old.trace
         counts.old.accepted.items counts.old.rejected.items counts.old.possible }
@@ -169,7 +169,7 @@ fn fill<A: Allocator + Copy, W: Write>(
     options: Options,
     output: &mut W,
 ) -> Result<(), ShowError>
-    requires judged { IsJudged (bodies_of monitor.old.spec.bodies) history.now }
+    requires judged { IsJudged monitor.old.spec history.now }
     requires begun { monitor.old.trace ≡ [] }
     requires empty { text.old.items ≡ [] }
     ensures { OnOk result (Writes options monitor.old.spec history.now (W.contents output.old) (W.contents output.new) text.new.items) }
@@ -206,7 +206,7 @@ fn make_text<A: Allocator + Copy, W: Write>(
     options: Options,
     output: &mut W,
 ) -> Result<Vec<u8, A>, ShowError>
-    requires judged { IsJudged (bodies_of monitor.old.spec.bodies) history.now }
+    requires judged { IsJudged monitor.old.spec history.now }
     requires begun { monitor.old.trace ≡ [] }
     ensures { IfOk result (λ left. Writes options monitor.old.spec history.now (W.contents output.old) (W.contents output.new) left.items) }
 {
@@ -234,7 +234,7 @@ pub fn show<A: Allocator + Copy, W: Write>(
     options: Options,
     output: &mut W,
 ) -> Result<Vec<u8, A>, ShowError>
-    requires { IsJudged (bodies_of spec.bodies) history.now }
+    requires { IsJudged spec history.now }
     ensures { IfOk result (λ left. Writes options spec history.now (W.contents output.old) (W.contents output.new) left.items) }
 {
     let mut monitor = begin(alloc, spec)?;

@@ -5,7 +5,8 @@ use Rattle.alphabet.specs.Events.{is_event}
 use Rattle.alphabet.specs.EventSets.{Set, member}
 use Rattle.alphabet.specs.declared.events.Event.{Event}
 use Rattle.alphabet.specs.declared.events.Event.TheVariants.{Tick as tick, Of as ev}
-use Rattle.closures.proofs.Belongings.{refuses-failure}
+use Rattle.closures.proofs.KeptBelongings.{kept-refuses-failure}
+use Rattle.closures.specs.Unfolding.{unfolding_depth}
 use Rattle.closures.proofs.Offered.{offered-Offers}
 use Rattle.closures.specs.Closing.{AllLie}
 use Rattle.term.proofs.Closed.{act-in}
@@ -89,7 +90,7 @@ pub are-acceptances : {A : Type 0} (space : Spaced) (set : ℕ) (u : List Event)
 are-acceptances space set u facts sets b few lies k a ordered =
     record {
       exact = λ X.
-          let f = refuses-failure space.spec u (states space set) b.exact (member X) in
+          let f = kept-refuses-failure space.spec (unfolding_depth space.spec) u (states space set) b.exact (member X) in
           let r = refuse-says facts (states space set) (bodies_of space.spec.bodies) X k in
           ((λ h. (a.exact X).1 (r.0 (f.1 h))), (λ h. f.0 (r.1 ((a.exact X).0 h))));
       least = a.least k.offers_are.least;

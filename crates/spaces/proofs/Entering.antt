@@ -14,11 +14,11 @@ use Rattle.term.specs.Specs.{Specified, IsClosed}
 use Rattle.term.specs.Traces.{In}
 use Rattle.closures.specs.Looks.{look}
 use Rattle.closures.proofs.NodesPutting.{absent}
-use Rattle.closures.specs.Numbered.{Numbered}
+use Rattle.closures.specs.Keepings.{Keeping}
 use Rattle.spaces.specs.declared.facts.SetFacts.{SetFacts}
 use Rattle.spaces.specs.Answers.{HasMembers}
 use Rattle.spaces.specs.Found.{Found, HasList, members, shown}
-use Rattle.spaces.specs.Known.{AreFactsOf, IsStored, IsSound, lists_of, found}
+use Rattle.spaces.specs.Known.{AreFactsOf, AreOf, IsStored, IsSound, lists_of, found}
 use Rattle.spaces.specs.Spaces.{Spaced, GrewFrom, states}
 use Rattle.spaces.proofs.Growing.{shown-at}
 
@@ -56,13 +56,13 @@ module _ {A : Type 0} where
       get_or-map (λ (x : Vec ℕ A × SetFacts A). x.0.items) es k e [] (slice_get_within es k e (sym f))
       ∙ ap (λ (x : Vec ℕ A × SetFacts A). x.0.items) (get_or_from_slice_get es k e e (sym f))
 
-  pub facts-at : (spec : Specified) (a : Numbered) (es : List (Vec ℕ A × SetFacts A)) (k : ℕ) (e : Vec ℕ A × SetFacts A) → IsSound spec a es → Some e ≡ slice_get es k → AreFactsOf e.1 (states (shown (found spec a es)) k)
+  pub facts-at : (spec : Specified) (a : Keeping) (es : List (Vec ℕ A × SetFacts A)) (k : ℕ) (e : Vec ℕ A × SetFacts A) → IsSound spec a es → Some e ≡ slice_get es k → AreFactsOf e.1 (states (shown (found spec a es)) k)
   facts-at spec a es k e s f =
       let h : k < length es = slice_get_within es k e (sym f) in
-      let stored : IsStored a.table.processes e =
-      subst (λ (x : Vec ℕ A × SetFacts A). IsStored a.table.processes x) (get_or_from_slice_get es k e e (sym f)) (s.stored k e h) in
+      let stored : IsStored a.all.table.processes e =
+      subst (λ (x : Vec ℕ A × SetFacts A). IsStored a.all.table.processes x) (get_or_from_slice_get es k e e (sym f)) (s.stored k e h) in
       let w : k < length (lists_of es) = omega (arith, h, length-map es (λ (x : Vec ℕ A × SetFacts A). x.0.items)) in
-      subst (λ (ps : List Proc). AreFactsOf e.1 ps) (sym (shown-at (found spec a es) k w ∙ ap (look a.table.processes) (list-at es k e f))) stored.facts
+      subst (λ (ps : List Proc). AreFactsOf e.1 ps) (sym (shown-at (found spec a es) k w ∙ ap (look a.all.table.processes) (list-at es k e f))) stored.facts
 
   -- ---- a new list
   there-if : (e : Vec ℕ A × SetFacts A) (es : List (Vec ℕ A × SetFacts A)) (v : Vec ℕ A) (b : Bool) → pointwise nat_eq v.items e.0.items ≡ b
@@ -82,27 +82,27 @@ module _ {A : Type 0} where
   lists-push es v f = map-append (λ (x : Vec ℕ A × SetFacts A). x.0.items) es ((v, f) ∷ [])
 
   module _ (spec : Specified) (es : List (Vec ℕ A × SetFacts A)) (v : Vec ℕ A) (f : SetFacts A) where
-    pub shown-push : (a : Numbered) → (shown (found spec a (es ++ (v, f) ∷ []))).sets ≡ (shown (found spec a es)).sets ++ look a.table.processes v.items ∷ []
-    shown-push a = ap (map (look a.table.processes)) (lists-push es v f) ∙ map-append (look a.table.processes) (lists_of es) (v.items ∷ [])
+    pub shown-push : (a : Keeping) → (shown (found spec a (es ++ (v, f) ∷ []))).sets ≡ (shown (found spec a es)).sets ++ look a.all.table.processes v.items ∷ []
+    shown-push a = ap (map (look a.all.table.processes)) (lists-push es v f) ∙ map-append (look a.all.table.processes) (lists_of es) (v.items ∷ [])
 
-    pub sets-grew : (a : Numbered) → GrewFrom (shown (found spec a es)) (shown (found spec a (es ++ (v, f) ∷ [])))
-    sets-grew a = record { spec = refl; sets = (look a.table.processes v.items ∷ [], shown-push a) }
+    pub sets-grew : (a : Keeping) → GrewFrom (shown (found spec a es)) (shown (found spec a (es ++ (v, f) ∷ [])))
+    sets-grew a = record { spec = refl; sets = (look a.all.table.processes v.items ∷ [], shown-push a) }
 
-    pub new-list : (a : Numbered) (n : ℕ) → n ≡ length es → HasList (shown (found spec a (es ++ (v, f) ∷ []))) (look a.table.processes v.items) n
+    pub new-list : (a : Keeping) (n : ℕ) → n ≡ length es → HasList (shown (found spec a (es ++ (v, f) ∷ []))) (look a.all.table.processes v.items) n
     new-list a n e =
-        let old : length (map (look a.table.processes) (lists_of es)) ≡ n = length-map (lists_of es) (look a.table.processes) ∙ length-map es (λ (x : Vec ℕ A × SetFacts A). x.0.items) ∙ sym e in
+        let old : length (map (look a.all.table.processes) (lists_of es)) ≡ n = length-map (lists_of es) (look a.all.table.processes) ∙ length-map es (λ (x : Vec ℕ A × SetFacts A). x.0.items) ∙ sym e in
         record {
-          within = omega (arith, old, ap length (shown-push a), length-append (map (look a.table.processes) (lists_of es)) (look a.table.processes v.items ∷ []));
-          is = ap (λ (l : List (List Proc)). get_or l n []) (shown-push a) ∙ get_or_push (map (look a.table.processes) (lists_of es)) (look a.table.processes v.items) [] n old;
+          within = omega (arith, old, ap length (shown-push a), length-append (map (look a.all.table.processes) (lists_of es)) (look a.all.table.processes v.items ∷ []));
+          is = ap (λ (l : List (List Proc)). get_or l n []) (shown-push a) ∙ get_or_push (map (look a.all.table.processes) (lists_of es)) (look a.all.table.processes v.items) [] n old;
         }
 
-    pub sound-push : (a : Numbered) → a.bodies ≡ spec.bodies → IsSound spec a es → length es + 1 < 2 ^ 32 → IsStored a.table.processes (v, f) → IsSound spec a (es ++ (v, f) ∷ [])
+    pub sound-push : (a : Keeping) → AreOf spec a → IsSound spec a es → length es + 1 < 2 ^ 32 → IsStored a.all.table.processes (v, f) → IsSound spec a (es ++ (v, f) ∷ [])
     sound-push a begun s few k =
         record {
           closed = s.closed;
           begun = λ h. begun;
           few = omega (arith, few, length-append es ((v, f) ∷ []));
-          stored = All-push (IsStored a.table.processes) es (v, f) s.stored k;
+          stored = All-push (IsStored a.all.table.processes) es (v, f) s.stored k;
         }
 
 -- ---- a set of which a list is stored that has these numbers in another order
@@ -115,12 +115,12 @@ has-list f ns set h e =
     record { within = omega (arith, h, length-map f.sets (look f.table.processes)); is = shown-at f set h ∙ ap (look f.table.processes) e }
 
 -- ---- no sets
-pub sound-new : {A : Type 0} (spec : Specified) (a : Numbered) (es : List (Vec ℕ A × SetFacts A)) → IsClosed spec → es ≡ [] → IsSound spec a es
+pub sound-new : {A : Type 0} (spec : Specified) (a : Keeping) (es : List (Vec ℕ A × SetFacts A)) → IsClosed spec → es ≡ [] → IsSound spec a es
 sound-new {A} spec a es c e =
     subst (λ (l : List (Vec ℕ A × SetFacts A)). IsSound spec a l) (sym e)
     (record {
       closed = c;
       begun = λ h. absurd (omega (arith, h));
       few = omega arith;
-      stored = All-nil (IsStored a.table.processes);
+      stored = All-nil (IsStored a.all.table.processes);
     })

@@ -1,27 +1,26 @@
 -- What holds of a space goes on to hold while it grows.
-use Rattle.std.proofs.Common.{◌≡◌, ◌↔◌, ℕ, suc, ◌<◌, ◌≤◌, Option, None, Some, List, [], ◌∷◌, ◌++◌, length, get_or, map, refl, sym, ap, ◌∙◌, subst, arith}
+use Rattle.std.proofs.Common.{◌≡◌, ℕ, suc, ◌<◌, ◌≤◌, Option, None, Some, List, [], ◌∷◌, ◌++◌, length, get_or, map, refl, sym, ap, ◌∙◌, subst, arith}
 use Rattle.std.proofs.lemmas.List.{get_or-map}
 use Rattle.std.proofs.lemmas.List.Elements.{All-weaker}
 use Rattle.std.specs.List.{All}
 use Rattle.std.specs.declared.vec.Vec.{Vec}
 use Rattle.alphabet.specs.declared.events.Event.{Event}
-use Rattle.closures.specs.Label.TheVariants as label
-use Rattle.closures.specs.Cuts.{CutOf}
-use Rattle.term.specs.Limits.{Advance, NoLimit, Reach, most_states}
 use Rattle.term.specs.Meaning.{Trace}
 use Rattle.term.specs.Proc.{Proc, bodies_of, root}
 use Rattle.term.specs.Specs.{Specified}
-use Rattle.term.specs.Traces.{In}
 use Rattle.closures.specs.Looks.{look, AllBelow}
 use Rattle.closures.specs.Tables.{Tabled, Begins, HasGrown}
 use Rattle.closures.proofs.Listing.{begins-same, begins-at, begins-longer, begins-on}
 use Rattle.closures.proofs.Looking.{below-grown, look-grown}
-use Rattle.closures.specs.Numbered.{Numbered, KeepsNumbers}
-use Rattle.closures.specs.Closing.{AllShallow, TargetOf}
+use Rattle.closures.specs.Keepings.{Keeping, StaysKept}
+use Rattle.closures.specs.KeptBelonging.{KeptBelongs}
+use Rattle.closures.specs.Limits.{EventMeetsNone}
+use Rattle.closures.specs.Unfolding.{unfolding_depth}
+use Rattle.closures.specs.Closing.{AllShallow}
 use Rattle.spaces.specs.declared.facts.SetFacts.{SetFacts}
 use Rattle.spaces.specs.Answers.{IsAfter, IsAnswer, IsMemory}
 use Rattle.spaces.specs.Found.{Found, members, shown}
-use Rattle.spaces.specs.Known.{AreFactsOf, IsStored, IsSound, lists_of, found}
+use Rattle.spaces.specs.Known.{AreFactsOf, AreOf, IsStored, IsSound, lists_of, found}
 use Rattle.spaces.specs.Spaces.{Spaced, GrewFrom, Belongs, states}
 
 pub grew-same : (s : Spaced) → GrewFrom s s
@@ -42,9 +41,9 @@ module _ (s t : Spaced) (g : GrewFrom s t) where
   belongs-on n u b =
       record {
         within = here-on n b.within;
-        exact = λ Q.
-            subst (λ (ps : List Proc). In Q ps ↔ Reach (bodies_of t.spec.bodies) root u Q) (sym (states-on n b.within))
-            (subst (λ (p : Specified). In Q (states s n) ↔ Reach (bodies_of p.bodies) root u Q) (sym g.spec) (b.exact Q));
+        exact =
+            subst (λ (ps : List Proc). KeptBelongs t.spec (unfolding_depth t.spec) ps u) (sym (states-on n b.within))
+            (subst (λ (p : Specified). KeptBelongs p (unfolding_depth p) (states s n) u) (sym g.spec) b.exact);
       }
 
   -- and the other way round, where it was there before
@@ -52,15 +51,10 @@ module _ (s t : Spaced) (g : GrewFrom s t) where
   belongs-back n u h b =
       record {
         within = h;
-        exact = λ Q.
-            subst (λ (ps : List Proc). In Q ps ↔ Reach (bodies_of s.spec.bodies) root u Q) (states-on n h)
-            (subst (λ (p : Specified). In Q (states t n) ↔ Reach (bodies_of p.bodies) root u Q) g.spec (b.exact Q));
+        exact =
+            subst (λ (ps : List Proc). KeptBelongs s.spec (unfolding_depth s.spec) ps u) (states-on n h)
+            (subst (λ (p : Specified). KeptBelongs p (unfolding_depth p) (states t n) u) g.spec b.exact);
       }
-
-  pub cut-on : (n : ℕ) (x : Event) (first : List Proc) → n < length s.sets → CutOf (TargetOf (bodies_of s.spec.bodies) (states s n) (label.Event x)) most_states first → CutOf (TargetOf (bodies_of t.spec.bodies) (states t n) (label.Event x)) most_states first
-  cut-on n x first h c =
-      subst (λ (ps : List Proc). CutOf (TargetOf (bodies_of t.spec.bodies) ps (label.Event x)) most_states first) (sym (states-on n h))
-      (subst (λ (p : Specified). CutOf (TargetOf (bodies_of p.bodies) (states s n) (label.Event x)) most_states first) (sym g.spec) c)
 
   -- answers stay exact
   after-on : (a : Option ℕ) (v : List Event) → IsAfter s v a → IsAfter t v a
@@ -71,7 +65,7 @@ module _ (s t : Spaced) (g : GrewFrom s t) where
   answer-on n x a h k =
       record {
         exact = λ u b. after-on a (u ++ x ∷ []) (k.exact u (belongs-back n u h b));
-        within = λ u b. subst (λ (p : Specified). NoLimit (bodies_of p.bodies) (Advance (bodies_of p.bodies) u x)) (sym g.spec) (k.within u (belongs-back n u h b));
+        within = λ u b. subst (λ (p : Specified). EventMeetsNone p u x) (sym g.spec) (k.within u (belongs-back n u h b));
       }
 
   pub memory-on : (es : List (ℕ × Option ℕ)) → IsMemory s es → IsMemory t es
@@ -82,6 +76,10 @@ module _ (s t : Spaced) (g : GrewFrom s t) where
             record { here = here-on n r.here; is = answer-on n x a r.here r.is };
         few = m.few;
       }
+
+-- the processes are of the same specification
+pub areof-on : (spec : Specified) (a b : Keeping) → StaysKept a b → AreOf spec a → AreOf spec b
+areof-on spec a b k o = (k.all.bodies ∙ o.0, k.deep ∙ o.1)
 
 -- ---- what is stored
 pub shown-at : (f : Found) (n : ℕ) → n < length f.sets → states (shown f) n ≡ look f.table.processes (members f n)
@@ -111,37 +109,37 @@ module _ {A : Type 0} where
       let tail : map (look u.processes) (lists_of es) ≡ map (look t.processes) (lists_of es) = same-lists t u g es (λ k d h. all (suc k) d (omega arith)) in
       ap (λ (l : List Proc). l ∷ map (look u.processes) (lists_of es)) head ∙ ap (λ (l : List (List Proc)). look t.processes e.0.items ∷ l) tail
 
-  pub table-grew : (spec : Specified) (a b : Numbered) (es : List (Vec ℕ A × SetFacts A)) → All (IsStored a.table.processes) es → KeepsNumbers a b → GrewFrom (shown (found spec a es)) (shown (found spec b es))
+  pub table-grew : (spec : Specified) (a b : Keeping) (es : List (Vec ℕ A × SetFacts A)) → All (IsStored a.all.table.processes) es → StaysKept a b → GrewFrom (shown (found spec a es)) (shown (found spec b es))
   table-grew spec a b es all k =
-      let lists = map (look a.table.processes) (lists_of es) in
+      let lists = map (look a.all.table.processes) (lists_of es) in
       record {
         spec = refl;
-        sets = subst (λ (l : List (List Proc)). Begins lists l) (sym (same-lists a.table b.table k.table es all)) (begins-same [] lists);
+        sets = subst (λ (l : List (List Proc)). Begins lists l) (sym (same-lists a.all.table b.all.table k.all.table es all)) (begins-same [] lists);
       }
 
   -- without sets any table does
-  pub empty-grew : (spec : Specified) (a b : Numbered) (es : List (Vec ℕ A × SetFacts A)) → length es ≡ 0 → GrewFrom (shown (found spec a es)) (shown (found spec b es))
+  pub empty-grew : (spec : Specified) (a b : Keeping) (es : List (Vec ℕ A × SetFacts A)) → length es ≡ 0 → GrewFrom (shown (found spec a es)) (shown (found spec b es))
   empty-grew spec a b [] e = record { spec = refl; sets = ([], refl) }
   empty-grew spec a b (x ∷ es) e = absurd (omega (arith, e))
 
   module _ (spec : Specified) (es : List (Vec ℕ A × SetFacts A)) where
-    pub sound-on : (a b : Numbered) → IsSound spec a es → KeepsNumbers a b → IsSound spec b es
+    pub sound-on : (a b : Keeping) → IsSound spec a es → StaysKept a b → IsSound spec b es
     sound-on a b s k =
         record {
           closed = s.closed;
-          begun = λ h. k.bodies ∙ s.begun h;
+          begun = λ h. areof-on spec a b k (s.begun h);
           few = s.few;
-          stored = All-weaker (IsStored a.table.processes) (IsStored b.table.processes) (stored-on a.table b.table k.table) es s.stored;
+          stored = All-weaker (IsStored a.all.table.processes) (IsStored b.all.table.processes) (stored-on a.all.table b.all.table k.all.table) es s.stored;
         }
 
     -- a stored set
-    module _ (a : Numbered) (s : IsSound spec a es) (n : ℕ) (h : n < length es) where
-      pub sound-below : AllBelow (length a.table.processes) (get_or (lists_of es) n [])
+    module _ (a : Keeping) (s : IsSound spec a es) (n : ℕ) (h : n < length es) where
+      pub sound-below : AllBelow (length a.all.table.processes) (get_or (lists_of es) n [])
       sound-below =
-          let (e, f, k) = stored-at a.table.processes es n s.stored h in
-          subst (λ (ns : List ℕ). AllBelow (length a.table.processes) ns) (sym f) k.below
+          let (e, f, k) = stored-at a.all.table.processes es n s.stored h in
+          subst (λ (ns : List ℕ). AllBelow (length a.all.table.processes) ns) (sym f) k.below
 
-      pub sound-shallow : AllShallow (look a.table.processes (get_or (lists_of es) n []))
+      pub sound-shallow : AllShallow (look a.all.table.processes (get_or (lists_of es) n []))
       sound-shallow =
-          let (e, f, k) = stored-at a.table.processes es n s.stored h in
-          subst (λ (ns : List ℕ). AllShallow (look a.table.processes ns)) (sym f) k.shallow
+          let (e, f, k) = stored-at a.all.table.processes es n s.stored h in
+          subst (λ (ns : List ℕ). AllShallow (look a.all.table.processes ns)) (sym f) k.shallow

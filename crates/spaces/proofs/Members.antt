@@ -2,12 +2,11 @@
 use Rattle.std.proofs.Common.{◌≡◌, ◌↔◌, ℕ, zero, suc, ◌<◌, List, [], ◌∷◌, length, get_or, refl, subst, arith}
 use Rattle.std.specs.Prelude.{IsPermutation, Contains}
 use Rattle.std.proofs.lemmas.List.Sorted.{Contains-permutation, IsPermutation-sym, IsPermutation-map}
-use Rattle.term.specs.Limits.{Terms}
 use Rattle.term.specs.Proc.{Proc}
 use Rattle.term.specs.Traces.{In, here, there}
 use Rattle.closures.specs.Shapes.{at}
 use Rattle.closures.specs.Looks.{look, AllBelow}
-use Rattle.closures.specs.Closing.{AllShallow, IsClosure}
+use Rattle.closures.specs.Closing.{AllShallow}
 
 -- ---- what is in a list is so at some place
 pub In-contains : {X : Type 0} {x : X} {xs : List X} → In x xs → Contains xs x
@@ -45,13 +44,3 @@ module _ (ns ms : List ℕ) (p : IsPermutation ns ms) where
 
   pub shallow-permuted : (ps : List Proc) → AllShallow (look ps ns) → AllShallow (look ps ms)
   shallow-permuted ps s = λ Q i. s Q ((look-permuted ps Q).0 i)
-
--- ---- a closure, with its members in another order
-pub closure-same : (B : ℕ → Proc) (L : Terms) (ls ms : List Proc) → IsClosure B L ls → ((Q : Proc) → In Q ms ↔ In Q ls) → IsClosure B L ms
-closure-same B L ls ms c e =
-    record {
-      within = c.within;
-      shallow = λ Q i. c.shallow Q ((e Q).0 i);
-      only = λ Q i. c.only Q ((e Q).0 i);
-      all = λ P Q l r. (e Q).1 (c.all P Q l r);
-    }

@@ -3,12 +3,11 @@ use Rattle.std.specs.Prelude.{◌≡◌, ◌↔◌, ℕ, ◌<◌, ◌≤◌, Lis
 use Rattle.std.specs.Map.{lookup}
 use Rattle.alphabet.specs.declared.events.Event.{Event}
 use Rattle.closures.specs.Label.TheVariants as label
-use Rattle.term.specs.Limits.{Advance, NoLimit, Terms}
 use Rattle.term.specs.Meaning.{Trace}
 use Rattle.term.specs.Proc.{Proc, bodies_of, root}
 use Rattle.term.specs.Traces.{In}
 use Rattle.closures.specs.Memory.{IsSmall, key}
-use Rattle.closures.specs.Closing.{IsClosure}
+use Rattle.closures.specs.Limits.{EventMeetsNone}
 use Rattle.spaces.specs.Spaces.{Spaced, Belongs, most_remembered, states}
 
 -- The set has just these members.
@@ -16,21 +15,16 @@ pub record HasMembers (space : Spaced) (ps : List Proc) (set : ℕ) : Type 0 whe
   pub within : set < length space.sets
   pub same : (Q : Proc) → In Q (states space set) ↔ In Q ps
 
--- The set has just what hidden steps reach from L, and no level from L on meets a limit.
-pub record IsClosedSet (space : Spaced) (L : Terms) (set : ℕ) : Type 0 where
-  pub within : set < length space.sets
-  pub closure : IsClosure (bodies_of space.spec.bodies) L (states space set)
-
 -- What is exact for u: none where u is no trace of the root, else a set that belongs to it.
 abbrev pub IsAfter : Spaced → List Event → Option ℕ → Type 0
 IsAfter space u None = Trace (bodies_of space.spec.bodies) root u → ⊥
 IsAfter space u (Some set) = Trace (bodies_of space.spec.bodies) root u × Belongs space set u
 
--- What exactness demands of the answer to the set and the event x, for each trace to which the set belongs. No level from
--- the event's targets on meets a limit.
+-- What exactness demands of the answer to the set and the event x, for each trace to which the set belongs. The event meets no
+-- limit.
 pub record IsAnswer (space : Spaced) (set : ℕ) (x : Event) (answer : Option ℕ) : Type 0 where
   pub exact : (u : List Event) → Belongs space set u → IsAfter space (u ++ x ∷ []) answer
-  pub within : (u : List Event) → Belongs space set u → NoLimit (bodies_of space.spec.bodies) (Advance (bodies_of space.spec.bodies) u x)
+  pub within : (u : List Event) → Belongs space set u → EventMeetsNone space.spec u x
 
 -- What is remembered of a set of the space and an event.
 pub record IsRemembered (space : Spaced) (set : ℕ) (x : Event) (answer : Option ℕ) : Type 0 where

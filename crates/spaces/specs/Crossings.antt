@@ -4,6 +4,7 @@ use Rattle.std.specs.contracts.alloc.Global as Global
 use Rattle.std.specs.contracts.impls.GlobalAllocator.TheImpl.{ghosts}
 use Rattle.closures.specs.TableContracts as Table
 use Rattle.closures.specs.TransitionsContracts as Transitions
+use Rattle.closures.specs.StatesContracts as States
 use Rattle.spaces.specs.contracts.found.FoundSets as FoundSets
 use Rattle.spaces.specs.contracts.space.Space as Space
 
@@ -14,6 +15,10 @@ TableCrosses = IsSend (Table.the_row Global.the_row ghosts)
 -- the steps of its nodes
 abbrev pub TransitionsCross : Type 0
 TransitionsCross = IsSend (Transitions.the_row Global.the_row ghosts)
+
+-- these with what processes are kept as
+abbrev pub StatesCross : Type 0
+StatesCross = IsSend (States.the_row Global.the_row ghosts)
 
 -- the sets of states found for a specification
 abbrev pub SetsCross : Type 0

@@ -8,7 +8,8 @@ use Rattle.term.specs.Proc.{Proc}
 use Rattle.term.specs.Specs.{Specified, IsClosed}
 use Rattle.term.specs.Traces.{In}
 use Rattle.closures.specs.Looks.{look, AllBelow}
-use Rattle.closures.specs.Numbered.{Numbered}
+use Rattle.closures.specs.Keepings.{Keeping}
+use Rattle.closures.specs.Unfolding.{unfolding_depth}
 use Rattle.closures.specs.Closing.{AllShallow, Takes}
 use Rattle.spaces.specs.declared.facts.SetFacts.{SetFacts}
 use Rattle.spaces.specs.Found.{Found}
@@ -30,12 +31,16 @@ abbrev pub lists_of : {A : Type 0} → List (Vec ℕ A × SetFacts A) → List (
 lists_of {A} es = map (λ (e : Vec ℕ A × SetFacts A). e.0.items) es
 
 -- These stored sets, of this specification and with these processes.
-abbrev pub found : {A : Type 0} → Specified → Numbered → List (Vec ℕ A × SetFacts A) → Found
-found spec all es = record { spec = spec; table = all.table; bodies = all.bodies; sets = lists_of es }
+abbrev pub found : {A : Type 0} → Specified → Keeping → List (Vec ℕ A × SetFacts A) → Found
+found spec kept es = record { spec = spec; table = kept.all.table; bodies = kept.all.bodies; deep = kept.deep; sets = lists_of es }
 
--- What always holds: the specification is closed, its bodies have numbers where there is a set, and what is stored is so.
-pub record IsSound {A : Type 0} (spec : Specified) (all : Numbered) (es : List (Vec ℕ A × SetFacts A)) : Type 0 where
+-- The processes have the bodies of the specification among them, and names are replaced as it says.
+abbrev pub AreOf : Specified → Keeping → Type 0
+AreOf spec kept = (kept.all.bodies ≡ spec.bodies) × (kept.deep ≡ unfolding_depth spec)
+
+-- What always holds: the specification is closed, the processes are of it where there is a set, and what is stored is so.
+pub record IsSound {A : Type 0} (spec : Specified) (kept : Keeping) (es : List (Vec ℕ A × SetFacts A)) : Type 0 where
   pub closed : IsClosed spec
-  pub begun : 0 < length es → all.bodies ≡ spec.bodies
+  pub begun : 0 < length es → AreOf spec kept
   pub few : length es < 2 ^ 32
-  pub stored : All (IsStored all.table.processes) es
+  pub stored : All (IsStored kept.all.table.processes) es

@@ -10,3 +10,4 @@ pub mod Known
 -- Of the layers below, for those above.
 pub use Rattle.closures.specs.AfterFault
 pub use Rattle.closures.specs.Belonging
+pub use Rattle.closures.specs.Limits

@@ -6,7 +6,8 @@ use Rattle.alphabet.specs.declared.events.Event.{Event}
 use Rattle.term.specs.Codes.{proc_code}
 use Rattle.term.specs.Proc.{Proc}
 use Rattle.term.specs.Specs.{Specified, specified_code}
-use Rattle.closures.specs.Belonging.{Belongs as BelongsTo}
+use Rattle.closures.specs.KeptBelonging.{KeptBelongs}
+use Rattle.closures.specs.Unfolding.{unfolding_depth}
 
 -- A specification, and the sets of states found so far, by number: each the list of its members.
 pub record Spaced : Type 0 where
@@ -26,10 +27,10 @@ pub record GrewFrom (old new : Spaced) : Type 0 where
   pub sets : (more : List (List Proc)) × (new.sets ≡ old.sets ++ more)
 
 -- The set belongs to the trace u in this space: its members are just the processes that u reaches from the root, with
--- hidden steps anywhere, also at the end.
+-- hidden steps anywhere, also at the end, each with its exposed names replaced as the specification says.
 pub record Belongs (space : Spaced) (set : ℕ) (u : List Event) : Type 0 where
   pub within : set < length space.sets
-  pub exact : BelongsTo space.spec (states space set) u
+  pub exact : KeptBelongs space.spec (unfolding_depth space.spec) (states space set) u
 
 -- The set is one of this space: it belongs to some trace.
 abbrev pub IsSetOf : Spaced → ℕ → Type 0

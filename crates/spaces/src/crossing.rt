@@ -4,11 +4,11 @@
 //! session between threads.
 
 ghost use Rattle.std.specs.Thread.{IsSend};
-ghost use Rattle.spaces.specs.Crossings.{SetsCross, SpaceCrosses, TableCrosses, TransitionsCross};
+ghost use Rattle.spaces.specs.Crossings.{SetsCross, SpaceCrosses, StatesCross, TableCrosses, TransitionsCross};
 
 use crate::found::FoundSets;
 use crate::space::{Answers, Space};
-use closures::{Table, Transitions};
+use closures::{States, Table, Transitions};
 use std::alloc::Global;
 use term::Spec;
 
@@ -32,11 +32,19 @@ fn transitions_cross()
     crosses::<Transitions<Global>>();
 }
 
+// That these with what processes are kept as may.
+fn states_cross()
+    ensures states { StatesCross }
+{
+    transitions_cross();
+    crosses::<States<Global>>();
+}
+
 // That the sets of states found for a specification may.
 fn sets_cross()
     ensures sets { SetsCross }
 {
-    transitions_cross();
+    states_cross();
     crosses::<Spec<Global>>();
     crosses::<FoundSets<Global>>();
 }

@@ -1,26 +1,26 @@
 //! The sets of states found so far.
 
 ghost use Rattle.std.specs.List.{All};
-ghost use Rattle.std.specs.Prelude.{◌≡◌, ◌↔◌, ◌+◌, ◌<◌, ◌≤◌, ◌^◌, ◌∷◌, [], IfErr, IfNone, IfOk, IfSome, List, OnErr, OnOk, ℕ, get_or, length};
+ghost use Rattle.std.specs.Prelude.{◌≡◌, ◌↔◌, ◌+◌, ◌++◌, ◌<◌, ◌≤◌, ◌^◌, ◌∷◌, [], IfErr, IfNone, IfOk, IfSome, List, OnErr, OnOk, ℕ, get_or, length};
 ghost use Rattle.alphabet.specs.declared.events.Event.{Event};
-ghost use Rattle.closures.specs.Label.TheVariants as label;
-ghost use Rattle.closures.specs.Cuts.{CutOf};
-ghost use Rattle.term.specs.Limits.{Advance, most_states};
+ghost use Rattle.term.specs.Meaning.{Trace};
 ghost use Rattle.term.specs.Proc.{Proc, bodies_of, root};
 ghost use Rattle.term.specs.Specs.{IsClosed};
 ghost use Rattle.term.specs.Traces.{In};
+ghost use Rattle.closures.specs.Closing.{AllShallow};
+ghost use Rattle.closures.specs.KeptBelonging.{KeptBelongs};
+ghost use Rattle.closures.specs.Limits.{EventMeets, EventMeetsNone, OpeningMeets, OpeningMeetsNone};
 ghost use Rattle.closures.specs.Looks.{look, AllBelow};
-ghost use Rattle.closures.specs.Belonging.{MeetsLimit};
-ghost use Rattle.closures.specs.Closing.{AllShallow, Among, IsClosure, Opens, TargetOf};
-ghost use Rattle.spaces.specs.Answers.{HasMembers, IsAnswer, IsClosedSet};
+ghost use Rattle.closures.specs.Unfolding.{unfolding_depth};
+ghost use Rattle.spaces.specs.Answers.{HasMembers, IsAnswer};
 ghost use Rattle.spaces.specs.Found.{HasBegun, HasList, members, shown};
-ghost use Rattle.spaces.specs.Known.{AreFactsOf, IsStored, lists_of};
+ghost use Rattle.spaces.specs.Known.{AreFactsOf, AreOf, IsStored, lists_of};
 ghost use Rattle.spaces.specs.Spaces.{Belongs, GrewFrom, IsSetOf, states};
 
 use crate::facts::{SetFacts, facts_of};
 use crate::states::StateSet;
 use alphabet::Event;
-use closures::{AfterFault, Numbers, Transitions, close, first_level};
+use closures::{AfterFault, States, Transitions, advance, start};
 use indexmap::IndexMap;
 use std::alloc::{AllocError, Allocator};
 use std::hash::{BuildHasherDefault, FoldHasher};
@@ -46,7 +46,7 @@ const MOST_SETS: usize = 4_294_967_295;
 #[derive(Drop)]
 pub(crate) struct FoundSets<A: Allocator> {
     spec: Spec<A>,
-    all: Transitions<A>,
+    states: States<A>,
     sets: Lists<A>,
     // How many numbers the lists have, as far as a `usize` goes. No clause speaks of it, nor of the next one.
     members: usize,
@@ -63,9 +63,9 @@ impl<A: Allocator> Model for FoundSets<A> {
 
     ghost coded = { found_code };
 
-    ghost view = { λ s. found s.spec s.all s.sets.entries };
+    ghost view = { λ s. found s.spec s.states s.sets.entries };
 
-    ghost invariant = { λ s. IsSound s.spec s.all s.sets.entries };
+    ghost invariant = { λ s. IsSound s.spec s.states s.sets.entries };
 }
 
 impl<A: Allocator + Copy> FoundSets<A> {
@@ -78,7 +78,7 @@ impl<A: Allocator + Copy> FoundSets<A> {
         let _bodies = spec.bodies();
         FoundSets {
             spec,
-            all: Transitions::without_bodies(alloc),
+            states: States::without_bodies(alloc),
             sets: IndexMap::new(alloc),
             members: 0,
             begun_with: 0,
@@ -86,15 +86,20 @@ impl<A: Allocator + Copy> FoundSets<A> {
         }
     }
 
-    /// The set of all that hidden steps reach from the root's name.
+    /// The set of the empty trace.
     pub(crate) fn opening(&mut self) -> Result<StateSet, AfterFault>
-        ensures set { IfOk result (IsClosedSet (shown self.new) (Among (root ∷ []))) }
-        ensures limit { IfErr result (MeetsLimit (bodies_of self.old.spec.bodies) (Among (root ∷ []))) }
+        ensures set { IfOk result (λ set. Belongs (shown self.new) set []) }
+        ensures within { OnOk result (OpeningMeetsNone self.old.spec) }
+        ensures limit { IfErr result (OpeningMeets self.old.spec) }
         ensures grown { GrewFrom (shown self.old) (shown self.new) }
     {
         self.begin()?;
-        let first = self.root_alone()?;
-        self.closed_set(first)
+        let first = match self.first_states() {
+            Ok(first) => first,
+            Err(fault) => return Err(fault),
+        };
+        let set = self.put(first)?;
+        Ok(set)
     }
 
     /// Gives the specification's bodies numbers, unless they have them.
@@ -105,24 +110,23 @@ impl<A: Allocator + Copy> FoundSets<A> {
         if self.sets.len() > 0 {
             return Ok(());
         }
-        let all = Transitions::new(self.alloc, &self.spec)?;
-        drop(replace(&mut self.all, all));
+        let states = States::new(self.alloc, &self.spec)?;
+        drop(replace(&mut self.states, states));
         Ok(())
     }
 
-    /// The number of the root's name, as a list.
-    fn root_alone(&mut self) -> Result<Numbers<A>, AllocError>
+    /// The numbers of the states after the empty trace.
+    fn first_states(&mut self) -> Result<Vec<u32, A>, AfterFault>
         requires { HasBegun self.old }
-        ensures begun { OnOk result (HasBegun self.new) }
-        ensures below { IfOk result (λ first. AllBelow (length self.new.table.processes) first) }
-        ensures root { IfOk result (λ first. look self.new.table.processes first ≡ root ∷ []) }
-        ensures opens { IfOk result (λ first. Opens self.new.spec (look self.new.table.processes first)) }
+        ensures begun { HasBegun self.new }
+        ensures below { IfOk result (λ list. AllBelow (length self.new.table.processes) list.items) }
+        ensures shallow { IfOk result (λ list. AllShallow (look self.new.table.processes list.items)) }
+        ensures belongs { IfOk result (λ list. KeptBelongs self.old.spec (unfolding_depth self.old.spec) (look self.new.table.processes list.items) []) }
+        ensures within { OnOk result (OpeningMeetsNone self.old.spec) }
+        ensures limit { IfErr result (OpeningMeets self.old.spec) }
         ensures grown { GrewFrom (shown self.old) (shown self.new) }
     {
-        let root = self.all.root()?;
-        let mut first = Numbers::new(self.alloc);
-        first.put(root)?;
-        Ok(first)
+        start(&self.spec, &mut self.states, self.alloc)
     }
 
     /// What comes of the set by this event: none where no trace goes on so.
@@ -133,65 +137,36 @@ impl<A: Allocator + Copy> FoundSets<A> {
     ) -> Result<Option<StateSet>, AfterFault>
         requires { IsSetOf (shown self.old) set }
         ensures answer { IfOk result (IsAnswer (shown self.new) set event) }
-        ensures limit { (u : List Event) → Belongs (shown self.old) set u → IfErr result (MeetsLimit (bodies_of self.old.spec.bodies) (Advance (bodies_of self.old.spec.bodies) u event)) }
+        ensures limit { (u : List Event) → Belongs (shown self.old) set u → IfErr result (EventMeets self.old.spec u event) }
         ensures grown { GrewFrom (shown self.old) (shown self.new) }
     {
-        let first = match self.level_after(set, event) {
-            Ok(first) => first,
+        let next = match self.states_after(set, event) {
+            Ok(Some(next)) => next,
+            Ok(None) => return Ok(None),
             Err(fault) => return Err(fault),
         };
-        if first.is_empty() {
-            return Ok(None);
-        }
-        match self.closed_set(first) {
-            Ok(next) => Ok(Some(next)),
-            Err(fault) => Err(fault),
-        }
+        let next = self.put(next)?;
+        Ok(Some(next))
     }
 
-    /// The targets of the event from the set's members.
-    fn level_after(&mut self, set: StateSet, event: Event) -> Result<Numbers<A>, AfterFault>
+    /// The numbers of the states after the event from the set's members: none where no trace goes on so.
+    fn states_after(
+        &mut self,
+        set: StateSet,
+        event: Event,
+    ) -> Result<Option<Vec<u32, A>>, AfterFault>
         requires { IsSetOf (shown self.old) set }
         ensures begun { HasBegun self.new }
-        ensures below { IfOk result (λ first. AllBelow (length self.new.table.processes) first) }
-        ensures opens { IfOk result (λ first. Opens self.new.spec (look self.new.table.processes first)) }
-        ensures cut { IfOk result (λ first. CutOf (TargetOf (bodies_of self.old.spec.bodies) (states (shown self.old) set) (label.Event event)) most_states (look self.new.table.processes first)) }
-        ensures limit { IfErr result (MeetsLimit (bodies_of self.old.spec.bodies) (TargetOf (bodies_of self.old.spec.bodies) (states (shown self.old) set) (label.Event event))) }
+        ensures below { IfOk result (λ next. IfSome next (λ list. AllBelow (length self.new.table.processes) list.items)) }
+        ensures shallow { IfOk result (λ next. IfSome next (λ list. AllShallow (look self.new.table.processes list.items))) }
+        ensures none { (u : List Event) → Belongs (shown self.old) set u → IfOk result (λ next. IfNone next (Trace (bodies_of self.old.spec.bodies) root (u ++ event ∷ []) → ⊥)) }
+        ensures some { (u : List Event) → Belongs (shown self.old) set u → IfOk result (λ next. IfSome next (λ list. Trace (bodies_of self.old.spec.bodies) root (u ++ event ∷ []) × KeptBelongs self.old.spec (unfolding_depth self.old.spec) (look self.new.table.processes list.items) (u ++ event ∷ []))) }
+        ensures within { (u : List Event) → Belongs (shown self.old) set u → OnOk result (EventMeetsNone self.old.spec u event) }
+        ensures limit { (u : List Event) → Belongs (shown self.old) set u → IfErr result (EventMeets self.old.spec u event) }
         ensures grown { GrewFrom (shown self.old) (shown self.new) }
     {
         let numbers = numbers_of(&self.sets, set);
-        first_level(&self.spec, &mut self.all, self.alloc, numbers, event)
-    }
-
-    /// The set of all that hidden steps reach from these processes.
-    fn closed_set(&mut self, first: Numbers<A>) -> Result<StateSet, AfterFault>
-        requires begun { HasBegun self.old }
-        requires below { AllBelow (length self.old.table.processes) first }
-        requires first { Opens self.old.spec (look self.old.table.processes first) }
-        ensures set { IfOk result (IsClosedSet (shown self.new) (Among (look self.old.table.processes first))) }
-        ensures limit { IfErr result (MeetsLimit (bodies_of self.old.spec.bodies) (Among (look self.old.table.processes first))) }
-        ensures grown { GrewFrom (shown self.old) (shown self.new) }
-    {
-        let all = match self.closure(first) {
-            Ok(all) => all,
-            Err(fault) => return Err(fault),
-        };
-        let set = self.put(all)?;
-        Ok(set)
-    }
-
-    /// The numbers of all that hidden steps reach from these processes.
-    fn closure(&mut self, first: Numbers<A>) -> Result<Vec<u32, A>, AfterFault>
-        requires begun { HasBegun self.old }
-        requires below { AllBelow (length self.old.table.processes) first }
-        requires first { Opens self.old.spec (look self.old.table.processes first) }
-        ensures begun { HasBegun self.new }
-        ensures below { IfOk result (λ all. AllBelow (length self.new.table.processes) all.items) }
-        ensures closure { IfOk result (λ all. IsClosure (bodies_of self.old.spec.bodies) (Among (look self.old.table.processes first)) (look self.new.table.processes all.items)) }
-        ensures limit { IfErr result (MeetsLimit (bodies_of self.old.spec.bodies) (Among (look self.old.table.processes first))) }
-        ensures grown { GrewFrom (shown self.old) (shown self.new) }
-    {
-        close(&self.spec, &mut self.all, self.alloc, first)
+        advance(&self.spec, &mut self.states, self.alloc, numbers, event)
     }
 
     /// The set with these members.
@@ -233,7 +208,7 @@ impl<A: Allocator + Copy> FoundSets<A> {
         if self.sets.len() >= MOST_SETS {
             return Err(AllocError);
         }
-        facts_of(&self.all, self.alloc, numbers)
+        facts_of(self.states.all(), self.alloc, numbers)
     }
 
     /// A set that isn't stored yet, of which this is known.
@@ -262,16 +237,16 @@ impl<A: Allocator + Copy> FoundSets<A> {
         ensures one { OnOk result (length self.new.sets ≡ 1) }
         ensures kept { OnErr result (self.new ≡ self.old) }
     {
-        let mut all = Transitions::without_bodies(self.alloc);
+        let mut states = States::without_bodies(self.alloc);
         let mut sets = IndexMap::new(self.alloc);
-        let Ok(members) = self.put_alone(set, &mut all, &mut sets) else {
+        let Ok(members) = self.put_alone(set, &mut states, &mut sets) else {
             drop(sets);
-            drop(all);
+            drop(states);
             return Err(AllocError);
         };
         self.members = members;
-        self.begun_with = all.len();
-        drop(replace(&mut self.all, all));
+        self.begun_with = states.all().len();
+        drop(replace(&mut self.states, states));
         drop(replace(&mut self.sets, sets));
         Ok(StateSet::at(0))
     }
@@ -280,33 +255,33 @@ impl<A: Allocator + Copy> FoundSets<A> {
     fn put_alone(
         &self,
         set: StateSet,
-        all: &mut Transitions<A>,
+        into: &mut States<A>,
         sets: &mut Lists<A>,
     ) -> Result<usize, AllocError>
         requires set { set < length self.now.sets }
         requires none { sets.old.entries ≡ [] }
-        ensures bodies { OnOk result (all.new.bodies ≡ self.now.spec.bodies) }
+        ensures begun { OnOk result (AreOf self.now.spec into.new) }
         ensures one { OnOk result (length (lists_of sets.new.entries) ≡ 1) }
-        ensures stored { OnOk result (All (IsStored all.new.table.processes) sets.new.entries) }
-        ensures same { OnOk result ((Q : Proc) → In Q (look all.new.table.processes (get_or (lists_of sets.new.entries) 0 [])) ↔ In Q (states (shown self.now) set)) }
+        ensures stored { OnOk result (All (IsStored into.new.all.table.processes) sets.new.entries) }
+        ensures same { OnOk result ((Q : Proc) → In Q (look into.new.all.table.processes (get_or (lists_of sets.new.entries) 0 [])) ↔ In Q (states (shown self.now) set)) }
     {
-        let list = self.copies(set, all)?;
+        let list = self.copies(set, into)?;
         let members = list.len();
-        put_list(sets, all, self.alloc, list)?;
+        put_list(sets, into.all(), self.alloc, list)?;
         Ok(members)
     }
 
     /// The processes become the specification's bodies and the set's members. Gives the members' numbers there.
-    fn copies(&self, set: StateSet, all: &mut Transitions<A>) -> Result<Vec<u32, A>, AllocError>
+    fn copies(&self, set: StateSet, into: &mut States<A>) -> Result<Vec<u32, A>, AllocError>
         requires { set < length self.now.sets }
-        ensures bodies { OnOk result (all.new.bodies ≡ self.now.spec.bodies) }
-        ensures below { IfOk result (λ list. AllBelow (length all.new.table.processes) list.items) }
-        ensures shallow { IfOk result (λ list. AllShallow (look all.new.table.processes list.items)) }
-        ensures same { IfOk result (λ list. (Q : Proc) → In Q (look all.new.table.processes list.items) ↔ In Q (states (shown self.now) set)) }
+        ensures begun { OnOk result (AreOf self.now.spec into.new) }
+        ensures below { IfOk result (λ list. AllBelow (length into.new.all.table.processes) list.items) }
+        ensures shallow { IfOk result (λ list. AllShallow (look into.new.all.table.processes list.items)) }
+        ensures same { IfOk result (λ list. (Q : Proc) → In Q (look into.new.all.table.processes list.items) ↔ In Q (states (shown self.now) set)) }
     {
-        let bodies = Transitions::new(self.alloc, &self.spec)?;
-        drop(replace(all, bodies));
-        let mut list = all.put_from(&self.all, numbers_of(&self.sets, set))?;
+        let bodies = States::new(self.alloc, &self.spec)?;
+        drop(replace(into, bodies));
+        let mut list = into.put_from(&self.states, numbers_of(&self.sets, set))?;
         list.sort_unstable();
         Ok(list)
     }
@@ -316,7 +291,7 @@ impl<A: Allocator> FoundSets<A> {
     /// Whether it has so many processes more than it began with, or so many members of sets, that it should begin anew. So that
     /// isn't done again before as many have come, also where the set that is left has many processes. Takes no memory.
     pub(crate) fn is_large(&self) -> bool {
-        self.all.len().saturating_sub(self.begun_with) > MOST_NEW_PROCESSES
+        self.states.all().len().saturating_sub(self.begun_with) > MOST_NEW_PROCESSES
             || self.members > MOST_MEMBERS
     }
 

@@ -1,13 +1,10 @@
 //! The space of a specification's sets of states, with the answers that it remembers.
 
-ghost use Rattle.std.specs.Prelude.{◌≡◌, ◌<◌, ◌≤◌, ◌∷◌, [], IfErr, IfNone, IfOk, IfSome, List, OnErr, OnOk, length};
+ghost use Rattle.std.specs.Prelude.{◌≡◌, ◌<◌, ◌≤◌, [], IfErr, IfNone, IfOk, IfSome, List, OnErr, OnOk, length};
 ghost use Rattle.alphabet.specs.declared.events.Event.{Event};
-ghost use Rattle.term.specs.Limits.{Advance};
-ghost use Rattle.term.specs.Proc.{bodies_of, root};
 ghost use Rattle.term.specs.Specs.{IsClosed};
-ghost use Rattle.closures.specs.Belonging.{MeetsLimit};
-ghost use Rattle.closures.specs.Closing.{Among};
-ghost use Rattle.spaces.specs.Answers.{HasMembers, IsAnswer, IsClosedSet};
+ghost use Rattle.closures.specs.Limits.{EventMeets, OpeningMeets, OpeningMeetsNone};
+ghost use Rattle.spaces.specs.Answers.{HasMembers, IsAnswer};
 ghost use Rattle.spaces.specs.Known.{AreFactsOf};
 ghost use Rattle.spaces.specs.Spaces.{Belongs, GrewFrom, IsSetOf, most_remembered, states};
 
@@ -62,10 +59,11 @@ impl<A: Allocator + Copy> Space<A> {
         }
     }
 
-    /// The set of all that hidden steps reach from the root's name.
+    /// The set of the empty trace.
     pub(crate) fn opening(&mut self) -> Result<StateSet, AfterFault>
-        ensures set { IfOk result (IsClosedSet self.new (Among (root ∷ []))) }
-        ensures limit { IfErr result (MeetsLimit (bodies_of self.old.spec.bodies) (Among (root ∷ []))) }
+        ensures set { IfOk result (λ set. Belongs self.new set []) }
+        ensures within { OnOk result (OpeningMeetsNone self.old.spec) }
+        ensures limit { IfErr result (OpeningMeets self.old.spec) }
         ensures grown { GrewFrom self.old self.new }
     {
         self.found.opening()
@@ -93,7 +91,7 @@ impl<A: Allocator + Copy> Space<A> {
     ) -> Result<Option<StateSet>, AfterFault>
         requires { IsSetOf self.old set }
         ensures answer { IfOk result (IsAnswer self.new set event) }
-        ensures limit { (u : List Event) → Belongs self.old set u → IfErr result (MeetsLimit (bodies_of self.old.spec.bodies) (Advance (bodies_of self.old.spec.bodies) u event)) }
+        ensures limit { (u : List Event) → Belongs self.old set u → IfErr result (EventMeets self.old.spec u event) }
         ensures grown { GrewFrom self.old self.new }
     {
         if let Some(answer) = self.recall(set, event) {
@@ -112,7 +110,7 @@ impl<A: Allocator + Copy> Space<A> {
     fn find(&mut self, set: StateSet, event: Event) -> Result<Option<StateSet>, AfterFault>
         requires { IsSetOf self.old set }
         ensures answer { IfOk result (IsAnswer self.new set event) }
-        ensures limit { (u : List Event) → Belongs self.old set u → IfErr result (MeetsLimit (bodies_of self.old.spec.bodies) (Advance (bodies_of self.old.spec.bodies) u event)) }
+        ensures limit { (u : List Event) → Belongs self.old set u → IfErr result (EventMeets self.old.spec u event) }
         ensures grown { GrewFrom self.old self.new }
     {
         self.found.find(set, event)

@@ -3,10 +3,9 @@
 ghost use Rattle.std.specs.Prelude.{◌≡◌, ◌↔◌, ◌++◌, [], ◌∷◌, List, IfOk, IfErr, IfSome, IfNone, OnErr, OnOk, IsTrue, length};
 ghost use Rattle.alphabet.specs.declared.events.Event.{Event};
 ghost use Rattle.alphabet.specs.EventSets.{member};
-ghost use Rattle.term.specs.Limits.{Advance, NoLimit, Opening};
 ghost use Rattle.term.specs.Meaning.{Failure, Trace};
 ghost use Rattle.term.specs.Proc.{bodies_of, root};
-ghost use Rattle.closures.specs.Belonging.{MeetsLimit};
+ghost use Rattle.closures.specs.Limits.{EventMeets, EventMeetsNone, OpeningMeets, OpeningMeetsNone};
 ghost use Rattle.spaces.specs.Acceptances.{AreAcceptances};
 ghost use Rattle.spaces.specs.Spaces.{Belongs, GrewFrom, IsSetOf};
 
@@ -16,8 +15,8 @@ use closures::AfterFault;
 use std::alloc::{AllocError, Allocator};
 use std::marker::Model;
 
-/// The processes in which the root may be after a trace, with hidden steps anywhere, also at the end: a set of a space, by
-/// its number there.
+/// The processes in which the root may be after a trace, with hidden steps anywhere, also at the end, each kept as the
+/// specification says: a set of a space, by its number there.
 #[derive(Clone, Copy)]
 pub struct StateSet {
     number: u32,
@@ -48,20 +47,21 @@ impl StateSet {
         self.number
     }
 
-    /// The set of the empty trace. It is refused where a level from the root's name on meets a limit: the first that
-    /// does so decides, by `Depth` where it holds a process that is too deep, else by `States`.
+    /// The set of the empty trace. It is refused where the opening meets a limit: the first level from the root on that does so
+    /// decides. Where names stay names, it does by `Depth` where it holds a process that is too deep, else by `States`; where
+    /// they are kept as their bodies, by `States` where it is too much, else by `Depth`.
     pub fn start<A: Allocator + Copy>(space: &mut Space<A>) -> Result<StateSet, AfterFault>
         ensures belongs { IfOk result (λ set. Belongs space.new set []) }
-        ensures within { OnOk result (NoLimit (bodies_of space.old.spec.bodies) Opening) }
-        ensures limit { IfErr result (MeetsLimit (bodies_of space.old.spec.bodies) Opening) }
+        ensures within { OnOk result (OpeningMeetsNone space.old.spec) }
+        ensures limit { IfErr result (OpeningMeets space.old.spec) }
         ensures space { GrewFrom space.old space.new }
     {
         space.opening()
     }
 
-    /// The set after this event more. The set is one of this space. None where no trace goes on so. It is refused where
-    /// a level from the event's targets on meets a limit: the first that does so decides, by `Depth` where it holds a
-    /// process that is too deep, else by `States`. What was asked before is remembered.
+    /// The set after this event more. The set is one of this space. None where no trace goes on so. It is refused where the event
+    /// meets a limit: the first level from its targets on that does so decides, as for the empty trace. What was asked before is
+    /// remembered.
     pub fn advance<A: Allocator + Copy>(
         self,
         space: &mut Space<A>,
@@ -72,8 +72,8 @@ impl StateSet {
         // For each trace to which the set belongs.
         ensures none { (u : List Event) → Belongs space.old self u → IfOk result (λ next. IfNone next (Trace (bodies_of space.old.spec.bodies) root (u ++ event ∷ []) → ⊥)) }
         ensures some { (u : List Event) → Belongs space.old self u → IfOk result (λ next. IfSome next (λ set. Trace (bodies_of space.old.spec.bodies) root (u ++ event ∷ []) × Belongs space.new set (u ++ event ∷ []))) }
-        ensures within { (u : List Event) → Belongs space.old self u → OnOk result (NoLimit (bodies_of space.old.spec.bodies) (Advance (bodies_of space.old.spec.bodies) u event)) }
-        ensures limit { (u : List Event) → Belongs space.old self u → IfErr result (MeetsLimit (bodies_of space.old.spec.bodies) (Advance (bodies_of space.old.spec.bodies) u event)) }
+        ensures within { (u : List Event) → Belongs space.old self u → OnOk result (EventMeetsNone space.old.spec u event) }
+        ensures limit { (u : List Event) → Belongs space.old self u → IfErr result (EventMeets space.old.spec u event) }
         ensures space { GrewFrom space.old space.new }
     {
         space.answer(self, event)

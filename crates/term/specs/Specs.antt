@@ -1,4 +1,4 @@
--- What a specification is: its alphabet, and its bodies by number.
+-- What a specification is: its alphabet, its bodies by number, and how sets of states keep names.
 use Rattle.std.specs.Prelude.{ℕ, ◌<◌, List, length, IsTrue}
 use Rattle.std.specs.List.{All}
 use Rattle.std.specs.Coded.{Coded, code_by, coded×, coded_list}
@@ -9,15 +9,19 @@ use Rattle.alphabet.specs.EventSets.{Set, member}
 use Rattle.term.specs.Traces.{Pairs}
 use Rattle.term.specs.Proc.{Proc, stop, skip, prefix, ext, int, seq, par, hide, ren, intr, name}
 use Rattle.term.specs.Codes.{proc_code, channel_code}
+use Rattle.term.specs.declared.names.Names.{Names}
+use Rattle.term.specs.contracts.names.Names as names_type
 
--- A specification: the channels of its alphabet, and its bodies by number.
+-- A specification: the channels of its alphabet, its bodies by number, and how sets of states keep names. Its traces and failures
+-- are those of its alphabet and bodies.
 pub record Specified : Type 0 where
   pub alphabet : List Channel
   pub bodies : List Proc
+  pub names : Names
 
 abbrev pub specified_code : Coded Specified
 specified_code =
-    code_by (List Channel × List Proc) (coded× (coded_list channel_code) (coded_list proc_code)) (λ s. (s.alphabet, s.bodies)) (λ p. record { alphabet = p.0; bodies = p.1 }) (λ _. refl)
+    code_by (List Channel × (List Proc × Names)) (coded× (coded_list channel_code) (coded× (coded_list proc_code) names_type.the_row.coded)) (λ s. (s.alphabet, (s.bodies, s.names))) (λ p. record { alphabet = p.0; bodies = p.1.0; names = p.1.1 }) (λ _. refl)
 
 -- The event is one of the first n: an event of Sigma, where Sigma has n events. Tick isn't one.
 abbrev pub InSigma : ℕ → Event → Type 0

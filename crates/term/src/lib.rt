@@ -2,8 +2,10 @@
 #![tactic(auto)]
 
 pub mod laws;
+mod names;
 mod spec;
 mod terms;
 
+pub use names::Names;
 pub use spec::Spec;
 pub use terms::Term;

@@ -3,18 +3,21 @@
 ghost use Rattle.std.specs.Prelude.{◌≡◌, ◌<◌, length, map};
 ghost use Rattle.term.specs.Proc.{bodies_of, proc};
 ghost use Rattle.term.specs.Specs.{IsClosed, IsProcessOf};
+ghost use Rattle.term.specs.declared.names.Names.TheVariants.{Steps};
 
+use crate::names::Names;
 use crate::terms::Term;
 use alphabet::Alphabet;
 use std::alloc::Allocator;
 use std::marker::Model;
 
-/// A specification: an alphabet, and bodies by number. The root is the name of body 0. Every name in a body has
-/// a body, and every event, set and pair lies in Sigma.
+/// A specification: an alphabet, bodies by number, and how sets of states keep names. The root is the name of body 0. Every name
+/// in a body has a body, and every event, set and pair lies in Sigma.
 #[derive(Drop)]
 pub struct Spec<A: Allocator> {
     alphabet: Alphabet<A>,
     bodies: Vec<Term<A>, A>,
+    names: Names,
 }
 
 impl<A: Allocator> Model for Spec<A> {
@@ -28,20 +31,45 @@ impl<A: Allocator> Model for Spec<A> {
     ghost use Rattle.term.specs.Proc.{proc};
     ghost use Rattle.term.specs.Specs.{IsClosed};
 
-    ghost view = { λ s. record { alphabet = s.alphabet; bodies = map proc s.bodies.items } };
+    ghost view = { λ s. record { alphabet = s.alphabet; bodies = map proc s.bodies.items; names = s.names } };
 
-    ghost invariant = { λ s. IsClosed (record { alphabet = s.alphabet; bodies = map proc s.bodies.items }) };
+    ghost invariant = { λ s. IsClosed (record { alphabet = s.alphabet; bodies = map proc s.bodies.items; names = s.names }) };
 }
 
 impl<A: Allocator> Spec<A> {
     /// The specification of these bodies over this alphabet. There is a body at least, every name in a body has
-    /// a body, and every event, set and pair lies in Sigma.
+    /// a body, and every event, set and pair lies in Sigma. Names stay names.
     pub fn new(alphabet: Alphabet<A>, bodies: Vec<Term<A>, A>) -> Spec<A>
-        requires { IsClosed (record { alphabet = alphabet; bodies = map proc bodies.items }) }
+        requires { IsClosed (record { alphabet = alphabet; bodies = map proc bodies.items; names = Steps }) }
         ensures alphabet { result.alphabet ≡ alphabet }
         ensures bodies { result.bodies ≡ map proc bodies.items }
+        ensures names { result.names ≡ Steps }
     {
-        Spec { alphabet, bodies }
+        Spec {
+            alphabet,
+            bodies,
+            names: Names::Steps,
+        }
+    }
+
+    /// The same specification, whose names are kept so.
+    pub fn with_names(self, names: Names) -> Spec<A>
+        ensures alphabet { result.alphabet ≡ self.alphabet }
+        ensures bodies { result.bodies ≡ self.bodies }
+        ensures names { result.names ≡ names }
+    {
+        Spec {
+            alphabet: self.alphabet,
+            bodies: self.bodies,
+            names,
+        }
+    }
+
+    /// How sets of states keep names.
+    pub fn names(&self) -> Names
+        ensures { result ≡ self.now.names }
+    {
+        self.names
     }
 
     /// The alphabet.

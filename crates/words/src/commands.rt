@@ -21,6 +21,9 @@ Exit status: 0 done, 1 a report was rejected, 2 bad use, 3 the script was refuse
 4 the journal was refused or failed, 5 a file or a stream failed,
 6 a limit was met or memory ran out";
 
+// What the option for large systems does.
+const LARGE_HELP: &str = "Use the limits for large systems: components that rest are one state";
+
 // An example of each command, at the end of its help.
 const CHECK_EXAMPLE: &str = "Example: printf 'E a\\nR a b\\n' | cspwatch check p.csp P";
 
@@ -55,6 +58,11 @@ fn on_process<'a>(
         .arg(word(alloc, "PROCESS", help))
 }
 
+// The option for the limits of large systems.
+fn large_option<'a>(alloc: Global) -> Arg<'a> {
+    flag(alloc, "large", LARGE_HELP)
+}
+
 fn check_command<'a>(alloc: Global) -> Result<Command<'a>, AllocError> {
     on_process(
         alloc,
@@ -62,7 +70,8 @@ fn check_command<'a>(alloc: Global) -> Result<Command<'a>, AllocError> {
         "Judges the reports on standard input, and answers on standard output",
         "The process of the script to judge by",
         CHECK_EXAMPLE,
-    )
+    )?
+    .arg(large_option(alloc))
 }
 
 fn print_command<'a>(alloc: Global) -> Result<Command<'a>, AllocError> {
@@ -148,7 +157,8 @@ fn serve_command<'a>(alloc: Global) -> Result<Command<'a>, AllocError> {
     )?
     .arg(word(alloc, "JOURNAL", "The file of the journal"))?
     .arg(listen_option(alloc))?
-    .arg(connections_option(alloc))
+    .arg(connections_option(alloc))?
+    .arg(large_option(alloc))
 }
 
 // The command with one more below it, where there was memory for that one.
@@ -186,6 +196,7 @@ fn wish_at<'a>(matches: &ArgMatches<'a>, address: SocketAddrV4) -> Option<Wish<'
         journal: matches.get_str("JOURNAL")?,
         listen: matches.get_str("ADDR")?,
         address,
+        large: matches.get_flag("large"),
         connections: Connections::new(matches.get_one::<u8>("N")?)?,
     }))
 }
@@ -242,7 +253,11 @@ fn wish_of<'a>(matches: &ArgMatches<'a>) -> Option<Wish<'a>> {
     let spec = inner.get_str("SPEC")?;
     let process = inner.get_str("PROCESS")?;
     match name {
-        "check" => Some(Wish::Check { spec, process }),
+        "check" => Some(Wish::Check {
+            spec,
+            process,
+            large: inner.get_flag("large"),
+        }),
         "print" => Some(Wish::Print { spec, process }),
         _ => None,
     }

@@ -7,14 +7,27 @@ use std::net::SocketAddrV4;
 /// What the words ask for. The words for a file are its name.
 #[derive(Clone, Copy)]
 pub enum Wish<'a> {
-    /// To judge the reports on standard input by the process of the script in the file `spec`.
-    Check { spec: &'a str, process: &'a str },
+    /// To judge the reports on standard input by the process of the script in the file `spec`, by the limits for large systems where
+    /// `large` says so.
+    Check {
+        spec: &'a str,
+        process: &'a str,
+        large: bool,
+    },
     /// To print what the script in the file `spec` denotes for the process.
-    Print { spec: &'a str, process: &'a str },
+    Print {
+        spec: &'a str,
+        process: &'a str,
+    },
     /// To judge the records of the journal in the file again.
-    Replay { journal: &'a str },
+    Replay {
+        journal: &'a str,
+    },
     /// To print the reports of the journal in the file, and why those that were rejected were.
-    Show { journal: &'a str, options: Options },
+    Show {
+        journal: &'a str,
+        options: Options,
+    },
     /// To judge the reports of connections by the process of the script in the file `spec`, with the journal in its file.
     Serve(Service<'a>),
 }
@@ -32,6 +45,8 @@ pub struct Service<'a> {
     pub listen: &'a str,
     /// The address as it is read.
     pub address: SocketAddrV4,
+    /// Whether the limits are those for large systems.
+    pub large: bool,
     /// How many connections are served.
     pub connections: Connections,
 }

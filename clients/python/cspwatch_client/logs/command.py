@@ -171,14 +171,18 @@ def raise_limit() -> None:
 
 
 def program_for(options: argparse.Namespace, found: Map) -> Optional[Program]:
-    """The program, where the map says what it is to judge by."""
+    """The program, where the map says what it is to judge by. A map that asks for more than it has is at fault."""
     if found.specification is None:
         return None
     name = options.program or os.environ.get("CSPWATCH") or "cspwatch"
     path = shutil.which(name)
     if path is None:
         raise ProgramFault("%s: there is no such program; --program FILE or the variable CSPWATCH says where it is" % name, 5)
-    return program_at(path)
+    program = program_at(path)
+    if found.specification.large and not program.is_large and options.server is None:
+        reason = "this needs `check --large`, which came after cspwatch 0.5.1; %s is %s" % (path, program.version)
+        raise found.fault(("specification", "large"), reason)
+    return program
 
 
 def events_for(found: Map, program: Optional[Program]) -> Optional[Sequence[str]]:

@@ -37,6 +37,8 @@ class Specification:
     script: str
     """The file of the script."""
     process: str
+    large: bool
+    """Whether the program is to be called with `--large`."""
 
 
 @dataclass(frozen=True)
@@ -234,9 +236,10 @@ class Reader:
     def specification(self) -> Optional[Specification]:
         if "specification" not in self.top:
             return None
-        table = Table(self, ("specification",), self.top.found["specification"], ("script", "process"))
+        table = Table(self, ("specification",), self.top.found["specification"], ("script", "process", "large"))
+        large = "large" in table and table.value("large", bool, "true or false") is True
         script = os.path.join(os.path.dirname(self.file), table.text("script"))
-        return Specification(script, table.text("process"))
+        return Specification(script, table.text("process"), large)
 
     def names_of(self, table: Table) -> Dict[str, str]:
         for name, value in table.found.items():

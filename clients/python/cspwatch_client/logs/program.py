@@ -32,22 +32,26 @@ class ProgramFault(Exception):
 
 @dataclass(frozen=True)
 class Program:
-    """A program `cspwatch`, and whether its `check` has the newer option."""
+    """A program `cspwatch`, and which of the newer options its `check` has."""
 
     path: str
+    version: str
     explains: bool
     """Whether `check` has `--explain`."""
+    is_large: bool
+    """Whether `check` has `--large`."""
 
     def check(self, specification: Specification) -> List[str]:
         """The words that start a check."""
-        options = ["--explain"] if self.explains else []
+        options = (["--explain"] if self.explains else []) + (["--large"] if specification.large else [])
         return [self.path, "check", *options, specification.script, specification.process]
 
 
 def program_at(path: str) -> Program:
     """The program, asked once for what it has. `ProgramFault` where it can't be started."""
     told = answer([path, "check", "--help"]).stdout
-    return Program(path, "--explain" in told)
+    version = answer([path, "--version"]).stdout.strip() or "cspwatch"
+    return Program(path, version, "--explain" in told, "--large" in told)
 
 
 def answer(words: Sequence[str]) -> subprocess.CompletedProcess[str]:

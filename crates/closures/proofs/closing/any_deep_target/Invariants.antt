@@ -8,6 +8,6 @@ use Rattle.closures.proofs.closing.any_deep_target.Given as goal
 
 abbrev pub invariant-loop-number : goal.invariant-loop-number
 invariant-loop-number g l = record {
-  same : l.all ≡ l.fn.all;
-  none : HasDeep (TargetOf (bodies_of l.fn.all.bodies) (look l.fn.all.table.processes (take l.number-index l.numbers)) label.Tau) → ⊥;
+  same : l.states ≡ l.fn.states;
+  none : HasDeep (TargetOf (bodies_of l.fn.states.all.bodies) (look l.fn.states.all.table.processes (take l.number-index l.numbers)) label.Tau) → ⊥;
 }

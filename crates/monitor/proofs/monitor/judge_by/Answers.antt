@@ -1,6 +1,5 @@
 use Rattle.std.proofs.Common.{None, refl, ◌∙◌, subst, sym}
 use Rattle.alphabet.specs.declared.events.Report.TheVariants as report
-use Rattle.term.specs.Proc.{bodies_of}
 use Rattle.spaces.proofs.Growing.{grew-same}
 use Rattle.monitor.specs.Monitors.{IsJudgment, MeetsNone, Stops}
 use Rattle.monitor.proofs.Judgments.{judged-event}
@@ -14,10 +13,10 @@ returns-in-Ok-clause-judged g c =
     (judged-event c.args.space.now c.advance.new.space u c.in-Event.event c.is_some.result c.in-Ok.next c.in-Ok.ensures.space c.is_some.ensures (c.in-Ok.ensures.none u b) (c.in-Ok.ensures.some u b)))
 
 pub returns-in-Ok-clause-within : goal.returns-in-Ok-clause-within
-returns-in-Ok-clause-within g c = λ u b. subst (λ r. MeetsNone (bodies_of c.args.space.now.spec.bodies) u r) (sym c.in-Event.is) (c.in-Ok.ensures.within u b)
+returns-in-Ok-clause-within g c = λ u b. subst (λ r. MeetsNone c.args.space.now.spec u r) (sym c.in-Event.is) (c.in-Ok.ensures.within u b)
 
 pub returns-in-Err-clause-limit : goal.returns-in-Err-clause-limit
-returns-in-Err-clause-limit g c = λ u b. subst (λ r. Stops (bodies_of c.args.space.now.spec.bodies) u r c.in-Err.fault) (sym c.in-Event.is) (c.in-Err.ensures.limit u b)
+returns-in-Err-clause-limit g c = λ u b. subst (λ r. Stops c.args.space.now.spec u r c.in-Err.fault) (sym c.in-Event.is) (c.in-Err.ensures.limit u b)
 
 pub returns-in-Refusal-clause-judged : goal.returns-in-Refusal-clause-judged
 returns-in-Refusal-clause-judged g c =

@@ -12,5 +12,5 @@ returns-in-Some-clause-conversed g c =
     let is : items ≡ heard.1 ∷ [] = heard.4 in
     let alone : apart items ≡ true = ap apart is in
     let whole : IsSome c.finish-session.result.1 = c.finish-session.ensures.whole (omega (arith, ap length is, c.requires.ledger.3)) alone in
-    let told = told_alone c.finish-session.result.1 c.finish-session.result.0.history g.N.Naming.opening items heard.1 is c.requires.story.2 whole c.finish-session.ensures.counted c.finish-session.ensures.told in
+    let told = told_alone c.finish-session.result.1 c.finish-session.result.0.history g.N.Naming.opening items heard.1 is c.requires.story.3 whole c.finish-session.ensures.counted c.finish-session.ensures.told in
     conversed g.N.Naming.spec heard.0 heard.1 c.in-Some.talk.tally _ _ _ _ c.in-Some.talk.end c.finish-session.result.0.history heard.2 heard.3 told.0 told.1 heard.5

@@ -1,7 +1,8 @@
 use Rattle.std.proofs.Common.{IfOk, ℕ, List, sym, subst}
-use Rattle.term.specs.Proc.{bodies_of}
 use Rattle.term.specs.Specs.{Specified}
-use Rattle.script.specs.Reading.{IsRead}
+use Rattle.term.specs.declared.names.Names.{Names}
+use Rattle.shared.specs.Records.{names_of}
+use Rattle.shared.specs.Scripts.{IsReadAs}
 use Rattle.shared.specs.Entry.{Entry}
 use Rattle.shared.specs.Legal.{IsJudged}
 use Rattle.shown.specs.Shows.{Writes}
@@ -11,10 +12,11 @@ pub show-requires : goal.show-requires
 show-requires g c =
     let spec = c.args.session.now.spec in
     let read =
-    subst (λ (t : List ℕ). IsRead t c.deref-2.result.now spec) (sym c.deref.ensures.value)
-    (subst (λ (r : List ℕ). IsRead c.args.header.now.script.items r spec) (sym c.deref-2.ensures.value) c.requires) in
-    subst (λ (s : Specified). IsJudged (bodies_of s.bodies) c.history.result.now) (sym (c.in-Ok.ensures.only spec read))
-    (subst (λ (h : List Entry). IsJudged (bodies_of spec.bodies) h) (sym c.history.ensures.entries) c.history.ensures.judged)
+    subst (λ (n : Names). IsReadAs n c.deref.result.now c.deref-2.result.now spec) (sym c.names_of.ensures)
+    (subst (λ (t : List ℕ). IsReadAs (names_of c.args.header.now.version) t c.deref-2.result.now spec) (sym c.deref.ensures.value)
+    (subst (λ (r : List ℕ). IsReadAs (names_of c.args.header.now.version) c.args.header.now.script.items r spec) (sym c.deref-2.ensures.value) c.requires)) in
+    subst (λ (s : Specified). IsJudged s c.history.result.now) (sym (c.in-Ok.ensures.only spec read))
+    (subst (λ (h : List Entry). IsJudged spec h) (sym c.history.ensures.entries) c.history.ensures.judged)
 
 pub returns-in-Ok : goal.returns-in-Ok
 returns-in-Ok g c =
@@ -22,7 +24,8 @@ returns-in-Ok g c =
     let old = g.W.Write.contents c.args.output.now in
     let new = g.W.Write.contents c.show.new.output in
     let read =
-    subst (λ (t : List ℕ). IsRead t c.deref-2.result.now spec) (sym c.deref.ensures.value)
-    (subst (λ (r : List ℕ). IsRead c.args.header.now.script.items r spec) (sym c.deref-2.ensures.value) c.requires) in
+    subst (λ (n : Names). IsReadAs n c.deref.result.now c.deref-2.result.now spec) (sym c.names_of.ensures)
+    (subst (λ (t : List ℕ). IsReadAs (names_of c.args.header.now.version) t c.deref-2.result.now spec) (sym c.deref.ensures.value)
+    (subst (λ (r : List ℕ). IsReadAs (names_of c.args.header.now.version) c.args.header.now.script.items r spec) (sym c.deref-2.ensures.value) c.requires)) in
     subst (λ (s : Specified). IfOk c.show.result (λ left. Writes c.args.options s c.args.session.now.history old new left.items)) (c.in-Ok.ensures.only spec read)
     (subst (λ (h : List Entry). IfOk c.show.result (λ left. Writes c.args.options c.in-Ok.spec h old new left.items)) c.history.ensures.entries c.show.ensures)

@@ -3,6 +3,7 @@ use Rattle.std.proofs.lemmas.Option.{same_Some}
 use Rattle.alphabet.specs.Channels.{Channel}
 use Rattle.term.specs.Proc.{Proc, proc}
 use Rattle.term.specs.Specs.{Specified, IsClosed}
+use Rattle.term.specs.declared.names.Names.TheVariants.{Steps}
 use Rattle.values.specs.Tables.{table}
 use Rattle.declared_names.specs.View.{entries}
 use Rattle.script.specs.Reading.{AreBodies}
@@ -11,20 +12,20 @@ use Rattle.syntax.proofs.Failing.{only_memory}
 use Rattle.script.proofs.reading.specified.Goals as goal
 
 pub returns-in-Err-clause-only : goal.returns-in-Err-clause-only
-returns-in-Err-clause-only g c = λ spec _ a. only_memory c.in-Err.error spec.bodies (c.in-Err.ensures.only spec.bodies a)
+returns-in-Err-clause-only g c = λ spec _ _ a. only_memory c.in-Err.error spec.bodies (c.in-Err.ensures.only spec.bodies a)
 
 pub new-requires : goal.new-requires
 new-requires g c =
     let n = c.args.names in
-    subst (λ (a : List Channel). IsClosed (record { alphabet = a; bodies = map proc c.in-Ok.bodies.items })) (sym c.into_alphabet.ensures) (bodies_closed n.sigma.alphabet (table n.known) (entries n.entries) c.args.root.now (map proc c.in-Ok.bodies.items) c.in-Ok.ensures.found)
+    subst (λ (a : List Channel). IsClosed (record { alphabet = a; bodies = map proc c.in-Ok.bodies.items; names = Steps })) (sym c.into_alphabet.ensures) (bodies_closed n.sigma.alphabet (table n.known) (entries n.entries) c.args.root.now (map proc c.in-Ok.bodies.items) c.in-Ok.ensures.found)
 
 pub returns-in-Ok-clause-found : goal.returns-in-Ok-clause-found
 returns-in-Ok-clause-found g c =
     let n = c.args.names in
-    (c.new.ensures.alphabet ∙ c.into_alphabet.ensures, subst (λ (ps : List Proc). AreBodies n.sigma.alphabet (table n.known) (entries n.entries) c.args.root.now ps) (sym c.new.ensures.bodies) c.in-Ok.ensures.found)
+    (c.new.ensures.alphabet ∙ c.into_alphabet.ensures, c.new.ensures.names, subst (λ (ps : List Proc). AreBodies n.sigma.alphabet (table n.known) (entries n.entries) c.args.root.now ps) (sym c.new.ensures.bodies) c.in-Ok.ensures.found)
 
 pub returns-in-Ok-clause-only : goal.returns-in-Ok-clause-only
-returns-in-Ok-clause-only g c = λ spec same a.
+returns-in-Ok-clause-only g c = λ spec same steps a.
     let alphabets : c.new.result.alphabet ≡ spec.alphabet = c.new.ensures.alphabet ∙ c.into_alphabet.ensures ∙ sym same in
     let bodies : c.new.result.bodies ≡ spec.bodies = c.new.ensures.bodies ∙ sym (same_Some spec.bodies (map proc c.in-Ok.bodies.items) (c.in-Ok.ensures.only spec.bodies a)) in
-    λ i. record { alphabet = alphabets i; bodies = bodies i }
+    λ i. record { alphabet = alphabets i; bodies = bodies i; names = (c.new.ensures.names ∙ sym steps) i }

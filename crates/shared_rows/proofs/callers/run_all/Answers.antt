@@ -14,14 +14,26 @@ map_vec-requires-sync-F g c κs within =
       (
         record { owned = c.legal_crosses.ensures.legal.owned; leaving = c.legal_crosses.ensures.legal.leaving },
         (
-          record { owned = c.crosses.ensures.owned; leaving = λ k x w. search sendable },
+          search sendable,
           (
-            search sendable,
+            record { owned = c.crosses-11.ensures.owned; leaving = λ k x w. search sendable },
             (
-              record { owned = c.crosses-2.ensures.owned; leaving = λ k x w. search sendable },
+              record { owned = c.crosses-10.ensures.owned; leaving = λ k x w. search sendable },
               (
-                record { owned = c.crosses-9.ensures.owned; leaving = λ k x w. search sendable },
-                tt,
+                record { owned = c.crosses.ensures.owned; leaving = λ k x w. search sendable },
+                (
+                  search sendable,
+                  (
+                    record { owned = c.crosses-2.ensures.owned; leaving = λ k x w. search sendable },
+                    (
+                      record { owned = c.crosses-9.ensures.owned; leaving = λ k x w. search sendable },
+                      (
+                        record { owned = c.crosses-9.ensures.owned; leaving = λ k x w. search sendable },
+                        tt,
+                      ),
+                    ),
+                  ),
+                ),
               ),
             ),
           ),

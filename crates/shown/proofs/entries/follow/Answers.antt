@@ -1,7 +1,8 @@
 use Rattle.std.proofs.Common.{◌∙◌}
 use Rattle.term.specs.Proc.{bodies_of}
 use Rattle.term.specs.Verdict.{Verdict}
-use Rattle.shown.proofs.EntryLines.{both_true, moved, refusal_unmoved, report_refused, unmoved}
+use Rattle.history.proofs.Limits.{report_refused}
+use Rattle.shown.proofs.EntryLines.{both_true, moved, refusal_unmoved, unmoved}
 use Rattle.shown.proofs.entries.follow.Goals as goal
 
 pub returns-then-not-entry-clause-trace : goal.returns-then-not-entry-clause-trace
@@ -9,7 +10,7 @@ returns-then-not-entry-clause-trace g c before is = unmoved before c.args.entry.
 
 pub refused-requires : goal.refused-requires
 refused-requires g c =
-    report_refused (bodies_of c.args.monitor.now.spec.bodies) c.args.monitor.now.trace c.args.entry.now.report c.in-Err.fault c.requires.within c.in-Err.ensures.limit
+    report_refused c.args.monitor.now.spec c.args.monitor.now.trace c.args.entry.now.report c.in-Err.fault c.requires.within c.in-Err.ensures.limit
 
 pub returns-in-Ok-clause-trace : goal.returns-in-Ok-clause-trace
 returns-in-Ok-clause-trace g c before is =

@@ -1,7 +1,5 @@
 use Rattle.std.proofs.Common.{subst, sym}
-use Rattle.term.specs.Limits.{NoLimit, Opening}
-use Rattle.term.specs.Proc.{bodies_of}
-use Rattle.term.specs.Specs.{Specified}
+use Rattle.spaces.specs.Limits.{OpeningMeetsNone}
 use Rattle.spaces.specs.Spaces.{Belongs}
 use Rattle.monitor.proofs.monitor.Monitor.new.Goals as goal
 
@@ -9,4 +7,4 @@ pub invariant_of-result : goal.invariant_of-result
 invariant_of-result g c = subst (λ u. Belongs c.start.new.space c.in-Ok.states u) (sym c.new.ensures.items) c.in-Ok.ensures.belongs
 
 pub returns-in-Ok-clause-within : goal.returns-in-Ok-clause-within
-returns-in-Ok-clause-within g c = subst (λ (s : Specified). NoLimit (bodies_of s.bodies) Opening) c.new-space.ensures.spec c.in-Ok.ensures.within
+returns-in-Ok-clause-within g c = subst OpeningMeetsNone c.new-space.ensures.spec c.in-Ok.ensures.within

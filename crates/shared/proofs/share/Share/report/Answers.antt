@@ -56,7 +56,7 @@ returns-in-Ok-clause-answered g c =
 
 pub returns-in-Err-clause-refused : goal.returns-in-Err-clause-refused
 returns-in-Err-clause-refused g c =
-    let B = bodies_of g.N.Naming.spec.bodies in
+    let spec = g.N.Naming.spec in
     let o = g.N.Naming.opening in
     let i = c.self.invariant in
     let f = c.in-Err.fault in
@@ -70,14 +70,14 @@ returns-in-Err-clause-refused g c =
     let number : ℕ = n + 1 in
     let same : now ≡ front = r.err.0 in
     let stays : take n (calls (o ++ now) k) ≡ mine = ap (λ (l : List Entry). take n (calls (o ++ l) k)) same in
-    let why : Explained B (o ++ now) k number c.args.report.now f = subst (λ (l : List Entry). Explained B (o ++ l) k number c.args.report.now f) (sym same) r.why in
-    let told : Answers B (o ++ now) k mine c.args.report.now f = answers B (o ++ now) k number mine c.args.report.now f (omega (arith, count)) why in
+    let why : Explained spec (o ++ now) k number c.args.report.now f = subst (λ (l : List Entry). Explained spec (o ++ l) k number c.args.report.now f) (sym same) r.why in
+    let told : Answers spec (o ++ now) k mine c.args.report.now f = answers spec (o ++ now) k number mine c.args.report.now f (omega (arith, count)) why in
     let from : StartsWith (o ++ now) (o ++ front) = ([], ap (λ (l : List Entry). o ++ l) same ∙ sym (append-nil (o ++ front))) in
     record {
       legal = c.len-legal.ensures.legal;
       begins = subst (λ (l : List Entry). StartsWith (o ++ now) l) (ap (λ (t : SeatView). t.seen) c.self.view_is) from;
       same = stays ∙ ap (λ (t : SeatView). t.mine) c.self.view_is;
-      why = subst (λ (t : SeatView). Answers B (o ++ now) t.seat t.mine c.args.report.now f) c.self.view_is told;
+      why = subst (λ (t : SeatView). Answers spec (o ++ now) t.seat t.mine c.args.report.now f) c.self.view_is told;
       seat = ap (λ (t : SeatView). t.seat) c.self.view_is;
       closed = λ i. c.is_closing.ensures i || ap (λ (t : SeatView). t.closed) c.self.view_is i;
     }

@@ -9,4 +9,4 @@ pub returns-clause-grown : goal.returns-clause-grown
 returns-clause-grown g c =
     let es = c.self.inside.sets.entries in
     subst (λ (f : Found). GrewFrom (shown f) (shown (found c.self.inside.spec c.replace.new.dest es))) c.self.view_is
-    (empty-grew c.self.inside.spec c.self.inside.all c.replace.new.dest es (omega (arith, c.len.ensures.len, c.if-len-gt0.false)))
+    (empty-grew c.self.inside.spec c.self.inside.states c.replace.new.dest es (omega (arith, c.len.ensures.len, c.if-len-gt0.false)))

@@ -22,23 +22,23 @@ module _ (g : _) (c : After-numbers_of g) where
       omega (arith, h, length-map es (λ (x : Vec ℕ g.row.A.Denot × SetFacts g.row.A.Denot). x.0.items))
 
   -- the numbers are those of the set's members
-  listed : look c.self.inside.all.table.processes c.numbers_of.result.now ≡ states (shown c.args.self.now) c.args.set
+  listed : look c.self.inside.states.all.table.processes c.numbers_of.result.now ≡ states (shown c.args.self.now) c.args.set
   listed =
       let es = c.self.inside.sets.entries in
       let w : c.args.set < length (lists_of es) = omega (arith, within, length-map es (λ (x : Vec ℕ g.row.A.Denot × SetFacts g.row.A.Denot). x.0.items)) in
-      ap (look c.self.inside.all.table.processes) c.numbers_of.ensures
-      ∙ sym (shown-at (found c.self.inside.spec c.self.inside.all es) c.args.set w)
+      ap (look c.self.inside.states.all.table.processes) c.numbers_of.ensures
+      ∙ sym (shown-at (found c.self.inside.spec c.self.inside.states es) c.args.set w)
       ∙ ap (λ (f : Found). states (shown f) c.args.set) c.self.view_is
 
-  shallow : AllShallow (look c.self.inside.all.table.processes c.numbers_of.result.now)
+  shallow : AllShallow (look c.self.inside.states.all.table.processes c.numbers_of.result.now)
   shallow =
-      subst (λ (ns : List ℕ). AllShallow (look c.self.inside.all.table.processes ns)) (sym c.numbers_of.ensures)
-      (sound-shallow c.self.inside.spec c.self.inside.sets.entries c.self.inside.all c.self.invariant c.args.set within)
+      subst (λ (ns : List ℕ). AllShallow (look c.self.inside.states.all.table.processes ns)) (sym c.numbers_of.ensures)
+      (sound-shallow c.self.inside.spec c.self.inside.sets.entries c.self.inside.states c.self.invariant c.args.set within)
 
 pub put_from-requires : goal.put_from-requires
 put_from-requires g c =
-    subst (λ (ns : List ℕ). AllBelow (length c.self.inside.all.table.processes) ns) (sym c.numbers_of.ensures)
-    (sound-below c.self.inside.spec c.self.inside.sets.entries c.self.inside.all c.self.invariant c.args.set (within g c))
+    subst (λ (ns : List ℕ). AllBelow (length c.self.inside.states.all.table.processes) ns) (sym c.numbers_of.ensures)
+    (sound-below c.self.inside.spec c.self.inside.sets.entries c.self.inside.states c.self.invariant c.args.set (within g c))
 
 pub returns-clause-below : goal.returns-clause-below
 returns-clause-below g c = below-permuted c.in_ok-list.list.items c.sort_unstable.new.self.items c.sort_unstable.ensures.permutation _ c.in_ok-list.ensures.below
@@ -46,7 +46,7 @@ returns-clause-below g c = below-permuted c.in_ok-list.list.items c.sort_unstabl
 pub returns-clause-shallow : goal.returns-clause-shallow
 returns-clause-shallow g c =
     let a = (goal.at.returns-clause-shallow g c).After-numbers_of in
-    shallow-permuted c.in_ok-list.list.items c.sort_unstable.new.self.items c.sort_unstable.ensures.permutation c.put_from.new.self.table.processes
+    shallow-permuted c.in_ok-list.list.items c.sort_unstable.new.self.items c.sort_unstable.ensures.permutation c.put_from.new.self.all.table.processes
     (subst AllShallow (sym c.in_ok-list.ensures.same) (shallow g a))
 
 pub returns-clause-same : goal.returns-clause-same
@@ -54,5 +54,5 @@ returns-clause-same g c =
     let a = (goal.at.returns-clause-same g c).After-numbers_of in
     let ns = c.in_ok-list.list.items in
     let ms = c.sort_unstable.new.self.items in
-    let ps = c.put_from.new.self.table.processes in
+    let ps = c.put_from.new.self.all.table.processes in
     λ Q. subst (λ (l : List Proc). In Q (look ps ms) ↔ In Q l) (c.in_ok-list.ensures.same ∙ listed g a) (look-permuted ns ms c.sort_unstable.ensures.permutation ps Q)

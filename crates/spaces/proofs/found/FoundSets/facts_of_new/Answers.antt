@@ -3,17 +3,21 @@ use Rattle.std.proofs.lemmas.List.{length-map}
 use Rattle.std.proofs.lemmas.Result.{IfOk-weaker}
 use Rattle.std.specs.declared.vec.Vec.{Vec}
 use Rattle.closures.specs.Looks.{look, AllBelow}
+use Rattle.closures.specs.Numbered.{Numbered}
 use Rattle.spaces.specs.declared.facts.SetFacts.{SetFacts}
 use Rattle.spaces.specs.Found.{Found}
 use Rattle.spaces.specs.Known.{AreFactsOf}
 use Rattle.spaces.proofs.found.FoundSets.facts_of_new.Goals as goal
 
 pub facts_of-requires : goal.facts_of-requires
-facts_of-requires g c = subst (λ (f : Found). AllBelow (length f.table.processes) c.args.numbers.now) (sym c.self.view_is) c.requires
+facts_of-requires g c =
+    subst (λ (a : Numbered). AllBelow (length a.table.processes) c.args.numbers.now) (sym c.all.ensures)
+    (subst (λ (f : Found). AllBelow (length f.table.processes) c.args.numbers.now) (sym c.self.view_is) c.requires)
 
 pub returns-clause-facts : goal.returns-clause-facts
 returns-clause-facts g c =
-    subst (λ (f : Found). IfOk c.facts_of.result (λ (facts : SetFacts g.row.A.Denot). AreFactsOf facts (look f.table.processes c.args.numbers.now))) c.self.view_is c.facts_of.ensures
+    subst (λ (f : Found). IfOk c.facts_of.result (λ (facts : SetFacts g.row.A.Denot). AreFactsOf facts (look f.table.processes c.args.numbers.now))) c.self.view_is
+    (subst (λ (a : Numbered). IfOk c.facts_of.result (λ (facts : SetFacts g.row.A.Denot). AreFactsOf facts (look a.table.processes c.args.numbers.now))) c.all.ensures c.facts_of.ensures)
 
 pub returns-clause-few : goal.returns-clause-few
 returns-clause-few g c =

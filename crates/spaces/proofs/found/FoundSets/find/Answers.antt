@@ -1,47 +1,44 @@
-use Rattle.std.proofs.Common.{◌∙◌, sym, subst, length, refl}
-use Rattle.term.specs.Proc.{bodies_of}
-use Rattle.term.specs.Specs.{Specified}
-use Rattle.closures.specs.Looks.{look}
-use Rattle.closures.specs.Belonging.{MeetsLimit}
-use Rattle.closures.specs.Closing.{Among}
+use Rattle.std.proofs.Common.{◌∷◌, ◌++◌, [], Option, IfNone, IfSome, ℕ, length, subst}
+use Rattle.std.specs.declared.vec.Vec.{Vec}
+use Rattle.term.specs.Meaning.{Trace}
+use Rattle.term.specs.Proc.{bodies_of, root}
+use Rattle.closures.specs.Closing.{AllShallow}
+use Rattle.closures.specs.KeptBelonging.{KeptBelongs}
+use Rattle.closures.specs.Looks.{look, AllBelow}
+use Rattle.closures.specs.Unfolding.{unfolding_depth}
 use Rattle.spaces.specs.Found.{shown}
-use Rattle.spaces.proofs.Answering.{answer-none, answer-some, limit-after, limit-at, no-number, some-number}
-use Rattle.spaces.proofs.Growing.{cut-on, grew-on}
+use Rattle.spaces.proofs.Answering.{answer-none, answer-some}
+use Rattle.spaces.proofs.Growing.{grew-on}
 use Rattle.spaces.proofs.found.FoundSets.find.Goals as goal
 
-pub returns-in-Err-clause-limit : goal.returns-in-Err-clause-limit
-returns-in-Err-clause-limit g c = λ u b. limit-at (shown c.args.self.now) c.args.set c.args.event u b c.in-Err.fault c.in-Err.ensures.limit
+pub returns-in-Ok-None-clause-answer : goal.returns-in-Ok-None-clause-answer
+returns-in-Ok-None-clause-answer g c =
+    answer-none (shown c.args.self.now) (shown c.states_after.new.self) c.in-Ok-None.ensures.grown c.args.set c.requires.1.within c.args.event c.in-Ok-None.ensures.within
+    (λ u b. subst (λ (o : Option (Vec ℕ g.row.A.Denot)). IfNone o (Trace (bodies_of c.args.self.now.spec.bodies) root (u ++ c.args.event ∷ []) → ⊥)) c.in-Ok-None.field-0-is (c.in-Ok-None.ensures.none u b))
 
-pub returns-then-is_empty-clause-answer : goal.returns-then-is_empty-clause-answer
-returns-then-is_empty-clause-answer g c =
+pub put-requires-clause-below : goal.put-requires-clause-below
+put-requires-clause-below g c =
+    subst (λ (o : Option (Vec ℕ g.row.A.Denot)). IfSome o (λ list. AllBelow (length c.states_after.new.self.table.processes) list.items)) c.in-Ok-Some.field-0-is c.in-Ok-Some.ensures.below
+
+pub put-requires-clause-shallow : goal.put-requires-clause-shallow
+put-requires-clause-shallow g c =
+    subst (λ (o : Option (Vec ℕ g.row.A.Denot)). IfSome o (λ list. AllShallow (look c.states_after.new.self.table.processes list.items))) c.in-Ok-Some.field-0-is c.in-Ok-Some.ensures.shallow
+
+pub returns-in_err-next-clause-grown : goal.returns-in_err-next-clause-grown
+returns-in_err-next-clause-grown g c = grew-on (shown c.args.self.now) (shown c.states_after.new.self) (shown c.put.new.self) c.in-Ok-Some.ensures.grown c.put.ensures.grown
+
+pub returns-clause-answer : goal.returns-clause-answer
+returns-clause-answer g c =
     let s = shown c.args.self.now in
-    let t = shown c.level_after.new.self in
-    let qs = c.level_after.new.self.table.processes in
-    let first = look qs c.in-Ok.first in
-    let cut = cut-on s t c.in-Ok.ensures.grown c.args.set c.args.event first c.requires.1.within c.in-Ok.ensures.cut in
-    answer-none t c.args.set c.args.event first cut c.in-Ok.ensures.opens.few (no-number qs c.in-Ok.first (length c.in-Ok.first) refl (sym c.is_empty.ensures ∙ c.if-is_empty.true))
+    let m = shown c.states_after.new.self in
+    let t = shown c.put.new.self in
+    let spec = c.args.self.now.spec in
+    let qs = c.states_after.new.self.table.processes in
+    answer-some s t (grew-on s m t c.in-Ok-Some.ensures.grown c.put.ensures.grown) c.args.set c.requires.1.within c.args.event c.in-Ok-Some.ensures.within
+    (look qs c.in-Ok-Some.next.items) c.in_ok-next.next c.in_ok-next.ensures.set
+    (λ u b.
+    subst (λ (o : Option (Vec ℕ g.row.A.Denot)). IfSome o (λ list. Trace (bodies_of spec.bodies) root (u ++ c.args.event ∷ []) × KeptBelongs spec (unfolding_depth spec) (look qs list.items) (u ++ c.args.event ∷ []))) c.in-Ok-Some.field-0-is
+    (c.in-Ok-Some.ensures.some u b))
 
-pub returns-in-Ok-closed_set-clause-answer : goal.returns-in-Ok-closed_set-clause-answer
-returns-in-Ok-closed_set-clause-answer g c =
-    let s = shown c.args.self.now in
-    let t = shown c.level_after.new.self in
-    let u = shown c.closed_set.new.self in
-    let qs = c.level_after.new.self.table.processes in
-    let first = look qs c.in-Ok.first in
-    let grown = grew-on s t u c.in-Ok.ensures.grown c.in-Ok-closed_set.ensures.grown in
-    let cut = cut-on s u grown c.args.set c.args.event first c.requires.1.within c.in-Ok.ensures.cut in
-    let (Q, i) = some-number qs c.in-Ok.first (length c.in-Ok.first) refl (sym c.is_empty.ensures ∙ c.if-is_empty.false) in
-    answer-some u c.args.set c.args.event first cut c.in-Ok.ensures.opens.few c.in-Ok-closed_set.next Q i c.in-Ok-closed_set.ensures.set
-
-pub returns-in-Ok-closed_set-clause-grown : goal.returns-in-Ok-closed_set-clause-grown
-returns-in-Ok-closed_set-clause-grown g c = grew-on (shown c.args.self.now) (shown c.level_after.new.self) (shown c.closed_set.new.self) c.in-Ok.ensures.grown c.in-Ok-closed_set.ensures.grown
-
-pub returns-in-Err-closed_set-clause-limit : goal.returns-in-Err-closed_set-clause-limit
-returns-in-Err-closed_set-clause-limit g c =
-    λ u b.
-    let first = look c.level_after.new.self.table.processes c.in-Ok.first in
-    limit-after (shown c.args.self.now) c.args.set c.args.event first c.in-Ok.ensures.cut c.in-Ok.ensures.opens.few u b c.in-Err-closed_set.fault
-    (subst (λ (p : Specified). MeetsLimit (bodies_of p.bodies) (Among first) c.in-Err-closed_set.fault) c.in-Ok.ensures.grown.spec c.in-Err-closed_set.ensures.limit)
-
-pub returns-in-Err-closed_set-clause-grown : goal.returns-in-Err-closed_set-clause-grown
-returns-in-Err-closed_set-clause-grown g c = grew-on (shown c.args.self.now) (shown c.level_after.new.self) (shown c.closed_set.new.self) c.in-Ok.ensures.grown c.in-Err-closed_set.ensures.grown
+pub returns-clause-grown : goal.returns-clause-grown
+returns-clause-grown g c = grew-on (shown c.args.self.now) (shown c.states_after.new.self) (shown c.put.new.self) c.in-Ok-Some.ensures.grown c.put.ensures.grown

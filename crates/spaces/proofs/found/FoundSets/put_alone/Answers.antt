@@ -10,5 +10,5 @@ returns-clause-one g c = ap length c.in_ok-put_list.ensures.list
 
 pub returns-clause-same : goal.returns-clause-same
 returns-clause-same g c = λ Q.
-    subst (λ (ns : List ℕ). In Q (look c.copies.new.all.table.processes ns) ↔ In Q (states (shown c.args.self.now) c.args.set))
+    subst (λ (ns : List ℕ). In Q (look c.copies.new.into.all.table.processes ns) ↔ In Q (states (shown c.args.self.now) c.args.set))
     (sym (ap (λ l. get_or l 0 []) c.in_ok-put_list.ensures.list)) (c.in_ok-list.ensures.same Q)

@@ -12,7 +12,7 @@ returns-in-Some-clause-found g c =
     let here = found-list c.self.inside.sets.entries ns k (sym c.get_index_of.ensures.index ∙ c.in-Some.is) in
     subst (λ (n : ℕ). HasList (shown c.args.self.now) (look c.args.self.now.table.processes ns) n) (sym c.at.ensures)
     (subst (λ (f : Found). HasList (shown f) (look f.table.processes ns) k) c.self.view_is
-    (has-list (found c.self.inside.spec c.self.inside.all c.self.inside.sets.entries) ns k here.0 here.1))
+    (has-list (found c.self.inside.spec c.self.inside.states c.self.inside.sets.entries) ns k here.0 here.1))
 
 pub returns-in-None-clause-absent : goal.returns-in-None-clause-absent
 returns-in-None-clause-absent g c =

@@ -1,7 +1,5 @@
 use Rattle.std.proofs.Common.{IfErr, sym, subst}
-use Rattle.term.specs.Limits.{Advance}
-use Rattle.term.specs.Proc.{bodies_of}
-use Rattle.closures.specs.Belonging.{MeetsLimit}
+use Rattle.closures.specs.Limits.{EventMeets}
 use Rattle.spaces.specs.Found.{shown}
 use Rattle.spaces.specs.Spaces.{Spaced, Belongs}
 use Rattle.spaces.proofs.Growing.{memory-on}
@@ -12,5 +10,5 @@ invariant_of-self g c = memory-on (shown c.self.inside.found) (shown c.find.new.
 
 pub returns-clause-limit : goal.returns-clause-limit
 returns-clause-limit g c = λ u b.
-    subst (λ (s : Spaced). IfErr c.find.result (MeetsLimit (bodies_of s.spec.bodies) (Advance (bodies_of s.spec.bodies) u c.args.event))) c.self.view_is
+    subst (λ (s : Spaced). IfErr c.find.result (EventMeets s.spec u c.args.event)) c.self.view_is
     (c.find.ensures.limit u (subst (λ (s : Spaced). Belongs s c.args.set u) (sym c.self.view_is) b))

@@ -1,7 +1,8 @@
 use Rattle.std.proofs.Common.{arith}
 use Rattle.alphabet.specs.EventSets.{member}
 use Rattle.term.specs.Proc.{bodies_of}
-use Rattle.closures.proofs.Belongings.{refuses-failure}
+use Rattle.closures.proofs.KeptBelongings.{kept-refuses-failure}
+use Rattle.closures.specs.Unfolding.{unfolding_depth}
 use Rattle.spaces.specs.Spaces.{states}
 use Rattle.spaces.proofs.states.StateSet.refuses.Goals as goal
 
@@ -9,7 +10,7 @@ pub returns-in-Some : goal.returns-in-Some
 returns-in-Some g c =
     λ u b.
     let s = c.args.space.now in
-    let t = refuses-failure s.spec u (states s c.args.self) b.exact (member c.args.set.now) in
+    let t = kept-refuses-failure s.spec (unfolding_depth s.spec) u (states s c.args.self) b.exact (member c.args.set.now) in
     let n = c.refuse.ensures (states s c.args.self) (bodies_of s.spec.bodies) c.in-Some.ensures.known in
     ((λ h. t.0 (n.0 h)), (λ h. n.1 (t.1 h)))
 
