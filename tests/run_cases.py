@@ -23,10 +23,11 @@ sys.dont_write_bytecode = True
 import large  # noqa: E402
 import row_sweeps  # noqa: E402
 import serve_cases  # noqa: E402
-from contents import bounded, lines, octets, shallow, shown  # noqa: E402
+from contents import bounded, brief, lines, octets, shallow, shown  # noqa: E402
 
 HERE = os.path.dirname(os.path.abspath(__file__))
 PROGRAM = os.path.join(os.path.dirname(HERE), "crates", "cspwatch", "out", "cspwatch")
+RELEASED = os.path.join(os.path.dirname(HERE), "dist", "cspwatch")
 EXAMPLES = os.path.join(os.path.dirname(HERE), "examples")
 SECONDS = 120
 
@@ -103,6 +104,8 @@ def run(case, program, folder):
         command = bounded(case["output_bytes"], command)
     if "stack_bytes" in case:
         command = shallow(case["stack_bytes"], command)
+    if "processor_seconds" in case:
+        command = brief(case["processor_seconds"], command)
     ends = {**input_of(case), **output_of(case)}
     try:
         done = subprocess.run(command, cwd=folder, timeout=case.get("seconds", SECONDS), stderr=subprocess.PIPE, **ends)
@@ -161,6 +164,11 @@ def chosen(cases, program, with_word):
     asked = [(name, case) for name, case in cases if known or not large.has_word(case)]
     if len(asked) < len(cases):
         print("left out: %d cases with --large, which this program doesn't know" % (len(cases) - len(asked)))
+    if os.path.realpath(program) == os.path.realpath(RELEASED):
+        later = [name for name, case in asked if case.get("unreleased")]
+        asked = [(name, case) for name, case in asked if not case.get("unreleased")]
+        if later:
+            print("left out: %d cases of what came after the release" % len(later))
     return asked
 
 
