@@ -120,4 +120,5 @@ def main():
                 row("on a disk, 1 connection, %d lines, %s:" % (options.records, how), options.records, times, peer)
 
 
-main()
+if __name__ == "__main__":
+    main()

@@ -48,7 +48,8 @@ enum cspwatch_result {
     CSPWATCH_NOT_CONNECTED
 };
 
-/* The codes of faults. A later server may have more. */
+/* The codes of faults. A later server may have more. CSPWATCH_FAULT_BEHIND is a code of sessions, and no server
+ * answers it. */
 enum {
     CSPWATCH_FAULT_COMMAND = 10,
     CSPWATCH_FAULT_EVENT = 11,

@@ -42,7 +42,7 @@ class Status:
 
 
 class FaultCode(IntEnum):
-    """The codes of `ERR` replies. A later server may have more."""
+    """The codes of `ERR` replies. A later server may have more. `BEHIND` is a code of sessions, and no server answers it."""
 
     COMMAND = 10
     EVENT = 11
