@@ -27,8 +27,8 @@ def is_known(program):
 
 
 def has_word(case):
-    """Whether the case, which may have several runs, has the word or a journal that was made with it."""
-    if WORD in case.get("args", []) or case.get("serve", {}).get("large", False):
+    """Whether the case, which may have several runs, has the word, a journal that was made with it, or a help text that names it."""
+    if WORD in case.get("args", []) or case.get("large", False) or case.get("serve", {}).get("large", False):
         return True
     return any(octets(file).startswith(JOURNAL) for file in case.get("files", {}).values()) or any(has_word(run) for run in case.get("runs", []))
 
@@ -42,7 +42,7 @@ def meets_limit(case):
 def with_word(case):
     """The case of `check` with the word; None of another command, of one that has the word, and of one that meets a limit."""
     words = case.get("args", ["check", "p.csp", case.get("process", "P")])
-    if "runs" in case or words[:1] != ["check"] or has_word(case) or meets_limit(case):
+    if "runs" in case or words[:1] != ["check"] or WORD in words or meets_limit(case):
         return None
     return {**case, "args": ["check", WORD] + words[1:]}
 
