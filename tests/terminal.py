@@ -53,6 +53,7 @@ MANY = "        more than 4,096 states at once"
 MANY_SO_FAR = MANY + "; with --large, components that rest are one state"
 OTHER = "        the journal is of another script or process, or it was made the other way, with or without --large"
 TWO = b"cspwatch journal 2\nroot P\nscript 24\n" + GOOD + b"\n."
+TWO_OF_MORE = b"cspwatch journal 2\nroot P\nscript 33\n" + GOOD + b"Q = STOP\n\n."
 LARGE = b"cspwatch large journal 1\nroot P\npart 1\nbefore 0\nprevious -\nscript 24\n" + GOOD + b"\n."
 
 # The same for a program that knows `--large`; in place of the script there may be all files by their names.
@@ -67,7 +68,8 @@ ROWS_WITH_LARGE = [
     ("a state that is too deep with --large", ["check", "--large", "p.csp", "P"], GROWING, ["p.csp: 20 depth"], [DEEP], 6),
     ("a large journal without --large", SERVE + ["1"], {"p.csp": GOOD, "j": LARGE}, ["j: 54 specification"], [OTHER], 4),
     ("a journal of version 2 with --large", SERVE + ["1", "--large"], {"p.csp": GOOD, "j": TWO}, ["j: 54 specification"], [OTHER], 4),
-    ("a journal of another process", SERVE + ["1"], {"p.csp": GOOD, "j": TWO.replace(b"root P", b"root Q")}, ["j: 54 specification"], [OTHER], 4),
+    ("a journal of another process", SERVE[:2] + ["Q"] + SERVE[3:] + ["1"], {"p.csp": GOOD + b"Q = STOP\n", "j": TWO_OF_MORE},
+     ["j: 54 specification"], [OTHER], 4),
     ("a fault of the script with --large", ["check", "--large", "p.csp", "P"], UNDECLARED,
      ["p.csp:2: 4 unknown"], ["    2 | P = a -> Q", UNKNOWN], 3),
     ("an example of the command where --large has a value", ["check", "--large=yes", "p.csp", "P"], GOOD, None,
