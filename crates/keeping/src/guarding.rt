@@ -30,7 +30,7 @@ pub(crate) struct Guarding<A: Allocator> {
 
 impl<A: Allocator> Model for Guarding<A> {
     ghost use Rattle.keeping.specs.Kept.{AreStanding};
-ghost use Rattle.keeping.specs.Guarding.{AreFound, Guarding, guarding_code};
+    ghost use Rattle.keeping.specs.Guarding.{AreFound, Guarding, guarding_code};
 
     ghost Value = { Guarding };
 
@@ -61,10 +61,7 @@ impl<A: Allocator + Copy> Guarding<A> {
     }
 
     /// The processes, and the numbers of what stands for the names.
-    pub(crate) fn into_parts<B: Allocator>(
-        self,
-        spec: &Spec<B>,
-    ) -> (Transitions<A>, Vec<u32, A>)
+    pub(crate) fn into_parts<B: Allocator>(self, spec: &Spec<B>) -> (Transitions<A>, Vec<u32, A>)
         requires bodies { self.all.bodies ≡ spec.now.bodies }
         requires count { length self.guards ≡ length spec.now.bodies }
         requires settled { IsSettled self }
