@@ -12,6 +12,7 @@ import re
 import shutil
 import subprocess
 
+import large
 import pytest
 
 ROOT = os.path.dirname(os.path.dirname(os.path.abspath(__file__)))
@@ -28,7 +29,10 @@ LINES = [
     (["check", "p.csp", ""], {"P", "Q'"}),
     (["serve", "--listen", "127.0.0.1:4070", "p.csp", ""], {"P", "Q'"}),
     (["serve", "p.csp", "P", ""], {"p.csp"}),
-    (["serve", "p.csp", "P", "j", "--"], {"--listen", "--connections"}),
+    (["serve", "p.csp", "P", "j", "--"], {"--listen", "--connections", "--large"}),
+    (["check", "--l"], {"--large"}),
+    (["check", "--large", "p.csp", ""], {"P", "Q'"}),
+    (["serve", "--large", ""], {"p.csp"}),
     (["show", "--format", ""], {"text", "json"}),
     (["show", "--r"], {"--rejected"}),
 ]
@@ -103,8 +107,10 @@ def has_word(text, word):
 
 @pytest.fixture(scope="session")
 def helped(program):
-    """The commands, options and operands of all help texts."""
+    """The commands, options and operands of all help texts, with `--large`, which the program of the last release may not know."""
     commands, options, operands = shown(program)
+    if not large.is_known(program):
+        options.add(large.WORD)
     assert commands and options and operands
     return commands, options, operands
 
