@@ -13,7 +13,6 @@ import argparse
 import functools
 import os
 import statistics
-import subprocess
 import tempfile
 
 import serve_speed

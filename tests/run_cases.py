@@ -23,7 +23,7 @@ sys.dont_write_bytecode = True
 import large  # noqa: E402
 import row_sweeps  # noqa: E402
 import serve_cases  # noqa: E402
-from contents import bounded, lines, octets, shallow, shown  # noqa: E402
+from contents import bounded, brief, lines, octets, shallow, shown  # noqa: E402
 
 HERE = os.path.dirname(os.path.abspath(__file__))
 PROGRAM = os.path.join(os.path.dirname(HERE), "crates", "cspwatch", "out", "cspwatch")
@@ -104,6 +104,8 @@ def run(case, program, folder):
         command = bounded(case["output_bytes"], command)
     if "stack_bytes" in case:
         command = shallow(case["stack_bytes"], command)
+    if "processor_seconds" in case:
+        command = brief(case["processor_seconds"], command)
     ends = {**input_of(case), **output_of(case)}
     try:
         done = subprocess.run(command, cwd=folder, timeout=case.get("seconds", SECONDS), stderr=subprocess.PIPE, **ends)
