@@ -19,10 +19,7 @@ use std::sync::Wait;
 use wire::{Fault, Receipt};
 
 // Adds an answer, for which there is room.
-fn add<B: Allocator>(
-    answers: &mut Vec<Result<Receipt, Fault>, B>,
-    answer: Result<Receipt, Fault>,
-)
+fn add<B: Allocator>(answers: &mut Vec<Result<Receipt, Fault>, B>, answer: Result<Receipt, Fault>)
     requires { vec_len answers.old < vec_capacity answers.old }
     ensures items { answers.new.items ≡ answers.old.items ++ answer ∷ [] }
     ensures len { vec_len answers.new ≡ vec_len answers.old + 1 }

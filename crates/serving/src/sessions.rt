@@ -202,9 +202,14 @@ fn over_seats<
         alphabet,
         mut endings,
     } = room;
-    let Ok(shared) =
-        Shared::<D, Global, N>::new(rt, alloc, session, opened, blank, u64::from(count))
-    else {
+    let Ok(shared) = Shared::<D, Global, N>::new(
+        rt,
+        alloc,
+        session,
+        opened,
+        blank,
+        u64::from(count),
+    ) else {
         drop(alphabet);
         return Err((AllocError, accept));
     };

@@ -124,6 +124,7 @@ one_came spec old new r v (suc m) place None c =
     last : (m : ℕ) (one mid : SeatView) → AllAnswered (bodies_of spec.bodies) one (take m []) (take m []) (place + 1) mid → mid ≡ one
     last zero one mid a = a
     last (suc m) one mid a = a
+
     ended : (m : ℕ) (mid : SeatView) → Ends spec mid (drop m []) None new → new ≡ mid
     ended zero mid e = e
     ended (suc m) mid e = e
