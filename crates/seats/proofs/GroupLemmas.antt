@@ -1,12 +1,12 @@
 -- What some reports of a seat come to, as answers of a judge.
-use Rattle.std.proofs.Common.{◌≡◌, ℕ, zero, suc, ◌+◌, Bool, Option, None, Some, Result, Ok, Err, List, [], ◌∷◌, ◌++◌, take, drop, refl, sym, ap, ◌∙◌, subst, arith, append_assoc}
-use Rattle.std.proofs.lemmas.List.{append-nil}
+use Rattle.std.proofs.Common.{◌≡◌, ℕ, zero, suc, ◌+◌, ◌≤◌, Bool, Option, None, Some, Result, Err, List, [], ◌∷◌, ◌++◌, length, take, drop, refl, sym, ap, ◌∙◌, subst, arith, add-one}
+use Rattle.std.specs.List.{AllByRecursion}
 use Rattle.alphabet.specs.declared.events.Report.{Report}
 use Rattle.term.specs.Proc.{bodies_of}
 use Rattle.term.specs.Specs.{Specified}
 use Rattle.shared.specs.Fault.{Fault as SessionFault}
 use Rattle.shared.specs.View.{SeatView}
-use Rattle.shared.specs.Seats.{Answered, Refused}
+use Rattle.shared.specs.Seats.{Refused}
 use Rattle.shared.specs.Turns.{AllAnswered, CameTo, Ends}
 use Rattle.wire.specs.Groups.{AllReported}
 use Rattle.wire.specs.declared.answers.Receipt.{Receipt}
@@ -34,11 +34,26 @@ all_reported spec old new reports vs count place None none c =
     by [] e = e
     by (r ∷ left) e = absurd e
 
+-- a front of a longer front
+pub take_within : {X : Type 0} (i n : ℕ) (xs : List X) → i ≤ length (take n xs) → take i (take n xs) ≡ take i xs
+take_within zero n xs le = refl
+take_within (suc i) zero xs le = absurd (omega (arith, le))
+take_within (suc i) (suc n) [] le = refl
+take_within (suc i) (suc n) (x ∷ xs) le = ap (λ l. x ∷ l) (take_within i n xs (omega (arith, le)))
+
+take_suc : (count : ℕ) (reports rest : List Report) (r : Report) → drop count reports ≡ r ∷ rest → take (suc count) reports ≡ take count reports ++ r ∷ []
+take_suc zero [] rest r is = absurd (let no : ⊥ = cc (is) in no)
+take_suc zero (q ∷ reports) rest r is = let same : q ≡ r = cc (is) in ap (λ (x : Report). x ∷ []) same
+take_suc (suc n) [] rest r is = absurd (let no : ⊥ = cc (is) in no)
+take_suc (suc n) (q ∷ reports) rest r is = ap (λ l. q ∷ l) (take_suc n reports rest r is)
+
 take_next : (count : ℕ) (reports rest : List Report) (r : Report) → drop count reports ≡ r ∷ rest → take (count + 1) reports ≡ take count reports ++ r ∷ []
-take_next zero [] rest r is = absurd (let no : ⊥ = cc (is) in no)
-take_next zero (q ∷ reports) rest r is = let same : q ≡ r = cc (is) in ap (λ (x : Report). x ∷ []) same
-take_next (suc n) [] rest r is = absurd (let no : ⊥ = cc (is) in no)
-take_next (suc n) (q ∷ reports) rest r is = ap (λ l. q ∷ l) (take_next n reports rest r is)
+take_next count reports rest r is = ap (λ n. take n reports) (add-one count) ∙ take_suc count reports rest r is
+
+-- what holds of all holds of those after a front
+pub all_after : {X : Type 0} (P : X → Type 0) (xs ys : List X) → AllByRecursion P (xs ++ ys) → AllByRecursion P ys
+all_after P [] ys all = all
+all_after P (x ∷ xs) ys (one, all) = all_after P xs ys all
 
 -- the next report is refused
 pub part_reported : (spec : Specified) (old new : SeatView) (reports : List Report) (vs : List Bool) (count place : ℕ) (fault : Option SessionFault) (f : SessionFault) → fault ≡ Some f
@@ -76,3 +91,9 @@ reported_at view put law P r (q ∷ rs) (x ∷ xs) j k (mid, one, others) =
       subst (λ v. P (view j) r x v) (sym here) one,
       reported_at view put law P q rs xs (put j mid) k (subst (λ v. AllReported P v (q ∷ rs) xs (view k)) (sym here) others),
     )
+
+-- the same, where there was some report
+pub reported_by : {J V : Type 0} (view : J → V) (put : J → V → J) (law : (j : J) (v : V) → view (put j v) ≡ v) (P : V → Report → Result Receipt Fault → V → Type 0)
+    (rs : List Report) (xs : List (Result Receipt Fault)) (j k : J) → (rs ≡ [] → ⊥) → AllReported P (view j) rs xs (view k) → AllReported (λ i q x l. P (view i) q x (view l)) j rs xs k
+reported_by view put law P [] xs j k some all = absurd (some refl)
+reported_by view put law P (r ∷ rs) xs j k some all = reported_at view put law P r rs xs j k all

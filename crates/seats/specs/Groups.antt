@@ -1,5 +1,5 @@
 -- The answers to some reports of a seat.
-use Rattle.std.specs.Prelude.{ℕ, ◌+◌, List, [], ◌∷◌, Bool, Result, Ok, Err}
+use Rattle.std.specs.Prelude.{ℕ, ◌+◌, List, [], ◌∷◌, Bool, Result, Ok}
 use Rattle.wire.specs.declared.answers.Receipt.{Receipt}
 use Rattle.wire.specs.declared.answers.Fault.{Fault}
 

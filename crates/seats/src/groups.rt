@@ -10,10 +10,10 @@ ghost use Rattle.seats.specs.Judges.{Reports};
 ghost use Rattle.seats.specs.Groups.{receipts_of};
 
 use crate::faults::reported;
+use crate::judge::SeatJudge;
 use alphabet::Report;
 use disk::Disk;
-use left_right::Absorb;
-use shared::{Board, GROUP, Naming, Seat, Summary};
+use shared::{GROUP, Naming};
 use std::alloc::Allocator;
 use std::sync::Wait;
 use wire::{Fault, Receipt};
@@ -58,35 +58,34 @@ fn add_receipts<B: Allocator>(
     }
 }
 
-/// Reports in one turn of the seat, up to the first that is refused, and adds the answers, for which there is room. The result is how many
-/// they are.
-pub(crate) fn report_some<D: Disk, A: Allocator + Copy, N: Naming, R: Wait, B: Allocator>(
-    rt: &R,
-    seat: &mut Seat<'_, D, A, N>,
-    reports: &[Report],
-    answers: &mut Vec<Result<Receipt, Fault>, B>,
-) -> usize
-where
-    Board<N, A>: Absorb<Summary, State = Summary>,
-    requires below { AllByRecursion (IsReportBelow (event_count N.spec.alphabet)) reports.now }
-    requires some { 0 < length reports.now }
-    requires room { vec_len answers.old + length reports.now ≤ vec_capacity answers.old }
-    ensures count { (0 < result) × (result ≤ length reports.now) }
-    ensures answered { (more : List (Result Receipt Fault)) × (answers.new.items ≡ answers.old.items ++ more)
-        × AllReported (Reports N.spec) seat.old.share (take result reports.now) more seat.new.share }
-    ensures len { vec_len answers.new ≡ vec_len answers.old + result }
-    ensures room { vec_capacity answers.old ≤ vec_capacity answers.new }
-{
-    let mut verdicts = [false; GROUP];
-    let some = &reports[..reports.len().min(GROUP)];
-    let round = seat.turn(rt, some, &mut verdicts);
-    let count = round.count as usize;
-    add_receipts(answers, &verdicts[..count], round.place);
-    match round.fault {
-        Some(fault) => {
-            add(answers, Err(reported(fault)));
-            count + 1
+impl<D: Disk, A: Allocator + Copy, N: Naming, R: Wait> SeatJudge<'_, D, A, N, R> {
+    /// Reports in one turn of the seat, up to the first that is refused, and adds the answers, for which there is room. The result is how
+    /// many they are.
+    pub(crate) fn report_some<B: Allocator>(
+        &mut self,
+        reports: &[Report],
+        answers: &mut Vec<Result<Receipt, Fault>, B>,
+    ) -> usize
+        requires below { AllByRecursion (IsReportBelow (event_count N.spec.alphabet)) reports.now }
+        requires some { 0 < length reports.now }
+        requires room { vec_len answers.old + length reports.now ≤ vec_capacity answers.old }
+        ensures count { (0 < result) × (result ≤ length reports.now) }
+        ensures answered { (more : List (Result Receipt Fault)) × (answers.new.items ≡ answers.old.items ++ more)
+            × AllReported (Reports N.spec) self.old.seat.share (take result reports.now) more self.new.seat.share }
+        ensures len { vec_len answers.new ≡ vec_len answers.old + result }
+        ensures room { vec_capacity answers.old ≤ vec_capacity answers.new }
+    {
+        let mut verdicts = [false; GROUP];
+        let some = &reports[..reports.len().min(GROUP)];
+        let round = self.seat.turn(self.rt, some, &mut verdicts);
+        let count = round.count as usize;
+        add_receipts(answers, &verdicts[..count], round.place);
+        match round.fault {
+            Some(fault) => {
+                add(answers, Err(reported(fault)));
+                count + 1
+            }
+            None => count,
         }
-        None => count,
     }
 }

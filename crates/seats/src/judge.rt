@@ -7,7 +7,6 @@ ghost use Rattle.wire.specs.Talks.{Serves};
 ghost use Rattle.seats.specs.Judges.{Reports, Statuses, Nexts};
 
 use crate::faults::reported;
-use crate::groups::report_some;
 use alphabet::{Alphabet, EventSet, Report};
 use disk::Disk;
 use left_right::Absorb;
@@ -22,7 +21,7 @@ where
     Board<N, A>: Absorb<Summary, State = Summary>,
 {
     pub seat: Seat<'a, D, A, N>,
-    rt: &'a R,
+    pub(crate) rt: &'a R,
 }
 
 impl<'a, D: Disk, A: Allocator + Copy, N: Naming, R: Wait> SeatJudge<'a, D, A, N, R> {
@@ -83,7 +82,7 @@ impl<D: Disk, A: Allocator + Copy, N: Naming, R: Wait> Judge for SeatJudge<'_, D
         }
         let mut rest = group;
         while !rest.is_empty() {
-            let count = report_some(self.rt, &mut self.seat, rest, answers);
+            let count = self.report_some(rest, answers);
             rest = &rest[count..];
         }
     }

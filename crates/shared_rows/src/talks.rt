@@ -263,6 +263,7 @@ fn over<D: Disk + Drop, A: Allocator + Copy + Drop, T: Wait>(
     memory: Memory,
     out: &mut Output,
 )
+    requires offered { session.offered ≡ [] }
     requires places { (0 < talks.now.places) × (talks.now.places ≤ 64) }
 {
     match copy_of(alloc, session.spec().alphabet()) {
