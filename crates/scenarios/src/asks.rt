@@ -10,7 +10,7 @@
 //! | `ready SEAT NUMBER FLOOR E NAME` or `.. R NAME ..` | the same, made ready first and then written: the verdict and the length between the two, and whether the entry written is the `same` |
 //! | `times COUNT SEAT E NAME` or `.. R NAME ..` | so many reports of the seat, each its next: how many were accepted |
 
-ghost use Rattle.std.specs.Prelude.{◌≡◌, IfSome, true};
+ghost use Rattle.std.specs.Prelude.{◌≡◌, IfSome};
 ghost use Rattle.journal.specs.Reports.{AreEvents, IsReport};
 ghost use Rattle.session.specs.View.{IsIdle, IsReadyFor};
 
@@ -86,24 +86,16 @@ fn put_fault(fault: Fault, out: &mut Output) {
     out.put_shown(&fault);
 }
 
-/// Whether the session is closed or has nothing offered, so that a report may be made ready.
-fn is_idle<D: Disk, A: Allocator>(session: &Session<D, A>) -> bool
-    ensures { result ≡ true → IsIdle session.now }
-{
-    session.is_closed() || session.offered().is_empty()
-}
-
 /// Reports what the words ask for.
 fn report<D: Disk, A: Allocator + Copy>(session: &mut Session<D, A>, words: &str, out: &mut Output)
     requires idle { IsIdle session.old }
     ensures idle { IsIdle session.new }
 {
     match wanted_by(session.spec().alphabet(), words) {
-        Some(wanted) if is_idle(session) => {
+        Some(wanted) => {
             let answer = session.report(wanted.seat, wanted.number, wanted.floor, &wanted.report);
             put_answer(answer, session.history().len(), out);
         }
-        Some(_) => out.put("something is offered"),
         None => out.put("no such report"),
     }
 }
@@ -143,13 +135,12 @@ fn ready<D: Disk, A: Allocator + Copy + Drop>(
     ensures idle { IsIdle session.new }
 {
     match wanted_by(session.spec().alphabet(), words) {
-        Some(wanted) if is_idle(session) => {
+        Some(wanted) => {
             match session.ready(wanted.seat, wanted.number, wanted.floor, &wanted.report) {
                 Ok(ready) => write_ready(session, ready, memory, out),
                 Err(fault) => put_fault(fault, out),
             }
         }
-        Some(_) => out.put("something is offered"),
         None => out.put("no such report"),
     }
 }
@@ -168,8 +159,7 @@ fn accepted<D: Disk, A: Allocator + Copy>(
     let mut accepted: u64 = 0;
     for _ in 0..count {
         let number = session.next_number(seat);
-        if is_idle(session)
-            && let Ok(entry) = session.report(seat, number, 0, report)
+        if let Ok(entry) = session.report(seat, number, 0, report)
             && entry.verdict
         {
             accepted = accepted.saturating_add(1);
