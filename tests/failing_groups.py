@@ -59,7 +59,10 @@ class Grouped:
         return [line.split(b" ")[0].decode() for line in (read_file(self.calls_file) or b"").splitlines()]
 
     def talk(self, server, size):
-        link = Link(server.port)
+        try:
+            link = Link(server.port)
+        except OSError:
+            return
         self.first = link.ask(FIRST)
         self.before = len(self.calls_so_far())
         link.send(b"".join(line + b"\n" for line in group_of(size)) + b"Q\n")
