@@ -135,8 +135,8 @@ def measure(name, script, arguments, folder):
     memory = [max(pair[at][1] for pair in pairs) for at in (0, 1)]
     opening = [1000 * statistics.median(pair[at][0] for pair in openings) for at in (0, 1)]
     print(
-        f"{name:24} ratio {ratio:.2f}, of the processor {processor:.2f} (program {our:.3f} s, peer {peer:.3f} s), opening {opening[0]:.1f} ms (peer {opening[1]:.1f}), "
-        f"memory {memory[0]:.0f} MB (peer {memory[1]:.0f}), replies {'the same' if same else 'DIFFERENT'}",
+        f"{name:24} ratio {ratio:.2f}, of the processor {processor:.2f} (program {our:.3f} s, peer {peer:.3f} s), "
+        f"opening {opening[0]:.1f} ms (peer {opening[1]:.1f}), memory {memory[0]:.0f} MB (peer {memory[1]:.0f}), replies {'the same' if same else 'DIFFERENT'}",
         flush=True,
     )
     return same
