@@ -20,6 +20,9 @@ PAGE = os.path.join(ROOT, "man", "cspwatch.1")
 COMPLETIONS = os.path.join(ROOT, "completions")
 SECONDS = 60
 
+UNRELEASED = {"--large", "--read-only"}
+"""Options that came after the last release."""
+
 SCRIPT = "channel a\nP = a -> Q'\nQ' = STOP\n"
 """The file p.csp of the lines that are tried."""
 
@@ -107,10 +110,10 @@ def has_word(text, word):
 
 @pytest.fixture(scope="session")
 def helped(program):
-    """The commands, options and operands of all help texts, with `--large`, which the program of the last release may not know."""
+    """The commands, options and operands of all help texts, with the options that came after the last release where that program is tried."""
     commands, options, operands = shown(program)
     if not large.is_known(program):
-        options.add(large.WORD)
+        options |= UNRELEASED
     assert commands and options and operands
     return commands, options, operands
 
