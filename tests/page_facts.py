@@ -26,7 +26,7 @@ BUDGETS = {
     "docs/GATE.md": 900,
     "docs/JOURNAL.md": 2900,
     "docs/LANGUAGE.md": 2100,
-    "docs/PERFORMANCE.md": 1250,
+    "docs/PERFORMANCE.md": 1200,
     "docs/PROTOCOL.md": 2800,
     "docs/PROVED.md": 2500,
     "docs/SEMANTICS.md": 2750,
