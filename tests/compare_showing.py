@@ -12,6 +12,7 @@ from __future__ import annotations
 
 import argparse
 import functools
+import os
 import random
 import sys
 
@@ -31,6 +32,9 @@ SECONDS = 10.0
 """What the program may take for a journal."""
 
 SEATS = 3
+RELEASED = os.path.realpath(os.path.join(os.path.dirname(os.path.dirname(os.path.abspath(__file__))), "dist", "cspwatch"))
+"""The program of the last release, whose `show` cuts the bytes after the last record and says nothing."""
+
 WAYS = [(rejected, coverage, as_json) for rejected in (False, True) for coverage in (False, True) for as_json in (False, True)]
 """With `--rejected`, with `--coverage`, as JSON."""
 
@@ -68,8 +72,8 @@ def words_of(rejected: bool, coverage: bool, as_json: bool) -> tuple[str, ...]:
     return tuple(words + ["j"])
 
 
-def wanted_of(file: bytes) -> list[Answer]:
-    """What the reference answers: to `replay`, and to `show` in all ways."""
+def wanted_of(file: bytes, tells: bool) -> list[Answer]:
+    """What the reference answers: to `replay`, and to `show` in all ways, which tells of bytes after the last record or doesn't."""
     sessions: list[Session] = []
 
     def summary(session: Session) -> str:
@@ -79,7 +83,8 @@ def wanted_of(file: bytes) -> list[Answer]:
     replayed = reference.with_journal(file, "j", summary)
     if not sessions:
         return [replayed] * (1 + len(WAYS))
-    return [replayed] + [Answer(shown(sessions[0], *way).encode(), b"", replayed.status) for way in WAYS]
+    errors = reference.after_last_record(file) if tells else b""
+    return [replayed] + [Answer(shown(sessions[0], *way).encode(), errors, replayed.status) for way in WAYS]
 
 
 def attempt(rng: random.Random, given: argparse.Namespace) -> Outcome:
@@ -89,7 +94,7 @@ def attempt(rng: random.Random, given: argparse.Namespace) -> Outcome:
     if made is None:
         return Outcome("passed over")
     file = damaged(rng, made) if rng.random() < 0.1 else made
-    wanted = opinions.of_reference(lambda: wanted_of(file), given.seconds)
+    wanted = opinions.of_reference(lambda: wanted_of(file, os.path.realpath(given.program) != RELEASED), given.seconds)
     if wanted is None:
         return Outcome("passed over")
     words = [("replay", "j")] + [words_of(rejected, coverage, as_json) for rejected, coverage, as_json in WAYS]

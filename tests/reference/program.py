@@ -96,9 +96,16 @@ def replay(file: bytes, name: str = "j") -> Answer:
     return with_journal(file, name, lambda session: session.summary() + "\n")
 
 
+def after_last_record(file: bytes, name: str = "j") -> bytes:
+    """What `show` reports of the bytes after the last record of a journal; nothing where there are none."""
+    count = len(file) - opened(file).length
+    return b"%s: %d bytes after the last record\n" % (name.encode(), count) if count else b""
+
+
 def show(file: bytes, name: str = "j", rejected: bool = False, coverage: bool = False, as_json: bool = False) -> Answer:
     """What `show` answers for the bytes of a journal."""
-    return with_journal(file, name, lambda session: shown(session, rejected, coverage, as_json))
+    answer = with_journal(file, name, lambda session: shown(session, rejected, coverage, as_json))
+    return answer if answer.errors else Answer(answer.output, after_last_record(file, name), answer.status)
 
 
 def with_deep_stack(call: Callable[[], Result]) -> Result:
