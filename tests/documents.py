@@ -229,9 +229,10 @@ class Terminal:
         self.type("python3 -B %s%s" % (doctest, path), None)
 
     def file(self, name, lines):
-        """A block that is a file."""
+        """A block that is a file. A journal ends with a gate, any other with a line."""
+        end = "" if name.endswith(".journal") else "\n"
         with open(os.path.join(self.environment["PWD"], name), "w", encoding="utf-8") as file:
-            file.write("\n".join(lines) + "\n")
+            file.write("\n".join(lines) + end)
 
     def play(self, step):
         """Does what the step asks for."""
