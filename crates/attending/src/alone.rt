@@ -83,6 +83,7 @@ fn judge<D: Disk, A: Allocator + Copy>(
         (course_of alone.new.session.history alone.new.session.failed) }
 {
     let number = alone.session.next_number(alone.seat);
+    let _ = alone.session.history();
     match alone.session.report(alone.seat, number, 0, report) {
         Ok(entry) => Ok(Receipt {
             verdict: entry.verdict,

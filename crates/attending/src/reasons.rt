@@ -92,12 +92,15 @@ pub(crate) fn put_explanation<A: Allocator + Copy>(
         → Answers (Reports monitor.old.spec) Statuses (Nexts (bodies_of monitor.old.spec.bodies)) old request.now new answer.now
         → OnOk result (Explains monitor.old.spec number old.history line.now request.now answer.now text.new.items) }
 {
-    match (request, answer) {
-        (Request::Judge(_), Answer::Judged(receipt)) => {
-            let entry = history[history.len() - 1];
-            put_judged(text, monitor, alloc, number, &entry, receipt.place)
-        }
-        (Request::UnknownEvent, _) => put_ending(text, number, line),
+    match request {
+        Request::Judge(_) => match answer {
+            Answer::Judged(receipt) => {
+                let entry = history[history.len() - 1];
+                put_judged(text, monitor, alloc, number, &entry, receipt.place)
+            }
+            _ => Ok(()),
+        },
+        Request::UnknownEvent => put_ending(text, number, line),
         _ => Ok(()),
     }
 }

@@ -5,6 +5,7 @@
 //! them to those calls.
 #![tactic(auto)]
 
+mod attending;
 mod checking;
 mod forms;
 mod hints;
@@ -18,6 +19,7 @@ mod server;
 mod showing;
 mod telling;
 
+pub use attending::check_in;
 pub use checking::check;
 pub use forms::print;
 pub use replaying::replay;

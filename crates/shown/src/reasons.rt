@@ -108,6 +108,7 @@ impl<A: Allocator + Copy> Draft<A> {
 }
 
 /// Appends which events could have come in the place of the one that was rejected, by a draft of which nothing was made.
+#[tactic(auto, unfolding(crate::specs::Reasons::expected_text))]
 fn put_expected_by<A: Allocator, B: Allocator>(
     text: &mut Vec<u8, B>,
     draft: &mut Draft<B>,

@@ -7,13 +7,8 @@ use std::net::SocketAddrV4;
 /// What the words ask for. The words for a file are its name.
 #[derive(Clone, Copy)]
 pub enum Wish<'a> {
-    /// To judge the reports on standard input by the process of the script in the file `spec`, by the limits for large systems where
-    /// `large` says so.
-    Check {
-        spec: &'a str,
-        process: &'a str,
-        large: bool,
-    },
+    /// To judge the reports on standard input by the process of the script in the file `spec`.
+    Check(Check<'a>),
     /// To print what the script in the file `spec` denotes for the process.
     Print {
         spec: &'a str,
@@ -30,6 +25,23 @@ pub enum Wish<'a> {
     },
     /// To judge the reports of connections by the process of the script in the file `spec`, with the journal in its file.
     Serve(Service<'a>),
+}
+
+/// What is checked, and what is wanted beside the replies.
+#[derive(Clone, Copy)]
+pub struct Check<'a> {
+    /// The file of the script.
+    pub spec: &'a str,
+    /// The process of the script to judge by.
+    pub process: &'a str,
+    /// Whether the limits are those for large systems.
+    pub large: bool,
+    /// Whether it is said why reports are rejected.
+    pub explain: bool,
+    /// Whether the replies to accepted reports are left out.
+    pub quiet: bool,
+    /// Whether the first rejected report ends the check.
+    pub first: bool,
 }
 
 /// What is served, and where.

@@ -1,0 +1,4 @@
+pub mod AloneLemmas
+pub mod ListenLemmas
+pub mod ReasonLemmas
+pub mod SigmaLemmas
