@@ -116,8 +116,7 @@ fn explained<A: Allocator + Copy>(
         None => true,
         Some(monitor) => put_explanation(
             said, monitor, alloc, number, line, request, answer, history,
-        )
-        .is_ok(),
+        ).is_ok(),
     }
 }
 

@@ -5,7 +5,7 @@ use Rattle.alphabet.specs.declared.events.Event.{Event}
 use Rattle.alphabet.specs.Channels.{Channel, name_of}
 use Rattle.shown.specs.Nearness.{channel_part, is_same, nearest_first, nearness, shares_value, so_near}
 
-one_more : {X : Type 0} (s t : Bool) (x : X) (a b c : List X) → let n = cond s 0 (cond t 1 2) in
+one_more : {X : Type 0} (s t : Bool) (x : X) (a b c : List X) → let n = cond {A = ℕ} s 0 (cond {A = ℕ} t 1 2) in
     length (cond (n == 0) (x ∷ a) a) + length (cond (n == 1) (x ∷ b) b) + length (cond (n == 2) (x ∷ c) c) ≡ suc (length a + length b + length c)
 one_more true t x a b c = omega arith
 one_more false true x a b c = omega arith

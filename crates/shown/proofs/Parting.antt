@@ -3,7 +3,7 @@ use Rattle.std.proofs.Common.{◌≡◌, ◌≢◌, ◌==◌, ℕ, List, [], ◌
 use Rattle.std.specs.List.{list_any, slice_split, onto_first}
 use Rattle.std.proofs.lemmas.Bool.{ne_eqb}
 use Rattle.std.proofs.lemmas.List.Splits.{slice_split-cons_no, slice_split-cons_yes}
-use Rattle.shown.specs.Nearness.{parts}
+use Rattle.shown.specs.Nearness.{has_part, parts}
 use Rattle.shown.specs.Parting.{LacksDot}
 
 other_byte : (b : ℕ) → b ≢ 46 → (b == 46) ≡ false
@@ -37,3 +37,8 @@ any_later p text name others plain is fails = ap (list_any p) (parts_cut text na
 -- and where there is one part
 pub any_last : (p : List ℕ → Bool) (text : List ℕ) → LacksDot text → list_any p (parts text) ≡ p text
 any_last p text plain = ap (list_any p) (parts_none text plain) ∙ or_false (p text)
+
+-- there is nothing in common with nothing
+pub none_common : (ps : List (List ℕ)) → list_any (has_part []) ps ≡ false
+none_common [] = refl
+none_common (p ∷ ps) = none_common ps

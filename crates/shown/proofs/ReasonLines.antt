@@ -15,7 +15,7 @@ use Rattle.shown.specs.declared.options.Format.TheVariants.{Text}
 use Rattle.shown.specs.Names.{joined, name_text}
 use Rattle.shown.specs.Lines.{Finding, expected, offered, report_text}
 use Rattle.shown.specs.Findings.{Finds, HasNext}
-use Rattle.shown.specs.Reasons.{IsReason, choice_text, expected_text, offers_text, reason_text, why_text}
+use Rattle.shown.specs.Reasons.{IsReason, choice_text, expected_text, offer_text, offers_text, reason_text, why_text}
 use Rattle.shown.proofs.Texts.{grown, joined_from}
 
 -- the first of some events, and the others
@@ -25,6 +25,13 @@ pub choice_from : {T E : Type 0} (r : Result T E) (cs : List Channel) (start tex
     → OnOk r (new ≡ start ++ choice_text cs items)
 choice_from r cs start text new [] x d h e is all = absurd (omega arith)
 choice_from r cs start text new (w ∷ ws) x d h e is all = joined_from r (codes " or ") (name_text Text cs) start text new (w ∷ ws) x d h e is all
+
+-- what is offered, after its first word
+pub offers_from : {T E : Type 0} (r : Result T E) (cs : List Channel) (start mid new : List ℕ) (sets : List Set) → 1 ≤ length sets → mid ≡ start ++ codes "offers " →
+    OnOk r (new ≡ mid ++ joined (codes " or ") (map (offer_text cs) sets)) → OnOk r (new ≡ start ++ offers_text cs sets)
+offers_from r cs start mid new [] h is all = absurd (omega arith)
+offers_from (Ok x) cs start mid new (X ∷ Xs) h is all = grown start mid new (codes "offers ") (joined (codes " or ") (map (offer_text cs) (X ∷ Xs))) is all
+offers_from (Err x) cs start mid new (X ∷ Xs) h is all = all
 
 -- why an event was rejected
 pub why_event : {T E : Type 0} (r : Result T E) (B : ℕ → Proc) (before : List Entry) (said : Report) (x : Event) (X : Set) (cs ds : List Channel) (start new : List ℕ) →

@@ -191,11 +191,13 @@ fn put_offers<A: Allocator, B: Allocator>(
 ) -> Result<(), AllocError>
     ensures { OnOk result (text.new.items ≡ text.old.items ++ offers_text alphabet.now sets.now) }
 {
-    if sets.is_empty() {
-        return text.extend_from_slice(b"never comes to rest");
+    match sets {
+        [] => text.extend_from_slice(b"never comes to rest"),
+        [_, ..] => {
+            text.extend_from_slice(b"offers ")?;
+            put_sets(text, alphabet, sets)
+        }
     }
-    text.extend_from_slice(b"offers ")?;
-    put_sets(text, alphabet, sets)
 }
 
 /// Appends why the report was rejected after the monitor's trace.
