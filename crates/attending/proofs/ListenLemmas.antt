@@ -156,3 +156,16 @@ module _ (manner : Manner) (spec : Specified) where
   pub attendance_err : (j k : Standing) (left rest old new : Option (List ℕ)) (h c : List ℕ) (e : WireError) → Consumes left rest h →
       Listens manner spec j k old new h c (Err e) → Attendance manner spec j k left rest old new (Err e)
   attendance_err j k left rest old new h c e took m = serves_err Says j k left rest old new h c e took m
+
+-- of the same manner and specification
+pub listens_as : (m m' : Manner) (s s' : Specified) (j k : Standing) (old new : Option (List ℕ)) (h c : List ℕ) (r : Result (Option Ending) WireError) → m ≡ m' → s ≡ s' →
+    Listens m s j k old new h c r → Listens m' s' j k old new h c r
+listens_as m m' s s' j k old new h c r e f l = subst (λ (x : Manner). Listens x s' j k old new h c r) e (subst (λ (x : Specified). Listens m x j k old new h c r) f l)
+
+pub goes_as : (m m' : Manner) (t : Tally) (r : Result (Option Ending) WireError) → m ≡ m' → GoesOn m t r → GoesOn m' t r
+goes_as m m' t r e g = subst (λ (x : Manner). GoesOn x t r) e g
+
+-- a line that is too long leaves the tally
+pub goes_long : (m : Manner) (t : Tally) (r : Result (Option Ending) WireError) → (m.first ≡ true → t.rejected ≡ false) → (r ≡ Ok (Some (By Line))) ⊎ (r ≡ Err Write) → GoesOn m t r
+goes_long m t r going (inl is) = subst (λ (v : Result (Option Ending) WireError). GoesOn m t v) (sym is) going
+goes_long m t r going (inr is) = subst (λ (v : Result (Option Ending) WireError). GoesOn m t v) (sym is) tt

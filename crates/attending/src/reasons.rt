@@ -50,6 +50,25 @@ fn put_ending<A: Allocator>(
     Ok(())
 }
 
+/// Makes why the report was rejected, if it was.
+fn put_reason_if<A: Allocator + Copy>(
+    text: &mut Vec<u8, A>,
+    monitor: &Monitor<A>,
+    alloc: A,
+    number: u64,
+    entry: &Entry,
+    place: u64,
+) -> Result<(), AllocError>
+    requires { text.old.items ≡ [] }
+    ensures { (before : List entry_type) → monitor.now.trace ≡ events before →
+        OnOk result (IsReasonIf (not entry.now.verdict) monitor.now.spec number before place entry.now.report text.new.items) }
+{
+    if entry.verdict {
+        return Ok(());
+    }
+    put_reason(text, monitor, alloc, number, place, &entry.report)
+}
+
 /// Makes why the report of the history's last entry was rejected, if it was, and goes on by the entry.
 fn put_judged<A: Allocator + Copy>(
     text: &mut Vec<u8, A>,
@@ -66,9 +85,7 @@ fn put_judged<A: Allocator + Copy>(
     ensures text { (before : List entry_type) → monitor.old.trace ≡ events before →
         OnOk result (IsReasonIf (not entry.now.verdict) monitor.old.spec number before place entry.now.report text.new.items) }
 {
-    if !entry.verdict {
-        put_reason(text, monitor, alloc, number, place, &entry.report)?;
-    }
+    put_reason_if(text, monitor, alloc, number, entry, place)?;
     follow(monitor, entry)
 }
 
@@ -95,7 +112,8 @@ pub(crate) fn put_explanation<A: Allocator + Copy>(
     match request {
         Request::Judge(_) => match answer {
             Answer::Judged(receipt) => {
-                let entry = history[history.len() - 1];
+                let last = history.len() - 1;
+                let entry = history[last];
                 put_judged(text, monitor, alloc, number, &entry, receipt.place)
             }
             _ => Ok(()),
