@@ -1,6 +1,6 @@
 //! One who attends to the lines of a check, one after the other.
 
-ghost use Rattle.std.specs.Prelude.{◌≡◌, ◌≢◌, ◌≤◌, ◌⊎◌, [], suc, true, false, codes, vec_capacity, is_some, IfSome, IfOk, None};
+ghost use Rattle.std.specs.Prelude.{◌≡◌, ◌≢◌, ◌≤◌, ◌⊎◌, [], suc, true, false, codes, cond, vec_capacity, is_some, IfSome, IfOk, None};
 ghost use Rattle.term.specs.Proc.{bodies_of};
 ghost use Rattle.term.specs.Specs.{Specified};
 ghost use Rattle.alphabet.specs.Channels.{event_count};
@@ -120,6 +120,47 @@ fn explained<A: Allocator + Copy>(
     }
 }
 
+/// Counts the line, and makes what is to be written on the errors for it. The result is whether all was made, also before.
+fn note<A: Allocator + Copy>(
+    said: &mut Vec<u8, A>,
+    monitor: &mut Option<Monitor<A>>,
+    alloc: A,
+    lines: &mut u64,
+    whole: bool,
+    line: &[u8],
+    request: &Request,
+    answer: &Answer,
+    history: &[Entry],
+) -> bool
+    requires none { said.old.items ≡ [] }
+    requires judged { whole ≡ true → IfSome monitor.old (λ m. IsJudged m.spec history.now) }
+    requires answers { whole ≡ true → IfSome monitor.old (λ m. Moves m.spec m.trace request.now answer.now history.now) }
+    ensures some { is_some monitor.new ≡ is_some monitor.old }
+    ensures whole { result ≡ true → (whole ≡ true) × (lines.new ≡ suc lines.old) }
+    ensures stands { result ≡ true → IfSome monitor.old (λ old. IfSome monitor.new (λ new. (new.spec ≡ old.spec) × (new.trace ≡ events history.now))) }
+    ensures explains { (spec : Specified) (old : Course) (new : Course) → IfSome monitor.old (λ m. (m.spec ≡ spec) × (m.trace ≡ events old.history)) → new.history ≡ history.now
+        → Answers (Reports spec) Statuses (Nexts (bodies_of spec.bodies)) old request.now new answer.now
+        → result ≡ true → ExplainsIf (is_some monitor.old) spec lines.new old.history line.now request.now answer.now said.new.items }
+{
+    if !whole || !count(lines) {
+        return false;
+    }
+    explained(
+        said, monitor, alloc, *lines, line, request, answer, history,
+    )
+}
+
+/// Leaves the reply out, if it is to be left out.
+fn leave_out<A: Allocator>(reply: &mut Vec<u8, A>, is_left_out: bool)
+    requires { 128 ≤ vec_capacity reply.old }
+    ensures reply { reply.new.items ≡ cond is_left_out [] reply.old.items }
+    ensures room { 128 ≤ vec_capacity reply.new }
+{
+    if is_left_out {
+        reply.clear();
+    }
+}
+
 impl<D: Disk, A: Allocator> Attendant<D, A> {
     /// From now on nothing is written on the errors.
     pub(crate) fn spoil(&mut self)
@@ -164,7 +205,7 @@ impl<D: Disk, A: Allocator> Attendant<D, A> {
 }
 
 /// One who attends to the lines of a check of this session, which has no entries yet. The monitor is there where reasons are wanted.
-pub(crate) fn attendant_of<D: Disk, A: Allocator + Copy>(
+pub(crate) fn attendant_of<D: Disk + Drop, A: Allocator + Copy>(
     alloc: A,
     session: Session<D, A>,
     monitor: Option<Monitor<A>>,
@@ -217,21 +258,18 @@ impl<D: Disk, A: Allocator + Copy> Attendant<D, A> {
         );
         self.tally = self.tally.after(&answer);
         self.said.clear();
-        self.whole = self.whole
-            && count(&mut self.lines)
-            && explained(
-                &mut self.said,
-                &mut self.monitor,
-                self.alloc,
-                self.lines,
-                line,
-                &request,
-                &answer,
-                self.alone.session.history(),
-            );
-        if self.manner.quiet && accepts(&answer) {
-            self.reply.clear();
-        }
+        self.whole = note(
+            &mut self.said,
+            &mut self.monitor,
+            self.alloc,
+            &mut self.lines,
+            self.whole,
+            line,
+            &request,
+            &answer,
+            self.alone.session.history(),
+        );
+        leave_out(&mut self.reply, self.manner.quiet && accepts(&answer));
         matches!(request, Request::Quit)
     }
 }

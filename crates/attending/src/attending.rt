@@ -1,6 +1,6 @@
 //! A check line by line.
 
-ghost use Rattle.std.specs.Prelude.{◌≡◌, ◌≢◌, ◌<◌, ◌⊎◌, true, is_some, IfOk, IfErr, IfSome, IsErrOf, MatchResult, Err, []};
+ghost use Rattle.std.specs.Prelude.{◌≡◌, ◌≢◌, ◌<◌, ◌⊎◌, true, false, None, is_some, IfOk, IfErr, IfSome, IsErrOf, MatchResult, Err, []};
 ghost use Rattle.term.specs.Proc.{bodies_of};
 ghost use Rattle.term.specs.Specs.{Specified};
 ghost use Rattle.session.specs.Faults.{IsMemory};
@@ -65,7 +65,7 @@ fn monitor_of<A: Allocator + Copy>(
 }
 
 /// One who attends to the lines of a check of this session, which has no entries, and room for a begun line.
-fn begin<D: Disk, A: Allocator + Copy>(
+fn begin<D: Disk + Drop, A: Allocator + Copy>(
     alloc: A,
     session: Session<D, A>,
     script: &[u8],
@@ -88,7 +88,7 @@ fn begin<D: Disk, A: Allocator + Copy>(
 }
 
 /// Attends to the lines of the reader.
-fn hear<R: Wait, D: Disk, A: Allocator + Copy, T: Source, W: Sink, E: Write>(
+fn hear<R: Wait, D: Disk + Drop, A: Allocator + Copy, T: Source, W: Sink, E: Write>(
     rt: &R,
     alloc: A,
     attendant: Attendant<D, A>,
