@@ -145,9 +145,7 @@ fn note<A: Allocator + Copy>(
     if !whole || !count(lines) {
         return false;
     }
-    explained(
-        said, monitor, alloc, *lines, line, request, answer, history,
-    )
+    explained(said, monitor, alloc, *lines, line, request, answer, history)
 }
 
 /// Leaves the reply out, if it is to be left out.
