@@ -1,6 +1,7 @@
 -- What is made of a line.
-use Rattle.std.proofs.Common.{◌≡◌, ◌⊎◌, ◌≢◌, ℕ, suc, Bool, true, false, List, [], ◌∷◌, ◌++◌, Option, Some, None, inl, inr, refl, sym, ap, ◌∙◌, subst, codes}
+use Rattle.std.proofs.Common.{◌≡◌, ◌⊎◌, ◌≢◌, ℕ, suc, Bool, true, false, List, [], ◌∷◌, ◌++◌, Option, Some, None, Result, Ok, Err, inl, inr, refl, sym, ap, ◌∙◌, subst, codes}
 use Rattle.std.specs.Prelude.{IfSome, is_some}
+use Rattle.std.specs.Option.{option_map}
 use Rattle.alphabet.specs.EventSets.{Set}
 use Rattle.alphabet.specs.declared.events.Event.{Event}
 use Rattle.term.specs.Proc.{bodies_of}
@@ -27,7 +28,8 @@ module _ (spec : Specified) where
   Goes = Answers (Reports spec) Statuses (Nexts (bodies_of spec.bodies))
 
   no_memory : (old new : Course) (request : Request) (set : Set) → Goes old request new (answered.Next set) → Goes old request new (answered.Fault Memory)
-  no_memory old new (asked.Judge r) set (x, reports, is) = cc
+  no_memory old new (asked.Judge r) set (Ok x, reports, is) = cc
+  no_memory old new (asked.Judge r) set (Err x, reports, is) = cc
   no_memory old new asked.Status set (s, told, is) = cc
   no_memory old new asked.Next set (x, nexts, is) = (x, nexts, inr refl)
   no_memory old new asked.Quit set (same, is) = cc
@@ -49,10 +51,10 @@ module _ (spec : Specified) where
 
 -- the parts of a monitor that is there
 pub of_some : {A : Type 0} (o : Option A) (x : A) (P : A → Type 0) → o ≡ Some x → IfSome o P → P x
-of_some o x P is h = subst (λ (v : Option A). IfSome v P) is h
+of_some {A = A} o x P is h = subst (λ (v : Option A). IfSome v P) is h
 
 pub to_some : {A : Type 0} (o : Option A) (x : A) (P : A → Type 0) → o ≡ Some x → P x → IfSome o P
-to_some o x P is h = subst (λ (v : Option A). IfSome v P) (sym is) h
+to_some {A = A} o x P is h = subst (λ (v : Option A). IfSome v P) (sym is) h
 
 -- nothing was reported yet
 pub begun_is : (h : List Entry) (f : Option Entry) (t : Tally) (l : ℕ) (w : Bool) (e : Option (List ℕ)) → h ≡ [] → f ≡ None → t ≡ record { rejected = false; misuse = false; limit = false } → l ≡ 0 → w ≡ true →
@@ -68,3 +70,34 @@ same_standing h h' f f' t t' l l' w w' e a b c d x = λ i. standing (a i) (b i) 
 pub stands_first : (o : Option Monitoring) (spec : Specified) (h : List Entry) → h ≡ [] → IfSome o (λ m. (m.spec ≡ spec) × (m.trace ≡ [])) → IfSome o (λ m. (m.spec ≡ spec) × (m.trace ≡ events h))
 stands_first None spec h none s = s
 stands_first (Some m) spec h none s = (s.0, s.1 ∙ sym (ap events none))
+
+-- what a monitor that is there stands after
+pub ready_some : (o : Option Monitoring) (spec : Specified) (u : List Event) → option_map (λ m. m.spec) o ≡ option_map (λ m. spec) o → option_map (λ m. m.trace) o ≡ option_map (λ m. u) o →
+    IfSome o (λ m. (m.spec ≡ spec) × (m.trace ≡ u))
+ready_some None spec u a b = tt
+ready_some (Some m) spec u a b = (cc, cc)
+
+pub some_spec : (o : Option Monitoring) (spec : Specified) (u : List Event) → IfSome o (λ m. (m.spec ≡ spec) × (m.trace ≡ u)) → option_map (λ m. m.spec) o ≡ option_map (λ m. spec) o
+some_spec None spec u s = refl
+some_spec (Some m) spec u s = ap Some s.0
+
+pub some_trace : (o : Option Monitoring) (spec : Specified) (u : List Event) → IfSome o (λ m. (m.spec ≡ spec) × (m.trace ≡ u)) → option_map (λ m. m.trace) o ≡ option_map (λ m. u) o
+some_trace None spec u s = refl
+some_trace (Some m) spec u s = ap Some s.1
+
+-- a monitor that follows another goes on in its specification
+pub follows : (o n : Option Monitoring) (spec : Specified) (u v : List Event) → IfSome o (λ m. (m.spec ≡ spec) × (m.trace ≡ u)) → is_some n ≡ is_some o →
+    IfSome o (λ old. IfSome n (λ new. (new.spec ≡ old.spec) × (new.trace ≡ v))) → IfSome n (λ m. (m.spec ≡ spec) × (m.trace ≡ v))
+follows o None spec u v s same h = tt
+follows None (Some n) spec u v s same h = cc
+follows (Some m) (Some n) spec u v s same h = (h.0 ∙ s.0, h.1)
+
+-- what a monitor of the specification needs of a line
+pub judged_by : (o : Option Monitoring) (spec : Specified) (u : List Event) (h : List Entry) → IfSome o (λ m. (m.spec ≡ spec) × (m.trace ≡ u)) → IsJudged spec h → IfSome o (λ m. IsJudged m.spec h)
+judged_by None spec u h s j = tt
+judged_by (Some m) spec u h s j = subst (λ (x : Specified). IsJudged x h) (sym s.0) j
+
+pub moves_by : (o : Option Monitoring) (spec : Specified) (old new : Course) (request : Request) (answer : Answer) → IfSome o (λ m. (m.spec ≡ spec) × (m.trace ≡ events old.history)) →
+    Answers (Reports spec) Statuses (Nexts (bodies_of spec.bodies)) old request new answer → IfSome o (λ m. Moves m.spec m.trace request answer new.history)
+moves_by None spec old new request answer s h = tt
+moves_by (Some m) spec old new request answer s h = subst (λ (x : Specified). Moves x m.trace request answer new.history) (sym s.0) (record { old = old; new = new; stands = s.1; history_is = refl; answers = h })

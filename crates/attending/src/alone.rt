@@ -48,7 +48,7 @@ pub(crate) fn alone_at<D: Disk, A: Allocator>(session: Session<D, A>) -> Alone<D
 impl<D: Disk, A: Allocator> Alone<D, A> {
     /// The session.
     pub(crate) fn into_session(self) -> Session<D, A>
-        ensures { result ≡ self.entry.session }
+        ensures { result ≡ self.session }
     {
         let Alone { session, seat: _ } = self;
         session

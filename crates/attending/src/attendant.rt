@@ -173,9 +173,9 @@ impl<D: Disk, A: Allocator> Attendant<D, A> {
 impl<D: Disk, A: Allocator> Attendant<D, A> {
     /// What a check that ended so comes to.
     pub(crate) fn end(self, end: Result<Ending, WireError>) -> Attended<D, A>
-        ensures session { result.session ≡ self.entry.alone.session }
+        ensures session { result.session ≡ self.alone.session }
         ensures end { result.end ≡ end }
-        ensures same { (result.tally ≡ self.entry.tally) × (result.lines ≡ self.entry.lines) × (result.whole ≡ self.entry.whole) }
+        ensures same { (result.tally ≡ self.tally) × (result.lines ≡ self.lines) × (result.whole ≡ self.whole) }
     {
         let Attendant {
             alone,

@@ -11,8 +11,8 @@ pub returns-in-Ok-clause-reports : goal.returns-in-Ok-clause-reports
 returns-in-Ok-clause-reports g c =
     let s = c.args.alone.now.session in
     let n = c.report.new.self in
-    judged (bodies_of s.spec.bodies) s.history n.history s.failed n.failed c.in-Ok.entry c.args.alone.now.seat c.next_number-number.result c.len.result c.args.report.now
-    c.in-Ok.ensures.entry c.in-Ok.ensures.fits c.in-Ok.ensures.appended c.in-Ok.ensures.taken.is_open c.in-Ok.ensures.is_open (c.len.ensures ∙ ap length c.history-2.ensures.entries)
+    judged (bodies_of s.spec.bodies) s.history n.history s.failed n.failed c.in-Ok.entry c.args.alone.now.seat c.next_number-number.result (length c.history-in-Ok.result.now) c.args.report.now
+    c.in-Ok.ensures.entry c.in-Ok.ensures.fits c.in-Ok.ensures.appended c.in-Ok.ensures.taken.is_open c.in-Ok.ensures.is_open (ap length c.history-in-Ok.ensures.entries)
 
 pub returns-in-Err-clause-reports : goal.returns-in-Err-clause-reports
 returns-in-Err-clause-reports g c =

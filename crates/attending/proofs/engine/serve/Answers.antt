@@ -94,8 +94,8 @@ returns-in-Err-clause-attends g c =
     (listens_then a.manner a.alone.session.spec j i k old mid new talk.0 begun piece later (Err fault) talk.2
     (listens_as b.manner a.manner b.alone.session.spec a.alone.session.spec i k mid new (begun ++ piece) later (Err fault) so_far.same.0 so_far.same.1 c.in-Err.ensures.listens))
 
-pub returns-in_default-read-clause-attends : goal.returns-in_default-read-clause-attends
-returns-in_default-read-clause-attends g c =
+pub returns-in_default-clause-attends : goal.returns-in_default-clause-attends
+returns-in_default-clause-attends g c =
     let talk = c.pieces.invariant.talk in
-    let took = consumes_kept (g.T.Source.left c.args.reader.now) (g.T.Source.left c.pieces.reader) (g.T.Source.left c.read.new.self) talk.0 talk.1 c.in_default-read.ensures.bytes in
+    let took = consumes_kept (g.T.Source.left c.args.reader.now) (g.T.Source.left c.pieces.reader) (g.T.Source.left c.read.new.self) talk.0 talk.1 c.in_default.ensures.bytes in
     (talk.0, c.pieces.begun.items, took, talk.2)
