@@ -1,7 +1,6 @@
 -- What is made of a line.
 use Rattle.std.proofs.Common.{◌≡◌, ◌⊎◌, ◌≢◌, ℕ, suc, Bool, true, false, List, [], ◌∷◌, ◌++◌, Option, Some, None, Result, Ok, Err, inl, inr, refl, sym, ap, ◌∙◌, subst, codes}
 use Rattle.std.specs.Prelude.{IfSome, is_some}
-use Rattle.std.specs.Option.{option_map}
 use Rattle.alphabet.specs.EventSets.{Set}
 use Rattle.alphabet.specs.declared.events.Event.{Event}
 use Rattle.term.specs.Proc.{bodies_of}
@@ -19,9 +18,10 @@ use Rattle.wire.specs.declared.answers.Tally.{Tally}
 use Rattle.wire.specs.declared.requests.Request.{Request}
 use Rattle.wire.specs.declared.requests.Request.TheVariants as asked
 use Rattle.attending.specs.Courses.{Course, Reports, Statuses, Nexts}
-use Rattle.attending.specs.Lines.{Explains, ExplainsIf}
-use Rattle.attending.specs.Preparing.{Moves, standing}
-use Rattle.attending.specs.Standing.{unattended}
+use Rattle.attending.specs.Lines.{ExplainsIf, reply_text}
+use Rattle.attending.specs.Preparing.{Moves, Prepares, standing}
+use Rattle.attending.specs.declared.manner.Manner.{Manner}
+use Rattle.attending.specs.Standing.{course_of, unattended}
 
 module _ (spec : Specified) where
   abbrev Goes : Course → Request → Course → Answer → Type 0
@@ -72,18 +72,12 @@ stands_first None spec h none s = s
 stands_first (Some m) spec h none s = (s.0, s.1 ∙ sym (ap events none))
 
 -- what a monitor that is there stands after
-pub ready_some : (o : Option Monitoring) (spec : Specified) (u : List Event) → option_map (λ m. m.spec) o ≡ option_map (λ m. spec) o → option_map (λ m. m.trace) o ≡ option_map (λ m. u) o →
-    IfSome o (λ m. (m.spec ≡ spec) × (m.trace ≡ u))
-ready_some None spec u a b = tt
-ready_some (Some m) spec u a b = (cc, cc)
+pub ready_some : (o : Option Monitoring) (spec : Specified) (u : List Event) → ((m : Monitoring) → o ≡ Some m → (m.spec ≡ spec) × (m.trace ≡ u)) → IfSome o (λ m. (m.spec ≡ spec) × (m.trace ≡ u))
+ready_some None spec u s = tt
+ready_some (Some m) spec u s = s m refl
 
-pub some_spec : (o : Option Monitoring) (spec : Specified) (u : List Event) → IfSome o (λ m. (m.spec ≡ spec) × (m.trace ≡ u)) → option_map (λ m. m.spec) o ≡ option_map (λ m. spec) o
-some_spec None spec u s = refl
-some_spec (Some m) spec u s = ap Some s.0
-
-pub some_trace : (o : Option Monitoring) (spec : Specified) (u : List Event) → IfSome o (λ m. (m.spec ≡ spec) × (m.trace ≡ u)) → option_map (λ m. m.trace) o ≡ option_map (λ m. u) o
-some_trace None spec u s = refl
-some_trace (Some m) spec u s = ap Some s.1
+pub some_ready : (o : Option Monitoring) (spec : Specified) (u : List Event) → IfSome o (λ m. (m.spec ≡ spec) × (m.trace ≡ u)) → (m : Monitoring) → o ≡ Some m → (m.spec ≡ spec) × (m.trace ≡ u)
+some_ready o spec u s m is = of_some o m (λ x. (x.spec ≡ spec) × (x.trace ≡ u)) is s
 
 -- a monitor that follows another goes on in its specification
 pub follows : (o n : Option Monitoring) (spec : Specified) (u v : List Event) → IfSome o (λ m. (m.spec ≡ spec) × (m.trace ≡ u)) → is_some n ≡ is_some o →
@@ -101,3 +95,17 @@ pub moves_by : (o : Option Monitoring) (spec : Specified) (old new : Course) (re
     Answers (Reports spec) Statuses (Nexts (bodies_of spec.bodies)) old request new answer → IfSome o (λ m. Moves m.spec m.trace request answer new.history)
 moves_by None spec old new request answer s h = tt
 moves_by (Some m) spec old new request answer s h = subst (λ (x : Specified). Moves x m.trace request answer new.history) (sym s.0) (record { old = old; new = new; stands = s.1; history_is = refl; answers = h })
+
+pub prepares_of : (manner : Manner) (spec : Specified) (h h' : List Entry) (f f' : Option Entry) (t t' : Tally) (l l' : ℕ) (w w' : Bool) (line reply said : List ℕ) (request : Request) (given : Answer) →
+    Asks spec.alphabet line request → Answers (Reports spec) Statuses (Nexts (bodies_of spec.bodies)) (course_of h f) request (course_of h' f') given →
+    reply ≡ reply_text manner spec given → t' ≡ tallied t given → (w' ≡ true → (w ≡ true) × (l' ≡ suc l)) → (w' ≡ true → ExplainsIf manner.explain spec l' h line request given said) →
+    Prepares manner spec (standing h f t l w None) line (standing h' f' t' l' w' None) reply said
+prepares_of manner spec h h' f f' t t' l l' w w' line reply said request given asks answers is told counted explains = record {
+  request = request;
+  answer = given;
+  asks = asks;
+  answers = answers;
+  reply_is = is;
+  tally_is = told;
+  whole = λ e. let k = counted e in (k.0, k.1, explains e);
+}

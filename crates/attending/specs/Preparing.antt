@@ -1,6 +1,5 @@
 -- What is made of a line before anything is written.
 use Rattle.std.specs.Prelude.{◌≡◌, ℕ, suc, List, Bool, true, false, Option, Some, None, Result, Ok, Err, is_some}
-use Rattle.std.specs.Option.{option_map}
 use Rattle.alphabet.specs.declared.events.Event.{Event}
 use Rattle.term.specs.Proc.{bodies_of}
 use Rattle.term.specs.Specs.{Specified}
@@ -27,8 +26,7 @@ standing h failed tally lines whole errors = record { course = course_of h faile
 -- the monitor, if reasons are wanted, stands after the accepted events, as long as all was written
 pub record IsReady (manner : Manner) (spec : Specified) (h : List Entry) (monitor : Option Monitoring) (whole : Bool) : Type 0 where
   pub wanted : is_some monitor ≡ manner.explain
-  pub spec_is : whole ≡ true → option_map (λ m. m.spec) monitor ≡ option_map (λ m. spec) monitor
-  pub trace_is : whole ≡ true → option_map (λ m. m.trace) monitor ≡ option_map (λ m. events h) monitor
+  pub stands : whole ≡ true → (m : Monitoring) → monitor ≡ Some m → (m.spec ≡ spec) × (m.trace ≡ events h)
 
 -- a line that asks for this and is answered so moves what stands after these events to this history
 pub record Moves (spec : Specified) (u : List Event) (request : Request) (answer : Answer) (h : List Entry) : Type 0 where

@@ -160,13 +160,14 @@ fn leave_out<A: Allocator>(reply: &mut Vec<u8, A>, is_left_out: bool)
 }
 
 impl<D: Disk, A: Allocator> Attendant<D, A> {
-    /// From now on nothing is written on the errors.
-    pub(crate) fn spoil(&mut self)
-        ensures whole { self.new.whole ≡ false }
+    /// Notes whether all that is wanted on the errors was written there.
+    pub(crate) fn note_whole(&mut self, whole: bool)
+        requires { whole ≡ true → self.old.whole ≡ true }
+        ensures whole { self.new.whole ≡ whole }
         ensures alone { self.new.alone ≡ self.old.alone }
         ensures same { (self.new.manner ≡ self.old.manner) × (self.new.tally ≡ self.old.tally) × (self.new.lines ≡ self.old.lines) }
     {
-        self.whole = false;
+        self.whole = whole;
     }
 }
 

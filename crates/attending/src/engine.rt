@@ -112,14 +112,12 @@ fn hear_line<D: Disk, A: Allocator + Copy, W: Sink, E: Write>(
         return cut_off(writer);
     }
     let quit = take_line(piece, begun, attendant);
-    if send(writer, &attendant.reply).is_err() {
-        attendant.spoil();
+    let Ok(()) = send(writer, &attendant.reply) else {
+        attendant.note_whole(false);
         return Err(WireError::Write);
-    }
+    };
     let whole = write_errors(errors, &attendant.said, attendant.whole);
-    if !whole {
-        attendant.spoil();
-    }
+    attendant.note_whole(whole);
     if quit {
         Ok(Some(Ending::By(End::Quit)))
     } else if attendant.manner.first && attendant.tally.rejected {
