@@ -32,7 +32,7 @@ const ROOM: usize = 128;
 #[derive(Drop)]
 pub(crate) struct Attendant<D: Disk, A: Allocator> {
     pub(crate) alone: Alone<D, A>,
-    monitor: Option<Monitor<A>>,
+    pub(crate) monitor: Option<Monitor<A>>,
     pub(crate) manner: Manner,
     pub(crate) tally: Tally,
     pub(crate) lines: u64,
@@ -44,7 +44,6 @@ pub(crate) struct Attendant<D: Disk, A: Allocator> {
     // What is to be written on the errors.
     pub(crate) said: Vec<u8, A>,
     ghost reply_room: { 128 ≤ vec_capacity reply },
-    ghost ready: { IsReady manner alone.session.spec alone.session.history monitor whole },
 }
 
 /// Whether the answer is that a report was accepted.
@@ -164,7 +163,7 @@ impl<D: Disk, A: Allocator> Attendant<D, A> {
     pub(crate) fn note_whole(&mut self, whole: bool)
         requires { whole ≡ true → self.old.whole ≡ true }
         ensures whole { self.new.whole ≡ whole }
-        ensures alone { self.new.alone ≡ self.old.alone }
+        ensures alone { (self.new.alone ≡ self.old.alone) × (self.new.monitor ≡ self.old.monitor) }
         ensures same { (self.new.manner ≡ self.old.manner) × (self.new.tally ≡ self.old.tally) × (self.new.lines ≡ self.old.lines) }
     {
         self.whole = whole;
@@ -213,6 +212,7 @@ pub(crate) fn attendant_of<D: Disk + Drop, A: Allocator + Copy>(
     requires offered { session.offered ≡ [] }
     requires ready { IsReady manner session.spec session.history monitor true }
     ensures session { IfOk result (λ a. a.alone.session ≡ session) }
+    ensures ready { IfOk result (λ a. IsReady a.manner a.alone.session.spec a.alone.session.history a.monitor a.whole) }
     ensures begins { IfOk result (λ a. (a.manner ≡ manner) × (a.tally ≡ record { rejected = false; misuse = false; limit = false }) × (a.lines ≡ 0) × (a.whole ≡ true)) }
 {
     let reply = match Vec::with_capacity(alloc, ROOM) {
@@ -240,6 +240,8 @@ pub(crate) fn attendant_of<D: Disk + Drop, A: Allocator + Copy>(
 impl<D: Disk, A: Allocator + Copy> Attendant<D, A> {
     /// Answers the line, and makes its reply and what is to be written on the errors. The result is whether it is a Q.
     pub(crate) fn prepare(&mut self, line: &[u8]) -> bool
+        requires ready { IsReady self.old.manner self.old.alone.session.spec self.old.alone.session.history self.old.monitor self.old.whole }
+        ensures ready { IsReady self.new.manner self.new.alone.session.spec self.new.alone.session.history self.new.monitor self.new.whole }
         ensures prepares { Prepares self.old.manner self.old.alone.session.spec
             (standing self.old.alone.session.history self.old.alone.session.failed self.old.tally self.old.lines self.old.whole None) line.now
             (standing self.new.alone.session.history self.new.alone.session.failed self.new.tally self.new.lines self.new.whole None) self.new.reply.items self.new.said.items }

@@ -8,7 +8,7 @@ ghost use Rattle.session.specs.Legal.{Legal};
 ghost use Rattle.session.specs.Replays.{IsUnopened};
 ghost use Rattle.session.specs.Scripts.{IsReadAs, IsUnbegun};
 ghost use Rattle.attending.specs.Attendances.{Attendance};
-ghost use Rattle.attending.specs.Preparing.{standing};
+ghost use Rattle.attending.specs.Preparing.{IsReady, standing};
 ghost use Rattle.attending.specs.Standing.{unattended};
 
 use crate::attendant::{Attendant, attendant_of};
@@ -76,6 +76,7 @@ fn begin<D: Disk + Drop, A: Allocator + Copy>(
     requires none { (session.history ≡ []) × (session.offered ≡ []) }
     requires read { IsReadAs names script.now process.now session.spec }
     ensures session { IfOk result (λ a. a.alone.session ≡ session) }
+    ensures ready { IfOk result (λ a. IsReady a.manner a.alone.session.spec a.alone.session.history a.monitor a.whole) }
     ensures begins { IfOk result (λ a. (a.manner ≡ manner) × (a.tally ≡ record { rejected = false; misuse = false; limit = false }) × (a.lines ≡ 0) × (a.whole ≡ true)) }
 {
     match monitor_of(alloc, script, process, names, manner.explain) {
@@ -97,6 +98,7 @@ fn hear<R: Wait, D: Disk + Drop, A: Allocator + Copy, T: Source, W: Sink, E: Wri
     errors: &mut E,
 ) -> Result<Attended<D, A>, AllocError>
     requires begins { (attendant.tally ≡ record { rejected = false; misuse = false; limit = false }) × (attendant.lines ≡ 0) × (attendant.whole ≡ true) }
+    requires ready { IsReady attendant.manner attendant.alone.session.spec attendant.alone.session.history attendant.monitor attendant.whole }
     requires none { (attendant.alone.session.history ≡ []) × (attendant.alone.session.failed ≡ None) }
     ensures spec { IfOk result (λ c. c.session.spec ≡ attendant.alone.session.spec) }
     ensures attends { IfOk result (λ c. Attendance attendant.manner attendant.alone.session.spec (unattended (E.contents errors.old))

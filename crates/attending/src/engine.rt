@@ -5,7 +5,7 @@ ghost use Rattle.std.specs.Io.KnownBytes.{Appends};
 ghost use Rattle.wire.specs.Requests.{Lacks};
 ghost use Rattle.wire.specs.Talks.{IsShort};
 ghost use Rattle.attending.specs.Attendances.{Attendance, Listens};
-ghost use Rattle.attending.specs.Preparing.{GoesOn, Prepares, standing};
+ghost use Rattle.attending.specs.Preparing.{GoesOn, IsReady, Prepares, standing};
 
 use crate::attendant::Attendant;
 use crate::manner::Ending;
@@ -64,8 +64,10 @@ fn take_line<D: Disk, A: Allocator + Copy>(
     begun: &mut Vec<u8, A>,
     attendant: &mut Attendant<D, A>,
 ) -> bool
+    requires ready { IsReady attendant.old.manner attendant.old.alone.session.spec attendant.old.alone.session.history attendant.old.monitor attendant.old.whole }
     requires fits { length begun.old.items + length piece.now ≤ 4096 }
     requires room { 4096 ≤ vec_capacity begun.old }
+    ensures ready { IsReady attendant.new.manner attendant.new.alone.session.spec attendant.new.alone.session.history attendant.new.monitor attendant.new.whole }
     ensures prepares { Prepares attendant.old.manner attendant.old.alone.session.spec
         (standing attendant.old.alone.session.history attendant.old.alone.session.failed attendant.old.tally attendant.old.lines attendant.old.whole None) (begun.old.items ++ piece.now)
         (standing attendant.new.alone.session.history attendant.new.alone.session.failed attendant.new.tally attendant.new.lines attendant.new.whole None)
@@ -93,10 +95,12 @@ fn hear_line<D: Disk, A: Allocator + Copy, W: Sink, E: Write>(
     writer: &mut W,
     errors: &mut E,
 ) -> Result<Option<Ending>, WireError>
+    requires ready { IsReady attendant.old.manner attendant.old.alone.session.spec attendant.old.alone.session.history attendant.old.monitor attendant.old.whole }
     requires begun { IsShort begun.old.items }
     requires room { 4096 ≤ vec_capacity begun.old }
     requires plain { Lacks 10 piece.now }
     requires going { attendant.old.manner.first ≡ true → attendant.old.tally.rejected ≡ false }
+    ensures ready { IsReady attendant.new.manner attendant.new.alone.session.spec attendant.new.alone.session.history attendant.new.monitor attendant.new.whole }
     ensures listens { Listens attendant.old.manner attendant.old.alone.session.spec
         (standing attendant.old.alone.session.history attendant.old.alone.session.failed attendant.old.tally attendant.old.lines attendant.old.whole (E.contents errors.old))
         (standing attendant.new.alone.session.history attendant.new.alone.session.failed attendant.new.tally attendant.new.lines attendant.new.whole (E.contents errors.new))
@@ -135,9 +139,11 @@ fn feed<D: Disk, A: Allocator + Copy, W: Sink, E: Write>(
     writer: &mut W,
     errors: &mut E,
 ) -> Result<Option<Ending>, WireError>
+    requires ready { IsReady attendant.old.manner attendant.old.alone.session.spec attendant.old.alone.session.history attendant.old.monitor attendant.old.whole }
     requires begun { IsShort begun.old.items }
     requires room { 4096 ≤ vec_capacity begun.old }
     requires going { attendant.old.manner.first ≡ true → attendant.old.tally.rejected ≡ false }
+    ensures ready { IsReady attendant.new.manner attendant.new.alone.session.spec attendant.new.alone.session.history attendant.new.monitor attendant.new.whole }
     ensures listens { Listens attendant.old.manner attendant.old.alone.session.spec
         (standing attendant.old.alone.session.history attendant.old.alone.session.failed attendant.old.tally attendant.old.lines attendant.old.whole (E.contents errors.old))
         (standing attendant.new.alone.session.history attendant.new.alone.session.failed attendant.new.tally attendant.new.lines attendant.new.whole (E.contents errors.new))
@@ -174,9 +180,11 @@ pub(crate) fn serve<R: Wait, D: Disk, A: Allocator + Copy, T: Source, W: Sink, E
     writer: &mut W,
     errors: &mut E,
 ) -> Result<Ending, WireError>
+    requires ready { IsReady attendant.old.manner attendant.old.alone.session.spec attendant.old.alone.session.history attendant.old.monitor attendant.old.whole }
     requires begun { begun.old.items ≡ [] }
     requires room { 4096 ≤ vec_capacity begun.old }
     requires going { attendant.old.tally.rejected ≡ false }
+    ensures ready { IsReady attendant.new.manner attendant.new.alone.session.spec attendant.new.alone.session.history attendant.new.monitor attendant.new.whole }
     ensures attends { Attendance attendant.old.manner attendant.old.alone.session.spec
         (standing attendant.old.alone.session.history attendant.old.alone.session.failed attendant.old.tally attendant.old.lines attendant.old.whole (E.contents errors.old))
         (standing attendant.new.alone.session.history attendant.new.alone.session.failed attendant.new.tally attendant.new.lines attendant.new.whole (E.contents errors.new))

@@ -34,6 +34,7 @@ loop-line-preserved g c =
       front = so_far.front ++ piece;
       block = block_goes c.args.bytes.now so_far.front c.loop-line.rest.now c.in-Some.line.now c.in-Some.others.now so_far.block c.in-Some.ensures.1;
       talk = subst (λ v. Open (Attends a.manner a.alone.session.spec) j k old new v later) (append_assoc first so_far.front piece) talk;
+      ready = c.in-Ok-None.ensures.ready;
       same = (c.in-Ok-None.ensures.same.0 ∙ so_far.same.0, c.in-Ok-None.ensures.same.1 ∙ so_far.same.1);
       going = goes_as b.manner a.manner d.tally (Ok None) so_far.same.0 goes;
       room = c.in-Ok-None.ensures.room;

@@ -1,7 +1,7 @@
 use Rattle.std.proofs.Common.{◌≡◌, ◌++◌, ◌≤◌, List, ℕ, length, true, false, vec_capacity}
 use Rattle.wire.specs.Talks.{Open, IsShort}
 use Rattle.attending.specs.Lines.{Attends}
-use Rattle.attending.specs.Preparing.{standing}
+use Rattle.attending.specs.Preparing.{IsReady, standing}
 use Rattle.attending.proofs.engine.feed.Given as goal
 
 -- the front of the block was heard, and the rest is still to come
@@ -13,6 +13,7 @@ invariant-loop-line g l = record {
       (standing l.fn.attendant.alone.session.history l.fn.attendant.alone.session.failed l.fn.attendant.tally l.fn.attendant.lines l.fn.attendant.whole (g.E.Write.contents l.fn.errors))
       (standing l.attendant.alone.session.history l.attendant.alone.session.failed l.attendant.tally l.attendant.lines l.attendant.whole (g.E.Write.contents l.errors))
       (g.W.Sink.contents l.fn.writer) (g.W.Sink.contents l.writer) (l.fn.begun.items ++ front) l.begun.items;
+  ready : IsReady l.attendant.manner l.attendant.alone.session.spec l.attendant.alone.session.history l.attendant.monitor l.attendant.whole;
   same : (l.attendant.manner ≡ l.fn.attendant.manner) × (l.attendant.alone.session.spec ≡ l.fn.attendant.alone.session.spec);
   going : l.fn.attendant.manner.first ≡ true → l.attendant.tally.rejected ≡ false;
   room : 4096 ≤ vec_capacity l.begun;

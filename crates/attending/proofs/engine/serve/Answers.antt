@@ -33,6 +33,7 @@ pieces-preserved g c =
     (listens_as b.manner a.manner b.alone.session.spec a.alone.session.spec i k mid new (begun ++ piece) later (Ok None) so_far.same.0 so_far.same.1 heard) in
     record {
       talk = (talk.0 ++ piece, took, open_now);
+      ready = c.in-Ok-None.ensures.ready;
       same = (c.in-Ok-None.ensures.same.0 ∙ so_far.same.0, c.in-Ok-None.ensures.same.1 ∙ so_far.same.1);
       going = goes_as b.manner a.manner d.tally (Ok None) so_far.same.0 goes;
       room = c.in-Ok-None.ensures.room;

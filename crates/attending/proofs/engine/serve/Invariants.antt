@@ -2,7 +2,7 @@ use Rattle.std.proofs.Common.{◌≡◌, ◌≤◌, List, ℕ, true, false, vec_
 use Rattle.std.specs.Io.KnownBytes.{Consumes}
 use Rattle.wire.specs.Talks.{Open, IsShort}
 use Rattle.attending.specs.Lines.{Attends}
-use Rattle.attending.specs.Preparing.{standing}
+use Rattle.attending.specs.Preparing.{IsReady, standing}
 use Rattle.attending.proofs.engine.serve.Given as goal
 
 abbrev pub invariant-pieces : goal.invariant-pieces
@@ -12,6 +12,7 @@ invariant-pieces g l = record {
       (standing l.fn.attendant.alone.session.history l.fn.attendant.alone.session.failed l.fn.attendant.tally l.fn.attendant.lines l.fn.attendant.whole (g.E.Write.contents l.fn.errors))
       (standing l.attendant.alone.session.history l.attendant.alone.session.failed l.attendant.tally l.attendant.lines l.attendant.whole (g.E.Write.contents l.errors))
       (g.W.Sink.contents l.fn.writer) (g.W.Sink.contents l.writer) heard l.begun.items);
+  ready : IsReady l.attendant.manner l.attendant.alone.session.spec l.attendant.alone.session.history l.attendant.monitor l.attendant.whole;
   same : (l.attendant.manner ≡ l.fn.attendant.manner) × (l.attendant.alone.session.spec ≡ l.fn.attendant.alone.session.spec);
   going : l.fn.attendant.manner.first ≡ true → l.attendant.tally.rejected ≡ false;
   room : 4096 ≤ vec_capacity l.begun;
