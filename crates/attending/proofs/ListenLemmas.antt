@@ -38,6 +38,11 @@ attends_of manner spec h h' f f' t t' l l' w w' v before after line reply said p
   writes = λ is. let k = written is in let q = p.whole k.0 in record { whole = q.0; counted = q.1; text = said; explains = q.2; written = k.1 };
 }
 
+-- whether the line is a Q
+pub kind_of : (q : Bool) (A B X : Type 0) → (q ≡ true → B × X) → (q ≡ false → A) → A ⊎ B
+kind_of true A B X f g = inr (f refl).0
+kind_of false A B X f g = inl (g refl)
+
 module _ (manner : Manner) (spec : Specified) where
   abbrev Says : Standing → List ℕ → Standing → List ℕ → Type 0
   Says = Attends manner spec

@@ -1,6 +1,6 @@
 //! One who attends to the lines of a check, one after the other.
 
-ghost use Rattle.std.specs.Prelude.{◌≡◌, ◌≢◌, ◌≤◌, ◌⊎◌, [], suc, true, false, codes, cond, vec_capacity, is_some, IfSome, IfOk, None};
+ghost use Rattle.std.specs.Prelude.{◌≡◌, ◌≢◌, ◌≤◌, ◌⊎◌, ◌&&◌, [], suc, true, false, codes, cond, vec_capacity, is_some, IfSome, IfOk, None};
 ghost use Rattle.term.specs.Proc.{bodies_of};
 ghost use Rattle.term.specs.Specs.{Specified};
 ghost use Rattle.alphabet.specs.Channels.{event_count};
@@ -147,13 +147,13 @@ fn note<A: Allocator + Copy>(
     explained(said, monitor, alloc, *lines, line, request, answer, history)
 }
 
-/// Leaves the reply out, if it is to be left out.
-fn leave_out<A: Allocator>(reply: &mut Vec<u8, A>, is_left_out: bool)
+/// Leaves the reply out, if it is to an accepted report and such replies are left out.
+fn leave_out<A: Allocator>(reply: &mut Vec<u8, A>, quiet: bool, accepted: bool)
     requires { 128 ≤ vec_capacity reply.old }
-    ensures reply { reply.new.items ≡ cond is_left_out [] reply.old.items }
+    ensures reply { reply.new.items ≡ cond (quiet && accepted) [] reply.old.items }
     ensures room { 128 ≤ vec_capacity reply.new }
 {
-    if is_left_out {
+    if quiet && accepted {
         reply.clear();
     }
 }
@@ -270,7 +270,7 @@ impl<D: Disk, A: Allocator + Copy> Attendant<D, A> {
             &answer,
             self.alone.session.history(),
         );
-        leave_out(&mut self.reply, self.manner.quiet && accepts(&answer));
+        leave_out(&mut self.reply, self.manner.quiet, accepts(&answer));
         matches!(request, Request::Quit)
     }
 }

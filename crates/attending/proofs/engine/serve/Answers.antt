@@ -25,8 +25,8 @@ pieces-preserved g c =
     let talk = so_far.talk in
     let begun = c.pieces.begun.items in
     let later = c.feed.new.begun.items in
-    let piece = take c.in-Ok-read.count c.read.new.buffer in
-    let took = consumes_more left front rest talk.0 piece talk.1 (c.in-Ok-read.ensures.bytes.0) in
+    let piece = take c.in-Ok.count c.read.new.buffer in
+    let took = consumes_more left front rest talk.0 piece talk.1 (c.in-Ok.ensures.bytes.0) in
     let heard : Listens b.manner b.alone.session.spec i k mid new (begun ++ piece) later (Ok None) = rw c.in-Ok-None.field-0-is at c.in-Ok-None.ensures.listens in
     let goes : GoesOn b.manner d.tally (Ok None) = rw c.in-Ok-None.field-0-is at c.in-Ok-None.ensures.going in
     let open_now = open_then (Attends a.manner a.alone.session.spec) j i k old mid new talk.0 begun piece later talk.2
@@ -39,7 +39,7 @@ pieces-preserved g c =
       room = c.in-Ok-None.ensures.room;
       begun = open_now.5;
       handed_on = λ before. c.in-Ok-None.ensures.handed_on (so_far.handed_on before);
-      reader_steady = c.in-Ok-read.ensures.steady ∙ so_far.reader_steady;
+      reader_steady = c.in-Ok.ensures.steady ∙ so_far.reader_steady;
       writer_steady = c.in-Ok-None.ensures.steady ∙ so_far.writer_steady;
     }
 
@@ -61,8 +61,8 @@ returns-in-Ok-Some-clause-attends g c =
     let talk = so_far.talk in
     let begun = c.pieces.begun.items in
     let later = c.feed.new.begun.items in
-    let piece = take c.in-Ok-read.count c.read.new.buffer in
-    let took = consumes_more left front rest talk.0 piece talk.1 (c.in-Ok-read.ensures.bytes.0) in
+    let piece = take c.in-Ok.count c.read.new.buffer in
+    let took = consumes_more left front rest talk.0 piece talk.1 (c.in-Ok.ensures.bytes.0) in
     let end = c.in-Ok-Some.end in
     let heard : Listens b.manner b.alone.session.spec i k mid new (begun ++ piece) later (Ok (Some end)) = rw c.in-Ok-Some.field-0-is at c.in-Ok-Some.ensures.listens in
     let goes : GoesOn b.manner d.tally (Ok (Some end)) = rw c.in-Ok-Some.field-0-is at c.in-Ok-Some.ensures.going in
@@ -88,8 +88,8 @@ returns-in-Err-clause-attends g c =
     let talk = so_far.talk in
     let begun = c.pieces.begun.items in
     let later = c.feed.new.begun.items in
-    let piece = take c.in-Ok-read.count c.read.new.buffer in
-    let took = consumes_more left front rest talk.0 piece talk.1 (c.in-Ok-read.ensures.bytes.0) in
+    let piece = take c.in-Ok.count c.read.new.buffer in
+    let took = consumes_more left front rest talk.0 piece talk.1 (c.in-Ok.ensures.bytes.0) in
     let fault = c.in-Err.fault in
     attendance_err a.manner a.alone.session.spec j k left rest old new (talk.0 ++ piece) later fault took
     (listens_then a.manner a.alone.session.spec j i k old mid new talk.0 begun piece later (Err fault) talk.2
