@@ -5,7 +5,7 @@
 //! them to those calls.
 #![tactic(auto)]
 
-mod attending;
+mod by_line;
 mod checking;
 mod forms;
 mod hints;
@@ -19,7 +19,7 @@ mod server;
 mod showing;
 mod telling;
 
-pub use attending::check_in;
+pub use by_line::check_in;
 pub use checking::check;
 pub use forms::print;
 pub use replaying::replay;

@@ -3,7 +3,7 @@ ghost use Rattle.std.specs.Prelude.{◌≡◌};
 ghost use Rattle.program.specs.declared.exit.Exit.{Exit as Status};
 ghost use Rattle.program.specs.Exits.{exit_code};
 
-use crate::attending::{check_in, is_wanted};
+use crate::by_line::{check_in, is_wanted};
 use crate::checking::check;
 use crate::forms::print;
 use crate::limits::names_by;

@@ -77,11 +77,7 @@ fn check_command<'a>(alloc: Global) -> Result<Command<'a>, AllocError> {
         "explain",
         "Say on standard error why each report was rejected",
     ))?
-    .arg(flag(
-        alloc,
-        "quiet",
-        "Leave out the replies to accepted reports",
-    ))?
+    .arg(flag(alloc, "quiet", "Leave out the replies to accepted reports"))?
     .arg(flag(alloc, "first", "End after the first rejected report"))
 }
 

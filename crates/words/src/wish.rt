@@ -10,19 +10,11 @@ pub enum Wish<'a> {
     /// To judge the reports on standard input by the process of the script in the file `spec`.
     Check(Check<'a>),
     /// To print what the script in the file `spec` denotes for the process.
-    Print {
-        spec: &'a str,
-        process: &'a str,
-    },
+    Print { spec: &'a str, process: &'a str },
     /// To judge the records of the journal in the file again.
-    Replay {
-        journal: &'a str,
-    },
+    Replay { journal: &'a str },
     /// To print the reports of the journal in the file, and why those that were rejected were.
-    Show {
-        journal: &'a str,
-        options: Options,
-    },
+    Show { journal: &'a str, options: Options },
     /// To judge the reports of connections by the process of the script in the file `spec`, with the journal in its file.
     Serve(Service<'a>),
 }

@@ -107,7 +107,15 @@ pub fn check_in<R: Files + AllocGlobal + Wait, T: Source, W: Sink, E: Write + Is
     };
     let process = process.as_bytes();
     match talk(
-        rt, rt.alloc(), &script, process, names, manner, reader, writer, errors,
+        rt,
+        rt.alloc(),
+        &script,
+        process,
+        names,
+        manner,
+        reader,
+        writer,
+        errors,
     ) {
         Ok(ended) => tell_end(errors, name, ended),
         Err(error) => tell_unopened(errors, name, &script, names, error),
