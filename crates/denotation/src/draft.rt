@@ -1,0 +1,47 @@
+//! Bodies whose names are definitions.
+ghost use Rattle.std.specs.Prelude.{◌≡◌, ◌-◌, ◌^◌, min};
+ghost use Rattle.denotation.specs.Bodies.{depth};
+ghost use Rattle.denotation.specs.View.{body};
+
+use crate::call::Call;
+use alphabet::EventSet;
+use std::alloc::Allocator;
+
+/// The body of a definition, before definitions have numbers.
+#[derive(Drop)]
+pub(crate) enum Draft<A: Allocator> {
+    Stop,
+    Skip,
+    /// The event with this number, and then a process.
+    Prefix(u8, Box<Draft<A>, A>),
+    Ext(Box<Draft<A>, A>, Box<Draft<A>, A>),
+    Int(Box<Draft<A>, A>, Box<Draft<A>, A>),
+    Seq(Box<Draft<A>, A>, Box<Draft<A>, A>),
+    Par(EventSet, Box<Draft<A>, A>, Box<Draft<A>, A>),
+    Hide(EventSet, Box<Draft<A>, A>),
+    Ren(Vec<(u8, u8), A>, Box<Draft<A>, A>),
+    Intr(Box<Draft<A>, A>, Box<Draft<A>, A>),
+    /// A definition, with the values of its parameters.
+    Name(Call<A>),
+}
+
+impl<A: Allocator> Draft<A> {
+    /// The depth: 1 for `STOP`, `SKIP` and a name, else 1 more than that of the deepest part. A depth past the greatest `u64` is
+    /// given as that number.
+    #[tactic(auto, unfolding(crate::specs::Bodies::depth))]
+    pub(crate) fn depth(&self) -> u64
+        ensures { result ≡ min (depth (body self.now)) (2 ^ 64 - 1) }
+    {
+        match self {
+            Draft::Stop | Draft::Skip | Draft::Name(_) => 1,
+            Draft::Prefix(_, p) | Draft::Hide(_, p) | Draft::Ren(_, p) => {
+                p.depth().saturating_add(1)
+            }
+            Draft::Ext(p, q)
+            | Draft::Int(p, q)
+            | Draft::Seq(p, q)
+            | Draft::Par(_, p, q)
+            | Draft::Intr(p, q) => p.depth().max(q.depth()).saturating_add(1),
+        }
+    }
+}
