@@ -18,7 +18,7 @@ use Rattle.event_phrases.specs.Prefixes.{scopes_after, all_pass, fields_pass, ha
 use Rattle.event_phrases.specs.EventForms.{event_fits, two_masked}
 use Rattle.event_phrases.specs.Forms.{part_list, node_of, name_of, if_none, first_of, one_of, two_of, three_of, four_of, field_form, field_of}
 use Rattle.event_phrases.specs.Scopes.{Scope}
-use Rattle.denotation.specs.Phrases.{generators_form, generators_of, joined_phrase, replicated_phrase, operation_phrase, form_phrase, phrase_of, parts_of, generator_form, generator_of, branches, prefixed_by, is_for_all, takes, arguments, called_with, for_each, over, join_of, none_of, all_joined, renamed, denoted}
+use Rattle.denotation.specs.Phrases.{generators_form, generators_of, joined_phrase, replicated_phrase, operation_phrase, form_phrase, phrase_of, parts_of, written, generator_form, generator_of, branches, prefixed_by, is_for_all, takes, arguments, called_with, for_each, over, join_of, joint_of, operation_of, composed, none_of, all_joined, renamed, denoted}
 use Rattle.denotation.specs.Denotes.{body_by, paired, called_by, body_of, has_key, with_key, with_keys, met}
 
 -- ---- how scripts are written here
@@ -220,12 +220,12 @@ itself = refl
 
 -- STOP [ {a, b} || {b, c} ] SKIP
 parallel : body_of (plain (joined operators.Alphabetised (stops ∷ set (named a ∷ named b ∷ []) ∷ set (named b ∷ named c ∷ []) ∷ skips ∷ []))) (key P) ≡ Some (par 4 (par 8 stop skip) (par 2 skip skip))
-unfolding event_names declared declared_by declared_by_all entries_of listed_names names_of meaning known_in worth_of channels_of with_channel fields_of is_process_in is_process_meaning is_process_by is_process_form is_process_operator fields_named field_values are_within begins beginning begins_so at_number whole_event together event_set set_below masked two_masked node_of name_of if_none first_of one_of two_of three_of four_of phrase_of parts_of form_phrase operation_phrase joined_phrase join_of denoted body_by body_of worth worths formed operated is_comparison the_only negated calculated set_with range_with union_with intersection_with difference_with
+unfolding event_names declared declared_by declared_by_all entries_of listed_names names_of meaning known_in worth_of channels_of with_channel fields_of is_process_in is_process_meaning is_process_by is_process_form is_process_operator fields_named field_values are_within begins beginning begins_so at_number whole_event together event_set set_below masked two_masked node_of name_of if_none first_of one_of two_of three_of four_of phrase_of parts_of form_phrase operation_phrase joined_phrase join_of joint_of operation_of composed denoted body_by body_of worth worths formed operated is_comparison the_only negated calculated set_with range_with union_with intersection_with difference_with
 parallel = refl
 
 -- (a -> STOP)[[a <- b, a <- c]]
 renames : body_of (plain (joined operators.Renaming (bracketed (does a stops) ∷ pair (named a) (named c) ∷ pair (named a) (named b) ∷ []))) (key P) ≡ Some (ren ((0, 1) ∷ (0, 2) ∷ []) (prefix 0 stop))
-unfolding event_names declared declared_by declared_by_all entries_of listed_names names_of meaning known_in worth_of channels_of with_channel fields_of is_process_in is_process_meaning is_process_by is_process_form is_process_operator fields_named field_values are_within begins beginning begins_so number_in pairs_from pair_of pairs_of is_pair_of in_order renamed fitting has_all prefix_parts has_event at_no_fault branches event_fits prefixed_by node_of name_of if_none first_of one_of two_of three_of four_of phrase_of parts_of form_phrase operation_phrase joined_phrase join_of denoted body_by body_of halved_in halved worth worths formed operated is_comparison the_only negated calculated set_with range_with union_with intersection_with difference_with
+unfolding event_names declared declared_by declared_by_all entries_of listed_names names_of meaning known_in worth_of channels_of with_channel fields_of is_process_in is_process_meaning is_process_by is_process_form is_process_operator fields_named field_values are_within begins beginning begins_so number_in pairs_from pair_of pairs_of is_pair_of in_order renamed fitting has_all prefix_parts has_event at_no_fault branches event_fits prefixed_by node_of name_of if_none first_of one_of two_of three_of four_of phrase_of parts_of written form_phrase operation_phrase joined_phrase join_of denoted body_by body_of halved_in halved worth worths formed operated is_comparison the_only negated calculated set_with range_with union_with intersection_with difference_with
 renames = refl
 
 -- (STOP) \ diff(Events, {| b |})
@@ -243,7 +243,7 @@ abbrev moving : Scope
 moving = scope (channel c (upto 1 ∷ []) ∷ channel d (upto 1 ∷ []) ∷ is_defined P (joined operators.Renaming (stops ∷ pair (named c) (named d) ∷ [])) ∷ [])
 
 moves : body_of moving (key P) ≡ Some (ren ((0, 2) ∷ (1, 3) ∷ []) stop)
-unfolding event_names declared declared_by declared_by_all entries_of listed_names names_of field_sets meaning known_in worth_of channels_of with_channel fields_of is_process_in is_process_meaning is_process_by is_process_form is_process_operator fields_named field_values are_within begins beginning begins_so number_in pairs_from pair_of pairs_of is_pair_of in_order renamed node_of name_of if_none first_of one_of two_of three_of four_of phrase_of parts_of form_phrase operation_phrase joined_phrase join_of denoted body_by body_of worth worths formed operated is_comparison the_two two_numbers the_number the_only the_set limited range numbers_from is_among is_same negated calculated set_with range_with union_with intersection_with difference_with
+unfolding event_names declared declared_by declared_by_all entries_of listed_names names_of field_sets meaning known_in worth_of channels_of with_channel fields_of is_process_in is_process_meaning is_process_by is_process_form is_process_operator fields_named field_values are_within begins beginning begins_so number_in pairs_from pair_of pairs_of is_pair_of in_order renamed node_of name_of if_none first_of one_of two_of three_of four_of phrase_of parts_of written form_phrase operation_phrase joined_phrase join_of denoted body_by body_of worth worths formed operated is_comparison the_two two_numbers the_number the_only the_set limited range numbers_from is_among is_same negated calculated set_with range_with union_with intersection_with difference_with
 moves = refl
 
 -- channel c : {0..1}, channel d and P = STOP[[ c <- d ]]: d.0 is no event
@@ -251,7 +251,7 @@ abbrev nowhere : Scope
 nowhere = scope (channel c (upto 1 ∷ []) ∷ channel d [] ∷ is_defined P (joined operators.Renaming (stops ∷ pair (named c) (named d) ∷ [])) ∷ [])
 
 no_image : body_of nowhere (key P) ≡ None
-unfolding declared declared_by declared_by_all entries_of listed_names names_of field_sets meaning known_in worth_of channels_of with_channel fields_of is_process_in is_process_meaning is_process_by is_process_form is_process_operator fields_named field_values are_within begins beginning begins_so number_in pairs_from pair_of pairs_of node_of name_of if_none first_of one_of two_of three_of four_of phrase_of parts_of form_phrase operation_phrase joined_phrase join_of denoted body_by body_of worth worths formed operated is_comparison the_two two_numbers the_number the_only the_set limited range numbers_from is_among is_same negated calculated set_with range_with union_with intersection_with difference_with
+unfolding declared declared_by declared_by_all entries_of listed_names names_of field_sets meaning known_in worth_of channels_of with_channel fields_of is_process_in is_process_meaning is_process_by is_process_form is_process_operator fields_named field_values are_within begins beginning begins_so number_in pairs_from pair_of pairs_of node_of name_of if_none first_of one_of two_of three_of four_of phrase_of parts_of written form_phrase operation_phrase joined_phrase join_of denoted body_by body_of worth worths formed operated is_comparison the_two two_numbers the_number the_only the_set limited range numbers_from is_among is_same negated calculated set_with range_with union_with intersection_with difference_with
 no_image = refl
 
 -- ---- channels without events

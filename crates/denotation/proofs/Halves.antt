@@ -4,9 +4,11 @@ use Rattle.std.proofs.lemmas.List.{length-take, length-drop}
 use Rattle.values.specs.Values.{◌>>=◌}
 use Rattle.event_phrases.proofs.Options.{bind_assoc, bind_none}
 use Rattle.denotation.specs.Bodies.{Body, size, sizes, half, halved_in, halved}
+use Rattle.denotation.specs.declared.draft.Joint.{Joint}
+use Rattle.denotation.specs.declared.draft.Joint.TheVariants as joints
 use Rattle.denotation.specs.declared.forms.Join.{Join}
 use Rattle.denotation.specs.declared.forms.Join.TheVariants as joins
-use Rattle.denotation.specs.Phrases.{join_of, none_of, all_joined}
+use Rattle.denotation.specs.Phrases.{join_of, joint_of, none_of, all_joined}
 use Rattle.denotation.specs.Rooms.{room_left, spare, fit, fits, all_fit, halved_nodes, spare_joined}
 use Rattle.denotation.proofs.Rooms.{rooms, some_pair}
 
@@ -21,13 +23,18 @@ unfolding halved_nodes
 some_nodes [] h = absurd (omega (arith, h))
 some_nodes (b ∷ bs) h = omega arith
 
-pub join_size : (j : Join) (p q : Body) → size (join_of j p q) ≡ size p + (size q + 1)
+join_size : (j : Join) (p q : Body) → size (join_of j p q) ≡ size p + (size q + 1)
 unfolding join_of size
 join_size joins.Sequence p q = omega arith
 join_size joins.Interrupt p q = omega arith
 join_size joins.External p q = omega arith
 join_size joins.Internal p q = omega arith
 join_size joins.Interleaving p q = omega arith
+
+pub joint_size : (k : Joint) (p q : Body) → size (joint_of k p q) ≡ size p + (size q + 1)
+unfolding joint_of size
+joint_size (joints.Join j) p q = join_size j p q
+joint_size (joints.Sharing A) p q = omega arith
 
 none_size : (j : Join) → size (none_of j) ≡ 1
 unfolding none_of size

@@ -3,6 +3,10 @@ use Rattle.std.proofs.Common.{◌≡◌, ℕ, suc, ◌+◌, max, List, [], ◌�
 use Rattle.term.specs.Proc as procs
 use Rattle.term.specs.Sizes as terms
 use Rattle.denotation.specs.Bodies.{size, sizes, depth, Key, Body, stop, skip, prefix, ext, int, seq, par, hide, ren, intr, name, names, numbered}
+use Rattle.denotation.specs.declared.draft.Joint.{Joint}
+use Rattle.denotation.specs.declared.draft.Joint.TheVariants as joints
+use Rattle.denotation.specs.declared.forms.Join.TheVariants as joins
+use Rattle.denotation.specs.Phrases.{joint_of, join_of}
 use Rattle.denotation.specs.Denotes.{place, with_key, with_keys, nodes}
 use Rattle.denotation.proofs.Keys.{keys_append, place_stays, has_with}
 
@@ -40,6 +44,26 @@ pub then_more : (b : Body) (ks ls : List Key) (more : List Key) → with_keys ks
 then_more b ks ls more h =
     ap (λ ls. numbered (place (with_keys ls more)) b) (sym h) ∙ ap (λ ls. numbered (place ls) b) (sym (keys_append ks (names b) more))
     ∙ stays b ks more ∙ ap (λ ls. numbered (place ls) b) h
+
+-- ---- two that are joined
+
+pub joint_names : (k : Joint) (p q : Body) → names (joint_of k p q) ≡ names p ++ names q
+unfolding joint_of join_of names
+joint_names (joints.Join joins.Sequence) p q = refl
+joint_names (joints.Join joins.Interrupt) p q = refl
+joint_names (joints.Join joins.External) p q = refl
+joint_names (joints.Join joins.Internal) p q = refl
+joint_names (joints.Join joins.Interleaving) p q = refl
+joint_names (joints.Sharing A) p q = refl
+
+pub joint_depth : (k : Joint) (p q : Body) → depth (joint_of k p q) ≡ suc (max (depth p) (depth q))
+unfolding joint_of join_of depth
+joint_depth (joints.Join joins.Sequence) p q = refl
+joint_depth (joints.Join joins.Interrupt) p q = refl
+joint_depth (joints.Join joins.External) p q = refl
+joint_depth (joints.Join joins.Internal) p q = refl
+joint_depth (joints.Join joins.Interleaving) p q = refl
+joint_depth (joints.Sharing A) p q = refl
 
 -- ---- sizes and depths
 

@@ -4,7 +4,11 @@ use Rattle.tokens.specs.declared.unread.Unread.{Unread}
 use Rattle.values.specs.Values.{◌>>=◌}
 use Rattle.values.specs.View.{Fails}
 use Rattle.event_phrases.proofs.Options.{bind_assoc, bind_none, step, fails_at}
-use Rattle.denotation.specs.Rooms.{room_left, spare, fit}
+use Rattle.event_phrases.specs.Scopes.{Scope}
+use Rattle.denotation.specs.Bodies.{Body}
+use Rattle.denotation.specs.declared.draft.Operation.{Operation}
+use Rattle.denotation.specs.Phrases.{composed}
+use Rattle.denotation.specs.Rooms.{room_left, spare, fit, operation_nodes}
 
 pub split : (P : Type 0) (m n : ℕ) → (m ≤ n → P) → (n < m → P) → P
 split P zero n f g = f (omega arith)
@@ -38,6 +42,15 @@ some_pair x r = Some (x, r)
 -- what takes nothing leaves the room as it is
 pub no_room : {X : Type 0} (x : X) (room : ℕ) → spare 0 x room ≡ Some (x, room)
 no_room x room = ap (λ o. o >>= some_pair x) (room_enough 0 room (omega arith)) ∙ ap (some_pair x) (omega arith)
+
+-- two bodies with something between them, where this is known
+module _ (s : Scope) (p q : Body) (room : ℕ) (o is : Operation) (h : o ≡ is) where
+  pub no_operation : (k : Unread) → Fails k (room_left (operation_nodes is) room) → Fails k (spare (operation_nodes o) (composed s o p q) room)
+  no_operation k f = subst (λ o. Fails k (spare (operation_nodes o) (composed s o p q) room)) (sym h) (fails_at k (room_left (operation_nodes is) room) (some_pair (composed s is p q)) f)
+
+  pub one_operation : (b : Body) (left : ℕ) → b ≡ composed s is p q → room_left (operation_nodes is) room ≡ Some left → spare (operation_nodes o) (composed s o p q) room ≡ Some (b, left)
+  one_operation b left e f =
+      ap (λ o. spare (operation_nodes o) (composed s o p q) room) h ∙ ap (λ r. r >>= some_pair (composed s is p q)) f ∙ ap (λ b. some_pair b left) (sym e)
 
 -- ---- something, and n nodes more
 
@@ -80,53 +93,40 @@ module _ {X Y Z : Type 0} (nx : X → ℕ) (ny : Y → ℕ) (nz : Z → ℕ) (f 
           ∙ (λ i. room_left (nx x) room >>= λ r. sym (bind_assoc (room_left (ny y) r) (some_pair y) (λ q. spare n (f x q.0) q.1)) i)
           ∙ sym (bind_assoc (room_left (nx x) room) (some_pair x) (λ p. fit ny p.1 (Some y) >>= λ q. spare n (f p.0 q.0) q.1))
 
-  pub two_first : (k : Unread) → Fails k (fit nx room o) → Fails k two
-  two_first k e = subst (λ o. Fails k o) (sym two_is) (fails_at k (fit nx room o) (λ p. fit ny p.1 u >>= λ q. spare n (f p.0 q.0) q.1) e)
+-- ---- something, a part without nodes, something else, and some nodes more
 
-  module _ (p : X × ℕ) (a : fit nx room o ≡ Some p) where
-    two_on : two ≡ (fit ny p.1 u >>= λ q. spare n (f p.0 q.0) q.1)
-    two_on = two_is ∙ step (fit nx room o) (λ p. fit ny p.1 u >>= λ q. spare n (f p.0 q.0) q.1) p a
-
-    pub two_second : (k : Unread) → Fails k (fit ny p.1 u) → Fails k two
-    two_second k e = subst (λ o. Fails k o) (sym two_on) (fails_at k (fit ny p.1 u) (λ q. spare n (f p.0 q.0) q.1) e)
-
-    pub two_so : (q : Y × ℕ) → fit ny p.1 u ≡ Some q → two ≡ spare n (f p.0 q.0) q.1
-    two_so q b = two_on ∙ step (fit ny p.1 u) (λ q. spare n (f p.0 q.0) q.1) q b
-
--- ---- something, a part without nodes, something else, and n nodes more
-
-module _ {X M Y Z : Type 0} (nx : X → ℕ) (ny : Y → ℕ) (nz : Z → ℕ) (f : X → M → Y → Z) (n : ℕ) (h : (x : X) (a : M) (y : Y) → nz (f x a y) ≡ nx x + (ny y + n)) (room : ℕ) (o : Option X) (m : Option M) (u : Option Y) where
+module _ {X M Y Z : Type 0} (nx : X → ℕ) (ny : Y → ℕ) (nz : Z → ℕ) (f : X → M → Y → Z) (n : M → ℕ) (h : (x : X) (a : M) (y : Y) → nz (f x a y) ≡ nx x + (ny y + n a)) (room : ℕ) (o : Option X) (m : Option M) (u : Option Y) where
   abbrev three : Option (Z × ℕ)
   three = fit nz room (o >>= λ x. m >>= λ a. u >>= λ y. Some (f x a y))
 
-  three_is : three ≡ (fit nx room o >>= λ p. m >>= λ a. fit ny p.1 u >>= λ q. spare n (f p.0 a q.0) q.1)
+  three_is : three ≡ (fit nx room o >>= λ p. m >>= λ a. fit ny p.1 u >>= λ q. spare (n a) (f p.0 a q.0) q.1)
   unfolding fit
   three_is = by o m
     where
-      by : (o : Option X) (m : Option M) → fit nz room (o >>= λ x. m >>= λ a. u >>= λ y. Some (f x a y)) ≡ (fit nx room o >>= λ p. m >>= λ a. fit ny p.1 u >>= λ q. spare n (f p.0 a q.0) q.1)
+      by : (o : Option X) (m : Option M) → fit nz room (o >>= λ x. m >>= λ a. u >>= λ y. Some (f x a y)) ≡ (fit nx room o >>= λ p. m >>= λ a. fit ny p.1 u >>= λ q. spare (n a) (f p.0 a q.0) q.1)
       by None m = refl
       by (Some x) None = sym (bind_none (spare (nx x) x room) (λ p. None) (λ p. refl))
-      by (Some x) (Some a) = two_is nx ny nz (λ x y. f x a y) n (λ x y. h x a y) room (Some x) u
+      by (Some x) (Some a) = two_is nx ny nz (λ x y. f x a y) (n a) (λ x y. h x a y) room (Some x) u
 
   pub three_first : (k : Unread) → Fails k (fit nx room o) → Fails k three
-  three_first k e = subst (λ o. Fails k o) (sym three_is) (fails_at k (fit nx room o) (λ p. m >>= λ a. fit ny p.1 u >>= λ q. spare n (f p.0 a q.0) q.1) e)
+  three_first k e = subst (λ o. Fails k o) (sym three_is) (fails_at k (fit nx room o) (λ p. m >>= λ a. fit ny p.1 u >>= λ q. spare (n a) (f p.0 a q.0) q.1) e)
 
   module _ (p : X × ℕ) (e : fit nx room o ≡ Some p) where
-    three_on : three ≡ (m >>= λ a. fit ny p.1 u >>= λ q. spare n (f p.0 a q.0) q.1)
-    three_on = three_is ∙ step (fit nx room o) (λ p. m >>= λ a. fit ny p.1 u >>= λ q. spare n (f p.0 a q.0) q.1) p e
+    three_on : three ≡ (m >>= λ a. fit ny p.1 u >>= λ q. spare (n a) (f p.0 a q.0) q.1)
+    three_on = three_is ∙ step (fit nx room o) (λ p. m >>= λ a. fit ny p.1 u >>= λ q. spare (n a) (f p.0 a q.0) q.1) p e
 
     pub three_part : (k : Unread) → Fails k m → Fails k three
-    three_part k g = subst (λ o. Fails k o) (sym three_on) (fails_at k m (λ a. fit ny p.1 u >>= λ q. spare n (f p.0 a q.0) q.1) g)
+    three_part k g = subst (λ o. Fails k o) (sym three_on) (fails_at k m (λ a. fit ny p.1 u >>= λ q. spare (n a) (f p.0 a q.0) q.1) g)
 
     module _ (a : M) (g : m ≡ Some a) where
-      three_with : three ≡ (fit ny p.1 u >>= λ q. spare n (f p.0 a q.0) q.1)
-      three_with = three_on ∙ step m (λ a. fit ny p.1 u >>= λ q. spare n (f p.0 a q.0) q.1) a g
+      three_with : three ≡ (fit ny p.1 u >>= λ q. spare (n a) (f p.0 a q.0) q.1)
+      three_with = three_on ∙ step m (λ a. fit ny p.1 u >>= λ q. spare (n a) (f p.0 a q.0) q.1) a g
 
       pub three_second : (k : Unread) → Fails k (fit ny p.1 u) → Fails k three
-      three_second k j = subst (λ o. Fails k o) (sym three_with) (fails_at k (fit ny p.1 u) (λ q. spare n (f p.0 a q.0) q.1) j)
+      three_second k j = subst (λ o. Fails k o) (sym three_with) (fails_at k (fit ny p.1 u) (λ q. spare (n a) (f p.0 a q.0) q.1) j)
 
-      pub three_so : (q : Y × ℕ) → fit ny p.1 u ≡ Some q → three ≡ spare n (f p.0 a q.0) q.1
-      three_so q j = three_with ∙ step (fit ny p.1 u) (λ q. spare n (f p.0 a q.0) q.1) q j
+      pub three_so : (q : Y × ℕ) → fit ny p.1 u ≡ Some q → three ≡ spare (n a) (f p.0 a q.0) q.1
+      three_so q j = three_with ∙ step (fit ny p.1 u) (λ q. spare (n a) (f p.0 a q.0) q.1) q j
 
 -- ---- something, a part without nodes, and some nodes more
 

@@ -4,7 +4,6 @@ use Rattle.std.proofs.lemmas.List.{map-append}
 use Rattle.alphabet.specs.Channels.{Values, events, event_count}
 use Rattle.alphabet.specs.EventSets.{Set}
 use Rattle.term.specs.Traces.{Pairs}
-use Rattle.syntax.specs.Parsing.{syntaxes}
 use Rattle.values.specs.Worths.{condition}
 use Rattle.event_phrases.specs.Events.{masked, pairs_of}
 use Rattle.syntax.specs.Grammar.{Syntax, Syntaxes}
@@ -12,18 +11,20 @@ use Rattle.syntax.proofs.Failing.{fails_on}
 use Rattle.tokens.specs.declared.unread.Unread.{Unread}
 use Rattle.values.specs.Values.{◌>>=◌, Name}
 use Rattle.values.specs.View.{Fails}
-use Rattle.event_phrases.specs.EventForms.{event_fits, two_masked}
+use Rattle.event_phrases.specs.EventForms.{event_fits}
 use Rattle.event_phrases.specs.Prefixes.{prefix_parts}
 use Rattle.event_phrases.specs.Scopes.{Scope, events_by}
 use Rattle.event_phrases.proofs.Options.{step, fails_at}
-use Rattle.denotation.specs.Bodies.{Body, stop, par, hide, size, sizes, choice_of}
+use Rattle.denotation.specs.Bodies.{Body, hide, size, sizes, choice_of}
+use Rattle.denotation.specs.declared.draft.Operation.{Operation}
+use Rattle.denotation.specs.declared.draft.Operation.TheVariants as operations
 use Rattle.denotation.specs.declared.forms.Join.{Join}
 use Rattle.denotation.specs.declared.forms.Join.TheVariants as joins
-use Rattle.denotation.specs.Phrases.{Phrase, sharing, alphabetised, alphabetised_by, hiding, renaming, renamed, conditional, guarded, joined, replicated, other, join_of, none_of, denoted, over, branches, prefixed_by}
-use Rattle.denotation.specs.Rooms.{spare, fit, fits, all_fit, halved_nodes, spare_joined, renaming_nodes, renamed_within, behind, with_one}
+use Rattle.denotation.specs.Phrases.{Between, Phrase, hiding, renaming, renamed, conditional, joined, replicated, other, join_of, none_of, operation_of, composed, denoted, over, branches, prefixed_by}
+use Rattle.denotation.specs.Rooms.{spare, fit, fits, all_fit, halved_nodes, spare_joined, operation_nodes, renaming_nodes, renamed_within, behind, with_one}
 use Rattle.denotation.specs.Walks.{Visit, stands, first_scope, visits, on_visits}
-use Rattle.denotation.proofs.Halves.{join_size, size_halves, all_is}
-use Rattle.denotation.proofs.Rooms.{one_fails, one_so, two_first, two_second, two_so, three_first, three_part, three_second, three_so, part_first, part_fails, part_on, part_so}
+use Rattle.denotation.proofs.Halves.{joint_size, size_halves, all_is}
+use Rattle.denotation.proofs.Rooms.{one_fails, one_so, three_first, three_part, three_second, three_so, part_first, part_fails, part_on, part_so}
 use Rattle.denotation.proofs.Turns.{one_and_rest, all_before}
 use Rattle.denotation.proofs.Walks.{begun, first_is}
 
@@ -35,75 +36,33 @@ module _ (s : Scope) (room : ℕ) where
   unfolding denoted fit
   nothing_denoted p e = ap (λ p. fits room (denoted p s)) (sym e)
 
-  -- ---- two that are joined
+  -- ---- two with something between them
 
-  module _ (j : Join) (t u : Phrase) where
-    pub joined_first : (k : Unread) → Fails k (fits room (denoted t s)) → Fails k (fits room (denoted (joined j t u) s))
+  module _ (m : Between) (t u : Phrase) where
+    more : (p : Body) (o : Operation) (q : Body) → size (composed s o p q) ≡ size p + (size q + operation_nodes o)
+    unfolding size composed operation_nodes
+    more p (operations.Joint k) q = joint_size k p q
+    more p (operations.Alphabetised A B) q = omega arith
+
+    pub joined_first : (k : Unread) → Fails k (fits room (denoted t s)) → Fails k (fits room (denoted (joined m t u) s))
     unfolding denoted
-    joined_first = two_first size size size (join_of j) 1 (join_size j) room (denoted t s) (denoted u s)
+    joined_first = three_first size size size (λ p o q. composed s o p q) operation_nodes more room (denoted t s) (operation_of s m) (denoted u s)
 
     module _ (p : Body × ℕ) (a : fits room (denoted t s) ≡ Some p) where
-      pub joined_second : (k : Unread) → Fails k (fits p.1 (denoted u s)) → Fails k (fits room (denoted (joined j t u) s))
+      pub joined_between : (k : Unread) → Fails k (operation_of s m) → Fails k (fits room (denoted (joined m t u) s))
       unfolding denoted
-      joined_second = two_second size size size (join_of j) 1 (join_size j) room (denoted t s) (denoted u s) p a
+      joined_between = three_part size size size (λ p o q. composed s o p q) operation_nodes more room (denoted t s) (operation_of s m) (denoted u s) p a
 
-      pub joined_so : (q : Body × ℕ) → fits p.1 (denoted u s) ≡ Some q → fits room (denoted (joined j t u) s) ≡ spare 1 (join_of j p.0 q.0) q.1
-      unfolding denoted
-      joined_so = two_so size size size (join_of j) 1 (join_size j) room (denoted t s) (denoted u s) p a
-
-  -- ---- with sets
-
-  module _ (t : Phrase) (e : Syntax) (u : Phrase) where
-    share_size : (p : Body) (A : Set) (q : Body) → size (par A p q) ≡ size p + (size q + 1)
-    unfolding size
-    share_size p A q = omega arith
-
-    abbrev the_set : Option Set
-    the_set = masked s.channels (events_by s e)
-
-    pub sharing_first : (k : Unread) → Fails k (fits room (denoted t s)) → Fails k (fits room (denoted (sharing t e u) s))
-    unfolding denoted
-    sharing_first = three_first size size size (λ p A q. par A p q) 1 share_size room (denoted t s) the_set (denoted u s)
-
-    module _ (p : Body × ℕ) (a : fits room (denoted t s) ≡ Some p) where
-      pub sharing_set : (k : Unread) → Fails k the_set → Fails k (fits room (denoted (sharing t e u) s))
-      unfolding denoted
-      sharing_set = three_part size size size (λ p A q. par A p q) 1 share_size room (denoted t s) the_set (denoted u s) p a
-
-      module _ (A : Set) (b : the_set ≡ Some A) where
-        pub sharing_second : (k : Unread) → Fails k (fits p.1 (denoted u s)) → Fails k (fits room (denoted (sharing t e u) s))
+      module _ (o : Operation) (b : operation_of s m ≡ Some o) where
+        pub joined_second : (k : Unread) → Fails k (fits p.1 (denoted u s)) → Fails k (fits room (denoted (joined m t u) s))
         unfolding denoted
-        sharing_second = three_second size size size (λ p A q. par A p q) 1 share_size room (denoted t s) the_set (denoted u s) p a A b
+        joined_second = three_second size size size (λ p o q. composed s o p q) operation_nodes more room (denoted t s) (operation_of s m) (denoted u s) p a o b
 
-        pub sharing_so : (q : Body × ℕ) → fits p.1 (denoted u s) ≡ Some q → fits room (denoted (sharing t e u) s) ≡ spare 1 (par A p.0 q.0) q.1
+        pub joined_so : (q : Body × ℕ) → fits p.1 (denoted u s) ≡ Some q → fits room (denoted (joined m t u) s) ≡ spare (operation_nodes o) (composed s o p.0 q.0) q.1
         unfolding denoted
-        sharing_so = three_so size size size (λ p A q. par A p q) 1 share_size room (denoted t s) the_set (denoted u s) p a A b
+        joined_so = three_so size size size (λ p o q. composed s o p q) operation_nodes more room (denoted t s) (operation_of s m) (denoted u s) p a o b
 
-  module _ (t : Phrase) (e d : Syntax) (u : Phrase) where
-    both_size : (p : Body) (S : Set × Set) (q : Body) → size (alphabetised_by s S p q) ≡ size p + (size q + 5)
-    unfolding size
-    both_size p S q = omega arith
-
-    abbrev the_sets : Option (Set × Set)
-    the_sets = two_masked s.channels (events_by s e) (events_by s d)
-
-    pub alphabetised_first : (k : Unread) → Fails k (fits room (denoted t s)) → Fails k (fits room (denoted (alphabetised t e d u) s))
-    unfolding denoted
-    alphabetised_first = three_first size size size (λ p S q. alphabetised_by s S p q) 5 both_size room (denoted t s) the_sets (denoted u s)
-
-    module _ (p : Body × ℕ) (a : fits room (denoted t s) ≡ Some p) where
-      pub alphabetised_sets : (k : Unread) → Fails k the_sets → Fails k (fits room (denoted (alphabetised t e d u) s))
-      unfolding denoted
-      alphabetised_sets = three_part size size size (λ p S q. alphabetised_by s S p q) 5 both_size room (denoted t s) the_sets (denoted u s) p a
-
-      module _ (S : Set × Set) (b : the_sets ≡ Some S) where
-        pub alphabetised_second : (k : Unread) → Fails k (fits p.1 (denoted u s)) → Fails k (fits room (denoted (alphabetised t e d u) s))
-        unfolding denoted
-        alphabetised_second = three_second size size size (λ p S q. alphabetised_by s S p q) 5 both_size room (denoted t s) the_sets (denoted u s) p a S b
-
-        pub alphabetised_so : (q : Body × ℕ) → fits p.1 (denoted u s) ≡ Some q → fits room (denoted (alphabetised t e d u) s) ≡ spare 5 (alphabetised_by s S p.0 q.0) q.1
-        unfolding denoted
-        alphabetised_so = three_so size size size (λ p S q. alphabetised_by s S p q) 5 both_size room (denoted t s) the_sets (denoted u s) p a S b
+  -- ---- one with a set or with pairs
 
   module _ (t : Phrase) (e : Syntax) where
     hide_size : (p : Body) (A : Set) → size (hide A p) ≡ size p + 1
@@ -123,7 +82,7 @@ module _ (s : Scope) (room : ℕ) where
       unfolding denoted
       hiding_so = part_so size size (λ p A. hide A p) (λ A. 1) hide_size room (denoted t s) (masked s.channels (events_by s e)) p a
 
-  module _ (t : Phrase) (ts : List Syntax) where
+  module _ (t : Phrase) (ts : Syntaxes) where
     renamed_size : (p : Body) (R : Pairs) → size (renamed (event_count s.channels) R p) ≡ size p + renaming_nodes R
     unfolding size renamed renaming_nodes
     renamed_size p [] = omega arith
@@ -131,11 +90,11 @@ module _ (s : Scope) (room : ℕ) where
 
     pub renaming_first : (k : Unread) → Fails k (fits room (denoted t s)) → Fails k (fits room (denoted (renaming t ts) s))
     unfolding denoted
-    renaming_first = part_first size size (λ p R. renamed (event_count s.channels) R p) renaming_nodes renamed_size room (denoted t s) (pairs_of s.channels s.known (syntaxes ts))
+    renaming_first = part_first size size (λ p R. renamed (event_count s.channels) R p) renaming_nodes renamed_size room (denoted t s) (pairs_of s.channels s.known ts)
 
-    pub renaming_on : (p : Body × ℕ) → fits room (denoted t s) ≡ Some p → fits room (denoted (renaming t ts) s) ≡ renamed_within (event_count s.channels) (pairs_of s.channels s.known (syntaxes ts)) p.0 p.1
+    pub renaming_on : (p : Body × ℕ) → fits room (denoted t s) ≡ Some p → fits room (denoted (renaming t ts) s) ≡ renamed_within (event_count s.channels) (pairs_of s.channels s.known ts) p.0 p.1
     unfolding denoted
-    renaming_on = part_on size size (λ p R. renamed (event_count s.channels) R p) renaming_nodes renamed_size room (denoted t s) (pairs_of s.channels s.known (syntaxes ts))
+    renaming_on = part_on size size (λ p R. renamed (event_count s.channels) R p) renaming_nodes renamed_size room (denoted t s) (pairs_of s.channels s.known ts)
 
   -- ---- conditions
 
@@ -147,15 +106,6 @@ module _ (s : Scope) (room : ℕ) where
     pub conditional_so : (b : Bool) → condition s.known c ≡ Some b → fits room (denoted (conditional c t u) s) ≡ fits room (cond b (denoted t s) (denoted u s))
     unfolding denoted
     conditional_so b e = ap (λ o. fits room (o >>= λ b. cond b (denoted t s) (denoted u s))) e
-
-  module _ (c : Syntax) (t : Phrase) where
-    pub guarded_fails : (k : Unread) → Fails k (condition s.known c) → Fails k (fits room (denoted (guarded c t) s))
-    unfolding denoted fit
-    guarded_fails k f = fails_on k (condition s.known c) (fits room (denoted (guarded c t) s)) (λ n. ap (λ o. fits room (o >>= λ b. cond b (denoted t s) (Some stop))) n) f
-
-    pub guarded_so : (b : Bool) → condition s.known c ≡ Some b → fits room (denoted (guarded c t) s) ≡ fits room (cond b (denoted t s) (Some stop))
-    unfolding denoted
-    guarded_so b e = ap (λ o. fits room (o >>= λ b. cond b (denoted t s) (Some stop))) e
 
   -- ---- prefixes
 

@@ -4,10 +4,11 @@ use Rattle.syntax.specs.declared.form.Form.{Form}
 use Rattle.syntax.specs.declared.form.Form.TheVariants as forms
 use Rattle.syntax.specs.declared.operator.Operator.{Operator}
 use Rattle.syntax.specs.declared.operator.Operator.TheVariants as operators
+use Rattle.syntax.specs.Parsing.{syntaxes}
 use Rattle.syntax.specs.Grammar.{Syntax, Called, Numeral, Node, Syntaxes, NoSyntax, MoreSyntax}
 use Rattle.values.specs.Values.{◌>>=◌}
 use Rattle.event_phrases.specs.Forms.{part_list, node_of, name_of, if_none, one_of, two_of, three_of, four_of, first_of}
-use Rattle.denotation.specs.Phrases.{calling, renaming, operation_phrase, Part, part, parts_of, phrase_of, form_phrase, or_other}
+use Rattle.denotation.specs.Phrases.{calling, renaming, operation_phrase, Part, part, written, parts_of, phrase_of, form_phrase, or_other}
 
 pub one_part : (ts : List Syntax) → one_of (map part ts) ≡ (one_of ts >>= λ t. Some (part t))
 unfolding one_of if_none
@@ -62,10 +63,15 @@ unfolding form_phrase first_of
 call_parts [] = refl
 call_parts (t ∷ ts) = ap (λ us. name_of t >>= λ n. Some (calling n us)) (back ts)
 
-pub renaming_parts : (ts : List Syntax) → operation_phrase operators.Renaming (map part ts) ≡ (first_of ts >>= λ p. Some (renaming (phrase_of p.0) p.1))
+written_as : (ts : List Syntax) → written (map part ts) ≡ syntaxes ts
+unfolding written
+written_as [] = refl
+written_as (t ∷ ts) = ap (λ us. MoreSyntax t us) (written_as ts)
+
+pub renaming_parts : (ts : List Syntax) → operation_phrase operators.Renaming (map part ts) ≡ (first_of ts >>= λ p. Some (renaming (phrase_of p.0) (syntaxes p.1)))
 unfolding operation_phrase first_of
 renaming_parts [] = refl
-renaming_parts (t ∷ ts) = ap (λ us. Some (renaming (phrase_of t) us)) (back ts)
+renaming_parts (t ∷ ts) = ap (λ us. Some (renaming (phrase_of t) us)) (written_as ts)
 
 -- ---- what is no phrase for a process
 

@@ -2,7 +2,7 @@
 pub mod Bodies
 pub mod Phrases
 pub mod Denotes
--- How the program goes.
+-- Steps of the program.
 pub mod Rooms
 pub mod Branches
 pub mod Walks

@@ -3,7 +3,6 @@ use Rattle.std.specs.Prelude.{ℕ, suc, ◌+◌, List, [], ◌∷◌, ◌++◌, 
 use Rattle.alphabet.specs.Channels.{Values, Parts, events, event_count}
 use Rattle.alphabet.specs.EventSets.{Set, has}
 use Rattle.term.specs.Traces.{Pairs}
-use Rattle.syntax.specs.Parsing.{syntaxes}
 use Rattle.syntax.specs.declared.form.Form.{Form}
 use Rattle.syntax.specs.declared.form.Form.TheVariants as forms
 use Rattle.syntax.specs.declared.operator.Operator.{Operator}
@@ -19,10 +18,20 @@ use Rattle.event_phrases.specs.Forms.{node_of, name_of, if_none, first_of, one_o
 use Rattle.event_phrases.specs.Prefixes.{prefix_parts}
 use Rattle.event_phrases.specs.Scopes.{Scope, with_input, unless_constant, events_by}
 use Rattle.denotation.specs.Bodies.{Body, stop, skip, prefix, ext, int, seq, par, hide, ren, intr, name, choice_of, halved}
+use Rattle.denotation.specs.declared.draft.Joint.{Joint}
+use Rattle.denotation.specs.declared.draft.Joint.TheVariants as joints
+use Rattle.denotation.specs.declared.draft.Operation.{Operation}
+use Rattle.denotation.specs.declared.draft.Operation.TheVariants as operations
 use Rattle.denotation.specs.declared.forms.Join.{Join}
 use Rattle.denotation.specs.declared.forms.Join.TheVariants as joins
 
 -- ---- phrases
+
+-- what stands between two processes: a join, `[| A |]` or `[ A || B ]`
+pub data Between : Type 0 where
+  with_join : Join → Between
+  with_set : Syntax → Between
+  with_sets : Syntax → Syntax → Between
 
 -- a phrase for a process
 pub data Phrase : Type 0 where
@@ -31,13 +40,10 @@ pub data Phrase : Type 0 where
   called : Name → Phrase
   inside : Phrase → Phrase
   prefixed : Syntax → Phrase → Phrase
-  joined : Join → Phrase → Phrase → Phrase
-  sharing : Phrase → Syntax → Phrase → Phrase
-  alphabetised : Phrase → Syntax → Syntax → Phrase → Phrase
+  joined : Between → Phrase → Phrase → Phrase
   hiding : Phrase → Syntax → Phrase
-  renaming : Phrase → List Syntax → Phrase
+  renaming : Phrase → Syntaxes → Phrase
   conditional : Syntax → Phrase → Phrase → Phrase
-  guarded : Syntax → Phrase → Phrase
   calling : Name → List Syntax → Phrase
   replicated : Join → List Syntax → Phrase → Phrase
   -- what is no phrase for a process
@@ -47,8 +53,13 @@ pub data Phrase : Type 0 where
 abbrev pub Part : Type 0
 Part = Syntax × Phrase
 
+-- the parts as they are written
+unfoldable pub written : List Part → Syntaxes
+written [] = NoSyntax
+written (t ∷ ts) = MoreSyntax t.0 (written ts)
+
 unfoldable pub joined_phrase : Join → List Part → Option Phrase
-joined_phrase j ts = two_of ts >>= λ p. Some (joined j p.0.1 p.1.1)
+joined_phrase j ts = two_of ts >>= λ p. Some (joined (with_join j) p.0.1 p.1.1)
 
 -- the generators of a list of them
 unfoldable pub generators_form : Form → List Syntax → Option (List Syntax)
@@ -68,11 +79,11 @@ operation_phrase operators.Interrupt ts = joined_phrase joins.Interrupt ts
 operation_phrase operators.ExternalChoice ts = joined_phrase joins.External ts
 operation_phrase operators.InternalChoice ts = joined_phrase joins.Internal ts
 operation_phrase operators.Interleaving ts = joined_phrase joins.Interleaving ts
-operation_phrase operators.Sharing ts = three_of ts >>= λ p. Some (sharing p.0.1 p.1.0 p.2.1)
-operation_phrase operators.Alphabetised ts = four_of ts >>= λ p. Some (alphabetised p.0.1 p.1.0 p.2.0 p.3.1)
+operation_phrase operators.Sharing ts = three_of ts >>= λ p. Some (joined (with_set p.1.0) p.0.1 p.2.1)
+operation_phrase operators.Alphabetised ts = four_of ts >>= λ p. Some (joined (with_sets p.1.0 p.2.0) p.0.1 p.3.1)
 operation_phrase operators.Hiding ts = two_of ts >>= λ p. Some (hiding p.0.1 p.1.0)
-operation_phrase operators.Renaming ts = first_of ts >>= λ p. Some (renaming p.0.1 (map (λ t. t.0) p.1))
-operation_phrase operators.Guard ts = two_of ts >>= λ p. Some (guarded p.0.0 p.1.1)
+operation_phrase operators.Renaming ts = first_of ts >>= λ p. Some (renaming p.0.1 (written p.1))
+operation_phrase operators.Guard ts = two_of ts >>= λ p. Some (conditional p.0.0 p.1.1 stops)
 operation_phrase op ts = None
 
 unfoldable pub form_phrase : Form → List Part → Option Phrase
@@ -111,15 +122,12 @@ unfoldable pub weight : Phrase → ℕ
 weight stops = 1
 weight (inside t) = suc (weight t)
 weight (prefixed e t) = suc (weight t)
-weight (joined j t u) = suc (weight t + weight u)
+weight (joined m t u) = suc (weight t + weight u)
 weight skips = 1
 weight (called n) = 1
-weight (sharing t a u) = suc (weight t + weight u)
-weight (alphabetised t a b u) = suc (weight t + weight u)
 weight (hiding t a) = suc (weight t)
 weight (renaming t ts) = suc (weight t)
 weight (conditional c t u) = suc (weight t + weight u)
-weight (guarded c t) = suc (weight t)
 weight (calling f ts) = 1
 weight (replicated j gs t) = suc (weight t)
 weight other = 0
@@ -195,6 +203,11 @@ join_of joins.External = ext
 join_of joins.Internal = int
 join_of joins.Interleaving = par 0
 
+-- two that are joined so, or that share the events of the set
+unfoldable pub joint_of : Joint → Body → Body → Body
+joint_of (joints.Join j) = join_of j
+joint_of (joints.Sharing A) = par A
+
 -- no processes, joined so
 unfoldable pub none_of : Join → Body
 none_of joins.Interleaving = skip
@@ -217,6 +230,16 @@ abbrev pub alphabetised_by : Scope → Set × Set → Body → Body → Body
 alphabetised_by s S p q =
     par (set_of s.channels (both (has S.0) (has S.1))) (par (set_of s.channels (outside (event_count s.channels) (has S.0))) p skip) (par (set_of s.channels (outside (event_count s.channels) (has S.1))) q skip)
 
+-- what stands between two processes, with the events of its sets
+unfoldable pub operation_of : Scope → Between → Option Operation
+operation_of s (with_join j) = Some (operations.Joint (joints.Join j))
+operation_of s (with_set a) = masked s.channels (events_by s a) >>= λ A. Some (operations.Joint (joints.Sharing A))
+operation_of s (with_sets a b) = two_masked s.channels (events_by s a) (events_by s b) >>= λ S. Some (operations.Alphabetised S.0 S.1)
+
+unfoldable pub composed : Scope → Operation → Body → Body → Body
+composed s (operations.Joint k) = joint_of k
+composed s (operations.Alphabetised A B) = alphabetised_by s (A, B)
+
 -- ---- processes
 
 -- the process that a phrase denotes; what a condition doesn't choose isn't looked at
@@ -224,15 +247,12 @@ unfoldable pub denoted : Phrase → Scope → Option Body
 denoted stops s = Some stop
 denoted (inside t) s = denoted t s
 denoted (prefixed e t) s = prefixed_by s e (denoted t)
-denoted (joined j t u) s = denoted t s >>= λ p. denoted u s >>= λ q. Some (join_of j p q)
+denoted (joined m t u) s = denoted t s >>= λ p. operation_of s m >>= λ o. denoted u s >>= λ q. Some (composed s o p q)
 denoted skips s = Some skip
 denoted (called n) s = unless_value (s.known n) (if is_process s.entries n then Some (name (n, [])) else None)
-denoted (sharing t a u) s = denoted t s >>= λ p. masked s.channels (events_by s a) >>= λ A. denoted u s >>= λ q. Some (par A p q)
-denoted (alphabetised t a b u) s = denoted t s >>= λ p. two_masked s.channels (events_by s a) (events_by s b) >>= λ S. denoted u s >>= λ q. Some (alphabetised_by s S p q)
 denoted (hiding t a) s = denoted t s >>= λ p. masked s.channels (events_by s a) >>= λ A. Some (hide A p)
-denoted (renaming t ts) s = denoted t s >>= λ p. pairs_of s.channels s.known (syntaxes ts) >>= λ R. Some (renamed (event_count s.channels) R p)
+denoted (renaming t ts) s = denoted t s >>= λ p. pairs_of s.channels s.known ts >>= λ R. Some (renamed (event_count s.channels) R p)
 denoted (conditional c t u) s = condition s.known c >>= λ b. if b then denoted t s else denoted u s
-denoted (guarded c t) s = condition s.known c >>= λ b. if b then denoted t s else Some stop
 denoted (calling f ts) s = called_with f ts s
 denoted (replicated j gs t) s = over gs (denoted t) s >>= all_joined j
 denoted other s = None

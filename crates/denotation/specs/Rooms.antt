@@ -4,6 +4,8 @@ use Rattle.values.specs.Values.{◌>>=◌}
 use Rattle.denotation.specs.Bodies.{Body, size, sizes, depth, halved}
 use Rattle.denotation.specs.Phrases.{join_of, none_of, renamed}
 use Rattle.term.specs.Traces.{Pairs}
+use Rattle.denotation.specs.declared.draft.Operation.{Operation}
+use Rattle.denotation.specs.declared.draft.Operation.TheVariants as operations
 use Rattle.denotation.specs.declared.forms.Join.{Join}
 use Rattle.denotation.specs.declared.forms.Join.TheVariants as joins
 
@@ -53,6 +55,11 @@ spare_joined joins.Sequence ps room = None
 spare_joined joins.Interrupt ps room = None
 spare_joined joins.Internal [] room = None
 spare_joined j ps room = spare (halved_nodes ps) (halved (join_of j) (none_of j) ps) room
+
+-- how many nodes what stands between two bodies takes itself
+unfoldable pub operation_nodes : Operation → ℕ
+operation_nodes (operations.Joint k) = 1
+operation_nodes (operations.Alphabetised A B) = 5
 
 -- how many nodes a renaming takes itself
 unfoldable pub renaming_nodes : {A : Type 0} → List A → ℕ

@@ -1,8 +1,9 @@
 -- What is in memory as plain values.
 use Rattle.denotation.specs.declared.call.Call.{Call}
 use Rattle.denotation.specs.declared.draft.Draft.{Draft}
-use Rattle.denotation.specs.declared.draft.Draft.TheVariants.{Stop, Skip, Prefix', Ext', Int', Seq', Par', Hide', Ren', Intr', Name}
-use Rattle.denotation.specs.Bodies.{Key, Body, stop, skip, prefix, ext, int, seq, par, hide, ren, intr, name}
+use Rattle.denotation.specs.declared.draft.Draft.TheVariants.{Stop, Skip, Prefix', Both', Hide', Ren', Name}
+use Rattle.denotation.specs.Bodies.{Key, Body, stop, skip, prefix, hide, ren, name}
+use Rattle.denotation.specs.Phrases.{joint_of}
 use Rattle.event_phrases.specs.View.{listed}
 
 -- a definition and the values of its parameters
@@ -14,11 +15,7 @@ abbrev pub body : {A : Type 0} → Draft A → Body
 body Stop = stop
 body Skip = skip
 body (Prefix' a p t) = prefix a (body t)
-body (Ext' p t q u) = ext (body t) (body u)
-body (Int' p t q u) = int (body t) (body u)
-body (Seq' p t q u) = seq (body t) (body u)
-body (Par' A p t q u) = par A (body t) (body u)
+body (Both' k p t q u) = joint_of k (body t) (body u)
 body (Hide' A p t) = hide A (body t)
 body (Ren' r p t) = ren r.items (body t)
-body (Intr' p t q u) = intr (body t) (body u)
 body (Name c) = name (key c)

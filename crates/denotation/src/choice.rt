@@ -6,7 +6,7 @@ ghost use Rattle.denotation.specs.Phrases.{join_of, none_of};
 ghost use Rattle.denotation.specs.Rooms.{halved_nodes, spare};
 ghost use Rattle.denotation.specs.View.{body};
 
-use crate::draft::Draft;
+use crate::draft::{Draft, Joint};
 use crate::forms::Join;
 use crate::joining::joined;
 use crate::room::spend_nodes;
@@ -25,7 +25,7 @@ fn none<A: Allocator>(join: Join) -> Draft<A>
 }
 
 /// `STOP` or `SKIP` for none, the one for one, else the first half so joined, joined with the rest so joined.
-#[tactic(auto, using(crate::proofs::Choices::halved_none, crate::proofs::Choices::halved_one, crate::proofs::Choices::halved_halves))]
+#[tactic(auto, using(crate::proofs::Choices::halved_none, crate::proofs::Choices::halved_one, crate::proofs::Choices::halved_halves), unfolding(crate::specs::Phrases::joint_of))]
 fn halved<A: Allocator + Copy>(
     alloc: A,
     join: Join,
@@ -44,7 +44,7 @@ fn halved<A: Allocator + Copy>(
     let rest = drafts.split_off(length - length / 2)?;
     let first = halved(alloc, join, drafts)?;
     let second = halved(alloc, join, rest)?;
-    joined(alloc, join, first, second)
+    joined(alloc, Joint::Join(join), first, second)
 }
 
 /// How many nodes joining the bodies takes itself.

@@ -4,8 +4,25 @@ ghost use Rattle.denotation.specs.Bodies.{depth};
 ghost use Rattle.denotation.specs.View.{body};
 
 use crate::call::Call;
+use crate::forms::Join;
 use alphabet::EventSet;
 use std::alloc::Allocator;
+
+/// What joins two bodies.
+#[derive(Clone, Copy)]
+pub(crate) enum Joint {
+    Join(Join),
+    /// They share the events of the set.
+    Sharing(EventSet),
+}
+
+/// What stands between two bodies, with its sets of events.
+#[derive(Clone, Copy)]
+pub(crate) enum Operation {
+    Joint(Joint),
+    /// `[ A || B ]`
+    Alphabetised(EventSet, EventSet),
+}
 
 /// The body of a definition, before definitions have numbers.
 #[derive(Drop)]
@@ -14,13 +31,10 @@ pub(crate) enum Draft<A: Allocator> {
     Skip,
     /// The event with this number, and then a process.
     Prefix(u8, Box<Draft<A>, A>),
-    Ext(Box<Draft<A>, A>, Box<Draft<A>, A>),
-    Int(Box<Draft<A>, A>, Box<Draft<A>, A>),
-    Seq(Box<Draft<A>, A>, Box<Draft<A>, A>),
-    Par(EventSet, Box<Draft<A>, A>, Box<Draft<A>, A>),
+    /// Two processes that are joined so.
+    Both(Joint, Box<Draft<A>, A>, Box<Draft<A>, A>),
     Hide(EventSet, Box<Draft<A>, A>),
     Ren(Vec<(u8, u8), A>, Box<Draft<A>, A>),
-    Intr(Box<Draft<A>, A>, Box<Draft<A>, A>),
     /// A definition, with the values of its parameters.
     Name(Call<A>),
 }
@@ -28,7 +42,7 @@ pub(crate) enum Draft<A: Allocator> {
 impl<A: Allocator> Draft<A> {
     /// The depth: 1 for `STOP`, `SKIP` and a name, else 1 more than that of the deepest part. A depth past the greatest `u64` is
     /// given as that number.
-    #[tactic(auto, unfolding(crate::specs::Bodies::depth))]
+    #[tactic(auto, using(crate::proofs::Numbered::joint_depth), unfolding(crate::specs::Bodies::depth))]
     pub(crate) fn depth(&self) -> u64
         ensures { result ≡ min (depth (body self.now)) (2 ^ 64 - 1) }
     {
@@ -37,11 +51,7 @@ impl<A: Allocator> Draft<A> {
             Draft::Prefix(_, p) | Draft::Hide(_, p) | Draft::Ren(_, p) => {
                 p.depth().saturating_add(1)
             }
-            Draft::Ext(p, q)
-            | Draft::Int(p, q)
-            | Draft::Seq(p, q)
-            | Draft::Par(_, p, q)
-            | Draft::Intr(p, q) => p.depth().max(q.depth()).saturating_add(1),
+            Draft::Both(_, p, q) => p.depth().max(q.depth()).saturating_add(1),
         }
     }
 }

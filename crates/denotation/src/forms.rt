@@ -24,6 +24,16 @@ pub enum Join {
     Interleaving,
 }
 
+/// What stands between two processes.
+#[derive(Clone, Copy)]
+pub(crate) enum Between<'a, A: Allocator> {
+    Join(Join),
+    /// `[| A |]`
+    Sharing(&'a Tree<A>),
+    /// `[ A || B ]`
+    Alphabetised(&'a Tree<A>, &'a Tree<A>),
+}
+
 /// A phrase for a process, by what it is made of.
 pub(crate) enum Phrase<'a, A: Allocator> {
     Stop,
@@ -34,19 +44,13 @@ pub(crate) enum Phrase<'a, A: Allocator> {
     Inside(&'a Tree<A>),
     /// `event -> P`
     Prefix(&'a Tree<A>, &'a Tree<A>),
-    Joined(Join, &'a Tree<A>, &'a Tree<A>),
-    /// `P [| A |] Q`
-    Sharing(&'a Tree<A>, &'a Tree<A>, &'a Tree<A>),
-    /// `P [ A || B ] Q`
-    Alphabetised(&'a Tree<A>, &'a Tree<A>, &'a Tree<A>, &'a Tree<A>),
+    Joined(Between<'a, A>, &'a Tree<A>, &'a Tree<A>),
     /// `P \ A`
     Hiding(&'a Tree<A>, &'a Tree<A>),
     /// `P[[a <- b]]`, with its pairs.
     Renaming(&'a Tree<A>, &'a [Tree<A>]),
-    /// `if b then P else Q`
-    Conditional(&'a Tree<A>, &'a Tree<A>, &'a Tree<A>),
-    /// `b & P`
-    Guarded(&'a Tree<A>, &'a Tree<A>),
+    /// `if b then P else Q`, or `b & P`
+    Conditional(&'a Tree<A>, &'a Tree<A>, Option<&'a Tree<A>>),
     /// `P(x, y)`, with its arguments.
     Calling(&'a [u8], &'a [Tree<A>]),
     /// `[] x:A, y:B @ P`, with its generators.
@@ -59,7 +63,7 @@ fn joined<A: Allocator>(join: Join, parts: &[Tree<A>]) -> Option<Phrase<'_, A>>
     ensures { option_map plain result ≡ joined_phrase join (map part (shapes parts.now)) }
 {
     let (first, second) = two(parts)?;
-    Some(Phrase::Joined(join, first, second))
+    Some(Phrase::Joined(Between::Join(join), first, second))
 }
 
 /// The generators of a list of them.
@@ -115,11 +119,11 @@ fn operation<A: Allocator>(operator: Operator, parts: &[Tree<A>]) -> Option<Phra
         Operator::Interleaving => joined(Join::Interleaving, parts),
         Operator::Sharing => {
             let (first, set, second) = three(parts)?;
-            Some(Phrase::Sharing(first, set, second))
+            Some(Phrase::Joined(Between::Sharing(set), first, second))
         }
         Operator::Alphabetised => {
             let (first, left, right, second) = four(parts)?;
-            Some(Phrase::Alphabetised(first, left, right, second))
+            Some(Phrase::Joined(Between::Alphabetised(left, right), first, second))
         }
         Operator::Hiding => {
             let (process, set) = two(parts)?;
@@ -131,7 +135,7 @@ fn operation<A: Allocator>(operator: Operator, parts: &[Tree<A>]) -> Option<Phra
         }
         Operator::Guard => {
             let (condition, process) = two(parts)?;
-            Some(Phrase::Guarded(condition, process))
+            Some(Phrase::Conditional(condition, process, None))
         }
         _ => None,
     }
@@ -154,7 +158,7 @@ fn process_form<A: Allocator>(form: Form, parts: &[Tree<A>]) -> Option<Phrase<'_
         Form::Event => Some(Phrase::Called(name(one(parts)?)?)),
         Form::If => {
             let (condition, first, second) = three(parts)?;
-            Some(Phrase::Conditional(condition, first, second))
+            Some(Phrase::Conditional(condition, first, Some(second)))
         }
         Form::Brackets => Some(Phrase::Inside(one(parts)?)),
         Form::Operation(operator) => operation(operator, parts),

@@ -10,68 +10,33 @@ ghost use Rattle.values.specs.Tables.{input};
 ghost use Rattle.event_phrases.specs.Events.{in_order, pairs_of as pairs_of_all};
 ghost use Rattle.event_phrases.specs.Scopes.{Scope as ScopeOf, within};
 ghost use Rattle.values.specs.View.{Gives};
-ghost use Rattle.denotation.specs.Bodies.{hide, par, prefix, ren, skip};
-ghost use Rattle.denotation.specs.Phrases.{alphabetised_by, join_of, renamed as renamed_of};
-ghost use Rattle.denotation.specs.Rooms.{renaming_nodes, renamed_within, spare};
+ghost use Rattle.denotation.specs.Bodies.{hide, prefix, ren};
+ghost use Rattle.denotation.specs.Phrases.{alphabetised_by, joint_of, composed as composed_by, operation_of as operation_by, renamed as renamed_of};
+ghost use Rattle.denotation.specs.Rooms.{operation_nodes, renaming_nodes, renamed_within, spare};
+ghost use Rattle.denotation.specs.Shapes.{plain_between};
 ghost use Rattle.denotation.specs.View.{body};
 
-use crate::draft::Draft;
-use crate::forms::Join;
+use crate::draft::{Draft, Joint, Operation};
+use crate::forms::Between;
 use crate::room::spend_nodes;
 use alphabet::EventSet;
-use event_phrases::{GlobalScope, Scope, ordered, pairs_of};
+use event_phrases::{GlobalScope, Scope, ordered, pairs_of, two_sets, wanted_events};
 use std::alloc::{AllocError, Allocator};
 use syntax::Tree;
 use tokens::Unread;
 
-/// Two bodies, each in a place of its own in memory.
-fn boxed<A: Allocator + Copy>(
-    alloc: A,
-    first: Draft<A>,
-    second: Draft<A>,
-) -> Result<(Box<Draft<A>, A>, Box<Draft<A>, A>), AllocError>
-    ensures first { IfOk result (λ x. body x.0.value ≡ body first) }
-    ensures second { IfOk result (λ x. body x.1.value ≡ body second) }
-{
-    let first = Box::new(alloc, first)?;
-    let second = Box::new(alloc, second)?;
-    Ok((first, second))
-}
-
 /// Two bodies joined so.
-#[tactic(auto, unfolding(crate::specs::Phrases::join_of))]
 pub(crate) fn joined<A: Allocator + Copy>(
     alloc: A,
-    join: Join,
+    joint: Joint,
     first: Draft<A>,
     second: Draft<A>,
 ) -> Result<Draft<A>, AllocError>
-    ensures { IfOk result (λ b. body b ≡ join_of join (body first) (body second)) }
+    ensures { IfOk result (λ b. body b ≡ joint_of joint (body first) (body second)) }
 {
-    let (first, second) = boxed(alloc, first, second)?;
-    match join {
-        Join::Sequence => Ok(Draft::Seq(first, second)),
-        Join::Interrupt => Ok(Draft::Intr(first, second)),
-        Join::External => Ok(Draft::Ext(first, second)),
-        Join::Internal => Ok(Draft::Int(first, second)),
-        Join::Interleaving => Ok(Draft::Par(EventSet::empty(), first, second)),
-    }
-}
-
-/// Two bodies joined so, where there is room for the node above them.
-pub(crate) fn joined_within<A: Allocator + Copy>(
-    alloc: A,
-    join: Join,
-    first: Draft<A>,
-    second: Draft<A>,
-    room: &mut usize,
-    line: u32,
-) -> Result<Draft<A>, Unread>
-    ensures { Gives (λ b. (body b, room.new)) result (spare 1 (join_of join (body first) (body second)) room.old) }
-{
-    let joined = joined(alloc, join, first, second)?;
-    spend_nodes(room, 1, line)?;
-    Ok(joined)
+    let first = Box::new(alloc, first)?;
+    let second = Box::new(alloc, second)?;
+    Ok(Draft::Both(joint, first, second))
 }
 
 /// The body after the event with this number, where there is room for the node above it.
@@ -88,23 +53,6 @@ pub(crate) fn behind_event<A: Allocator + Copy>(
     spend_nodes(room, 1, line)?;
     let then = Box::new(alloc, then)?;
     Ok(Draft::Prefix(number as u8, then))
-}
-
-/// Two bodies that share the events of the set, where there is room for the node above them.
-pub(crate) fn shared<A: Allocator + Copy>(
-    alloc: A,
-    set: EventSet,
-    first: Draft<A>,
-    second: Draft<A>,
-    room: &mut usize,
-    line: u32,
-) -> Result<Draft<A>, Unread>
-    ensures { Gives (λ b. (body b, room.new)) result (spare 1 (par set (body first) (body second)) room.old) }
-{
-    let (first, second) = boxed(alloc, first, second)?;
-    let shared = Draft::Par(set, first, second);
-    spend_nodes(room, 1, line)?;
-    Ok(shared)
 }
 
 /// The body with the events of the set hidden, where there is room for the node above it.
@@ -173,21 +121,9 @@ pub(crate) fn renamed_by<A: Allocator + Copy, G: GlobalScope<A>>(
     renamed(alloc, events, &pairs, draft, room, scope.line)
 }
 
-/// The body beside `SKIP`, where they share the events of the set.
-fn beside_skip<A: Allocator + Copy>(
-    alloc: A,
-    set: EventSet,
-    draft: Draft<A>,
-) -> Result<Draft<A>, AllocError>
-    ensures { IfOk result (λ b. body b ≡ par set (body draft) skip) }
-{
-    let (draft, skip) = boxed(alloc, draft, Draft::Skip)?;
-    Ok(Draft::Par(set, draft, skip))
-}
-
 /// `P [ A || B ] Q` of the bodies of P and Q, where Sigma is this.
 #[tactic(auto)]
-pub(crate) fn alphabetised<A: Allocator + Copy>(
+fn alphabetised<A: Allocator + Copy>(
     alloc: A,
     sigma: EventSet,
     sets: (EventSet, EventSet),
@@ -200,24 +136,54 @@ pub(crate) fn alphabetised<A: Allocator + Copy>(
     let right_out = sigma.minus(sets.1);
     let within_left = sigma.minus(left_out);
     let shared = within_left.minus(right_out);
-    let first = beside_skip(alloc, left_out, first)?;
-    let second = beside_skip(alloc, right_out, second)?;
-    let (first, second) = boxed(alloc, first, second)?;
-    Ok(Draft::Par(shared, first, second))
+    let first = joined(alloc, Joint::Sharing(left_out), first, Draft::Skip)?;
+    let second = joined(alloc, Joint::Sharing(right_out), second, Draft::Skip)?;
+    joined(alloc, Joint::Sharing(shared), first, second)
 }
 
-/// The same of these sets, where there is room for its nodes.
-pub(crate) fn alphabetised_within<A: Allocator + Copy, G: GlobalScope<A>>(
+/// What stands between two processes, with the events of its sets.
+pub(crate) fn operation_of<A: Allocator + Copy, G: GlobalScope<A>>(
     alloc: A,
     scope: &Scope<'_, A, G>,
-    sets: (EventSet, EventSet),
+    between: Between<'_, A>,
+) -> Result<Operation, Unread>
+    ensures { Gives (λ o. o) result (operation_by (within (G.scope scope.now.global.now) (map input scope.now.inputs.items)) (plain_between between.entry)) }
+{
+    match between {
+        Between::Join(join) => Ok(Operation::Joint(Joint::Join(join))),
+        Between::Sharing(set) => {
+            let set = wanted_events(alloc, scope, set)?;
+            Ok(Operation::Joint(Joint::Sharing(set)))
+        }
+        Between::Alphabetised(left, right) => {
+            let (left, right) = two_sets(alloc, scope, left, right)?;
+            Ok(Operation::Alphabetised(left, right))
+        }
+    }
+}
+
+/// Two bodies with this between them, where there is room for its nodes.
+pub(crate) fn composed<A: Allocator + Copy, G: GlobalScope<A>>(
+    alloc: A,
+    scope: &Scope<'_, A, G>,
+    operation: Operation,
     first: Draft<A>,
     second: Draft<A>,
     room: &mut usize,
 ) -> Result<Draft<A>, Unread>
-    ensures { Gives (λ b. (body b, room.new)) result (spare 5 (alphabetised_by (G.scope scope.now.global.now) sets (body first) (body second)) room.old) }
+    ensures { Gives (λ b. (body b, room.new)) result (spare (operation_nodes operation) (composed_by (G.scope scope.now.global.now) operation (body first) (body second)) room.old) }
 {
-    let joined = alphabetised(alloc, scope.global.sigma(), sets, first, second)?;
-    spend_nodes(room, 5, scope.line)?;
-    Ok(joined)
+    match operation {
+        Operation::Joint(joint) => {
+            let made = joined(alloc, joint, first, second)?;
+            spend_nodes(room, 1, scope.line)?;
+            Ok(made)
+        }
+        Operation::Alphabetised(left, right) => {
+            let sigma = scope.global.sigma();
+            let made = alphabetised(alloc, sigma, (left, right), first, second)?;
+            spend_nodes(room, 5, scope.line)?;
+            Ok(made)
+        }
+    }
 }

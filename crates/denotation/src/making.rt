@@ -2,6 +2,7 @@
 ghost use Rattle.std.specs.Prelude.{◌<◌, ◌≤◌, suc, drop, Some, IfOk, IfSome, map};
 ghost use Rattle.std.specs.Option.{option_map};
 ghost use Rattle.alphabet.specs.Channels.{events as events_of};
+ghost use Rattle.syntax.specs.Parsing.{syntaxes};
 ghost use Rattle.syntax.specs.View.{shape, shapes};
 ghost use Rattle.values.specs.Tables.{input};
 ghost use Rattle.values.specs.View.{Gives};
@@ -9,26 +10,24 @@ ghost use Rattle.event_phrases.specs.Leading.{led_fits};
 ghost use Rattle.event_phrases.specs.Scopes.{within};
 ghost use Rattle.event_phrases.specs.View.{listed};
 ghost use Rattle.denotation.specs.Branches.{first_branch};
-ghost use Rattle.denotation.specs.Phrases.{alphabetised, branches as branches_of, conditional, denoted, guarded, hiding, joined, phrase_of, prefixed_by, renaming, replicated, sharing};
+ghost use Rattle.denotation.specs.Phrases.{branches as branches_of, conditional, denoted, hiding, joined, phrase_of, prefixed_by, renaming, replicated};
 ghost use Rattle.denotation.specs.Places.{from_scope};
 ghost use Rattle.denotation.specs.Rooms.{all_fit, fits, with_one};
-ghost use Rattle.denotation.specs.Shapes.{plain};
+ghost use Rattle.denotation.specs.Shapes.{or_stops, plain, plain_between};
 ghost use Rattle.denotation.specs.View.{body};
 ghost use Rattle.denotation.specs.Walks.{on_visits};
 
 use crate::calls::called_with;
 use crate::choice::chosen;
 use crate::draft::Draft;
-use crate::forms::{Join, Phrase, process_phrase};
-use crate::joining::{
-    alphabetised_within, behind_event, hidden, joined_within, renamed_by, shared,
-};
+use crate::forms::{Between, Join, Phrase, process_phrase};
+use crate::joining::{behind_event, composed, hidden, operation_of, renamed_by};
 use crate::replicated::all_joined;
 use crate::simple::{called, skip, stop};
 use crate::walk::{Place, first_place, next_place};
 use event_phrases::forms::event_parts;
 use event_phrases::{
-    GlobalScope, Prefix, Scope, next_fitting, prefix_of, two_sets, wanted_events, wanted_truth,
+    GlobalScope, Prefix, Scope, next_fitting, prefix_of, wanted_events, wanted_truth,
 };
 use std::alloc::Allocator;
 use syntax::Tree;
@@ -102,57 +101,22 @@ fn prefixed<'a, A: Allocator + Copy, G: GlobalScope<A>>(
     chosen(alloc, drafts, room, scope.line)
 }
 
-/// Two processes that are joined so.
+/// Two processes with this between them.
 #[cycle(making)]
 fn joined_phrases<'a, A: Allocator + Copy, G: GlobalScope<A>>(
     alloc: A,
     scope: &Scope<'a, A, G>,
-    join: Join,
+    between: Between<'a, A>,
     first: &'a Tree<A>,
     second: &'a Tree<A>,
     room: &mut usize,
 ) -> Result<Draft<A>, Unread>
-    ensures { Gives (λ b. (body b, room.new)) result (fits room.old (denoted (joined join (phrase_of (shape first.now)) (phrase_of (shape second.now))) (within (G.scope scope.now.global.now) (map input scope.now.inputs.items)))) }
+    ensures { Gives (λ b. (body b, room.new)) result (fits room.old (denoted (joined (plain_between between.entry) (phrase_of (shape first.now)) (phrase_of (shape second.now))) (within (G.scope scope.now.global.now) (map input scope.now.inputs.items)))) }
 {
     let first = process(alloc, scope, first, room)?;
+    let operation = operation_of(alloc, scope, between)?;
     let second = process(alloc, scope, second, room)?;
-    joined_within(alloc, join, first, second, room, scope.line)
-}
-
-/// `P [| A |] Q`
-#[cycle(making)]
-fn sharing_phrases<'a, A: Allocator + Copy, G: GlobalScope<A>>(
-    alloc: A,
-    scope: &Scope<'a, A, G>,
-    first: &'a Tree<A>,
-    set: &'a Tree<A>,
-    second: &'a Tree<A>,
-    room: &mut usize,
-) -> Result<Draft<A>, Unread>
-    ensures { Gives (λ b. (body b, room.new)) result (fits room.old (denoted (sharing (phrase_of (shape first.now)) (shape set.now) (phrase_of (shape second.now))) (within (G.scope scope.now.global.now) (map input scope.now.inputs.items)))) }
-{
-    let first = process(alloc, scope, first, room)?;
-    let set = wanted_events(alloc, scope, set)?;
-    let second = process(alloc, scope, second, room)?;
-    shared(alloc, set, first, second, room, scope.line)
-}
-
-/// `P [ A || B ] Q`, where the sets are A and B.
-#[cycle(making)]
-fn alphabetised_phrases<'a, A: Allocator + Copy, G: GlobalScope<A>>(
-    alloc: A,
-    scope: &Scope<'a, A, G>,
-    first: &'a Tree<A>,
-    sets: (&'a Tree<A>, &'a Tree<A>),
-    second: &'a Tree<A>,
-    room: &mut usize,
-) -> Result<Draft<A>, Unread>
-    ensures { Gives (λ b. (body b, room.new)) result (fits room.old (denoted (alphabetised (phrase_of (shape first.now)) (shape sets.entry.0.now) (shape sets.entry.1.now) (phrase_of (shape second.now))) (within (G.scope scope.now.global.now) (map input scope.now.inputs.items)))) }
-{
-    let first = process(alloc, scope, first, room)?;
-    let sets = two_sets(alloc, scope, sets.0, sets.1)?;
-    let second = process(alloc, scope, second, room)?;
-    alphabetised_within(alloc, scope, sets, first, second, room)
+    composed(alloc, scope, operation, first, second, room)
 }
 
 /// `P \ A`
@@ -180,47 +144,31 @@ fn renaming_phrase<'a, A: Allocator + Copy, G: GlobalScope<A>>(
     pairs: &'a [Tree<A>],
     room: &mut usize,
 ) -> Result<Draft<A>, Unread>
-    ensures { Gives (λ b. (body b, room.new)) result (fits room.old (denoted (renaming (phrase_of (shape tree.now)) (shapes pairs.now)) (within (G.scope scope.now.global.now) (map input scope.now.inputs.items)))) }
+    ensures { Gives (λ b. (body b, room.new)) result (fits room.old (denoted (renaming (phrase_of (shape tree.now)) (syntaxes (shapes pairs.now))) (within (G.scope scope.now.global.now) (map input scope.now.inputs.items)))) }
 {
     let draft = process(alloc, scope, tree, room)?;
     renamed_by(alloc, scope, pairs, draft, room)
 }
 
-/// `if b then P else Q`, where the trees are those of P and Q: the one that isn't chosen isn't looked at.
+/// `if b then P else Q`, where the trees are those of P and Q, or `b & P`, where there is none of Q and P, or else `STOP`, is
+/// chosen: what isn't chosen isn't looked at.
 #[cycle(making)]
 fn conditional_phrase<'a, A: Allocator + Copy, G: GlobalScope<A>>(
     alloc: A,
     scope: &Scope<'a, A, G>,
     condition: &'a Tree<A>,
-    trees: (&'a Tree<A>, &'a Tree<A>),
+    trees: (&'a Tree<A>, Option<&'a Tree<A>>),
     room: &mut usize,
 ) -> Result<Draft<A>, Unread>
-    ensures { Gives (λ b. (body b, room.new)) result (fits room.old (denoted (conditional (shape condition.now) (phrase_of (shape trees.entry.0.now)) (phrase_of (shape trees.entry.1.now))) (within (G.scope scope.now.global.now) (map input scope.now.inputs.items)))) }
+    ensures { Gives (λ b. (body b, room.new)) result (fits room.old (denoted (conditional (shape condition.now) (phrase_of (shape trees.entry.0.now)) (or_stops trees.entry.1)) (within (G.scope scope.now.global.now) (map input scope.now.inputs.items)))) }
 {
     let holds = wanted_truth(alloc, scope, condition)?;
     if holds {
-        process(alloc, scope, trees.0, room)
-    } else {
-        process(alloc, scope, trees.1, room)
+        return process(alloc, scope, trees.0, room);
     }
-}
-
-/// `b & P`, which is `STOP` where the condition isn't met: then P isn't looked at.
-#[cycle(making)]
-fn guarded_phrase<'a, A: Allocator + Copy, G: GlobalScope<A>>(
-    alloc: A,
-    scope: &Scope<'a, A, G>,
-    condition: &'a Tree<A>,
-    then: &'a Tree<A>,
-    room: &mut usize,
-) -> Result<Draft<A>, Unread>
-    ensures { Gives (λ b. (body b, room.new)) result (fits room.old (denoted (guarded (shape condition.now) (phrase_of (shape then.now))) (within (G.scope scope.now.global.now) (map input scope.now.inputs.items)))) }
-{
-    let holds = wanted_truth(alloc, scope, condition)?;
-    if holds {
-        process(alloc, scope, then, room)
-    } else {
-        stop(room, scope.line)
+    match trees.1 {
+        Some(other) => process(alloc, scope, other, room),
+        None => stop(room, scope.line),
     }
 }
 
@@ -299,17 +247,11 @@ fn made<'a, A: Allocator + Copy, G: GlobalScope<A>>(
         Phrase::Stop => stop(room, scope.line),
         Phrase::Inside(inner) => process(alloc, scope, inner, room),
         Phrase::Prefix(event, then) => prefixed(alloc, scope, event, then, room),
-        Phrase::Joined(join, first, second) => {
-            joined_phrases(alloc, scope, join, first, second, room)
+        Phrase::Joined(between, first, second) => {
+            joined_phrases(alloc, scope, between, first, second, room)
         }
         Phrase::Skip => skip(room, scope.line),
         Phrase::Called(name) => called(alloc, scope, name, line, room),
-        Phrase::Sharing(first, set, second) => {
-            sharing_phrases(alloc, scope, first, set, second, room)
-        }
-        Phrase::Alphabetised(first, left, right, second) => {
-            alphabetised_phrases(alloc, scope, first, (left, right), second, room)
-        }
         Phrase::Hiding(process_tree, set) => {
             hiding_phrase(alloc, scope, process_tree, set, room)
         }
@@ -319,7 +261,6 @@ fn made<'a, A: Allocator + Copy, G: GlobalScope<A>>(
         Phrase::Conditional(condition, first, second) => {
             conditional_phrase(alloc, scope, condition, (first, second), room)
         }
-        Phrase::Guarded(condition, then) => guarded_phrase(alloc, scope, condition, then, room),
         Phrase::Calling(name, arguments) => called_with(alloc, scope, name, arguments, line, room),
         Phrase::Replicated(join, generators, then) => {
             replicated_phrase(alloc, scope, join, (generators, then), line, room)

@@ -1,13 +1,15 @@
 //! Numbers for the definitions that bodies name: the second pass.
-ghost use Rattle.std.specs.Prelude.{◌≡◌, ◌++◌, IfOk, map};
+ghost use Rattle.std.specs.Prelude.{◌≡◌, ℕ, ◌++◌, IfOk, map};
 ghost use Rattle.term.specs.Proc.{proc};
-ghost use Rattle.denotation.specs.Bodies.{names, numbered as numbered_by};
+ghost use Rattle.denotation.specs.Bodies.{Body, Key, names, numbered as numbered_by};
 ghost use Rattle.denotation.specs.Denotes.{place, with_key, with_keys};
+ghost use Rattle.denotation.specs.Phrases.{joint_of};
 ghost use Rattle.denotation.specs.View.{body, key};
 
 use crate::call::Call;
-use crate::draft::Draft;
-use alphabet::Event;
+use crate::draft::{Draft, Joint};
+use crate::forms::Join;
+use alphabet::{Event, EventSet};
 use indexmap::IndexSet;
 use std::alloc::{AllocError, Allocator};
 use std::hash::{BuildHasherDefault, FoldHasher};
@@ -27,6 +29,23 @@ fn placed<A: Allocator>(met: &mut Met<A>, call: Call<A>) -> Result<usize, AllocE
     Ok(number)
 }
 
+/// Two terms joined so.
+#[tactic(auto, unfolding(crate::specs::Bodies::numbered, crate::specs::Phrases::joint_of, crate::specs::Phrases::join_of))]
+fn joined_so<A: Allocator>(joint: Joint, p: Box<Term<A>, A>, q: Box<Term<A>, A>) -> Term<A>
+    ensures { (f : Key → ℕ) → (b c : Body) → proc p.value ≡ numbered_by f b → proc q.value ≡ numbered_by f c → proc result ≡ numbered_by f (joint_of joint b c) }
+{
+    match joint {
+        Joint::Join(join) => match join {
+            Join::Sequence => Term::Seq(p, q),
+            Join::Interrupt => Term::Intr(p, q),
+            Join::External => Term::Ext(p, q),
+            Join::Internal => Term::Int(p, q),
+            Join::Interleaving => Term::Par(EventSet::empty(), p, q),
+        },
+        Joint::Sharing(set) => Term::Par(set, p, q),
+    }
+}
+
 /// The term of a body, with a number for each definition that it names: that of its first place.
 #[cycle(numbering)]
 #[tactic(auto, unfolding(crate::specs::Bodies::names, crate::specs::Bodies::size, crate::specs::Bodies::numbered, crate::specs::Denotes::with_keys))]
@@ -42,30 +61,14 @@ pub(crate) fn numbered<A: Allocator + Copy>(
         Draft::Stop => Ok(Term::Stop),
         Draft::Skip => Ok(Term::Skip),
         Draft::Prefix(event, p) => Ok(Term::Prefix(Event::Of(event), one(alloc, p, met)?)),
-        Draft::Ext(p, q) => {
+        Draft::Both(joint, p, q) => {
             let (p, q) = both(alloc, p, q, met)?;
-            Ok(Term::Ext(p, q))
-        }
-        Draft::Int(p, q) => {
-            let (p, q) = both(alloc, p, q, met)?;
-            Ok(Term::Int(p, q))
-        }
-        Draft::Seq(p, q) => {
-            let (p, q) = both(alloc, p, q, met)?;
-            Ok(Term::Seq(p, q))
-        }
-        Draft::Par(set, p, q) => {
-            let (p, q) = both(alloc, p, q, met)?;
-            Ok(Term::Par(set, p, q))
+            Ok(joined_so(joint, p, q))
         }
         Draft::Hide(set, p) => Ok(Term::Hide(set, one(alloc, p, met)?)),
         Draft::Ren(pairs, p) => {
             let p = one(alloc, p, met)?;
             Ok(Term::Ren(pairs, p))
-        }
-        Draft::Intr(p, q) => {
-            let (p, q) = both(alloc, p, q, met)?;
-            Ok(Term::Intr(p, q))
         }
         Draft::Name(call) => Ok(Term::Name(placed(met, call)?)),
     }

@@ -14,7 +14,6 @@ use Rattle.term.specs.Traces.{Pairs}
 use Rattle.term.specs.Specs.{SetInSigma}
 use Rattle.syntax.specs.declared.form.Form.TheVariants as forms
 use Rattle.syntax.specs.Grammar.{Syntax, Called, Node, Syntaxes, NoSyntax, MoreSyntax}
-use Rattle.syntax.specs.Parsing.{syntaxes}
 use Rattle.values.specs.Values.{◌>>=◌, Name, is_among, is_same}
 use Rattle.values.specs.Worths.{Worth, one, many, truth, Known, worth, condition, the_set}
 use Rattle.values.specs.Names.{Meaning, channel, datatype, constant_name, definition, parametric, is_constant, meaning, same_name, is_process}
@@ -24,9 +23,12 @@ use Rattle.denotation.specs.Bodies.{Key, Body, stop, skip, prefix, ext, int, seq
 use Rattle.event_phrases.specs.Fitting.{Fitting, against, against_input, against_part, fits_field, then_fits, fitting}
 use Rattle.event_phrases.specs.Prefixes.{prefix_parts}
 use Rattle.event_phrases.specs.Scopes.{Scope, within, with_input, events_by}
+use Rattle.denotation.specs.declared.draft.Joint.TheVariants as joints
+use Rattle.denotation.specs.declared.draft.Operation.{Operation}
+use Rattle.denotation.specs.declared.draft.Operation.TheVariants as operations
 use Rattle.denotation.specs.declared.forms.Join.{Join}
 use Rattle.denotation.specs.declared.forms.Join.TheVariants as joins
-use Rattle.denotation.specs.Phrases.{Phrase, stops, skips, called, inside, prefixed, joined, sharing, alphabetised, hiding, renaming, conditional, guarded, calling, replicated, other, phrase_of, generator_of, branch_on, branches, prefixed_by, takes, arguments, called_with, generator_values, for_each, over, join_of, none_of, all_joined, renamed, alphabetised_by, denoted}
+use Rattle.denotation.specs.Phrases.{Between, with_join, with_set, with_sets, Phrase, stops, skips, called, inside, prefixed, joined, hiding, renaming, conditional, calling, replicated, other, phrase_of, generator_of, branch_on, branches, prefixed_by, takes, arguments, called_with, generator_values, for_each, over, join_of, joint_of, none_of, all_joined, renamed, operation_of, composed, denoted}
 use Rattle.denotation.specs.Denotes.{body_by, paired, called_by, body_of, place, Reached}
 use Rattle.event_phrases.proofs.SetsBelow.{member_is}
 use Rattle.declared_names.proofs.Chains.{bind_some, some_same}
@@ -258,12 +260,6 @@ module _ (cs : List Channel) where
       let (B, u, v) = bind_some o (λ B. Some (set_of ds B)) A e in
       subst (SetInSigma n) (some_same v) (sigma ds B same)
 
-  two_lie : (f : Body → Body → Body) → ((p q : Body) → Lies n p → Lies n q → Lies n (f p q)) → (o r : Option Body) (b : Body) → ((p : Body) → o ≡ Some p → Lies n p) → ((q : Body) → r ≡ Some q → Lies n q) → (o >>= λ p. r >>= λ q. Some (f p q)) ≡ Some b → Lies n b
-  two_lie f g o r b h k e =
-      let (p, u, v) = bind_some o (λ p. r >>= λ q. Some (f p q)) b e in
-      let (q, x, y) = bind_some r (λ q. Some (f p q)) b v in
-      subst (Lies n) (some_same y) (g p q (h p u) (k q x))
-
   named_lies : (o : Option Worth) (r : Option Body) (b : Body) → ((p : Body) → r ≡ Some p → Lies n p) → unless_value o r ≡ Some b → Lies n b
   named_lies None r b h e = h b e
   named_lies (Some (one v)) r b h e = absurd cc
@@ -345,6 +341,19 @@ module _ (cs : List Channel) where
   all_joined_lie joins.External ps b h e = halves joins.External ps b h e
   all_joined_lie joins.Interleaving ps b h e = halves joins.Interleaving ps b h e
 
+  -- ---- what stands between two
+
+  composed_lies : (s : Scope) (m : Between) (o : Operation) (p q : Body) → s.channels ≡ cs → operation_of s m ≡ Some o → Lies n p → Lies n q → Lies n (composed s o p q)
+  unfolding operation_of composed joint_of
+  composed_lies s (with_join j) o p q same e h k = subst (λ o. Lies n (composed s o p q)) (some_same e) (join_lies j p q h k)
+  composed_lies s (with_set a) o p q same e h k =
+      let (A, x, y) = bind_some (masked s.channels (events_by s a)) (λ A. Some (operations.Joint (joints.Sharing A))) o e in
+      subst (λ o. Lies n (composed s o p q)) (some_same y) (mask_lies s.channels (events_by s a) A same x, h, k)
+  composed_lies s (with_sets a c) o p q same e h k =
+      let (S, x, y) = bind_some (two_masked s.channels (events_by s a) (events_by s c)) (λ S. Some (operations.Alphabetised S.0 S.1)) o e in
+      subst (λ o. Lies n (composed s o p q)) (some_same y)
+      (sigma s.channels (both (has S.0) (has S.1)) same, (sigma s.channels (outside (event_count s.channels) (has S.0)) same, h, tt), (sigma s.channels (outside (event_count s.channels) (has S.1)) same, k, tt))
+
   -- ---- each phrase
 
   pub lies : (t : Phrase) (s : Scope) (b : Body) → s.channels ≡ cs → denoted t s ≡ Some b → Lies n b
@@ -352,31 +361,23 @@ module _ (cs : List Channel) where
   lies stops s b same e = subst (Lies n) (some_same e) tt
   lies (inside t) s b same e = lies t s b same e
   lies (prefixed u t) s b same e = prefixed_lies cs (denoted t) (λ m p g f. lies t m p g f) s u b same e
-  lies (joined j t u) s b same e = two_lie (join_of j) (join_lies j) (denoted t s) (denoted u s) b (λ p f. lies t s p same f) (λ q f. lies u s q same f) e
+  lies (joined m t u) s b same e =
+      let (p, v, w) = bind_some (denoted t s) (λ p. operation_of s m >>= λ o. denoted u s >>= λ q. Some (composed s o p q)) b e in
+      let (o, x, y) = bind_some (operation_of s m) (λ o. denoted u s >>= λ q. Some (composed s o p q)) b w in
+      let (q, z, r) = bind_some (denoted u s) (λ q. Some (composed s o p q)) b y in
+      subst (Lies n) (some_same r) (composed_lies s m o p q same x (lies t s p same v) (lies u s q same z))
   lies skips s b same e = subst (Lies n) (some_same e) tt
   lies (called c) s b same e = named_lies (s.known c) (cond (is_process s.entries c) (Some (name (c, []))) None) b (λ p f. name_lies c (is_process s.entries c) p f) e
-  lies (sharing t a u) s b same e =
-      let (p, v, w) = bind_some (denoted t s) (λ p. masked s.channels (events_by s a) >>= λ A. denoted u s >>= λ q. Some (par A p q)) b e in
-      let (A, x, y) = bind_some (masked s.channels (events_by s a)) (λ A. denoted u s >>= λ q. Some (par A p q)) b w in
-      let (q, z, o) = bind_some (denoted u s) (λ q. Some (par A p q)) b y in
-      subst (Lies n) (some_same o) (mask_lies s.channels (events_by s a) A same x, lies t s p same v, lies u s q same z)
-  lies (alphabetised t a c u) s b same e =
-      let (p, v, w) = bind_some (denoted t s) (λ p. two_masked s.channels (events_by s a) (events_by s c) >>= λ S. denoted u s >>= λ q. Some (alphabetised_by s S p q)) b e in
-      let (S, x, y) = bind_some (two_masked s.channels (events_by s a) (events_by s c)) (λ S. denoted u s >>= λ q. Some (alphabetised_by s S p q)) b w in
-      let (q, z, o) = bind_some (denoted u s) (λ q. Some (alphabetised_by s S p q)) b y in
-      subst (Lies n) (some_same o)
-      (sigma s.channels (both (has S.0) (has S.1)) same, (sigma s.channels (outside (event_count s.channels) (has S.0)) same, lies t s p same v, tt), (sigma s.channels (outside (event_count s.channels) (has S.1)) same, lies u s q same z, tt))
   lies (hiding t a) s b same e =
       let (p, v, w) = bind_some (denoted t s) (λ p. masked s.channels (events_by s a) >>= λ A. Some (hide A p)) b e in
       let (A, x, y) = bind_some (masked s.channels (events_by s a)) (λ A. Some (hide A p)) b w in
       subst (Lies n) (some_same y) (mask_lies s.channels (events_by s a) A same x, lies t s p same v)
   lies (renaming t ts) s b same e =
-      let (p, v, w) = bind_some (denoted t s) (λ p. pairs_of s.channels s.known (syntaxes ts) >>= λ R. Some (renamed (event_count s.channels) R p)) b e in
-      let (R, x, y) = bind_some (pairs_of s.channels s.known (syntaxes ts)) (λ R. Some (renamed (event_count s.channels) R p)) b w in
-      let h : AllPairs n R = subst (λ ds. AllPairs (event_count ds) R) same (all_below s.channels s.known (syntaxes ts) R x) in
+      let (p, v, w) = bind_some (denoted t s) (λ p. pairs_of s.channels s.known ts >>= λ R. Some (renamed (event_count s.channels) R p)) b e in
+      let (R, x, y) = bind_some (pairs_of s.channels s.known ts) (λ R. Some (renamed (event_count s.channels) R p)) b w in
+      let h : AllPairs n R = subst (λ ds. AllPairs (event_count ds) R) same (all_below s.channels s.known ts R x) in
       subst (Lies n) (ap (λ ds. renamed (event_count ds) R p) (sym same) ∙ some_same y) (renamed_lies n R p h (lies t s p same v))
   lies (conditional c t u) s b same e = chosen_lies (condition s.known c) (denoted t s) (denoted u s) b (λ g. lies t s b same g) (λ g. lies u s b same g) e
-  lies (guarded c t) s b same e = chosen_lies (condition s.known c) (denoted t s) (Some stop) b (λ g. lies t s b same g) (λ g. subst (Lies n) (some_same g) tt) e
   lies (calling f ts) s b same e = call_lies f ts s b e
   lies (replicated j gs t) s b same e =
       let (ps, u, v) = bind_some (over gs (denoted t) s) (all_joined j) b e in

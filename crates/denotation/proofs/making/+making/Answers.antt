@@ -1,4 +1,4 @@
-use Rattle.std.proofs.Common.{rules, arith, ◌≡◌, Some, suc, ◌+◌, ◌*◌, ◌<◌, ◌≤◌, IfSome, length, drop, map, sym, ap, subst, cond, ◌∙◌}
+use Rattle.std.proofs.Common.{rules, arith, ◌≡◌, Some, suc, ◌+◌, ◌*◌, ◌<◌, ◌≤◌, IfSome, length, drop, map, sym, ap, subst, true, false, ◌∙◌}
 use Rattle.std.specs.Option.{option_map}
 use Rattle.std.proofs.lemmas.Result.{err_from_is_err_and}
 use Rattle.alphabet.specs.Channels.{events}
@@ -12,14 +12,14 @@ use Rattle.event_phrases.specs.Leading.{led_fits}
 use Rattle.event_phrases.specs.Scopes.{within}
 use Rattle.event_phrases.specs.View.{listed}
 use Rattle.event_phrases.proofs.FirstValues.{none_if}
-use Rattle.denotation.specs.Bodies.{size, stop}
-use Rattle.denotation.specs.Phrases.{phrase_of, weight, denoted, branches}
+use Rattle.denotation.specs.Bodies.{size}
+use Rattle.denotation.specs.Phrases.{phrase_of, weight, denoted, branches, composed}
 use Rattle.denotation.specs.Places.{from_scope, innermost_first}
 use Rattle.denotation.specs.Rooms.{fit, fits, all_fit}
-use Rattle.denotation.specs.Shapes.{plain}
+use Rattle.denotation.specs.Shapes.{plain, plain_between, or_stops}
 use Rattle.denotation.specs.View.{body}
 use Rattle.denotation.specs.Walks.{on_visits, visits_after}
-use Rattle.denotation.proofs.Steps.{nothing_denoted, sharing_first, sharing_set, sharing_second, sharing_so, alphabetised_first, alphabetised_sets, alphabetised_second, alphabetised_so, hiding_first, hiding_set, hiding_so, renaming_first, renaming_on, conditional_fails, conditional_so, guarded_fails, guarded_so, joined_first, joined_second, joined_so, no_prefix, branches_fail, branches_made, no_first, replicated_fails, replicated_so, walk_end, stands_fails, no_next, next_found, no_process, one_process, put_behind}
+use Rattle.denotation.proofs.Steps.{nothing_denoted, hiding_first, hiding_set, hiding_so, renaming_first, renaming_on, conditional_fails, conditional_so, joined_first, joined_between, joined_second, joined_so, no_prefix, branches_fail, branches_made, no_first, replicated_fails, replicated_so, walk_end, stands_fails, no_next, next_found, no_process, one_process, put_behind}
 use Rattle.denotation.proofs.Turns.{none_before, some_fit, some_branch, led_branches, turn_fails, last_turn, next_turn, fit_fails, none_fits, body_fails, event_fails, event_made}
 use Rattle.denotation.proofs.Walks.{not_more}
 use Rattle.denotation.proofs.making.+making.Goals as goal
@@ -38,19 +38,26 @@ pub joined_phrases-returns-in_err-first : goal.joined_phrases-returns-in_err-fir
 joined_phrases-returns-in_err-first g t c =
     let s = within (g.G.GlobalScope.scope c.args.scope.now.global.now) (map input c.args.scope.now.inputs.items) in
     let p = err_from_is_err_and c.from_residual.result c.from_residual.ensures.1 in
-    rw (p.1, p.2) (joined_first s c.args.room.now c.args.join (phrase_of (shape c.args.first.now)) (phrase_of (shape c.args.second.now)) c.in_err-first.field-0.0 c.in_err-first.ensures)
+    rw (p.1, p.2) (joined_first s c.args.room.now (plain_between c.args.between) (phrase_of (shape c.args.first.now)) (phrase_of (shape c.args.second.now)) c.in_err-first.field-0.0 c.in_err-first.ensures)
+
+pub joined_phrases-returns-in_err-operation : goal.joined_phrases-returns-in_err-operation
+joined_phrases-returns-in_err-operation g t c =
+    let s = within (g.G.GlobalScope.scope c.args.scope.now.global.now) (map input c.args.scope.now.inputs.items) in
+    let p = err_from_is_err_and c.from_residual-in_err-operation.result c.from_residual-in_err-operation.ensures.1 in
+    rw (p.1, p.2) (joined_between s c.args.room.now (plain_between c.args.between) (phrase_of (shape c.args.first.now)) (phrase_of (shape c.args.second.now)) (body c.in_ok-first.first, c.process.new.room) c.in_ok-first.ensures c.in_err-operation.field-0.0 c.in_err-operation.ensures)
 
 pub joined_phrases-returns-in_err-second : goal.joined_phrases-returns-in_err-second
 joined_phrases-returns-in_err-second g t c =
     let s = within (g.G.GlobalScope.scope c.args.scope.now.global.now) (map input c.args.scope.now.inputs.items) in
     let p = err_from_is_err_and c.from_residual-in_err-second.result c.from_residual-in_err-second.ensures.1 in
-    rw (p.1, p.2) (joined_second s c.args.room.now c.args.join (phrase_of (shape c.args.first.now)) (phrase_of (shape c.args.second.now)) (body c.in_ok-first.first, c.process.new.room) c.in_ok-first.ensures c.in_err-second.field-0.0 c.in_err-second.ensures)
+    rw (p.1, p.2) (joined_second s c.args.room.now (plain_between c.args.between) (phrase_of (shape c.args.first.now)) (phrase_of (shape c.args.second.now)) (body c.in_ok-first.first, c.process.new.room) c.in_ok-first.ensures c.in_ok-operation.operation c.in_ok-operation.ensures c.in_err-second.field-0.0 c.in_err-second.ensures)
 
 pub joined_phrases-returns : goal.joined_phrases-returns
+unfolding composed
 joined_phrases-returns g t c =
     let s = within (g.G.GlobalScope.scope c.args.scope.now.global.now) (map input c.args.scope.now.inputs.items) in
-    subst (λ o. Gives (λ b. (body b, c.joined_within.new.room)) c.joined_within.result o)
-    (sym (joined_so s c.args.room.now c.args.join (phrase_of (shape c.args.first.now)) (phrase_of (shape c.args.second.now)) (body c.in_ok-first.first, c.process.new.room) c.in_ok-first.ensures (body c.in_ok-second.second, c.process-2.new.room) c.in_ok-second.ensures)) c.joined_within.ensures
+    subst (λ o. Gives (λ b. (body b, c.composed.new.room)) c.composed.result o)
+    (sym (joined_so s c.args.room.now (plain_between c.args.between) (phrase_of (shape c.args.first.now)) (phrase_of (shape c.args.second.now)) (body c.in_ok-first.first, c.process.new.room) c.in_ok-first.ensures c.in_ok-operation.operation c.in_ok-operation.ensures (body c.in_ok-second.second, c.process-2.new.room) c.in_ok-second.ensures)) c.composed.ensures
 
 pub made-process-requires : goal.made-process-requires
 unfolding weight
@@ -73,20 +80,6 @@ made-joined_phrases-requires g t c κs within =
     let m : 6 * (weight (phrase_of (shape c.in-Joined.first.now)) + weight (phrase_of (shape c.in-Joined.second.now))) + 5 < 6 * weight (plain c.args.phrase) = omega (arith, e) in
     search (rules, m)
 
-pub made-sharing_phrases-requires : goal.made-sharing_phrases-requires
-unfolding weight
-made-sharing_phrases-requires g t c κs within =
-    let e : weight (plain c.args.phrase) ≡ suc (weight (phrase_of (shape c.in-Sharing.first.now)) + weight (phrase_of (shape c.in-Sharing.second.now))) = ap weight (ap plain c.in-Sharing.is) in
-    let m : 6 * (weight (phrase_of (shape c.in-Sharing.first.now)) + weight (phrase_of (shape c.in-Sharing.second.now))) + 5 < 6 * weight (plain c.args.phrase) = omega (arith, e) in
-    search (rules, m)
-
-pub made-alphabetised_phrases-requires : goal.made-alphabetised_phrases-requires
-unfolding weight
-made-alphabetised_phrases-requires g t c κs within =
-    let e : weight (plain c.args.phrase) ≡ suc (weight (phrase_of (shape c.in-Alphabetised.first.now)) + weight (phrase_of (shape c.in-Alphabetised.second.now))) = ap weight (ap plain c.in-Alphabetised.is) in
-    let m : 6 * (weight (phrase_of (shape c.in-Alphabetised.first.now)) + weight (phrase_of (shape c.in-Alphabetised.second.now))) + 5 < 6 * weight (plain c.args.phrase) = omega (arith, e) in
-    search (rules, m)
-
 pub made-hiding_phrase-requires : goal.made-hiding_phrase-requires
 unfolding weight
 made-hiding_phrase-requires g t c κs within =
@@ -104,15 +97,8 @@ made-renaming_phrase-requires g t c κs within =
 pub made-conditional_phrase-requires : goal.made-conditional_phrase-requires
 unfolding weight
 made-conditional_phrase-requires g t c κs within =
-    let e : weight (plain c.args.phrase) ≡ suc (weight (phrase_of (shape c.in-Conditional.first.now)) + weight (phrase_of (shape c.in-Conditional.second.now))) = ap weight (ap plain c.in-Conditional.is) in
-    let m : 6 * (weight (phrase_of (shape c.in-Conditional.first.now)) + weight (phrase_of (shape c.in-Conditional.second.now))) + 5 < 6 * weight (plain c.args.phrase) = omega (arith, e) in
-    search (rules, m)
-
-pub made-guarded_phrase-requires : goal.made-guarded_phrase-requires
-unfolding weight
-made-guarded_phrase-requires g t c κs within =
-    let e : weight (plain c.args.phrase) ≡ suc (weight (phrase_of (shape c.in-Guarded.then.now))) = ap weight (ap plain c.in-Guarded.is) in
-    let m : 6 * weight (phrase_of (shape c.in-Guarded.then.now)) + 5 < 6 * weight (plain c.args.phrase) = omega (arith, e) in
+    let e : weight (plain c.args.phrase) ≡ suc (weight (phrase_of (shape c.in-Conditional.first.now)) + weight (or_stops c.in-Conditional.second)) = ap weight (ap plain c.in-Conditional.is) in
+    let m : 6 * (weight (phrase_of (shape c.in-Conditional.first.now)) + weight (or_stops c.in-Conditional.second)) + 5 < 6 * weight (plain c.args.phrase) = omega (arith, e) in
     search (rules, m)
 
 pub made-replicated_phrase-requires : goal.made-replicated_phrase-requires
@@ -142,18 +128,6 @@ made-returns-in-Called g t c =
     subst (λ o. Gives (λ b. (body b, c.called.new.room)) c.called.result o)
     (sym (ap (λ q. fits c.args.room.now (denoted q s)) (ap plain c.in-Called.is))) c.called.ensures
 
-pub made-returns-in-Sharing : goal.made-returns-in-Sharing
-made-returns-in-Sharing g t c =
-    let s = within (g.G.GlobalScope.scope c.args.scope.now.global.now) (map input c.args.scope.now.inputs.items) in
-    subst (λ o. Gives (λ b. (body b, c.sharing_phrases.new.room)) c.sharing_phrases.result o)
-    (sym (ap (λ q. fits c.args.room.now (denoted q s)) (ap plain c.in-Sharing.is))) c.sharing_phrases.ensures
-
-pub made-returns-in-Alphabetised : goal.made-returns-in-Alphabetised
-made-returns-in-Alphabetised g t c =
-    let s = within (g.G.GlobalScope.scope c.args.scope.now.global.now) (map input c.args.scope.now.inputs.items) in
-    subst (λ o. Gives (λ b. (body b, c.alphabetised_phrases.new.room)) c.alphabetised_phrases.result o)
-    (sym (ap (λ q. fits c.args.room.now (denoted q s)) (ap plain c.in-Alphabetised.is))) c.alphabetised_phrases.ensures
-
 pub made-returns-in-Hiding : goal.made-returns-in-Hiding
 made-returns-in-Hiding g t c =
     let s = within (g.G.GlobalScope.scope c.args.scope.now.global.now) (map input c.args.scope.now.inputs.items) in
@@ -171,12 +145,6 @@ made-returns-in-Conditional g t c =
     let s = within (g.G.GlobalScope.scope c.args.scope.now.global.now) (map input c.args.scope.now.inputs.items) in
     subst (λ o. Gives (λ b. (body b, c.conditional_phrase.new.room)) c.conditional_phrase.result o)
     (sym (ap (λ q. fits c.args.room.now (denoted q s)) (ap plain c.in-Conditional.is))) c.conditional_phrase.ensures
-
-pub made-returns-in-Guarded : goal.made-returns-in-Guarded
-made-returns-in-Guarded g t c =
-    let s = within (g.G.GlobalScope.scope c.args.scope.now.global.now) (map input c.args.scope.now.inputs.items) in
-    subst (λ o. Gives (λ b. (body b, c.guarded_phrase.new.room)) c.guarded_phrase.result o)
-    (sym (ap (λ q. fits c.args.room.now (denoted q s)) (ap plain c.in-Guarded.is))) c.guarded_phrase.ensures
 
 pub made-returns-in-Inside : goal.made-returns-in-Inside
 unfolding denoted
@@ -480,74 +448,6 @@ replicated_phrase-returns g t c =
     subst (λ o. Gives (λ b. (body b, c.all_joined.new.room)) c.all_joined.result o)
     (sym (replicated_so s c.args.room.now c.args.join (shapes c.args.form.0.now) (phrase_of (shape c.args.form.1.now)) (from_scope (g.G.GlobalScope.scope c.args.scope.now.global.now) c.in_ok-first.first) c.in_ok-first.ensures (map body c.in_ok-drafts.drafts.items, c.over.new.room) c.in_ok-drafts.ensures)) c.all_joined.ensures
 
-pub sharing_phrases-process-requires : goal.sharing_phrases-process-requires
-sharing_phrases-process-requires g t c κs within =
-    let m : 6 * weight (phrase_of (shape c.args.first.now)) + 1 < 6 * (weight (phrase_of (shape c.args.first.now)) + weight (phrase_of (shape c.args.second.now))) + 5 = omega arith in
-    search (rules, m)
-
-pub sharing_phrases-process-requires-2 : goal.sharing_phrases-process-requires-2
-sharing_phrases-process-requires-2 g t c κs within =
-    let m : 6 * weight (phrase_of (shape c.args.second.now)) + 1 < 6 * (weight (phrase_of (shape c.args.first.now)) + weight (phrase_of (shape c.args.second.now))) + 5 = omega arith in
-    search (rules, m)
-
-pub sharing_phrases-returns-in_err-first : goal.sharing_phrases-returns-in_err-first
-sharing_phrases-returns-in_err-first g t c =
-    let s = within (g.G.GlobalScope.scope c.args.scope.now.global.now) (map input c.args.scope.now.inputs.items) in
-    let p = err_from_is_err_and c.from_residual.result c.from_residual.ensures.1 in
-    rw (p.1, p.2) (sharing_first s c.args.room.now (phrase_of (shape c.args.first.now)) (shape c.args.set.now) (phrase_of (shape c.args.second.now)) c.in_err-first.field-0.0 c.in_err-first.ensures)
-
-pub sharing_phrases-returns-in_err-set : goal.sharing_phrases-returns-in_err-set
-sharing_phrases-returns-in_err-set g t c =
-    let s = within (g.G.GlobalScope.scope c.args.scope.now.global.now) (map input c.args.scope.now.inputs.items) in
-    let p = err_from_is_err_and c.from_residual-in_err-set.result c.from_residual-in_err-set.ensures.1 in
-    rw (p.1, p.2) (sharing_set s c.args.room.now (phrase_of (shape c.args.first.now)) (shape c.args.set.now) (phrase_of (shape c.args.second.now)) (body c.in_ok-first.first, c.process.new.room) c.in_ok-first.ensures c.in_err-set.field-0.0 c.in_err-set.ensures)
-
-pub sharing_phrases-returns-in_err-second : goal.sharing_phrases-returns-in_err-second
-sharing_phrases-returns-in_err-second g t c =
-    let s = within (g.G.GlobalScope.scope c.args.scope.now.global.now) (map input c.args.scope.now.inputs.items) in
-    let p = err_from_is_err_and c.from_residual-in_err-second.result c.from_residual-in_err-second.ensures.1 in
-    rw (p.1, p.2) (sharing_second s c.args.room.now (phrase_of (shape c.args.first.now)) (shape c.args.set.now) (phrase_of (shape c.args.second.now)) (body c.in_ok-first.first, c.process.new.room) c.in_ok-first.ensures c.in_ok-set.set c.in_ok-set.ensures c.in_err-second.field-0.0 c.in_err-second.ensures)
-
-pub sharing_phrases-returns : goal.sharing_phrases-returns
-sharing_phrases-returns g t c =
-    let s = within (g.G.GlobalScope.scope c.args.scope.now.global.now) (map input c.args.scope.now.inputs.items) in
-    subst (λ o. Gives (λ b. (body b, c.shared.new.room)) c.shared.result o)
-    (sym (sharing_so s c.args.room.now (phrase_of (shape c.args.first.now)) (shape c.args.set.now) (phrase_of (shape c.args.second.now)) (body c.in_ok-first.first, c.process.new.room) c.in_ok-first.ensures c.in_ok-set.set c.in_ok-set.ensures (body c.in_ok-second.second, c.process-2.new.room) c.in_ok-second.ensures)) c.shared.ensures
-
-pub alphabetised_phrases-process-requires : goal.alphabetised_phrases-process-requires
-alphabetised_phrases-process-requires g t c κs within =
-    let m : 6 * weight (phrase_of (shape c.args.first.now)) + 1 < 6 * (weight (phrase_of (shape c.args.first.now)) + weight (phrase_of (shape c.args.second.now))) + 5 = omega arith in
-    search (rules, m)
-
-pub alphabetised_phrases-process-requires-2 : goal.alphabetised_phrases-process-requires-2
-alphabetised_phrases-process-requires-2 g t c κs within =
-    let m : 6 * weight (phrase_of (shape c.args.second.now)) + 1 < 6 * (weight (phrase_of (shape c.args.first.now)) + weight (phrase_of (shape c.args.second.now))) + 5 = omega arith in
-    search (rules, m)
-
-pub alphabetised_phrases-returns-in_err-first : goal.alphabetised_phrases-returns-in_err-first
-alphabetised_phrases-returns-in_err-first g t c =
-    let s = within (g.G.GlobalScope.scope c.args.scope.now.global.now) (map input c.args.scope.now.inputs.items) in
-    let p = err_from_is_err_and c.from_residual.result c.from_residual.ensures.1 in
-    rw (p.1, p.2) (alphabetised_first s c.args.room.now (phrase_of (shape c.args.first.now)) (shape c.args.sets.0.now) (shape c.args.sets.1.now) (phrase_of (shape c.args.second.now)) c.in_err-first.field-0.0 c.in_err-first.ensures)
-
-pub alphabetised_phrases-returns-in_err-sets : goal.alphabetised_phrases-returns-in_err-sets
-alphabetised_phrases-returns-in_err-sets g t c =
-    let s = within (g.G.GlobalScope.scope c.args.scope.now.global.now) (map input c.args.scope.now.inputs.items) in
-    let p = err_from_is_err_and c.from_residual-in_err-sets.result c.from_residual-in_err-sets.ensures.1 in
-    rw (p.1, p.2) (alphabetised_sets s c.args.room.now (phrase_of (shape c.args.first.now)) (shape c.args.sets.0.now) (shape c.args.sets.1.now) (phrase_of (shape c.args.second.now)) (body c.in_ok-first.first, c.process.new.room) c.in_ok-first.ensures c.in_err-sets.field-0.0 c.in_err-sets.ensures)
-
-pub alphabetised_phrases-returns-in_err-second : goal.alphabetised_phrases-returns-in_err-second
-alphabetised_phrases-returns-in_err-second g t c =
-    let s = within (g.G.GlobalScope.scope c.args.scope.now.global.now) (map input c.args.scope.now.inputs.items) in
-    let p = err_from_is_err_and c.from_residual-in_err-second.result c.from_residual-in_err-second.ensures.1 in
-    rw (p.1, p.2) (alphabetised_second s c.args.room.now (phrase_of (shape c.args.first.now)) (shape c.args.sets.0.now) (shape c.args.sets.1.now) (phrase_of (shape c.args.second.now)) (body c.in_ok-first.first, c.process.new.room) c.in_ok-first.ensures c.in_ok-sets.sets c.in_ok-sets.ensures c.in_err-second.field-0.0 c.in_err-second.ensures)
-
-pub alphabetised_phrases-returns : goal.alphabetised_phrases-returns
-alphabetised_phrases-returns g t c =
-    let s = within (g.G.GlobalScope.scope c.args.scope.now.global.now) (map input c.args.scope.now.inputs.items) in
-    subst (λ o. Gives (λ b. (body b, c.alphabetised_within.new.room)) c.alphabetised_within.result o)
-    (sym (alphabetised_so s c.args.room.now (phrase_of (shape c.args.first.now)) (shape c.args.sets.0.now) (shape c.args.sets.1.now) (phrase_of (shape c.args.second.now)) (body c.in_ok-first.first, c.process.new.room) c.in_ok-first.ensures c.in_ok-sets.sets c.in_ok-sets.ensures (body c.in_ok-second.second, c.process-2.new.room) c.in_ok-second.ensures)) c.alphabetised_within.ensures
-
 pub hiding_phrase-process-requires : goal.hiding_phrase-process-requires
 hiding_phrase-process-requires g t c κs within =
     let m : 6 * weight (phrase_of (shape c.args.tree.now)) + 1 < 6 * weight (phrase_of (shape c.args.tree.now)) + 5 = omega arith in
@@ -580,62 +480,46 @@ pub renaming_phrase-returns-in_err-draft : goal.renaming_phrase-returns-in_err-d
 renaming_phrase-returns-in_err-draft g t c =
     let s = within (g.G.GlobalScope.scope c.args.scope.now.global.now) (map input c.args.scope.now.inputs.items) in
     let p = err_from_is_err_and c.from_residual.result c.from_residual.ensures.1 in
-    rw (p.1, p.2) (renaming_first s c.args.room.now (phrase_of (shape c.args.tree.now)) (shapes c.args.pairs.now) c.in_err-draft.field-0.0 c.in_err-draft.ensures)
+    rw (p.1, p.2) (renaming_first s c.args.room.now (phrase_of (shape c.args.tree.now)) (syntaxes (shapes c.args.pairs.now)) c.in_err-draft.field-0.0 c.in_err-draft.ensures)
 
 pub renaming_phrase-returns : goal.renaming_phrase-returns
 renaming_phrase-returns g t c =
     let s = within (g.G.GlobalScope.scope c.args.scope.now.global.now) (map input c.args.scope.now.inputs.items) in
     subst (λ o. Gives (λ b. (body b, c.renamed_by.new.room)) c.renamed_by.result o)
-    (sym (renaming_on s c.args.room.now (phrase_of (shape c.args.tree.now)) (shapes c.args.pairs.now) (body c.in_ok-draft.draft, c.process.new.room) c.in_ok-draft.ensures)) c.renamed_by.ensures
+    (sym (renaming_on s c.args.room.now (phrase_of (shape c.args.tree.now)) (syntaxes (shapes c.args.pairs.now)) (body c.in_ok-draft.draft, c.process.new.room) c.in_ok-draft.ensures)) c.renamed_by.ensures
 
 pub conditional_phrase-process-requires : goal.conditional_phrase-process-requires
 conditional_phrase-process-requires g t c κs within =
-    let m : 6 * weight (phrase_of (shape c.args.trees.0.now)) + 1 < 6 * (weight (phrase_of (shape c.args.trees.0.now)) + weight (phrase_of (shape c.args.trees.1.now))) + 5 = omega arith in
+    let m : 6 * weight (phrase_of (shape c.args.trees.0.now)) + 1 < 6 * (weight (phrase_of (shape c.args.trees.0.now)) + weight (or_stops c.args.trees.1)) + 5 = omega arith in
     search (rules, m)
 
-pub conditional_phrase-process-requires-else-holds : goal.conditional_phrase-process-requires-else-holds
-conditional_phrase-process-requires-else-holds g t c κs within =
-    let m : 6 * weight (phrase_of (shape c.args.trees.1.now)) + 1 < 6 * (weight (phrase_of (shape c.args.trees.0.now)) + weight (phrase_of (shape c.args.trees.1.now))) + 5 = omega arith in
-    search (rules, m)
-
-pub guarded_phrase-process-requires : goal.guarded_phrase-process-requires
-guarded_phrase-process-requires g t c κs within =
-    let m : 6 * weight (phrase_of (shape c.args.then.now)) + 1 < 6 * weight (phrase_of (shape c.args.then.now)) + 5 = omega arith in
+pub conditional_phrase-process-requires-in-Some : goal.conditional_phrase-process-requires-in-Some
+conditional_phrase-process-requires-in-Some g t c κs within =
+    let e : weight (or_stops c.args.trees.1) ≡ weight (phrase_of (shape c.in-Some.other.now)) = ap (λ u. weight (or_stops u)) c.in-Some.is in
+    let m : 6 * weight (phrase_of (shape c.in-Some.other.now)) + 1 < 6 * (weight (phrase_of (shape c.args.trees.0.now)) + weight (or_stops c.args.trees.1)) + 5 = omega (arith, e) in
     search (rules, m)
 
 pub conditional_phrase-returns-in_err-holds : goal.conditional_phrase-returns-in_err-holds
 conditional_phrase-returns-in_err-holds g t c =
     let s = within (g.G.GlobalScope.scope c.args.scope.now.global.now) (map input c.args.scope.now.inputs.items) in
     let p = err_from_is_err_and c.from_residual.result c.from_residual.ensures.1 in
-    rw (p.1, p.2) (conditional_fails s c.args.room.now (shape c.args.condition.now) (phrase_of (shape c.args.trees.0.now)) (phrase_of (shape c.args.trees.1.now)) c.in_err-holds.field-0.0 c.in_err-holds.ensures)
+    rw (p.1, p.2) (conditional_fails s c.args.room.now (shape c.args.condition.now) (phrase_of (shape c.args.trees.0.now)) (or_stops c.args.trees.1) c.in_err-holds.field-0.0 c.in_err-holds.ensures)
 
 pub conditional_phrase-returns-then-holds : goal.conditional_phrase-returns-then-holds
 conditional_phrase-returns-then-holds g t c =
     let s = within (g.G.GlobalScope.scope c.args.scope.now.global.now) (map input c.args.scope.now.inputs.items) in
     subst (λ o. Gives (λ b. (body b, c.process.new.room)) c.process.result o)
-    (sym (conditional_so s c.args.room.now (shape c.args.condition.now) (phrase_of (shape c.args.trees.0.now)) (phrase_of (shape c.args.trees.1.now)) c.in_ok-holds.holds c.in_ok-holds.ensures ∙ ap (λ b. fits c.args.room.now (cond b (denoted (phrase_of (shape c.args.trees.0.now)) s) (denoted (phrase_of (shape c.args.trees.1.now)) s))) c.if-holds.true)) c.process.ensures
+    (sym (conditional_so s c.args.room.now (shape c.args.condition.now) (phrase_of (shape c.args.trees.0.now)) (or_stops c.args.trees.1) true (c.in_ok-holds.ensures ∙ ap (λ b. Some b) c.if-holds.true))) c.process.ensures
 
-pub conditional_phrase-returns-else-holds : goal.conditional_phrase-returns-else-holds
-conditional_phrase-returns-else-holds g t c =
+pub conditional_phrase-returns-in-Some : goal.conditional_phrase-returns-in-Some
+conditional_phrase-returns-in-Some g t c =
     let s = within (g.G.GlobalScope.scope c.args.scope.now.global.now) (map input c.args.scope.now.inputs.items) in
-    subst (λ o. Gives (λ b. (body b, c.process-else-holds.new.room)) c.process-else-holds.result o)
-    (sym (conditional_so s c.args.room.now (shape c.args.condition.now) (phrase_of (shape c.args.trees.0.now)) (phrase_of (shape c.args.trees.1.now)) c.in_ok-holds.holds c.in_ok-holds.ensures ∙ ap (λ b. fits c.args.room.now (cond b (denoted (phrase_of (shape c.args.trees.0.now)) s) (denoted (phrase_of (shape c.args.trees.1.now)) s))) c.if-holds.false)) c.process-else-holds.ensures
+    subst (λ o. Gives (λ b. (body b, c.process-in-Some.new.room)) c.process-in-Some.result o)
+    (sym (conditional_so s c.args.room.now (shape c.args.condition.now) (phrase_of (shape c.args.trees.0.now)) (or_stops c.args.trees.1) false (c.in_ok-holds.ensures ∙ ap (λ b. Some b) c.if-holds.false) ∙ ap (λ u. fits c.args.room.now (denoted (or_stops u) s)) c.in-Some.is)) c.process-in-Some.ensures
 
-pub guarded_phrase-returns-in_err-holds : goal.guarded_phrase-returns-in_err-holds
-guarded_phrase-returns-in_err-holds g t c =
-    let s = within (g.G.GlobalScope.scope c.args.scope.now.global.now) (map input c.args.scope.now.inputs.items) in
-    let p = err_from_is_err_and c.from_residual.result c.from_residual.ensures.1 in
-    rw (p.1, p.2) (guarded_fails s c.args.room.now (shape c.args.condition.now) (phrase_of (shape c.args.then.now)) c.in_err-holds.field-0.0 c.in_err-holds.ensures)
-
-pub guarded_phrase-returns-then-holds : goal.guarded_phrase-returns-then-holds
-guarded_phrase-returns-then-holds g t c =
-    let s = within (g.G.GlobalScope.scope c.args.scope.now.global.now) (map input c.args.scope.now.inputs.items) in
-    subst (λ o. Gives (λ b. (body b, c.process.new.room)) c.process.result o)
-    (sym (guarded_so s c.args.room.now (shape c.args.condition.now) (phrase_of (shape c.args.then.now)) c.in_ok-holds.holds c.in_ok-holds.ensures ∙ ap (λ b. fits c.args.room.now (cond b (denoted (phrase_of (shape c.args.then.now)) s) (Some stop))) c.if-holds.true)) c.process.ensures
-
-pub guarded_phrase-returns-else-holds : goal.guarded_phrase-returns-else-holds
-unfolding fit size
-guarded_phrase-returns-else-holds g t c =
+pub conditional_phrase-returns-in-None : goal.conditional_phrase-returns-in-None
+unfolding denoted fit size
+conditional_phrase-returns-in-None g t c =
     let s = within (g.G.GlobalScope.scope c.args.scope.now.global.now) (map input c.args.scope.now.inputs.items) in
     subst (λ o. Gives (λ b. (body b, c.stop.new.room)) c.stop.result o)
-    (sym (guarded_so s c.args.room.now (shape c.args.condition.now) (phrase_of (shape c.args.then.now)) c.in_ok-holds.holds c.in_ok-holds.ensures ∙ ap (λ b. fits c.args.room.now (cond b (denoted (phrase_of (shape c.args.then.now)) s) (Some stop))) c.if-holds.false)) c.stop.ensures
+    (sym (conditional_so s c.args.room.now (shape c.args.condition.now) (phrase_of (shape c.args.trees.0.now)) (or_stops c.args.trees.1) false (c.in_ok-holds.ensures ∙ ap (λ b. Some b) c.if-holds.false) ∙ ap (λ u. fits c.args.room.now (denoted (or_stops u) s)) c.in-None.is)) c.stop.ensures

@@ -8,7 +8,7 @@ use Rattle.event_phrases.specs.View.{listed}
 use Rattle.denotation.specs.Phrases.{phrase_of, weight, denoted, branches}
 use Rattle.denotation.specs.Places.{from_scope}
 use Rattle.denotation.specs.Rooms.{all_fit, behind}
-use Rattle.denotation.specs.Shapes.{plain}
+use Rattle.denotation.specs.Shapes.{plain, or_stops}
 use Rattle.denotation.specs.View.{body}
 use Rattle.denotation.specs.Walks.{on_visits}
 use Rattle.denotation.proofs.making.+making.Given as goal
@@ -31,12 +31,6 @@ decreases-next_branch g l = 6 * weight (phrase_of (shape l.prefix.now.then.now))
 abbrev pub decreases-joined_phrases : goal.decreases-joined_phrases
 decreases-joined_phrases g l = 6 * (weight (phrase_of (shape l.first.now)) + weight (phrase_of (shape l.second.now))) + 5
 
-abbrev pub decreases-sharing_phrases : goal.decreases-sharing_phrases
-decreases-sharing_phrases g l = 6 * (weight (phrase_of (shape l.first.now)) + weight (phrase_of (shape l.second.now))) + 5
-
-abbrev pub decreases-alphabetised_phrases : goal.decreases-alphabetised_phrases
-decreases-alphabetised_phrases g l = 6 * (weight (phrase_of (shape l.first.now)) + weight (phrase_of (shape l.second.now))) + 5
-
 abbrev pub decreases-hiding_phrase : goal.decreases-hiding_phrase
 decreases-hiding_phrase g l = 6 * weight (phrase_of (shape l.tree.now)) + 5
 
@@ -44,10 +38,7 @@ abbrev pub decreases-renaming_phrase : goal.decreases-renaming_phrase
 decreases-renaming_phrase g l = 6 * weight (phrase_of (shape l.tree.now)) + 5
 
 abbrev pub decreases-conditional_phrase : goal.decreases-conditional_phrase
-decreases-conditional_phrase g l = 6 * (weight (phrase_of (shape l.trees.0.now)) + weight (phrase_of (shape l.trees.1.now))) + 5
-
-abbrev pub decreases-guarded_phrase : goal.decreases-guarded_phrase
-decreases-guarded_phrase g l = 6 * weight (phrase_of (shape l.then.now)) + 5
+decreases-conditional_phrase g l = 6 * (weight (phrase_of (shape l.trees.0.now)) + weight (or_stops l.trees.1)) + 5
 
 abbrev pub decreases-put_process : goal.decreases-put_process
 decreases-put_process g l = 6 * weight (phrase_of (shape l.tree.now)) + 2
