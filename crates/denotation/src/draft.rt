@@ -10,7 +10,7 @@ use std::alloc::Allocator;
 
 /// What joins two bodies.
 #[derive(Clone, Copy)]
-pub(crate) enum Joint {
+pub enum Joint {
     Join(Join),
     /// They share the events of the set.
     Sharing(EventSet),
@@ -18,7 +18,7 @@ pub(crate) enum Joint {
 
 /// What stands between two bodies, with its sets of events.
 #[derive(Clone, Copy)]
-pub(crate) enum Operation {
+pub enum Operation {
     Joint(Joint),
     /// `[ A || B ]`
     Alphabetised(EventSet, EventSet),

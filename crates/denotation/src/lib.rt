@@ -19,6 +19,7 @@ mod room;
 mod simple;
 mod walk;
 
+pub use draft::{Joint, Operation};
 pub use forms::Join;
 pub use gathering::gathered;
 pub use law::one_specification;
