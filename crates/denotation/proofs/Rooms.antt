@@ -4,11 +4,7 @@ use Rattle.tokens.specs.declared.unread.Unread.{Unread}
 use Rattle.values.specs.Values.{◌>>=◌}
 use Rattle.values.specs.View.{Fails}
 use Rattle.event_phrases.proofs.Options.{bind_assoc, bind_none, step, fails_at}
-use Rattle.event_phrases.specs.Scopes.{Scope}
-use Rattle.denotation.specs.Bodies.{Body}
-use Rattle.denotation.specs.declared.draft.Operation.{Operation}
-use Rattle.denotation.specs.Phrases.{composed}
-use Rattle.denotation.specs.Rooms.{room_left, spare, fit, operation_nodes}
+use Rattle.denotation.specs.Rooms.{room_left, spare, fit}
 
 pub split : (P : Type 0) (m n : ℕ) → (m ≤ n → P) → (n < m → P) → P
 split P zero n f g = f (omega arith)
@@ -42,15 +38,6 @@ some_pair x r = Some (x, r)
 -- what takes nothing leaves the room as it is
 pub no_room : {X : Type 0} (x : X) (room : ℕ) → spare 0 x room ≡ Some (x, room)
 no_room x room = ap (λ o. o >>= some_pair x) (room_enough 0 room (omega arith)) ∙ ap (some_pair x) (omega arith)
-
--- two bodies with something between them, where this is known
-module _ (s : Scope) (p q : Body) (room : ℕ) (o is : Operation) (h : o ≡ is) where
-  pub no_operation : (k : Unread) → Fails k (room_left (operation_nodes is) room) → Fails k (spare (operation_nodes o) (composed s o p q) room)
-  no_operation k f = subst (λ o. Fails k (spare (operation_nodes o) (composed s o p q) room)) (sym h) (fails_at k (room_left (operation_nodes is) room) (some_pair (composed s is p q)) f)
-
-  pub one_operation : (b : Body) (left : ℕ) → b ≡ composed s is p q → room_left (operation_nodes is) room ≡ Some left → spare (operation_nodes o) (composed s o p q) room ≡ Some (b, left)
-  one_operation b left e f =
-      ap (λ o. spare (operation_nodes o) (composed s o p q) room) h ∙ ap (λ r. r >>= some_pair (composed s is p q)) f ∙ ap (λ b. some_pair b left) (sym e)
 
 -- ---- something, and n nodes more
 

@@ -39,6 +39,22 @@ pub(crate) fn joined<A: Allocator + Copy>(
     Ok(Draft::Both(joint, first, second))
 }
 
+/// Two bodies joined so, where there is room for the node above them.
+fn joined_within<A: Allocator + Copy>(
+    alloc: A,
+    joint: Joint,
+    first: Draft<A>,
+    second: Draft<A>,
+    room: &mut usize,
+    line: u32,
+) -> Result<Draft<A>, Unread>
+    ensures { Gives (λ b. (body b, room.new)) result (spare 1 (joint_of joint (body first) (body second)) room.old) }
+{
+    let joined = joined(alloc, joint, first, second)?;
+    spend_nodes(room, 1, line)?;
+    Ok(joined)
+}
+
 /// The body after the event with this number, where there is room for the node above it.
 pub(crate) fn behind_event<A: Allocator + Copy>(
     alloc: A,
@@ -141,6 +157,22 @@ fn alphabetised<A: Allocator + Copy>(
     joined(alloc, Joint::Sharing(shared), first, second)
 }
 
+/// `P [ A || B ] Q`, where there is room for its nodes.
+fn alphabetised_within<A: Allocator + Copy, G: GlobalScope<A>>(
+    alloc: A,
+    scope: &Scope<'_, A, G>,
+    sets: (EventSet, EventSet),
+    first: Draft<A>,
+    second: Draft<A>,
+    room: &mut usize,
+) -> Result<Draft<A>, Unread>
+    ensures { Gives (λ b. (body b, room.new)) result (spare 5 (alphabetised_by (G.scope scope.now.global.now) sets (body first) (body second)) room.old) }
+{
+    let joined = alphabetised(alloc, scope.global.sigma(), sets, first, second)?;
+    spend_nodes(room, 5, scope.line)?;
+    Ok(joined)
+}
+
 /// What stands between two processes, with the events of its sets.
 pub(crate) fn operation_of<A: Allocator + Copy, G: GlobalScope<A>>(
     alloc: A,
@@ -174,16 +206,9 @@ pub(crate) fn composed<A: Allocator + Copy, G: GlobalScope<A>>(
     ensures { Gives (λ b. (body b, room.new)) result (spare (operation_nodes operation) (composed_by (G.scope scope.now.global.now) operation (body first) (body second)) room.old) }
 {
     match operation {
-        Operation::Joint(joint) => {
-            let made = joined(alloc, joint, first, second)?;
-            spend_nodes(room, 1, scope.line)?;
-            Ok(made)
-        }
+        Operation::Joint(joint) => joined_within(alloc, joint, first, second, room, scope.line),
         Operation::Alphabetised(left, right) => {
-            let sigma = scope.global.sigma();
-            let made = alphabetised(alloc, sigma, (left, right), first, second)?;
-            spend_nodes(room, 5, scope.line)?;
-            Ok(made)
+            alphabetised_within(alloc, scope, (left, right), first, second, room)
         }
     }
 }
