@@ -1,13 +1,14 @@
 #!/usr/bin/env python3
 """Lines a second through `cspwatch serve` where reports share syncs, against a plain server that shares them too.
 
-    group_speed.py PEER [--program FILE] [--other FILE] [--turns 5] [--sync NANOSECONDS ..] [--disk DIR]
+    group_speed.py PEER [--program FILE] [--other FILE] [--turns 5] [--sync NANOSECONDS ..] [--disk DIR] [--latency]
 
 PEER is called as `PEER JOURNAL CONNECTIONS`, serves two states over the same protocol and settles many reports by two syncs; OTHER
 is one more `cspwatch`, as an older one. All run by turns, the first one another with each turn. The journal is a file in memory, in which a
 sync takes so many nanoseconds (slow_sync.c; 0 and 1,000,000 unless said), or in DIR, where syncs take what they take. A load is so many
 connections of so many lines, sent ahead or in turns. Each ratio is that of the medians; above 1 the program is faster. What isn't
-fast by design gets fewer lines: with slow syncs a program that doesn't share them answers 500 lines a second.
+fast by design gets fewer lines: with slow syncs a program that doesn't share them answers 500 lines a second. With --latency it is measured
+alone how long replies take with 64 connections in turns and syncs of 1 ms.
 """
 import argparse
 import functools
@@ -63,6 +64,23 @@ def measure(options, folder, made, loads, around, what, few):
         print("%-16s %2d connections, %6d lines each, %-5s: program %9.0f a second, %s" % (what, *load, found["program"], ratios), flush=True)
 
 
+def latencies(options, folder, load_program, around):
+    """How long replies take: the medians of the runs."""
+    serve = ["serve", "p.csp", "P", "j", "--listen", "127.0.0.1:0", "--connections", "64"]
+    for name, words in ("program", [options.program, *serve]), ("peer", [options.peer, "j", "64"]):
+        found = []
+        for _ in range(options.turns):
+            if os.path.exists(os.path.join(folder, "j")):
+                os.remove(os.path.join(folder, "j"))
+            server = subprocess.Popen(words, cwd=folder, stdout=subprocess.PIPE, env=around)
+            address = server.stdout.readline().split()[1].decode()
+            done = subprocess.run([load_program, address, "64", "200", "latency"], check=True, capture_output=True)
+            server.communicate()
+            found.append([int(number) / 1e6 for number in done.stdout.split()])
+        print("%-8s 64 connections in turns: median %.1f ms, 99th percentile %.1f ms, greatest %.1f ms" % (
+            name, *(statistics.median(column) for column in zip(*found))), flush=True)
+
+
 def main():
     parser = argparse.ArgumentParser(description=__doc__.split("\n")[0])
     parser.add_argument("peer", type=os.path.abspath)
@@ -71,11 +89,15 @@ def main():
     parser.add_argument("--turns", type=int, default=5)
     parser.add_argument("--sync", type=int, nargs="*", default=[0, 1_000_000])
     parser.add_argument("--disk")
+    parser.add_argument("--latency", action="store_true")
     options = parser.parse_args()
     with tempfile.TemporaryDirectory(dir=options.disk or "/dev/shm") as folder, tempfile.TemporaryDirectory() as programs:
         made = serve_speed.built(programs)
         with open(os.path.join(folder, "p.csp"), "w", encoding="utf-8") as file:
             file.write(serve_speed.SCRIPT)
+        if options.latency:
+            latencies(options, folder, made["serve_load"], serve_speed.slow_syncs(programs, 1_000_000))
+            return
         if options.disk:
             measure(options, folder, made, SLOW_LOADS, None, "on a disk", True)
             return

@@ -6,8 +6,8 @@
 PEER is called as `PEER check FILE` with PEER_UNFOLD=1 in its environment, where FILE has the printed form of the specification; it
 reads the same lines. The systems are interleaved components, dining philosophers and a lock with workers. The lines are a random
 walk: events that may come, each tenth line a refusal. Both write into a file in memory, and have to write the same bytes. A ratio
-is the peer's time over the program's, the median of the pairs; which one goes first changes with each turn. The opening is the time
-of a run on no line at all. Memory is the greatest resident size of a run.
+is the peer's time over the program's, the median of the pairs, by the clock and by the processor; which one goes first changes with
+each turn. The opening is the time of a run on no line at all. Memory is the greatest resident size of a run.
 """
 import argparse
 import os
@@ -85,14 +85,14 @@ def walk(program, path, count):
 
 
 def run(command, environment, lines, out):
-    """The seconds of one run, and its greatest resident size in MB."""
+    """The seconds of one run, its greatest resident size in MB, and its seconds of the processor."""
     with open(lines, "rb") as source, open(out, "wb") as sink:
         start = time.perf_counter()
         child = subprocess.Popen(command, stdin=source, stdout=sink, env=environment)
         _, _, used = os.wait4(child.pid, 0)
         seconds = time.perf_counter() - start
     child.returncode = 0
-    return seconds, used.ru_maxrss / 1024
+    return seconds, used.ru_maxrss / 1024, used.ru_utime + used.ru_stime
 
 
 def in_turn(ours, theirs, turns):
@@ -130,13 +130,13 @@ def measure(name, script, arguments, folder):
     openings = in_turn(
         lambda: run(ours, None, none, outs[0]), lambda: run(theirs, peer_environment, none, outs[1]), arguments.turns
     )
-    ratio = statistics.median(peer[0] / our[0] for our, peer in pairs)
+    ratio, processor = (statistics.median(peer[at] / our[at] for our, peer in pairs) for at in (0, 2))
     our, peer = (statistics.median(pair[at][0] for pair in pairs) for at in (0, 1))
     memory = [max(pair[at][1] for pair in pairs) for at in (0, 1)]
     opening = [1000 * statistics.median(pair[at][0] for pair in openings) for at in (0, 1)]
     print(
-        f"{name:24} ratio {ratio:.2f} (program {our:.3f} s, peer {peer:.3f} s), opening {opening[0]:.1f} ms (peer {opening[1]:.1f}), "
-        f"memory {memory[0]:.0f} MB (peer {memory[1]:.0f}), replies {'the same' if same else 'DIFFERENT'}",
+        f"{name:24} ratio {ratio:.2f}, of the processor {processor:.2f} (program {our:.3f} s, peer {peer:.3f} s), "
+        f"opening {opening[0]:.1f} ms (peer {opening[1]:.1f}), memory {memory[0]:.0f} MB (peer {memory[1]:.0f}), replies {'the same' if same else 'DIFFERENT'}",
         flush=True,
     )
     return same

@@ -1,8 +1,9 @@
 // Clients of a server of the line protocol, and how long it takes to answer them.
-// rustc --edition 2024 -O serve_load.rs; serve_load ADDRESS CONNECTIONS LINES ahead|polling|turns
+// rustc --edition 2024 -O serve_load.rs; serve_load ADDRESS CONNECTIONS LINES ahead|polling|turns|latency
 // Each connection has a thread. With `ahead` all its lines are sent while the replies are read, with `turns` each line once the reply to the one
 // before was read. With `polling` all lines of a connection are sent, as many as fit the buffers of both sides, and then the replies are read by a
-// client that doesn't sleep for them, so that no reply has to wake it. It prints the nanoseconds from the first line to the last reply.
+// client that doesn't sleep for them, so that no reply has to wake it. It prints the nanoseconds from the first line to the last reply. With `latency` lines are sent as with `turns`, and
+// it prints in place of that the median, the 99th percentile and the greatest of the nanoseconds that a reply took.
 use std::hint;
 use std::io::{self, BufRead, BufReader, Read, Write};
 use std::net::TcpStream;
@@ -59,28 +60,32 @@ fn polling(link: &TcpStream, lines: usize) -> io::Result<()> {
     link.set_nonblocking(false)
 }
 
-fn turns(mut link: &TcpStream, lines: usize) -> io::Result<()> {
+/// How many nanoseconds each reply took.
+fn turns(mut link: &TcpStream, lines: usize) -> io::Result<Vec<u128>> {
     let mut source = BufReader::new(link.try_clone()?);
     let mut reply = Vec::new();
+    let mut took = Vec::with_capacity(lines);
     for _ in 0..lines {
+        let start = Instant::now();
         link.write_all(LINE)?;
         reply.clear();
         if source.read_until(b'\n', &mut reply)? == 0 {
             return Err(io::ErrorKind::UnexpectedEof.into());
         }
+        took.push(start.elapsed().as_nanos());
     }
-    Ok(())
+    Ok(took)
 }
 
 fn main() -> io::Result<()> {
     let words: Vec<String> = std::env::args().collect();
     let [_, address, connections, lines, how] = &words[..] else {
-        panic!("serve_load ADDRESS CONNECTIONS LINES ahead|polling|turns");
+        panic!("serve_load ADDRESS CONNECTIONS LINES ahead|polling|turns|latency");
     };
     let (connections, lines) = (connections.parse::<usize>().unwrap(), lines.parse::<usize>().unwrap());
     let links = (0..connections).map(|_| TcpStream::connect(address)).collect::<io::Result<Vec<_>>>()?;
     let barrier = Barrier::new(connections + 1);
-    let nanos = thread::scope(|scope| {
+    let (nanos, mut took) = thread::scope(|scope| {
         let all: Vec<_> = links
             .iter()
             .map(|link| {
@@ -89,8 +94,8 @@ fn main() -> io::Result<()> {
                     link.set_nodelay(true)?;
                     barrier.wait();
                     match &how[..] {
-                        "ahead" => ahead(link, lines),
-                        "polling" => polling(link, lines),
+                        "ahead" => ahead(link, lines).map(|()| Vec::new()),
+                        "polling" => polling(link, lines).map(|()| Vec::new()),
                         _ => turns(link, lines),
                     }
                 })
@@ -98,14 +103,21 @@ fn main() -> io::Result<()> {
             .collect();
         barrier.wait();
         let start = Instant::now();
+        let mut took = Vec::new();
         for one in all {
-            one.join().unwrap()?;
+            took.extend(one.join().unwrap()?);
         }
-        io::Result::Ok(start.elapsed().as_nanos())
+        io::Result::Ok((start.elapsed().as_nanos(), took))
     })?;
     for mut link in links {
         link.write_all(b"Q\n")?;
     }
-    println!("{nanos}");
+    if how == "latency" {
+        took.sort_unstable();
+        let at = |hundredths: usize| took[(took.len() - 1) * hundredths / 100];
+        println!("{} {} {}", at(50), at(99), at(100));
+    } else {
+        println!("{nanos}");
+    }
     Ok(())
 }

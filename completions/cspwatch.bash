@@ -29,6 +29,7 @@ _cspwatch() {
         case $command in
             check) COMPREPLY=($(compgen -W "--large --help -h" -- "$current")) ;;
             serve) COMPREPLY=($(compgen -W "--listen --connections --large --help -h" -- "$current")) ;;
+            replay) COMPREPLY=($(compgen -W "--read-only --help -h" -- "$current")) ;;
             show) COMPREPLY=($(compgen -W "--rejected --coverage --format --help -h" -- "$current")) ;;
             *) COMPREPLY=($(compgen -W "--help -h" -- "$current")) ;;
         esac

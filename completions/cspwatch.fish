@@ -40,6 +40,7 @@ complete -c cspwatch -n "__fish_seen_subcommand_from help" -a "$commands"
 complete -c cspwatch -n "__fish_seen_subcommand_from check serve" -l large -d 'use the limits for large systems'
 complete -c cspwatch -n "__fish_seen_subcommand_from serve" -l listen -x -a '127.0.0.1:0' -d 'the address to listen on'
 complete -c cspwatch -n "__fish_seen_subcommand_from serve" -l connections -x -d 'how many connections are taken'
+complete -c cspwatch -n "__fish_seen_subcommand_from replay" -l read-only -d 'only read the file'
 complete -c cspwatch -n "__fish_seen_subcommand_from show" -l rejected -d 'print the rejected reports alone'
 complete -c cspwatch -n "__fish_seen_subcommand_from show" -l coverage -d 'print how often each event came and could have come'
 complete -c cspwatch -n "__fish_seen_subcommand_from show" -l format -x -a 'text json' -d 'how to print'

@@ -5,8 +5,10 @@
 
 Each case is a script with a few definitions under all operators, some of which grow until a limit is met, and some forty
 lines: events, refusals, `N` and `S`. Replies, messages and exit status have to be the same. With `--large` both keep
-names as their bodies. A case for which the reference takes longer than S seconds is passed over, and counted; one for
-which the program takes longer than five seconds is a failure. The last line is `N passed, M failed`.
+names as their bodies, and where the program meets no limit without the word it has to answer the same with it; half of
+the scripts have up to 25 definitions that unfold one another. A case for which the reference takes longer than S
+seconds is passed over, and counted; one for which the program takes longer than five seconds is a failure. The last line
+is `N passed, M failed`.
 """
 from __future__ import annotations
 
@@ -19,6 +21,7 @@ import generated
 import opinions
 from generated import Outcome
 from reference import program as reference
+from reference.program import Answer
 
 SECONDS = 5.0
 """What the program may take for a case."""
@@ -71,20 +74,64 @@ class Case:
         return self.rng.choice(["N\n", "S\n"])
 
 
+class Unfolding(Case):
+    """A script with many definitions, most of which unfold later ones: some come to an end, some go round."""
+
+    def __init__(self, rng: random.Random) -> None:
+        super().__init__(rng)
+        self.names = [f"P{number}" for number in range(rng.randint(3, 25))]
+        bodies = [f"{name} = {self.body(self.names[place + 1:])}" for place, name in enumerate(self.names)]
+        rng.shuffle(bodies)
+        self.script = f"channel {', '.join(self.events)}\n" + "\n".join(bodies) + "\nP = P0\n"
+
+    def body(self, later: list[str]) -> str:
+        """A body that unfolds at once, for the most part names that come later."""
+        name = self.rng.choice(later if later and self.rng.random() < 0.9 else self.names)
+        kind = self.rng.choice(["name", "name", "prefix", "prefix", "leaf", *FORMS[5:]])
+        if kind == "name":
+            return name
+        if kind == "prefix":
+            return f"{self.event()} -> {self.rng.choice(self.names)}"
+        if kind == "leaf":
+            return self.rng.choice(["STOP", "SKIP"])
+        if kind == "hide":
+            return f"{name} \\ {self.set()}"
+        if kind == "rename":
+            return f"{name}[[{self.event()} <- {self.event()}]]"
+        operator = f"[|{self.set()}|]" if kind == "[|" else kind
+        others = [self.rng.choice(later or self.names), f"({self.event()} -> {self.rng.choice(self.names)})", "STOP", "SKIP"]
+        return f"{name} {operator} {self.rng.choice(others)}"
+
+
+def limits_in(answer: Answer) -> list[str]:
+    return [limit.decode() for limit in LIMITS if limit in answer.output + answer.errors]
+
+
+def without_word(program: str, question: opinions.Question, own: Answer) -> str:
+    """What is wrong with the program's answer without `--large`, beside this one with it, or nothing."""
+    plain = opinions.of_program(program, question._replace(words=question.words[:3]), SECONDS)
+    if plain is None:
+        return "without --large it takes too long"
+    if limits_in(plain):
+        return ""
+    return "" if plain == own else f"without --large: {plain}"
+
+
 def attempt(rng: random.Random, given: argparse.Namespace) -> Outcome:
     """Compares both opinions on a case."""
-    case = Case(rng)
+    case = Unfolding(rng) if given.large and rng.random() < 0.5 else Case(rng)
     words = ("check", "p.csp", "P") + (("--large",) if given.large else ())
     question = opinions.Question(words, {"p.csp": case.script.encode()}, case.lines.encode())
     wanted = opinions.second(question, lambda: reference.check(case.script.encode(), "P", question.lines, given.large), given.reference, given.seconds)
     if wanted is None:
         return Outcome("passed over")
     own = opinions.of_program(given.program, question, SECONDS)
-    if own == wanted:
-        met = [limit.decode() for limit in LIMITS if limit in wanted.output + wanted.errors]
+    wrong = without_word(given.program, question, own) if given.large and own is not None else ""
+    if own == wanted and not wrong:
+        met = limits_in(wanted)
         return Outcome(met[0] if met else "the same")
     answer = f"takes more than {SECONDS:.0f} seconds" if own is None else own
-    return Outcome("different", f"\n{case.script}\n{case.lines}\nprogram: {answer}\nreference: {wanted}\n")
+    return Outcome("different", f"\n{case.script}\n{case.lines}\nprogram: {answer}\nreference: {wanted}\n{wrong}\n")
 
 
 def main() -> int:

@@ -4,14 +4,15 @@
     compare_showing.py [SEED] [COUNT] [--large] [--program FILE] [--reference PATH] [--jobs N] [--seconds S] [--plain]
 
 Each case is a script as in compare_judging.py, with a journal of up to sixty reports by three seats, some of them
-rejected. The text and the JSON of `show`, alone, with `--rejected`, with `--coverage` and with both, and the line and
-the status of `replay`, have to be the same bytes. Every tenth journal is damaged at one place. A case whose opening
-meets a limit is passed over, and counted. The last line is `N passed, M failed`.
+rejected; with `--large` a large journal. The text and the JSON of `show`, alone, with `--rejected`, with `--coverage`
+and with both, and the line and the status of `replay`, have to be the same bytes. Every tenth journal is damaged at one
+place. A case whose opening meets a limit is passed over, and counted. The last line is `N passed, M failed`.
 """
 from __future__ import annotations
 
 import argparse
 import functools
+import os
 import random
 import sys
 
@@ -31,6 +32,9 @@ SECONDS = 10.0
 """What the program may take for a journal."""
 
 SEATS = 3
+RELEASED = os.path.realpath(os.path.join(os.path.dirname(os.path.dirname(os.path.abspath(__file__))), "dist", "cspwatch"))
+"""The program of the last release, whose `show` cuts the bytes after the last record and says nothing."""
+
 WAYS = [(rejected, coverage, as_json) for rejected in (False, True) for coverage in (False, True) for as_json in (False, True)]
 """With `--rejected`, with `--coverage`, as JSON."""
 
@@ -42,7 +46,7 @@ def journal_of(case: Case, large: bool) -> bytes | None:
         session = Session(read(script, "P"), large)
     except JudgeFault:
         return None
-    file = journal.header(script, b"P")
+    file = journal.header(script, b"P", large)
     for line in case.lines.splitlines():
         kind, *names = line.split(" ")
         if kind not in ("E", "R"):
@@ -63,23 +67,24 @@ def damaged(rng: random.Random, file: bytes) -> bytes:
     return file[:at] + new + file[at + rng.randint(0, 1):]
 
 
-def words_of(rejected: bool, coverage: bool, as_json: bool, large: bool) -> tuple[str, ...]:
-    words = ["show"] + ["--rejected"] * rejected + ["--coverage"] * coverage + ["--format", "json"] * as_json + ["--large"] * large
+def words_of(rejected: bool, coverage: bool, as_json: bool) -> tuple[str, ...]:
+    words = ["show"] + ["--rejected"] * rejected + ["--coverage"] * coverage + ["--format", "json"] * as_json
     return tuple(words + ["j"])
 
 
-def wanted_of(file: bytes, large: bool) -> list[Answer]:
-    """What the reference answers: to `replay`, and to `show` in all ways."""
+def wanted_of(file: bytes, tells: bool) -> list[Answer]:
+    """What the reference answers: to `replay`, and to `show` in all ways, which tells of bytes after the last record or doesn't."""
     sessions: list[Session] = []
 
     def summary(session: Session) -> str:
         sessions.append(session)
         return session.summary() + "\n"
 
-    replayed = reference.with_journal(file, "j", large, summary)
+    replayed = reference.with_journal(file, "j", summary)
     if not sessions:
         return [replayed] * (1 + len(WAYS))
-    return [replayed] + [Answer(shown(sessions[0], *way).encode(), b"", replayed.status) for way in WAYS]
+    errors = reference.after_last_record(file) if tells else b""
+    return [replayed] + [Answer(shown(sessions[0], *way).encode(), errors, replayed.status) for way in WAYS]
 
 
 def attempt(rng: random.Random, given: argparse.Namespace) -> Outcome:
@@ -89,10 +94,10 @@ def attempt(rng: random.Random, given: argparse.Namespace) -> Outcome:
     if made is None:
         return Outcome("passed over")
     file = damaged(rng, made) if rng.random() < 0.1 else made
-    wanted = opinions.of_reference(lambda: wanted_of(file, given.large), given.seconds)
+    wanted = opinions.of_reference(lambda: wanted_of(file, os.path.realpath(given.program) != RELEASED), given.seconds)
     if wanted is None:
         return Outcome("passed over")
-    words = [("replay", *("--large",) * given.large, "j")] + [words_of(rejected, coverage, as_json, given.large) for rejected, coverage, as_json in WAYS]
+    words = [("replay", "j")] + [words_of(rejected, coverage, as_json) for rejected, coverage, as_json in WAYS]
     for question, answer in zip((opinions.Question(one, {"j": file}) for one in words), wanted):
         other = answer
         if given.reference and question.words[0] == "replay":
@@ -107,7 +112,7 @@ def main() -> int:
     parser = argparse.ArgumentParser(description=__doc__.split("\n", maxsplit=1)[0])
     generated.add_options(parser, 1000)
     opinions.add_options(parser)
-    parser.add_argument("--large", action="store_true", help="names are kept as their bodies")
+    parser.add_argument("--large", action="store_true", help="large journals: names are kept as their bodies")
     given = parser.parse_args()
     return generated.run(functools.partial(attempt, given=given), given)
 

@@ -28,6 +28,19 @@ def shallow(size, command):
     return [sys.executable, "-c", SHALLOW, str(size)] + command
 
 
+# Runs a program that is ended once it has taken so much of the processor.
+BRIEF = """
+import os, resource, sys
+resource.setrlimit(resource.RLIMIT_CPU, (int(sys.argv[1]), int(sys.argv[1])))
+os.execv(sys.argv[2], sys.argv[2:])
+"""
+
+
+def brief(seconds, command):
+    """The command, with so many seconds of the processor."""
+    return [sys.executable, "-c", BRIEF, str(seconds)] + command
+
+
 def numbered(text, first, last):
     """A line for each number. The first %d in the text is the number, the next one the number after it, and so on."""
     places = text.count("%d")

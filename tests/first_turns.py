@@ -1,12 +1,12 @@
 #!/usr/bin/env python3
-"""Shows that the first turn ends each loop of `board` and `shared` that would try again.
+"""Shows that the first turn ends each loop of `board`, `locked` and `shared` that would try again.
 
     tests/first_turns.py
 
 A loop `for _ in rt.forever()` there only repeats what can't fail in fact (its comment says why), but no contract says so. Here each
 of these loops is given one turn in a copy of the repository, so that a second one would reach `unreachable!()`, which stops a program
-that was not proved. The rows of `shared_rows` have to give the same answers as ever. It needs the kit's `rt` (`rt try`, a minute of
-processor time). The last line is `N passed, M failed`.
+that was not proved. The loop of `await_len`, which waits for other threads, keeps its turns. The rows of `shared_rows` have to give the
+same answers as ever. It needs the kit's `rt` (`rt try`, two minutes of processor time). The last line is `N passed, M failed`.
 """
 import os
 import shutil
@@ -18,8 +18,10 @@ ROOT = os.path.dirname(os.path.dirname(os.path.abspath(__file__)))
 PARTS = ("src", "specs", "proofs", "stdin", "stdout")
 LOOP = "for _ in rt.forever() {"
 TURN = "for _ in 0..1u8 {"
+# The function whose loop waits for others.
+WAITS = "\nfn await_len<"
 # How many such loops there are: one more has to be looked at.
-LOOPS = {"board": 1, "shared": 2}
+LOOPS = {"board": 1, "locked": 1, "shared": 5}
 
 
 def copied(folder):
@@ -44,9 +46,11 @@ def change(crate):
             path = os.path.join(at, name)
             with open(path, encoding="utf-8") as file:
                 text = file.read()
-            found += text.count(LOOP)
+            before, waits, after = text.partition(WAITS)
+            loop, end, after = after.partition("\n}\n")
+            found += before.count(LOOP) + after.count(LOOP)
             with open(path, "w", encoding="utf-8") as file:
-                file.write(text.replace(LOOP, TURN))
+                file.write(before.replace(LOOP, TURN) + waits + loop + end + after.replace(LOOP, TURN))
     return found
 
 

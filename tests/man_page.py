@@ -12,12 +12,16 @@ import re
 import shutil
 import subprocess
 
+import large
 import pytest
 
 ROOT = os.path.dirname(os.path.dirname(os.path.abspath(__file__)))
 PAGE = os.path.join(ROOT, "man", "cspwatch.1")
 COMPLETIONS = os.path.join(ROOT, "completions")
 SECONDS = 60
+
+UNRELEASED = {"--large", "--read-only"}
+"""Options that came after the last release."""
 
 SCRIPT = "channel a\nP = a -> Q'\nQ' = STOP\n"
 """The file p.csp of the lines that are tried."""
@@ -28,7 +32,10 @@ LINES = [
     (["check", "p.csp", ""], {"P", "Q'"}),
     (["serve", "--listen", "127.0.0.1:4070", "p.csp", ""], {"P", "Q'"}),
     (["serve", "p.csp", "P", ""], {"p.csp"}),
-    (["serve", "p.csp", "P", "j", "--"], {"--listen", "--connections"}),
+    (["serve", "p.csp", "P", "j", "--"], {"--listen", "--connections", "--large"}),
+    (["check", "--l"], {"--large"}),
+    (["check", "--large", "p.csp", ""], {"P", "Q'"}),
+    (["serve", "--large", ""], {"p.csp"}),
     (["show", "--format", ""], {"text", "json"}),
     (["show", "--r"], {"--rejected"}),
 ]
@@ -103,8 +110,10 @@ def has_word(text, word):
 
 @pytest.fixture(scope="session")
 def helped(program):
-    """The commands, options and operands of all help texts."""
+    """The commands, options and operands of all help texts, with the options that came after the last release where that program is tried."""
     commands, options, operands = shown(program)
+    if not large.is_known(program):
+        options |= UNRELEASED
     assert commands and options and operands
     return commands, options, operands
 

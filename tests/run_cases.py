@@ -1,10 +1,11 @@
 #!/usr/bin/env python3
 """Runs the cases of tests/cases over the built program, and compares what it wrote and its exit status.
 
-    tests/run_cases.py [--program FILE] [--only TEXT] [FILE ..]
+    tests/run_cases.py [--program FILE] [--only TEXT] [--large] [FILE ..]
 
 Without --program the program is crates/cspwatch/out/cspwatch, without a FILE all files of tests/cases are run, and then the rows of the
-sweeps over the libraries, where the gate has built their programs (`tests/row_sweeps.py`). tests/README.md has the form of a case. The
+sweeps over the libraries, where the gate has built their programs (`tests/row_sweeps.py`). tests/README.md has the form of a case. With
+--large only the cases of `check` are run, each with that word and but for those that meet `20` or `21`: what they want is the same. The
 last line is `N passed, M failed`; the status is 0 where none failed.
 """
 import argparse
@@ -19,12 +20,14 @@ import tempfile
 
 sys.dont_write_bytecode = True
 
+import large  # noqa: E402
 import row_sweeps  # noqa: E402
 import serve_cases  # noqa: E402
-from contents import bounded, lines, octets, shallow, shown  # noqa: E402
+from contents import bounded, brief, lines, octets, shallow, shown  # noqa: E402
 
 HERE = os.path.dirname(os.path.abspath(__file__))
 PROGRAM = os.path.join(os.path.dirname(HERE), "crates", "cspwatch", "out", "cspwatch")
+RELEASED = os.path.join(os.path.dirname(HERE), "dist", "cspwatch")
 EXAMPLES = os.path.join(os.path.dirname(HERE), "examples")
 SECONDS = 120
 
@@ -101,6 +104,8 @@ def run(case, program, folder):
         command = bounded(case["output_bytes"], command)
     if "stack_bytes" in case:
         command = shallow(case["stack_bytes"], command)
+    if "processor_seconds" in case:
+        command = brief(case["processor_seconds"], command)
     ends = {**input_of(case), **output_of(case)}
     try:
         done = subprocess.run(command, cwd=folder, timeout=case.get("seconds", SECONDS), stderr=subprocess.PIPE, **ends)
@@ -150,10 +155,28 @@ def cases_of(files):
                 yield "%s: %s" % (os.path.splitext(os.path.basename(path))[0], case["name"]), filled(case)
 
 
+def chosen(cases, program, with_word):
+    """The cases that this program can be asked, each with `--large` where that is wanted; says how many are left out."""
+    if with_word:
+        cases = [(name + ", with --large", large.with_word(case)) for name, case in cases]
+        cases = [(name, case) for name, case in cases if case]
+    known = large.is_known(program)
+    asked = [(name, case) for name, case in cases if known or not large.has_word(case)]
+    if len(asked) < len(cases):
+        print("left out: %d cases with --large, which this program doesn't know" % (len(cases) - len(asked)))
+    if os.path.realpath(program) == os.path.realpath(RELEASED):
+        later = [name for name, case in asked if case.get("unreleased")]
+        asked = [(name, case) for name, case in asked if not case.get("unreleased")]
+        if later:
+            print("left out: %d cases of what came after the release" % len(later))
+    return asked
+
+
 def main():
     parser = argparse.ArgumentParser(description=__doc__.split("\n")[0])
     parser.add_argument("--program", default=PROGRAM)
     parser.add_argument("--only", default="", help="only the cases whose name has this text")
+    parser.add_argument("--large", action="store_true", help="the cases of check once more, with this word")
     parser.add_argument("files", nargs="*")
     options = parser.parse_args()
     # What runs in the background may be begun with this signal ignored, and would hand that on to the programs.
@@ -166,6 +189,7 @@ def main():
     folder = os.path.join(HERE, "cases")
     files = options.files or [os.path.join(folder, name) for name in sorted(os.listdir(folder)) if name.endswith(".json")]
     cases = [(name, case) for name, case in cases_of(files) if options.only in name]
+    cases = chosen(cases, program, options.large)
     failed = 0
     with concurrent.futures.ThreadPoolExecutor(max_workers=4) as pool:
         for (name, _), problems in zip(cases, pool.map(lambda c: problems_of(c[1], program), cases)):
@@ -173,7 +197,7 @@ def main():
             for problem in problems:
                 print("%s: %s" % (name, problem))
     passed = len(cases) - failed
-    if not options.only and not options.files:
+    if not options.only and not options.files and not options.large:
         problems, rows = row_sweeps.play()
         print("".join(problem + "\n" for problem in problems), end="")
         passed, failed = passed + rows, failed + len(problems)

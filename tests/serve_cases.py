@@ -203,12 +203,13 @@ def words_of(run, program, addresses):
     given = run["serve"]
     words = [program, "serve", "p.csp", given.get("process", "P"), given.get("journal", "j")]
     words += ["--listen", given.get("listen", "127.0.0.1:0"), "--connections", str(given.get("connections", 1))]
+    words += ["--large"] * given.get("large", False)
     return [addresses.get(word, word) for word in words]
 
 
 def records_of(data):
     """Seat, number and kind of each record of a journal, or None where it is none."""
-    header = re.match(rb"cspwatch journal [0-9]+\nroot [^\n]+\nscript ([0-9]+)\n", data)
+    header = re.match(rb"cspwatch (?:large )?journal [0-9]+\nroot [^\n]+\n(?:part 1\nbefore 0\nprevious -\n)?script ([0-9]+)\n", data)
     if not header:
         return None
     at = header.end() + int(header.group(1)) + 1

@@ -9,6 +9,7 @@ import os
 import pty
 import subprocess
 
+import large
 import pytest
 
 SECONDS = 60
@@ -43,6 +44,38 @@ ROWS = [
     ("nothing below other faults", ["replay", "j"], GOOD, ["j: cannot read"], [], 5),
 ]
 
+COMPONENTS = b"channel a, b : {0..11}\nP(i) = a.i -> b.i -> P(i)\nSYSTEM = ||| i:{0..11} @ P(i)\n"
+CHOICES = b"channel a, b\nQ = a -> STOP |~| b -> STOP\nP = Q ||| Q ||| Q ||| Q ||| Q ||| Q ||| Q ||| Q\n"
+GROWING = b"channel a\nP = P [] a -> STOP\n"
+SERVE_SYSTEM = ["serve", "p.csp", "SYSTEM"] + SERVE[3:] + ["1"]
+DEEP = "        a state is more than 1,000 deep"
+MANY = "        more than 4,096 states at once"
+MANY_SO_FAR = MANY + "; with --large, components that rest are one state"
+OTHER = "        the journal is of another script or process, or it was made the other way, with or without --large"
+TWO = b"cspwatch journal 2\nroot P\nscript 24\n" + GOOD + b"\n."
+TWO_OF_MORE = b"cspwatch journal 2\nroot P\nscript 33\n" + GOOD + b"Q = STOP\n\n."
+LARGE = b"cspwatch large journal 1\nroot P\npart 1\nbefore 0\nprevious -\nscript 24\n" + GOOD + b"\n."
+
+# The same for a program that knows `--large`; in place of the script there may be all files by their names.
+ROWS_WITH_LARGE = [
+    ("too many states", ["check", "p.csp", "SYSTEM"], COMPONENTS, ["p.csp: 21 states"], [MANY_SO_FAR], 6),
+    ("the same when serving", SERVE_SYSTEM, COMPONENTS, ["p.csp: 21 states"], [MANY_SO_FAR], 6),
+    ("nothing where the components are one state", ["check", "--large", "p.csp", "SYSTEM"], COMPONENTS, [], [], 0),
+    ("too many states in either way", ["check", "p.csp", "P"], CHOICES, ["p.csp: 21 states"], [MANY_SO_FAR], 6),
+    ("too many states with --large", ["check", "--large", "p.csp", "P"], CHOICES, ["p.csp: 21 states"], [MANY], 6),
+    ("the same when serving with --large", SERVE + ["1", "--large"], CHOICES, ["p.csp: 21 states"], [MANY], 6),
+    ("a state that is too deep", ["check", "p.csp", "P"], GROWING, ["p.csp: 20 depth"], [DEEP], 6),
+    ("a state that is too deep with --large", ["check", "--large", "p.csp", "P"], GROWING, ["p.csp: 20 depth"], [DEEP], 6),
+    ("a large journal without --large", SERVE + ["1"], {"p.csp": GOOD, "j": LARGE}, ["j: 54 specification"], [OTHER], 4),
+    ("a journal of version 2 with --large", SERVE + ["1", "--large"], {"p.csp": GOOD, "j": TWO}, ["j: 54 specification"], [OTHER], 4),
+    ("a journal of another process", SERVE[:2] + ["Q"] + SERVE[3:] + ["1"], {"p.csp": GOOD + b"Q = STOP\n", "j": TWO_OF_MORE},
+     ["j: 54 specification"], [OTHER], 4),
+    ("a fault of the script with --large", ["check", "--large", "p.csp", "P"], UNDECLARED,
+     ["p.csp:2: 4 unknown"], ["    2 | P = a -> Q", UNKNOWN], 3),
+    ("an example of the command where --large has a value", ["check", "--large=yes", "p.csp", "P"], GOOD, None,
+     ["Example: printf 'E a\\nR a b\\n' | cspwatch check p.csp P"], 2),
+]
+
 
 def read_all(end):
     """What was written to the other end of a pseudo-terminal, after its last writer has closed it."""
@@ -72,12 +105,25 @@ def elsewhere(command, folder):
     return done.stderr.decode("utf-8", "replace").splitlines(), done.returncode
 
 
-@pytest.mark.parametrize("words, script, fault, below, status", [row[1:] for row in ROWS], ids=[row[0] for row in ROWS])
-def test_row(program, tmp_path, words, script, fault, below, status):
-    (tmp_path / "p.csp").write_bytes(script)
-    shown = on_terminal([program] + words, tmp_path)
-    plain = elsewhere([program] + words, tmp_path)
-    fault = fault or plain[0]
-    assert fault
+def check_row(program, folder, words, given, fault, below, status):
+    for name, content in (given if isinstance(given, dict) else {"p.csp": given}).items():
+        (folder / name).write_bytes(content)
+    shown = on_terminal([program] + words, folder)
+    plain = elsewhere([program] + words, folder)
+    if fault is None:
+        fault = plain[0]
+        assert fault
     assert plain == (fault, status)
     assert shown == (fault + below, status)
+
+
+@pytest.mark.parametrize("words, script, fault, below, status", [row[1:] for row in ROWS], ids=[row[0] for row in ROWS])
+def test_row(program, tmp_path, words, script, fault, below, status):
+    check_row(program, tmp_path, words, script, fault, below, status)
+
+
+@pytest.mark.parametrize("words, given, fault, below, status", [row[1:] for row in ROWS_WITH_LARGE], ids=[row[0] for row in ROWS_WITH_LARGE])
+def test_row_with_large(program, tmp_path, words, given, fault, below, status):
+    if not large.is_known(program):
+        pytest.skip("the program doesn't know --large")
+    check_row(program, tmp_path, words, given, fault, below, status)

@@ -31,6 +31,9 @@ Case = dict[str, Any]
 def answer(case: Case) -> Answer | None:
     """What the reference answers to a case; None where it has no such words."""
     words = run_cases.words(case)
+    with_large = "--large" in words[:2]
+    if with_large:
+        words.remove("--large")
     files = {name: octets(content) for name, content in case.get("files", {}).items()}
     if "script" in case:
         files["p.csp"] = octets(case["script"])
@@ -38,7 +41,9 @@ def answer(case: Case) -> Answer | None:
         return None
     given = octets(case["input_bytes"]) if "input_bytes" in case else lines(case.get("input", []))
     if words[0] == "check" and len(words) == 3:
-        return reference.check(files[words[1]], words[2], given, name=words[1])
+        return reference.check(files[words[1]], words[2], given, with_large, words[1])
+    if with_large:
+        return None
     if words[0] == "print" and len(words) == 3:
         return reference.print_script(files[words[1]], words[2], words[1])
     if words[0] == "replay" and len(words) == 2:

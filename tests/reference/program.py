@@ -3,8 +3,8 @@
     check SPEC PROCESS [--large]
     print SPEC PROCESS
     tree SPEC
-    replay JOURNAL [--large]
-    show JOURNAL [--rejected] [--coverage] [--format json] [--large]
+    replay JOURNAL
+    show JOURNAL [--rejected] [--coverage] [--format json]
 
 The calls below work on bytes, and answer what the program would write and its exit status.
 """
@@ -78,10 +78,10 @@ def check(text: bytes, root: str, lines: bytes, large: bool = False, name: str =
     return Answer(output, b"", BAD_USE if conversation.outcomes else DONE)
 
 
-def with_journal(file: bytes, name: str, large: bool, output: Callable[[Session], str]) -> Answer:
+def with_journal(file: bytes, name: str, output: Callable[[Session], str]) -> Answer:
     """What is made of the session of a journal, or the fault that it has."""
     try:
-        session = replayed(opened(file), large, watches=True)
+        session = replayed(opened(file), watches=True)
     except JournalFault as fault:
         return failed(f"{name}: {fault}", BAD_JOURNAL)
     except ScriptFault as fault:
@@ -91,14 +91,21 @@ def with_journal(file: bytes, name: str, large: bool, output: Callable[[Session]
     return Answer(output(session).encode(), b"", REJECTED if session.counts()[3] else DONE)
 
 
-def replay(file: bytes, name: str = "j", large: bool = False) -> Answer:
+def replay(file: bytes, name: str = "j") -> Answer:
     """What `replay` answers for the bytes of a journal."""
-    return with_journal(file, name, large, lambda session: session.summary() + "\n")
+    return with_journal(file, name, lambda session: session.summary() + "\n")
 
 
-def show(file: bytes, name: str = "j", rejected: bool = False, coverage: bool = False, as_json: bool = False, large: bool = False) -> Answer:
+def after_last_record(file: bytes, name: str = "j") -> bytes:
+    """What `show` reports of the bytes after the last record of a journal; nothing where there are none."""
+    count = len(file) - opened(file).length
+    return b"%s: %d bytes after the last record\n" % (name.encode(), count) if count else b""
+
+
+def show(file: bytes, name: str = "j", rejected: bool = False, coverage: bool = False, as_json: bool = False) -> Answer:
     """What `show` answers for the bytes of a journal."""
-    return with_journal(file, name, large, lambda session: shown(session, rejected, coverage, as_json))
+    answer = with_journal(file, name, lambda session: shown(session, rejected, coverage, as_json))
+    return answer if answer.errors else Answer(answer.output, after_last_record(file, name), answer.status)
 
 
 def with_deep_stack(call: Callable[[], Result]) -> Result:
@@ -130,10 +137,9 @@ def words() -> argparse.ArgumentParser:
         one.add_argument("spec")
         if command != "tree":
             one.add_argument("process")
+    commands.choices["check"].add_argument("--large", action="store_true")
     for command in ("replay", "show"):
         commands.add_parser(command).add_argument("journal")
-    for command in ("check", "replay", "show"):
-        commands.choices[command].add_argument("--large", action="store_true")
     show_words = commands.choices["show"]
     show_words.add_argument("--rejected", action="store_true")
     show_words.add_argument("--coverage", action="store_true")
@@ -152,8 +158,8 @@ def answer(given: argparse.Namespace) -> Answer:
     if given.command == "check":
         return check(content, given.process, sys.stdin.buffer.read(), given.large, name)
     if given.command == "replay":
-        return replay(content, name, given.large)
-    return show(content, name, given.rejected, given.coverage, given.format == "json", given.large)
+        return replay(content, name)
+    return show(content, name, given.rejected, given.coverage, given.format == "json")
 
 
 def main() -> int:

@@ -1,12 +1,10 @@
 //! The counts of a list of entries, with evidence of the list.
 
 ghost use Rattle.std.specs.Prelude.{◌≡◌, ◌++◌};
-ghost use Rattle.history.specs.Entries.{summary_of, is_event, is_refusal};
-ghost use Rattle.board.specs.Counting.{bumped, counting};
+ghost use Rattle.history.specs.Entries.{summary_of};
 
 use crate::{Front, Naming};
-use alphabet::Report;
-use history::{Entry, Summary};
+use history::Summary;
 use std::marker::Model;
 
 /// The four counts of a history: of the opening, and of a list after it. Contracts see that list.
@@ -61,44 +59,5 @@ impl<N: Naming> Counts<N> {
             summary: self.summary,
             front: self.front.again(),
         }
-    }
-}
-
-// One more where it is to be counted. It stops at the greatest number.
-fn bump(by: bool, n: u64) -> u64
-    ensures { result ≡ bumped by n }
-{
-    if by && n < u64::MAX { n + 1 } else { n }
-}
-
-// Whether it is an accepted event.
-fn counts_event(entry: &Entry) -> bool
-    ensures { result ≡ is_event entry.now.report entry.now.verdict }
-{
-    match entry.report {
-        Report::Event(_) => entry.verdict,
-        Report::Refusal(_) => false,
-    }
-}
-
-// Whether it is an accepted refusal.
-fn counts_refusal(entry: &Entry) -> bool
-    ensures { result ≡ is_refusal entry.now.report entry.now.verdict }
-{
-    match entry.report {
-        Report::Event(_) => false,
-        Report::Refusal(_) => entry.verdict,
-    }
-}
-
-/// The counts with one entry more. Each stops at the greatest number.
-pub fn counted(summary: Summary, entry: &Entry) -> Summary
-    ensures { result ≡ counting summary entry.now }
-{
-    Summary {
-        judged: bump(true, summary.judged),
-        events: bump(counts_event(entry), summary.events),
-        refusals: bump(counts_refusal(entry), summary.refusals),
-        rejected: bump(!entry.verdict, summary.rejected),
     }
 }

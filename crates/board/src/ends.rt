@@ -4,9 +4,8 @@ ghost use Rattle.std.specs.Prelude.{◌≡◌, [], ◌∷◌, ◌++◌, length, 
 ghost use Rattle.term.specs.Proc.{bodies_of};
 ghost use Rattle.history.specs.Entries.{summary_of};
 ghost use Rattle.history.specs.Legal.{Fits};
-ghost use Rattle.board.specs.Counting.{counting};
+ghost use Rattle.board.specs.Showing.{shows};
 
-use crate::counts::counted;
 use crate::{Counts, Front, Naming, Spine};
 use crossbeam_utils::rule::Unruled;
 use history::{Entry, Summary};
@@ -53,19 +52,23 @@ impl<N: Naming, A: Allocator> Board<N, A> {
     }
 }
 
-// The operations are the entries, and absorbing one counts it. An entry is no evidence of the list, so the counts that the writer
-// has prepared are taken over with it.
-impl<N: Naming, A: Allocator> Absorb<Entry> for Board<N, A> {
+// An operation is the counts that are published. They are no evidence of a list, so those that the writer has prepared are taken over with
+// them.
+impl<N: Naming, A: Allocator> Absorb<Summary> for Board<N, A> {
     type State = Summary;
 
     ghost state = { λ b. b.counts };
 
-    ghost applied = { counting };
+    ghost applied = { shows };
 
     ghost never_fails = { Unit {0} };
 
-    fn absorb_first(&mut self, operation: &Entry, _other: &Board<N, A>) -> Result<(), AllocError> {
-        self.counts = counted(self.counts, operation);
+    fn absorb_first(
+        &mut self,
+        operation: &Summary,
+        _other: &Board<N, A>,
+    ) -> Result<(), AllocError> {
+        self.counts = *operation;
         if let Some(known) = self.source.try_lock() {
             self.known = known.again();
         }
@@ -74,14 +77,14 @@ impl<N: Naming, A: Allocator> Absorb<Entry> for Board<N, A> {
 
     // What was shown before is absorbed again right before the next operation, which brings the next counts. So this one leaves the
     // cell alone, which costs two atomic steps.
-    fn absorb_second(&mut self, operation: Entry, _other: &Board<N, A>) -> Result<(), Entry> {
-        self.counts = counted(self.counts, &operation);
+    fn absorb_second(&mut self, operation: Summary, _other: &Board<N, A>) -> Result<(), Summary> {
+        self.counts = operation;
         Ok(())
     }
 }
 
 /// The end that publishes. It isn't `Drop`: end it by `take`.
-pub type Publisher<N, A> = Writer<Board<N, A>, Entry, (), Unruled, A>;
+pub type Publisher<N, A> = Writer<Board<N, A>, Summary, (), Unruled, A>;
 
 /// The end that looks.
 pub type Looker<N, A> = Reader<Board<N, A>, (), Unruled, A>;

@@ -8,6 +8,6 @@ mod counts;
 mod ends;
 mod front;
 
-pub use counts::{Counts, counted};
+pub use counts::Counts;
 pub use ends::{Board, Looker, Publisher, Source, add, look};
 pub use front::{Front, Naming, Opened, Spine};

@@ -1,7 +1,10 @@
 //! What a terminal shows below a fault: of a script its line and what it means, of a limit what it means, of the words an example.
 
+use crate::evidence::beginning;
 use program::SessionError;
+use std::fs::File;
 use std::io::{self, IsTerminal, Write};
+use std::rt::Files;
 use term::Names;
 use tokens::{ScriptError, ScriptErrorKind};
 
@@ -112,6 +115,47 @@ pub(crate) fn show_other<E: Write + IsTerminal>(errors: &mut E) {
             errors,
             "        the journal is of another script or process, or it was made the other way, with or without --large"
         );
+    }
+}
+
+/// Shows, where the errors go to a terminal, that another run has the journal open.
+pub(crate) fn show_in_use<E: Write + IsTerminal>(errors: &mut E) {
+    if errors.is_terminal() {
+        let _ = errors.write_all(b"        in use by another run\n");
+    }
+}
+
+/// How many bytes are looked at of a file whose header is refused.
+const MOST_OF_HEADER: usize = 32;
+
+/// What is wrong with a header that begins with these bytes.
+fn meaning_of_header(bytes: &[u8]) -> &'static str {
+    if bytes.is_empty() {
+        "the file is empty"
+    } else if bytes.starts_with(b"cspwatch journal 1\n")
+        || bytes.starts_with(b"cspwatch journal 2\n")
+        || bytes.starts_with(b"cspwatch large journal 1\n")
+    {
+        "the header of the journal is damaged or not whole"
+    } else if bytes.starts_with(b"cspwatch journal ")
+        || bytes.starts_with(b"cspwatch large journal ")
+    {
+        "a journal of a newer version, or its first line is damaged"
+    } else {
+        "the file doesn't begin as a journal of cspwatch does"
+    }
+}
+
+/// Shows, where the errors go to a terminal, what is wrong with the header of the journal in the file.
+pub(crate) fn show_header<R: Files<File = File>, E: Write + IsTerminal>(
+    rt: &R,
+    errors: &mut E,
+    name: &str,
+) {
+    if errors.is_terminal() {
+        let mut buffer = [0; MOST_OF_HEADER];
+        let meaning = meaning_of_header(beginning(rt, name, &mut buffer));
+        let _ = writeln!(errors, "        {meaning}");
     }
 }
 

@@ -6,6 +6,7 @@
 #![tactic(auto)]
 
 mod checking;
+mod evidence;
 mod forms;
 mod hints;
 mod journal_files;
@@ -20,7 +21,7 @@ mod telling;
 
 pub use checking::check;
 pub use forms::print;
-pub use replaying::replay;
+pub use replaying::{replay, replay_read_only};
 pub use running::run;
 pub use showing::show;
 pub use telling::tell_no_memory;

@@ -7,7 +7,7 @@ use crate::checking::check;
 use crate::forms::print;
 use crate::limits::names_by;
 use crate::patient::Patient;
-use crate::replaying::replay;
+use crate::replaying::{replay, replay_read_only};
 use crate::server::serve;
 use crate::showing::show;
 use crate::telling::tell_use;
@@ -53,7 +53,14 @@ fn fulfil<
             )
         }
         Wish::Print { spec, process } => print(rt, spec, process, output, errors),
-        Wish::Replay { journal } => replay(rt, journal, output, errors),
+        Wish::Replay {
+            journal,
+            read_only: false,
+        } => replay(rt, journal, output, errors),
+        Wish::Replay {
+            journal,
+            read_only: true,
+        } => replay_read_only(rt, journal, output, errors),
         Wish::Show { journal, options } => show(rt, journal, *options, output, errors),
         Wish::Serve(service) => serve(rt, service, output, errors),
     }

@@ -3,7 +3,7 @@ ghost use Rattle.std.specs.Prelude.{◌≡◌, [], IfOk};
 ghost use Rattle.command_line.specs.Statuses.{run_exit};
 
 use crate::forms::put_out;
-use crate::journal_files::{journal_at, keep_name};
+use crate::journal_files::{journal_at, keep_name, take_away};
 use crate::limits::names_by;
 use crate::scripts::{tell_read, text_of};
 use crate::telling::{tell_fault, tell_open};
@@ -131,7 +131,8 @@ fn serve_to_end<
     }
 }
 
-// Serves the connections of the address at this session, and answers the exit status.
+// Serves the connections of the address at this session, and answers the exit status. Where it doesn't come to that, it takes away the
+// journal that this run made.
 fn serve_at<
     D: Disk + Drop + Send,
     R: Files<File = File>
@@ -146,6 +147,7 @@ fn serve_at<
     rt: &R,
     service: &Service<'_>,
     session: Session<D, Global>,
+    is_made: bool,
     output: &mut O,
     errors: &mut E,
 ) -> Exit
@@ -154,6 +156,7 @@ fn serve_at<
     let listener = match listen_at(rt, service, output, errors) {
         Ok(listener) => listener,
         Err(exit) => {
+            take_away(rt, service.journal, is_made);
             drop(session);
             return exit;
         }
@@ -164,17 +167,18 @@ fn serve_at<
     }
 }
 
-// The session of the script on the journal in the file, or the status of the fault that was reported.
+// The session of the script on the journal in the file, and whether this run made the file; or the status of the fault that was
+// reported, where no file is left that this run made.
 fn session_at<R: Files<File = File> + AllocGlobal, E: Write + IsTerminal>(
     rt: &R,
     service: &Service<'_>,
     script: &[u8],
     errors: &mut E,
-) -> Result<Session<FileDisk<File>, Global>, Exit>
-    ensures { IfOk result (λ s. s.offered ≡ []) }
+) -> Result<(Session<FileDisk<File>, Global>, bool), Exit>
+    ensures { IfOk result (λ r. r.0.offered ≡ []) }
 {
     let names = names_by(service.large);
-    let file = journal_at(rt, service.journal, errors)?;
+    let (file, is_made) = journal_at(rt, service.journal, errors)?;
     match open(
         rt.alloc(),
         FileDisk::new(file),
@@ -182,15 +186,19 @@ fn session_at<R: Files<File = File> + AllocGlobal, E: Write + IsTerminal>(
         service.process.as_bytes(),
         names,
     ) {
-        Ok(session) => Ok(session),
-        Err((error, _)) => Err(tell_open(
-            errors,
-            service.spec,
-            script,
-            names,
-            service.journal,
-            error,
-        )),
+        Ok(session) => Ok((session, is_made)),
+        Err((error, _)) => {
+            take_away(rt, service.journal, is_made);
+            Err(tell_open(
+                rt,
+                errors,
+                service.spec,
+                script,
+                names,
+                service.journal,
+                error,
+            ))
+        }
     }
 }
 
@@ -211,7 +219,7 @@ pub(crate) fn serve<
         Err(exit) => return exit,
     };
     match session_at(rt, service, &script, errors) {
-        Ok(session) => serve_at(rt, service, session, output, errors),
+        Ok((session, is_made)) => serve_at(rt, service, session, is_made, output, errors),
         Err(exit) => exit,
     }
 }

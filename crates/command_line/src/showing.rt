@@ -4,38 +4,37 @@ ghost use Rattle.std.specs.Prelude.{◌≡◌, ◌⊎◌, IfOk};
 ghost use Rattle.program.specs.declared.exit.Exit.TheVariants.{Done, Rejected};
 ghost use Rattle.command_line.specs.Commands.{Shown};
 
-use crate::journal_files::journal_there;
+use crate::evidence::{bytes_of, tell_after};
 use crate::telling::{tell_fault, tell_journal};
 use disk::Disk;
-use file_disk::FileDisk;
+use memory_disks::MemoryDisk;
 use program::{DisplayError, Displayed, Exit, Options};
 use std::alloc::Global;
 use std::fs::File;
-use std::io::Write;
+use std::io::{IsTerminal, Write};
 use std::rt::Files;
 
-// Writes what is shown of the history that the disk holds, judged again, and answers the exit status that it asks for.
+// Writes what is shown of the history that the disk holds, judged again. The answer is the exit status that it asks for, and the disk.
 fn display<D: Disk + Drop, O: Write>(
     alloc: Global,
     disk: D,
     options: Options,
     output: &mut O,
-) -> Result<Exit, DisplayError>
-    ensures { IfOk result (Shown options (O.contents output.old) (O.contents output.new)) }
+) -> Result<(Exit, D), DisplayError>
+    ensures { IfOk result (λ r. Shown options (O.contents output.old) (O.contents output.new) r.0) }
 {
     let Displayed {
         session,
         header,
         exit,
     } = program::show(alloc, disk, options, output)?;
-    drop(session);
     drop(header);
-    Ok(exit)
+    Ok((exit, session.into_disk()))
 }
 
-/// Judges the records of the journal in the file again, writes what is asked for of them, and answers the exit status. What stands
-/// past the first closed gate is cut off.
-pub fn show<R: Files<File = File> + AllocGlobal, O: Write, E: Write>(
+/// Judges the records of the journal in the file again, writes what is asked for of them, and answers the exit status. The file is only
+/// read, as it stands in this moment: another run may have it open. What stands past the first closed gate is reported.
+pub fn show<R: Files<File = File> + AllocGlobal, O: Write, E: Write + IsTerminal>(
     rt: &R,
     name: &str,
     options: Options,
@@ -44,13 +43,17 @@ pub fn show<R: Files<File = File> + AllocGlobal, O: Write, E: Write>(
 ) -> Exit
     ensures { (result ≡ Done) ⊎ (result ≡ Rejected) → Shown options (O.contents output.old) (O.contents output.new) result }
 {
-    let file = match journal_there(rt, name, errors) {
-        Ok(file) => file,
+    let bytes = match bytes_of(rt, name, errors) {
+        Ok(bytes) => bytes,
         Err(exit) => return exit,
     };
-    match display(rt.alloc(), FileDisk::new(file), options, output) {
-        Ok(exit) => exit,
-        Err(DisplayError::Session(error)) => tell_journal(errors, name, error),
+    let len = bytes.len();
+    match display(rt.alloc(), MemoryDisk::new(bytes), options, output) {
+        Ok((exit, disk)) => {
+            tell_after(errors, name, len.saturating_sub(disk.bytes().len()));
+            exit
+        }
+        Err(DisplayError::Session(error)) => tell_journal(rt, errors, name, error),
         Err(DisplayError::Output) => tell_fault(errors, "-", "cannot write", Exit::FileFailed),
     }
 }

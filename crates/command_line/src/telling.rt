@@ -4,12 +4,14 @@ ghost use Rattle.program.specs.Exits.{script_exit, journal_exit, exit_code};
 ghost use Rattle.program.specs.declared.exit.Exit.TheVariants.{Limit};
 ghost use Rattle.command_line.specs.Statuses.{open_exit};
 
-use crate::hints::{show_example, show_fault, show_limit, show_other};
+use crate::hints::{show_example, show_fault, show_header, show_limit, show_other};
 use clap::Error;
 use clap::error::ErrorKind;
 use program::{Exit, SessionError};
 use serving::OpenError;
+use std::fs::File;
 use std::io::{IsTerminal, Write};
+use std::rt::Files;
 use term::Names;
 use tokens::ScriptError;
 
@@ -78,16 +80,26 @@ pub(crate) fn tell_use<O: Write, E: Write + IsTerminal>(
     }
 }
 
-/// Reports why the journal gives no session, and answers the status.
-pub(crate) fn tell_journal<E: Write>(errors: &mut E, name: &str, error: SessionError) -> Exit
+/// Reports why the journal gives no session, and answers the status; on a terminal, where its header is refused, with what the file
+/// begins with.
+pub(crate) fn tell_journal<R: Files<File = File>, E: Write + IsTerminal>(
+    rt: &R,
+    errors: &mut E,
+    name: &str,
+    error: SessionError,
+) -> Exit
     ensures { result ≡ journal_exit error }
 {
     let _ = writeln!(errors, "{name}: {error}");
+    if error == SessionError::BadHeader {
+        show_header(rt, errors, name);
+    }
     Exit::of_journal(&error)
 }
 
 /// Reports why there is no session of the script on the journal, and answers the status.
-pub(crate) fn tell_open<E: Write + IsTerminal>(
+pub(crate) fn tell_open<R: Files<File = File>, E: Write + IsTerminal>(
+    rt: &R,
     errors: &mut E,
     spec: &str,
     script: &[u8],
@@ -100,10 +112,10 @@ pub(crate) fn tell_open<E: Write + IsTerminal>(
     match error {
         OpenError::Begin(SessionError::Script(fault)) => tell_script(errors, spec, script, &fault),
         OpenError::Begin(SessionError::Device) => {
-            tell_journal(errors, journal, SessionError::Device)
+            tell_journal(rt, errors, journal, SessionError::Device)
         }
         OpenError::Begin(error) => tell_opening(errors, spec, names, error),
-        OpenError::Replay(error) => tell_journal(errors, journal, error),
+        OpenError::Replay(error) => tell_journal(rt, errors, journal, error),
         OpenError::OtherSpecification => {
             let exit = tell_fault(errors, journal, "54 specification", Exit::BadJournal);
             show_other(errors);

@@ -1,7 +1,6 @@
 pub mod Faults
-pub mod Counting
-pub mod Crossings
 pub mod Stretches
+pub mod Crossings
 -- Of the layers below, for those above.
 pub use Rattle.session.proofs.Beginnings
 pub use Rattle.session.proofs.Histories

@@ -1,9 +1,10 @@
 //! How the board ends.
 
-ghost use Rattle.std.specs.Prelude.{◌≡◌, ◌+◌, ◌<◌, ◌++◌, length};
+ghost use Rattle.std.specs.Prelude.{◌≡◌, ◌+◌, ◌<◌, ◌++◌, length, None};
+ghost use Rattle.session.specs.Beginnings.{StartsWith};
 
 use crate::locked::Locked;
-use board::{Board, Front, Naming};
+use board::{Board, Counts, Naming};
 use disk::Disk;
 use left_right::Absorb;
 use session::{Entry, Session, Summary};
@@ -11,21 +12,23 @@ use std::alloc::Allocator;
 use std::sync::Wait;
 use std::sync::ledger::{Book, Share};
 
-/// Ends the board, and gives what is left: the session, the list of its entries after the opening, the book of the receipts, what is left
-/// of the ledger, and how many seats were given. It waits for readers that look at the board in this moment.
-pub fn close<D: Disk, A: Allocator, N: Naming, R: Wait>(
+/// Settles what is offered and ends the board, and gives what is left: the session, the list of its entries after the opening, the book
+/// of all that were offered to it, what is left of the ledger, and how many seats were given. It waits for readers that look at the board in this moment.
+pub fn close<D: Disk, A: Allocator + Copy, N: Naming, R: Wait>(
     rt: &R,
     locked: Locked<D, A, N>,
-) -> (Session<D, A>, Front<N>, Book<N>, Share<N>, u64)
-    ensures session { (result.0.spec ≡ N.spec) × (result.0.history ≡ N.opening ++ locked) }
-    ensures front { result.1 ≡ locked }
-    ensures book { result.2.total ≡ length locked }
+) -> (Session<D, A>, Counts<N>, Book<N>, Share<N>, u64)
+    ensures session { (result.0.spec ≡ N.spec) × (result.0.history ≡ N.opening ++ result.1) }
+    ensures settled { StartsWith result.1 locked.settled }
+    ensures book { result.0.failed ≡ None → result.2.total ≡ length result.1 }
     ensures rest { (result.3.parts + result.4 ≡ N.all) × (result.3.amount ≡ 0) × (result.4 < N.all) }
 {
+    let mut locked = locked;
+    locked.settle(rt);
     let Locked {
         session,
         spine: _,
-        front,
+        settled,
         publisher,
         source: _,
         book,
@@ -34,5 +37,5 @@ pub fn close<D: Disk, A: Allocator, N: Naming, R: Wait>(
         places: _,
     } = locked;
     let _ = publisher.take(rt);
-    (session, front, book, rest, given)
+    (session, settled, book, rest, given)
 }

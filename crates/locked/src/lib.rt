@@ -1,7 +1,8 @@
 //! What lies under the lock of a session that threads share.
 //!
-//! `Locked` judges, writes and publishes one report after the other, of seats that have seen its list of entries. Whoever has it has it
-//! alone; that threads share it is for `shared`. `close` ends its board, which leaves the session and the book of the receipts.
+//! `Locked` judges reports one after the other and offers their entries; `settle` writes all that is offered, adds it to the list of settled
+//! entries, and publishes it. Whoever has it has it alone; that threads share it is for `shared`. `close` ends its board, which leaves the
+//! session and the book of all that was offered.
 #![tactic(auto)]
 
 mod closing;
@@ -13,7 +14,7 @@ pub use board::{Board, Counts, Front, Looker, Naming, Opened, Publisher, Source,
 pub use closing::close;
 pub use disk::Disk;
 pub use fault::SeatFault;
-pub use locked::Locked;
+pub use locked::{Locked, is_of};
 pub use session::{
     Entry, Failed, Fault, SeatNumber, Session, SessionError, Summary, crosses, legal_crosses,
     names_of, read_as,

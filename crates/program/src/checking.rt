@@ -116,7 +116,7 @@ fn hear_alone<R: Wait, D: Disk + Drop, A: Allocator + Copy + Drop, N: Naming, T:
     ensures reader_failed { IfOk result (λ c. IsErrOf c.end WireError.Read → T.failures reader.old < T.failures reader.new) }
     ensures writer_failed { IfOk result (λ c. IsErrOf c.end WireError.Write → W.failures writer.old < W.failures writer.new) }
 {
-    let Ok(shared) = Shared::<D, A, N>::new(alloc, session, opened, blank, 1) else {
+    let Ok(shared) = Shared::<D, A, N>::new(rt, alloc, session, opened, blank, 1) else {
         return Err(SessionError::Memory);
     };
     let mut shares = Vec::new(alloc);

@@ -12,7 +12,7 @@
 
 ghost use Rattle.std.specs.Prelude.{◌≡◌, IfSome};
 ghost use Rattle.journal.specs.Reports.{AreEvents, IsReport};
-ghost use Rattle.session.specs.View.{IsReadyFor};
+ghost use Rattle.session.specs.View.{IsIdle, IsReadyFor};
 
 use crate::memory::Memory;
 use alphabet::{Alphabet, EventSet, Report};
@@ -87,11 +87,10 @@ fn put_fault(fault: Fault, out: &mut Output) {
 }
 
 /// Reports what the words ask for.
-fn report<D: Disk, A: Allocator + Copy>(
-    session: &mut Session<D, A>,
-    words: &str,
-    out: &mut Output,
-) {
+fn report<D: Disk, A: Allocator + Copy>(session: &mut Session<D, A>, words: &str, out: &mut Output)
+    requires idle { IsIdle session.old }
+    ensures idle { IsIdle session.new }
+{
     match wanted_by(session.spec().alphabet(), words) {
         Some(wanted) => {
             let answer = session.report(wanted.seat, wanted.number, wanted.floor, &wanted.report);
@@ -109,6 +108,7 @@ fn write_ready<D: Disk, A: Allocator + Copy>(
     out: &mut Output,
 )
     requires { IsReadyFor session.old ready }
+    ensures idle { IsIdle session.new }
 {
     memory.begin_quiet();
     let (entry, length) = (ready.entry(), session.history().len());
@@ -130,7 +130,10 @@ fn ready<D: Disk, A: Allocator + Copy + Drop>(
     words: &str,
     memory: Memory,
     out: &mut Output,
-) {
+)
+    requires idle { IsIdle session.old }
+    ensures idle { IsIdle session.new }
+{
     match wanted_by(session.spec().alphabet(), words) {
         Some(wanted) => {
             match session.ready(wanted.seat, wanted.number, wanted.floor, &wanted.report) {
@@ -149,7 +152,9 @@ fn accepted<D: Disk, A: Allocator + Copy>(
     seat: SeatNumber,
     report: &Report,
 ) -> u64
-    requires { IsReport session.old.spec.alphabet report.now }
+    requires report { IsReport session.old.spec.alphabet report.now }
+    requires idle { IsIdle session.old }
+    ensures idle { IsIdle session.new }
 {
     let mut accepted: u64 = 0;
     for _ in 0..count {
@@ -164,7 +169,10 @@ fn accepted<D: Disk, A: Allocator + Copy>(
 }
 
 /// Reports so many times what the words `COUNT SEAT REPORT` ask for.
-fn times<D: Disk, A: Allocator + Copy>(session: &mut Session<D, A>, words: &str, out: &mut Output) {
+fn times<D: Disk, A: Allocator + Copy>(session: &mut Session<D, A>, words: &str, out: &mut Output)
+    requires idle { IsIdle session.old }
+    ensures idle { IsIdle session.new }
+{
     let (count, words) = first_word(words);
     let (seat, words) = first_word(words);
     let seat = SeatNumber::new(seat.parse().unwrap_or(0));
@@ -179,7 +187,10 @@ fn times<D: Disk, A: Allocator + Copy>(session: &mut Session<D, A>, words: &str,
 }
 
 /// A seat joins.
-fn join<D: Disk, A: Allocator>(session: &mut Session<D, A>, out: &mut Output) {
+fn join<D: Disk, A: Allocator>(session: &mut Session<D, A>, out: &mut Output)
+    requires idle { IsIdle session.old }
+    ensures idle { IsIdle session.new }
+{
     match session.join() {
         Ok(seat) => {
             out.put("J ");
@@ -250,7 +261,10 @@ fn answer<D: Disk, A: Allocator + Copy + Drop>(
     ask: &str,
     memory: Memory,
     out: &mut Output,
-) {
+)
+    requires idle { IsIdle session.old }
+    ensures idle { IsIdle session.new }
+{
     let (kind, words) = first_word(ask);
     match kind {
         "J" => join(session, out),
@@ -271,7 +285,9 @@ pub(crate) fn answer_all<D: Disk, A: Allocator + Copy + Drop>(
     asks: &str,
     memory: Memory,
     out: &mut Output,
-) {
+)
+    requires idle { IsIdle session.old }
+{
     let mut has_begun = false;
     for ask in asks.split("; ") {
         out.put(if has_begun { "; " } else { "" });

@@ -44,7 +44,16 @@ fn put_checked<T: Wait, D: Disk + Drop, A: Allocator + Copy + Drop>(
     let mut writer = Plain::new(out.copy_of(b""));
     let (root, script) = (root.as_bytes(), script.as_bytes());
     let names = Names::Steps;
-    let came = check(rt, alloc, disk, script, root, names, &mut reader, &mut writer);
+    let came = check(
+        rt,
+        alloc,
+        disk,
+        script,
+        root,
+        names,
+        &mut reader,
+        &mut writer,
+    );
     out.put_bytes(&writer.into_inner());
     match came {
         Ok(checked) => {

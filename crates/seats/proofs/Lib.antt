@@ -1,2 +1,3 @@
 pub mod CopyLemmas
+pub mod GroupLemmas
 pub mod SigmaLemmas

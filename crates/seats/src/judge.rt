@@ -10,7 +10,7 @@ use crate::faults::reported;
 use alphabet::{Alphabet, EventSet, Report};
 use disk::Disk;
 use left_right::Absorb;
-use shared::{Board, Entry, Naming, Seat, Share, Summary};
+use shared::{Board, Naming, Seat, Share, Summary};
 use std::alloc::Allocator;
 use std::sync::Wait;
 use wire::{End, Fault, Judge, Receipt, Sink, Source, Status, Tally, WireError};
@@ -18,10 +18,10 @@ use wire::{End, Fault, Judge, Receipt, Sink, Source, Status, Tally, WireError};
 /// A seat, and the right to wait for the lock. It isn't `Drop`: end it by `end`.
 pub struct SeatJudge<'a, D: Disk, A: Allocator, N: Naming, R: Wait>
 where
-    Board<N, A>: Absorb<Entry, State = Summary>,
+    Board<N, A>: Absorb<Summary, State = Summary>,
 {
     pub seat: Seat<'a, D, A, N>,
-    rt: &'a R,
+    pub(crate) rt: &'a R,
 }
 
 impl<'a, D: Disk, A: Allocator + Copy, N: Naming, R: Wait> SeatJudge<'a, D, A, N, R> {
@@ -69,6 +69,21 @@ impl<D: Disk, A: Allocator + Copy, N: Naming, R: Wait> Judge for SeatJudge<'_, D
                 place: receipt.place,
             }),
             Err(fault) => Err(reported(fault)),
+        }
+    }
+
+    fn report_all<B: Allocator>(
+        &mut self,
+        group: &[Report],
+        answers: &mut Vec<Result<Receipt, Fault>, B>,
+    ) {
+        if group.is_empty() {
+            return;
+        }
+        let mut rest = group;
+        while !rest.is_empty() {
+            let count = self.report_some(rest, answers);
+            rest = &rest[count..];
         }
     }
 

@@ -6,6 +6,7 @@
 
 mod copying;
 mod faults;
+mod groups;
 mod judge;
 
 pub use copying::copy_of;

@@ -19,7 +19,7 @@ use disk::Disk;
 use journal::{Journal, Prepared};
 use seats::copy_of;
 use shared::{
-    Failed, Front, Naming, Opened, Publisher, Session, Share, Shared, Source, Spine, crosses,
+    Counts, Failed, Naming, Opened, Publisher, Session, Share, Shared, Source, Spine, crosses,
     legal_crosses,
 };
 use std::alloc::{AllocError, Global};
@@ -97,7 +97,7 @@ fn serve_at<D: Disk + Send, N: Naming + Send + Sync, T: Threads + Wait + Sync, L
     crosses::<Journal<D>>();
     crosses::<Option<Failed>>();
     crosses::<Spine<N>>();
-    crosses::<Front<N>>();
+    crosses::<Counts<N>>();
     crosses::<Publisher<N, Global>>();
     crosses::<Source<N, Global>>();
     crosses::<ledger::Book<N>>();
@@ -202,8 +202,14 @@ fn over_seats<
         alphabet,
         mut endings,
     } = room;
-    let Ok(shared) = Shared::<D, Global, N>::new(alloc, session, opened, blank, u64::from(count))
-    else {
+    let Ok(shared) = Shared::<D, Global, N>::new(
+        rt,
+        alloc,
+        session,
+        opened,
+        blank,
+        u64::from(count),
+    ) else {
         drop(alphabet);
         return Err((AllocError, accept));
     };
@@ -223,9 +229,9 @@ fn over_seats<
 }
 
 /// Serves up to so many connections, each in a thread of its own at a seat of its own, and gives the session back once all are over, with
-/// how each connection ended. Nothing is offered to the session before. Its specification is as it was, and its history is legal and begins with the one that it had. The error is
-/// that memory ran out before the first connection, and comes with where connections come from; the session is gone then, and its file
-/// stays.
+/// how each connection ended. Nothing is offered to the session before. Its specification is as it was, and its history is legal and
+/// begins with the one that it had. The error is that memory ran out before the first connection, and comes with where connections come
+/// from; the session is gone then, and its file stays.
 pub fn serve_session<D: Disk + Drop + Send, T: Threads + Wait + Sync, L: Accept + Drop>(
     rt: &T,
     alloc: Global,

@@ -7,7 +7,7 @@ use connections::{Gate, Over};
 use disk::Disk;
 use left_right::Absorb;
 use seats::{SeatJudge, refusal_of};
-use shared::{Board, Entry, Naming, Share, Shared, Summary};
+use shared::{Board, Naming, Share, Shared, Summary};
 use std::alloc::Global;
 use std::sync::Wait;
 use wire::{Fault, Sink, Source, Tally};
@@ -16,7 +16,7 @@ use wire::{Fault, Sink, Source, Tally};
 /// end it by `end`.
 pub struct SharedGate<'a, D: Disk, N: Naming>
 where
-    Board<N, Global>: Absorb<Entry, State = Summary>,
+    Board<N, Global>: Absorb<Summary, State = Summary>,
 {
     shared: &'a Shared<D, Global, N>,
     alphabet: &'a Alphabet<Global>,

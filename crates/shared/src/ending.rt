@@ -1,17 +1,17 @@
 //! How a shared session ends.
 
-ghost use Rattle.std.specs.Prelude.{◌≡◌, ◌≤◌, ◌<◌, ◌+◌, ◌++◌, ◌∷◌, [], suc, length, true, ℕ, List, IfSome, IsSome};
+ghost use Rattle.std.specs.Prelude.{◌≡◌, ◌≤◌, ◌<◌, ◌+◌, ◌^◌, ◌++◌, ◌∷◌, [], suc, length, true, ℕ, List, IfSome, IsSome, MatchOption};
 ghost use Rattle.term.specs.Proc.{bodies_of};
 ghost use Rattle.locked.specs.Legal.{Legal};
 ghost use Rattle.locked.specs.SessionView.{IsFor};
 ghost use Rattle.locked.specs.Beginnings.{StartsWith};
 ghost use Rattle.shared.specs.Crashes.{AllLeft};
-ghost use Rattle.shared.specs.Seats.{AllWithin, AllTold, receipts, apart, is_new};
+ghost use Rattle.shared.specs.Seats.{AllWithin, AllTold, receipts, apart, all_open, is_new};
 
 use crate::seat::Shared;
 use crate::share::Share;
 use disk::Disk;
-use locked::{Front, Naming, SeatNumber, Session, close};
+use locked::{Counts, Naming, SeatNumber, Session, close};
 use std::alloc::Allocator;
 use std::sync::ledger::Book;
 use std::sync::{Wait, ledger};
@@ -36,10 +36,16 @@ impl<D: Disk, A: Allocator + Copy, N: Naming> Shared<D, A, N> {
         // The ledger has a part more than there are places at least. So where the shares have all other parts, they are all.
         ensures whole { suc (length shares.items) ≡ N.all → apart shares.items ≡ true → IsSome result.1 }
     {
-        let Shared { locked } = self;
-        let (session, front, book, rest, given) = close(rt, locked.into_inner());
+        let Shared {
+            locked,
+            judging: _,
+            turns: _,
+            crowd: _,
+            woken: _,
+        } = self;
+        let (session, settled, book, rest, given) = close(rt, locked.into_inner());
         let _ = session.history();
-        let count = audited(rt, &front, book, rest, given, shares);
+        let count = audited(rt, &settled, book, rest, given, shares);
         (session, count)
     }
 }
@@ -48,14 +54,14 @@ impl<D: Disk, A: Allocator + Copy, N: Naming> Shared<D, A, N> {
 // have one seat number.
 fn audited<N: Naming, A: Allocator, R: Wait>(
     rt: &R,
-    all: &Front<N>,
+    all: &Counts<N>,
     book: Book<N>,
     rest: ledger::Share<N>,
     given: u64,
     shares: Vec<Share<N, A>, A>,
 ) -> Option<u64>
     requires parts { (N.all ≡ N.parts) × (rest.parts + given ≡ N.all) × (given < N.all) }
-    requires receipts { (book.total ≡ length all.now) × (rest.amount ≡ 0) }
+    requires receipts { rest.amount ≡ 0 }
     ensures told { IfSome result (λ n. AllWithin N.opening all.now shares.items × (apart shares.items ≡ true) × (n ≡ length all.now) × (n ≡ receipts shares.items)) }
 
     // The ledger has a part more than there are places at least. So where the shares have all other parts, they are all.
@@ -67,12 +73,42 @@ fn audited<N: Naming, A: Allocator, R: Wait>(
     let count = seats.len() as u64;
     let alone = are_apart(seats);
     await_within(rt, all, seats);
-    gather(&mut rest, shares);
     if count != given || !alone {
+        gather(&mut rest, shares);
         return None;
     }
+    let answered = await_told(rt, all, seats);
+    gather(&mut rest, shares);
     book.audit(&mut rest);
-    Some(all.len())
+    Some(answered)
+}
+
+// Looks until as many reports were answered as the list has entries. Each entry that is settled is answered before its seat reports again
+// or ends, so the first look ends it.
+fn await_told<N: Naming, A: Allocator, R: Wait>(
+    rt: &R,
+    all: &Counts<N>,
+    shares: &[Share<N, A>],
+) -> u64
+    ensures { (result ≡ length all.now) × (result ≡ receipts shares.now) }
+{
+    let len = all.front().len();
+    for _ in rt.forever() {
+        if receipts_of(shares) == Some(len) {
+            return len;
+        }
+    }
+    unreachable!()
+}
+
+// How many reports were answered with a receipt. `None` where that is no u64.
+fn receipts_of<N: Naming, A: Allocator>(shares: &[Share<N, A>]) -> Option<u64>
+    ensures { MatchOption result (2 ^ 64 ≤ receipts shares.now) (λ n. n ≡ receipts shares.now) }
+{
+    match shares {
+        [] => Some(0),
+        [first, rest @ ..] => first.answered().checked_add(receipts_of(rest)?),
+    }
 }
 
 // Whether no two have one seat number.
@@ -97,7 +133,7 @@ fn is_new_in<N: Naming, A: Allocator>(number: SeatNumber, shares: &[Share<N, A>]
 }
 
 // Whether what each has seen begins the whole list.
-fn are_within<N: Naming, A: Allocator>(all: &Front<N>, shares: &[Share<N, A>]) -> bool
+fn are_within<N: Naming, A: Allocator>(all: &Counts<N>, shares: &[Share<N, A>]) -> bool
     ensures { result ≡ true → AllWithin N.opening all.now shares.now }
 {
     match shares {
@@ -107,7 +143,7 @@ fn are_within<N: Naming, A: Allocator>(all: &Front<N>, shares: &[Share<N, A>]) -
 }
 
 // Looks until each has seen no more than the whole list. No seat has seen more than that, so the first look ends it.
-fn await_within<N: Naming, A: Allocator, R: Wait>(rt: &R, all: &Front<N>, shares: &[Share<N, A>])
+fn await_within<N: Naming, A: Allocator, R: Wait>(rt: &R, all: &Counts<N>, shares: &[Share<N, A>])
     ensures { AllWithin N.opening all.now shares.now }
 {
     for _ in rt.forever() {
@@ -123,7 +159,7 @@ fn gather<N: Naming, A: Allocator>(rest: &mut ledger::Share<N>, shares: Vec<Shar
     requires { rest.old.parts ≤ N.parts }
     ensures parts { rest.new.parts ≡ rest.old.parts + length shares.items }
     ensures bound { rest.new.parts ≤ N.parts }
-    ensures amount { rest.new.amount ≡ rest.old.amount + receipts shares.items }
+    ensures amount { all_open shares.items ≡ true → rest.new.amount ≡ rest.old.amount + receipts shares.items }
 {
     let mut shares = shares;
     while let Some(share) = shares.pop() {

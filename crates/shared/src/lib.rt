@@ -7,10 +7,11 @@
 mod ending;
 mod seat;
 mod share;
+mod turns;
 
 pub use locked::{
-    Board, Entry, Failed, Fault, Front, Naming, Opened, Publisher, SeatFault, SeatNumber, Session,
-    SessionError, Source, Spine, Summary, crosses, legal_crosses, names_of, read_as,
+    Board, Counts, Entry, Failed, Fault, Front, Naming, Opened, Publisher, SeatFault, SeatNumber,
+    Session, SessionError, Source, Spine, Summary, crosses, legal_crosses, names_of, read_as,
 };
 pub use seat::{Seat, Shared};
-pub use share::{Receipt, Share, Status};
+pub use share::{GROUP, Receipt, Round, Share, Status};

@@ -1,6 +1,6 @@
 //! A shared session, and the seats at it.
 
-ghost use Rattle.std.specs.Prelude.{◌≡◌, ◌↔◌, ◌≤◌, ◌<◌, ◌++◌, ◌∷◌, [], length, false, None, IsTrue, IfOk, IfErr, IfSome};
+ghost use Rattle.std.specs.Prelude.{◌≡◌, ◌↔◌, ◌≤◌, ◌<◌, ◌+◌, ◌++◌, ◌∷◌, [], length, false, None, IsTrue, IfOk, IfErr, IfSome};
 ghost use Rattle.alphabet.specs.declared.events.Event.{Event};
 ghost use Rattle.alphabet.specs.EventSets.{member};
 ghost use Rattle.term.specs.Meaning.{Trace};
@@ -11,30 +11,38 @@ ghost use Rattle.locked.specs.Entries.{events, summary_of};
 ghost use Rattle.locked.specs.Legal.{Legal};
 ghost use Rattle.locked.specs.Beginnings.{StartsWith};
 ghost use Rattle.shared.specs.Seats.{Answered, Refused};
+ghost use Rattle.shared.specs.Turns.{CameTo};
+ghost use Rattle.std.specs.List.{AllByRecursion};
 
-use crate::share::{Receipt, Share, Status};
+use crate::share::{GROUP, Receipt, Round, Share, Status};
 use alphabet::{EventSet, Report};
 use disk::Disk;
 use left_right::Absorb;
-use locked::{Board, Entry, Fault, Locked, Naming, Opened, SeatFault, Session, Summary};
+use locked::{Board, Fault, Locked, Naming, Opened, SeatFault, Session, Summary};
 use std::alloc::Allocator;
-use std::hint::spin_loop;
+use std::sync::atomic::AtomicU64;
 use std::sync::ledger::Blank;
-use std::sync::{Mutex, MutexGuard, Wait};
-use std::thread::yield_now;
+use std::sync::{Condvar, Mutex, MutexGuard, Wait};
 
 /// A session that seats share. It isn't `Drop`: end it by `finish`.
 pub struct Shared<D: Disk, A: Allocator, N: Naming>
 where
-    Board<N, A>: Absorb<Entry, State = Summary>,
+    Board<N, A>: Absorb<Summary, State = Summary>,
 {
     pub(crate) locked: Mutex<Locked<D, A, N>>,
+    // How many threads wait for the lock to judge.
+    pub(crate) judging: AtomicU64,
+    // How many have judged since the last settling, and how many had between the two before.
+    pub(crate) turns: AtomicU64,
+    pub(crate) crowd: AtomicU64,
+    // Those sleep here whose entries are offered and not settled.
+    pub(crate) woken: Condvar,
 }
 
 /// A seat at a shared session. It isn't `Drop`: end it by `end`. What may be dropped, and moved to a thread, is its `Share`.
 pub struct Seat<'a, D: Disk, A: Allocator, N: Naming>
 where
-    Board<N, A>: Absorb<Entry, State = Summary>,
+    Board<N, A>: Absorb<Summary, State = Summary>,
 {
     shared: &'a Shared<D, A, N>,
     pub share: Share<N, A>,
@@ -42,7 +50,8 @@ where
 
 impl<D: Disk + Drop, A: Allocator + Copy, N: Naming> Shared<D, A, N> {
     /// A session that up to so many seats share, to which nothing is offered. Where memory is refused, the session is gone, and its file stays.
-    pub fn new(
+    pub fn new<R: Wait>(
+        rt: &R,
         alloc: A,
         session: Session<D, A>,
         opened: Opened,
@@ -55,9 +64,13 @@ impl<D: Disk + Drop, A: Allocator + Copy, N: Naming> Shared<D, A, N> {
         requires places { (0 < places) × (places ≤ 64) × (places < N.all) }
         ensures fault { IfErr result (λ f. f ≡ Fault.Memory) }
     {
-        match Locked::new(alloc, session, opened, blank, places) {
+        match Locked::new(rt, alloc, session, opened, blank, places) {
             Ok(locked) => Ok(Shared {
                 locked: Mutex::new(locked),
+                judging: AtomicU64::new(0),
+                turns: AtomicU64::new(0),
+                crowd: AtomicU64::new(0),
+                woken: Condvar::new(),
             }),
             Err(fault) => Err(fault),
         }
@@ -74,10 +87,10 @@ impl<D: Disk, A: Allocator + Copy, N: Naming> Shared<D, A, N> {
         let mut locked = self.locked.lock(rt);
         let given = locked.seat();
         MutexGuard::unlock(locked);
-        let (number, front, summary, part, looker) = given?;
+        let (number, known, part, looker) = given?;
         Ok(Seat {
             shared: self,
-            share: Share::new(number, front, summary, part, looker),
+            share: Share::new(number, known, part, looker),
         })
     }
 
@@ -103,10 +116,20 @@ impl<D: Disk, A: Allocator + Copy, N: Naming> Seat<'_, D, A, N> {
         ensures answered { IfOk result (λ r. Answered (bodies_of N.spec.bodies) self.old.share self.new.share report r.verdict r.place) }
         ensures refused { IfErr result (λ f. Refused N.spec self.old.share self.new.share report f) }
     {
-        let mut locked = caught_up(rt, &self.shared.locked, &mut self.share);
-        let result = self.share.report(rt, &mut locked, &report);
-        MutexGuard::unlock(locked);
-        result
+        self.share.report(rt, self.shared, report)
+    }
+
+    /// Reports one after the other in one turn, up to the first that is refused. All of their entries that wait for the disk wait for it
+    /// together. The first of `verdicts` are then those of the receipts. The faults are those of `report`.
+    pub fn turn<R: Wait>(&mut self, rt: &R, reports: &[Report], verdicts: &mut [bool]) -> Round
+        requires reports { AllByRecursion (IsReport N.spec.alphabet) reports.now }
+        requires count { (0 < length reports.now) × (length reports.now ≤ GROUP) × (length reports.now ≤ length verdicts.old) }
+        ensures count { (result.count ≤ length reports.now) × (result.place + result.count ≤ 1000001) }
+        ensures left { IfSome result.fault (λ _. result.count < length reports.now) }
+        ensures came { CameTo N.spec self.old.share reports.now verdicts.new result.count result.place result.fault self.new.share }
+        ensures room { length verdicts.new ≡ length verdicts.old }
+    {
+        self.share.turn(rt, self.shared, reports, verdicts)
     }
 
     /// The events that may come next, tick among them, after the history as it stands, which is then what was seen.
@@ -116,11 +139,7 @@ impl<D: Disk, A: Allocator + Copy, N: Naming> Seat<'_, D, A, N> {
         ensures same { (self.new.share.seat ≡ self.old.share.seat) × (self.new.share.mine ≡ self.old.share.mine) × (self.new.share.closed ≡ self.old.share.closed) }
         ensures closed { IsClosed N.spec }
     {
-        let locked = caught_up(rt, &self.shared.locked, &mut self.share);
-        let _ = self.share.known();
-        let next = locked.next();
-        MutexGuard::unlock(locked);
-        next
+        self.share.next(rt, self.shared)
     }
 
     /// The counts of a history that goes on from what was seen, and that is then what was seen.
@@ -142,77 +161,4 @@ impl<D: Disk, A: Allocator + Copy, N: Naming> Seat<'_, D, A, N> {
         let Self { shared: _, share } = self;
         share
     }
-}
-
-// How often a lock that is held is asked for again before the thread sleeps.
-const TRIES: u32 = 56;
-
-// After how many of these tries the thread pauses. After the others it lets another thread run.
-const PAUSED_TRIES: u32 = 6;
-
-// How many pauses there are after the first try; after each try there are twice as many as after the one before. Each try takes the
-// lock's word away from the thread that holds the lock. And while others pause, a thread takes the lock for several reports, so that
-// what is under the lock doesn't go from processor to processor with each of them.
-const PAUSES: u32 = 30;
-
-// Waits for a moment.
-fn pause(pauses: u32) {
-    for _ in 0..pauses {
-        spin_loop();
-    }
-}
-
-// Takes the lock. Most reports are over sooner than a thread that sleeps is woken. Where more threads wait than there are processors,
-// the one that holds the lock may be waiting for a processor.
-fn lock<'a, D: Disk, A: Allocator + Copy, N: Naming, R: Wait>(
-    rt: &R,
-    mutex: &'a Mutex<Locked<D, A, N>>,
-) -> MutexGuard<'a, Locked<D, A, N>> {
-    for failed in 0..TRIES {
-        if let Some(locked) = mutex.try_lock() {
-            return locked;
-        }
-        if failed < PAUSED_TRIES {
-            pause(PAUSES << failed);
-        } else {
-            yield_now();
-        }
-    }
-    mutex.lock(rt)
-}
-
-// Takes the lock once the seat has seen what stands under it. No seat has seen more than that, so the first turn ends it.
-fn caught_up<'a, D: Disk, A: Allocator + Copy, N: Naming, R: Wait>(
-    rt: &R,
-    mutex: &'a Mutex<Locked<D, A, N>>,
-    share: &mut Share<N, A>,
-) -> MutexGuard<'a, Locked<D, A, N>>
-    ensures whole { share.new.seen ≡ N.opening ++ share.new.front }
-    ensures front { share.new.front ≡ result.value }
-    ensures seen { StartsWith share.new.seen share.old.seen }
-    ensures same { (share.new.seat ≡ share.old.seat) × (share.new.mine ≡ share.old.mine) × (share.new.closed ≡ share.old.closed) }
-{
-    for _ in rt.forever() {
-        if let Some(locked) = once_seen(share, lock(rt, mutex)) {
-            return locked;
-        }
-    }
-    unreachable!()
-}
-
-// The lock, where the seat has then seen what stands under it. Otherwise it is released, and the seat stays.
-fn once_seen<'a, D: Disk, A: Allocator + Copy, N: Naming>(
-    share: &mut Share<N, A>,
-    locked: MutexGuard<'a, Locked<D, A, N>>,
-) -> Option<MutexGuard<'a, Locked<D, A, N>>>
-    ensures whole { share.new.seen ≡ N.opening ++ share.new.front }
-    ensures seen { IfSome result (λ l. (share.new.front ≡ l.value) × StartsWith share.new.seen share.old.seen) }
-    ensures stays { result ≡ None → share.new ≡ share.old }
-    ensures same { (share.new.seat ≡ share.old.seat) × (share.new.mine ≡ share.old.mine) × (share.new.closed ≡ share.old.closed) }
-{
-    if share.catch_up(&locked) {
-        return Some(locked);
-    }
-    MutexGuard::unlock(locked);
-    None
 }

@@ -1,24 +1,30 @@
 //! What a seat knows and has done.
 
-ghost use Rattle.std.specs.Prelude.{◌≡◌, ◌↔◌, ◌≤◌, ◌<◌, ◌+◌, ◌++◌, ◌∷◌, [], length, true, false, ℕ, IsTrue, MatchBool, IfOk, IfErr, OnOk, OnErr};
+ghost use Rattle.std.specs.Prelude.{◌≡◌, ◌↔◌, ◌≤◌, ◌<◌, ◌+◌, ◌++◌, ◌∷◌, [], length, true, false, ℕ, IsTrue, None, Some, IfOk, IfErr, IfSome, is_some, ◌⊎◌};
 ghost use Rattle.alphabet.specs.declared.events.Event.{Event};
 ghost use Rattle.alphabet.specs.EventSets.{member};
 ghost use Rattle.term.specs.Meaning.{Trace};
 ghost use Rattle.term.specs.Proc.{bodies_of, root};
 ghost use Rattle.locked.specs.Reports.{IsReport};
+ghost use Rattle.term.specs.Specs.{IsClosed};
 ghost use Rattle.locked.specs.Entries.{calls, events, summary_of};
 ghost use Rattle.locked.specs.Legal.{Legal};
+ghost use Rattle.locked.specs.SessionView.{IsOf};
 ghost use Rattle.locked.specs.Beginnings.{StartsWith};
 ghost use Rattle.shared.specs.Faults.{closes};
 ghost use Rattle.shared.specs.Seats.{Answered, Refused, IsWithin};
+ghost use Rattle.shared.specs.Turns.{CameTo};
+ghost use Rattle.std.specs.List.{AllByRecursion};
 
-use alphabet::Report;
+use crate::seat::Shared;
+use crate::turns::{locked_for, take_turn};
+use alphabet::{EventSet, Report};
 use core::mem::replace_with;
 use disk::Disk;
-use locked::{Counts, Entry, Fault, Front, Locked, Looker, Naming, SeatNumber, Summary, look};
+use locked::{Counts, Failed, Fault, Looker, Naming, SeatNumber, Summary, is_of, look};
 use std::alloc::Allocator;
 use std::marker::Model;
-use std::sync::{Wait, ledger};
+use std::sync::{MutexGuard, Wait, ledger};
 
 /// The answer to a report.
 #[derive(Clone, Copy, PartialEq, Eq, Debug)]
@@ -29,15 +35,27 @@ pub struct Receipt {
     pub place: u64,
 }
 
-impl Receipt {
-    // The receipt of the last entry of a history with these counts.
-    fn of(last: &Entry, counts: &Summary) -> Receipt
-        ensures verdict { last.now.verdict ≡ result.verdict }
-        ensures place { result.place ≡ counts.now.judged }
+/// The most reports of a seat in one turn.
+pub const GROUP: usize = 1024;
+
+/// What came of some reports in one turn: so many receipts for the first ones, with places one after the other from this place on; and why
+/// the next report was refused, where not all have receipts.
+#[derive(Clone, Copy, PartialEq, Eq, Debug)]
+pub struct Round {
+    pub count: u32,
+    pub place: u64,
+    pub fault: Option<Fault>,
+}
+
+impl Round {
+    // No receipt, and the first report refused.
+    fn refused(fault: Fault) -> Round
+        ensures { (result.count ≡ 0) × (result.place ≡ 0) × (result.fault ≡ Some fault) }
     {
-        Receipt {
-            verdict: last.verdict,
-            place: counts.judged,
+        Round {
+            count: 0,
+            place: 0,
+            fault: Some(fault),
         }
     }
 }
@@ -50,15 +68,19 @@ pub struct Status {
     pub closed: bool,
 }
 
-/// What a seat knows and has done: the history that it has seen, how many of its own reports were answered, and its reader of the board.
-/// Contracts see the answered reports themselves: the first so many of the seat's entries in that history.
+/// What a seat knows and has done: a settled history, how many of its entries it has seen, and how many of its own reports were answered;
+/// and its reader of the board. Contracts see the seen history, and the answered reports themselves: the first so many of the seat's
+/// entries in it.
 #[derive(Drop)]
 pub struct Share<N: Naming, A: Allocator> {
     number: SeatNumber,
-    front: Front<N>,
-    summary: Summary,
-    closed: bool,
+    known: Counts<N>,
+    seen: u64,
+    /// What closed the session, where a report of this seat was answered so.
+    failed: Option<Failed>,
     answered: u32,
+    /// How many of its reports were offered, and never settled.
+    lost: u32,
     part: ledger::Share<N>,
     looker: Looker<N, A>,
 }
@@ -68,80 +90,121 @@ impl<N: Naming, A: Allocator> Model for Share<N, A> {
 
     ghost Value = { SeatView };
 
-    ghost use Rattle.std.specs.Prelude.{◌≡◌, ◌≤◌, ◌++◌, length, [], take};
-    ghost use Rattle.locked.specs.Entries.{calls, summary_of};
+    ghost use Rattle.std.specs.Prelude.{◌≡◌, ◌≤◌, ◌+◌, ◌++◌, length, [], take, None, is_some};
+    ghost use Rattle.locked.specs.Entries.{calls};
+    ghost use Rattle.shared.specs.declared.share.TheConstants.{GROUP};
 
     ghost view = { λ s. record {
       seat = s.number;
-      front = s.front;
-      seen = N.opening ++ s.front;
-      mine = take s.answered (calls (N.opening ++ s.front) s.number);
-      closed = s.closed;
+      seen = take s.seen (N.opening ++ s.known);
+      mine = take s.answered (calls (take s.seen (N.opening ++ s.known)) s.number);
+      closed = is_some s.failed;
     } };
 
-    ghost invariant = { λ s. (s.summary ≡ summary_of (N.opening ++ s.front))
-        × (s.answered ≤ length (calls (N.opening ++ s.front) s.number))
+    ghost invariant = { λ s. (s.seen ≤ length (N.opening ++ s.known))
+        × (s.answered ≤ length (calls (take s.seen (N.opening ++ s.known)) s.number))
         × (calls N.opening s.number ≡ [])
         × (s.part.parts ≡ 1)
-        × (s.part.amount ≡ s.answered)
+        × (s.part.amount ≡ s.answered + s.lost)
+        × (s.failed ≡ None → s.lost ≡ 0)
+        × (s.lost ≤ GROUP)
         × (s.answered ≤ 1000000) };
 }
 
-// Whether the fault says that the session is closed.
-fn is_closing(fault: &Fault) -> bool
-    ensures { result ≡ closes fault.now }
+// 30 for the report whose entry is the first that the disk failed on, and 31 for all others.
+fn closing(failed: Failed, seat: SeatNumber, number: u32, report: &Report) -> Fault
+    ensures first { IsOf failed seat number report.now → result ≡ Fault.Journal failed }
+    ensures others { ((result ≡ Fault.Journal failed) × IsOf failed seat number report.now) ⊎ (result ≡ Fault.Closed failed) }
 {
-    matches!(fault, Fault::Journal(_) | Fault::Closed(_))
+    if is_of(&failed.entry(), seat, number, report) {
+        Fault::Journal(failed)
+    } else {
+        Fault::Closed(failed)
+    }
+}
+
+// What closed the session, where the fault says that it is closed.
+fn closing_of(fault: Fault) -> Option<Failed>
+    ensures { is_some result ≡ closes fault }
+{
+    match fault {
+        Fault::Journal(failed) | Fault::Closed(failed) => Some(failed),
+        _ => None,
+    }
+}
+
+// What closed the session, where there is a fault that says that it is closed.
+fn closed_by(fault: Option<Fault>) -> Option<Failed>
+    ensures none { fault ≡ None → result ≡ None }
+    ensures some { IfSome fault (λ f. is_some result ≡ closes f) }
+{
+    match fault {
+        Some(fault) => closing_of(fault),
+        None => None,
+    }
+}
+
+// How many entries of the settled list are seen: all where a report was refused after it, or those up to the last of so many from this place
+// on.
+fn seen_by<N: Naming>(counts: &Counts<N>, place: u64, count: u32, fault: Option<Fault>) -> u64
+    requires { (0 < place) × (place + count ≤ 1000001) }
+    ensures all { IfSome fault (λ _. result ≡ length (N.opening ++ counts.now)) }
+    ensures last { fault ≡ None → result + 1 ≡ place + count }
+{
+    match fault {
+        Some(_) => counts.summary().judged,
+        None => place - 1 + u64::from(count),
+    }
 }
 
 impl<N: Naming, A: Allocator> Share<N, A> {
     /// What a new seat knows.
     pub(crate) fn new(
         number: SeatNumber,
-        front: Front<N>,
-        summary: Summary,
+        known: Counts<N>,
         part: ledger::Share<N>,
         looker: Looker<N, A>,
     ) -> Share<N, A>
-        requires summary { summary ≡ summary_of (N.opening ++ front) }
-        requires fresh { calls (N.opening ++ front) number ≡ [] }
+        requires fresh { calls (N.opening ++ known) number ≡ [] }
         requires part { (part.parts ≡ 1) × (part.amount ≡ 0) }
-        ensures { (result.mine ≡ []) × (result.seen ≡ N.opening ++ front) × (result.seat ≡ number) × (result.closed ≡ false) }
+        ensures { (result.mine ≡ []) × (result.seen ≡ N.opening ++ known) × (result.seat ≡ number) × (result.closed ≡ false) }
     {
         Share {
             number,
-            front,
-            summary,
-            closed: false,
+            seen: known.summary().judged,
+            known,
+            failed: None,
             answered: 0,
+            lost: 0,
             part,
             looker,
         }
     }
 
-    // What was seen becomes what the board showed, unless more was seen.
-    fn take_over(&mut self, counts: &Counts<N>)
+    // All of a settled list is seen, unless more was known.
+    fn see(&mut self, counts: &Counts<N>)
         ensures seen { StartsWith self.new.seen self.old.seen }
         ensures same { (self.new.seat ≡ self.old.seat) × (self.new.mine ≡ self.old.mine) × (self.new.closed ≡ self.old.closed) }
     {
-        let front = counts.front();
-        if !self.front.begins(front) {
+        if !self.known.front().begins(counts.front()) {
             return;
         }
-        self.summary = counts.summary();
-        self.front = front.again();
+        self.seen = counts.summary().judged;
+        self.known = counts.again();
     }
 
-    /// The status of what was seen.
-    pub(crate) fn known(&self) -> Status
-        ensures summary { result.summary ≡ summary_of self.now.seen }
-        ensures closed { result.closed ≡ self.now.closed }
-        ensures legal { Legal (bodies_of N.spec.bodies) self.now.seen }
+    // All that is known is seen.
+    fn known(&mut self) -> Status
+        ensures seen { StartsWith self.new.seen self.old.seen × Legal (bodies_of N.spec.bodies) self.new.seen }
+        ensures summary { result.summary ≡ summary_of self.new.seen }
+        ensures closed { result.closed ≡ self.old.closed }
+        ensures same { (self.new.seat ≡ self.old.seat) × (self.new.mine ≡ self.old.mine) × (self.new.closed ≡ self.old.closed) }
     {
-        let _ = self.front.len();
+        let _legal = self.known.front().len();
+        self.seen = self.known.summary().judged;
         Status {
-            summary: self.summary,
-            closed: self.closed,
+            summary: self.known.summary(),
+            closed: self.failed.is_some(),
         }
     }
 
@@ -163,15 +226,15 @@ impl<N: Naming, A: Allocator> Share<N, A> {
         let Some(counts) = self.look() else {
             return self.known();
         };
-        self.take_over(&counts);
+        self.see(&counts);
         self.known()
     }
 
     /// Whether what was seen begins the whole list. Then its own reports begin those of its seat in the whole.
-    pub(crate) fn is_within(&self, all: &Front<N>) -> bool
+    pub(crate) fn is_within(&self, all: &Counts<N>) -> bool
         ensures { result ≡ true → IsWithin N.opening all.now self.now }
     {
-        self.front.begins(all)
+        self.known.front().begins(all.front())
     }
 
     /// The number of the seat.
@@ -181,9 +244,17 @@ impl<N: Naming, A: Allocator> Share<N, A> {
         self.number
     }
 
+    /// How many of its reports were answered with a receipt.
+    pub(crate) fn answered(&self) -> u64
+        ensures { result ≡ length self.now.mine }
+    {
+        u64::from(self.answered)
+    }
+
     /// Its part of the ledger.
     pub(crate) fn into_part(self) -> ledger::Share<N>
-        ensures { (result.parts ≡ 1) × (result.amount ≡ length self.mine) }
+        ensures parts { result.parts ≡ 1 }
+        ensures amount { self.closed ≡ false → result.amount ≡ length self.mine }
     {
         let Self { part, .. } = self;
         part
@@ -191,48 +262,94 @@ impl<N: Naming, A: Allocator> Share<N, A> {
 }
 
 impl<N: Naming, A: Allocator + Copy> Share<N, A> {
-    /// What was seen becomes the list as it stands under the lock. `false` where more was seen: then all stays.
-    pub(crate) fn catch_up<D: Disk>(&mut self, locked: &Locked<D, A, N>) -> bool
-        ensures whole { self.new.seen ≡ N.opening ++ self.new.front }
-        ensures seen { MatchBool result ((self.new.front ≡ locked.now) × StartsWith self.new.seen self.old.seen) (self.new ≡ self.old) }
-        ensures same { (self.new.seat ≡ self.old.seat) × (self.new.mine ≡ self.old.mine) × (self.new.closed ≡ self.old.closed) }
+    /// Some reports, one after the other, in one turn under the lock: judged up to the first that is refused, and answered once their entries
+    /// are settled. The first verdicts are then those of the receipts.
+    pub(crate) fn turn<D: Disk, R: Wait>(
+        &mut self,
+        rt: &R,
+        shared: &Shared<D, A, N>,
+        reports: &[Report],
+        verdicts: &mut [bool],
+    ) -> Round
+        requires reports { AllByRecursion (IsReport N.spec.alphabet) reports.now }
+        requires count { (0 < length reports.now) × (length reports.now ≤ GROUP) × (length reports.now ≤ length verdicts.old) }
+        ensures count { (result.count ≤ length reports.now) × (result.place + result.count ≤ 1000001) }
+        ensures left { IfSome result.fault (λ _. result.count < length reports.now) }
+        ensures came { CameTo N.spec self.old reports.now verdicts.new result.count result.place result.fault self.new }
+        ensures room { length verdicts.new ≡ length verdicts.old }
     {
-        locked.catch_up(&mut self.front, &mut self.summary)
+        let _legal = self.known.front().len();
+        if let Some(failed) = self.failed {
+            return Round::refused(Fault::Closed(failed));
+        }
+        let number = self.answered + 1;
+        match take_turn(
+            rt,
+            shared,
+            &self.known,
+            self.number,
+            number,
+            reports,
+            verdicts,
+            &mut self.part,
+        ) {
+            Ok(turn) => {
+                let _legal = turn.counts.front().len();
+                let round = Round {
+                    count: turn.count,
+                    place: turn.place,
+                    fault: turn.fault,
+                };
+                self.answered += turn.count;
+                self.seen = seen_by(&turn.counts, turn.place, turn.count, turn.fault);
+                self.failed = closed_by(turn.fault);
+                self.known = turn.counts;
+                round
+            }
+            Err((failed, lost)) => {
+                self.lost = lost;
+                self.failed = Some(failed);
+                Round::refused(closing(failed, self.number, number, &reports[0]))
+            }
+        }
     }
 
-    /// A report of a seat that has seen the list as it stands under the lock.
+    /// A report: judged under the lock, and answered once it is settled.
     pub(crate) fn report<D: Disk, R: Wait>(
         &mut self,
         rt: &R,
-        locked: &mut Locked<D, A, N>,
-        report: &Report,
+        shared: &Shared<D, A, N>,
+        report: Report,
     ) -> Result<Receipt, Fault>
-        requires caught_up { self.old.front ≡ locked.old }
-        requires report { IsReport N.spec.alphabet report.now }
-        ensures answered { IfOk result (λ r. Answered (bodies_of N.spec.bodies) self.old self.new report.now r.verdict r.place) }
-        ensures refused { IfErr result (λ f. Refused N.spec self.old self.new report.now f) }
-        ensures same { self.new.seat ≡ self.old.seat }
+        requires { IsReport N.spec.alphabet report }
+        ensures answered { IfOk result (λ r. Answered (bodies_of N.spec.bodies) self.old self.new report r.verdict r.place) }
+        ensures refused { IfErr result (λ f. Refused N.spec self.old self.new report f) }
     {
-        let number = self.answered + 1;
-        let result = locked.report(
-            rt,
-            self.number,
-            number,
-            report,
-            &mut self.front,
-            &mut self.summary,
-            &mut self.part,
-        );
-        let _legal = self.front.len();
-        match result {
-            Ok(entry) => {
-                self.answered = number;
-                Ok(Receipt::of(&entry, &self.summary))
-            }
-            Err(fault) => {
-                self.closed = is_closing(&fault) | self.closed;
-                Err(fault)
-            }
+        let mut verdicts = [false];
+        let round = self.turn(rt, shared, &[report], &mut verdicts);
+        match round.fault {
+            Some(fault) => Err(fault),
+            None => Ok(Receipt {
+                verdict: verdicts[0],
+                place: round.place,
+            }),
         }
+    }
+
+    /// The events that may come next after the settled history, which is then what was seen.
+    pub(crate) fn next<D: Disk, R: Wait>(&mut self, rt: &R, shared: &Shared<D, A, N>) -> EventSet
+        ensures next { (x : Event) → IsTrue (member result x) ↔ Trace (bodies_of N.spec.bodies) root (events self.new.seen ++ x ∷ []) }
+        ensures seen { StartsWith self.new.seen self.old.seen × Legal (bodies_of N.spec.bodies) self.new.seen }
+        ensures same { (self.new.seat ≡ self.old.seat) × (self.new.mine ≡ self.old.mine) × (self.new.closed ≡ self.old.closed) }
+        ensures closed { IsClosed N.spec }
+    {
+        let locked = locked_for(rt, shared, &self.known);
+        let counts = locked.list();
+        let next = locked.next();
+        MutexGuard::unlock(locked);
+        let _legal = counts.front().len();
+        self.seen = counts.summary().judged;
+        self.known = counts;
+        next
     }
 }

@@ -5,7 +5,7 @@ use alphabet::{Event, EventSet, Report};
 use disk::Disk;
 use journal::{Journal, Prepared};
 use shared::{
-    Entry, Failed, Front, Naming, Publisher, Receipt, SeatNumber, Share, Shared, Source, Spine,
+    Counts, Entry, Failed, Naming, Publisher, Receipt, SeatNumber, Share, Shared, Source, Spine,
     Summary, crosses, legal_crosses,
 };
 use std::alloc::{AllocError, Global};
@@ -135,7 +135,7 @@ pub(crate) fn run_all<D: Disk + Send, N: Naming + Send + Sync, R: Threads + Wait
     crosses::<Journal<D>>();
     crosses::<Option<Failed>>();
     crosses::<Spine<N>>();
-    crosses::<Front<N>>();
+    crosses::<Counts<N>>();
     crosses::<Publisher<N, Global>>();
     crosses::<Source<N, Global>>();
     crosses::<ledger::Book<N>>();

@@ -227,7 +227,7 @@ fn share<D: Disk + Drop, A: Allocator + Copy + Drop, N: Naming, T: Wait>(
     requires places { (0 < talks.now.places) × (talks.now.places ≤ 64) }
 {
     let mut shares = Vec::new(alloc);
-    match Shared::<D, A, N>::new(alloc, session, opened, blank, talks.places) {
+    match Shared::<D, A, N>::new(rt, alloc, session, opened, blank, talks.places) {
         Ok(shared) => {
             if shares.reserve(talks.places as usize).is_ok() {
                 talk_in_turn(
@@ -263,6 +263,7 @@ fn over<D: Disk + Drop, A: Allocator + Copy + Drop, T: Wait>(
     memory: Memory,
     out: &mut Output,
 )
+    requires offered { session.offered ≡ [] }
     requires places { (0 < talks.now.places) × (talks.now.places ≤ 64) }
 {
     match copy_of(alloc, session.spec().alphabet()) {

@@ -178,7 +178,7 @@ fn share<D: Disk + Drop + Send, N: Naming + Send + Sync, T: Threads + Wait + Clo
     requires book { opened.seen.book ≡ N.book }
     requires ledger { (blank.name ≡ N.name) × (blank.parts ≡ N.parts) × (N.all ≡ N.parts) × (N.all ≡ 65) }
 {
-    match Shared::<D, Global, N>::new(alloc, session, opened, blank, 4) {
+    match Shared::<D, Global, N>::new(rt, alloc, session, opened, blank, 4) {
         Ok(shared) => put_shared(rt, alloc, shared, gate, plan, out),
         Err(_) => out.is_cut = true,
     }

@@ -88,7 +88,12 @@ fn replay_command<'a>(alloc: Global) -> Result<Command<'a>, AllocError> {
     Command::new(alloc, "replay")
         .about("Judges the records of a journal again, and prints their counts")
         .after_help(REPLAY_EXAMPLE)
-        .arg(word(alloc, "JOURNAL", "The file of the journal"))
+        .arg(word(alloc, "JOURNAL", "The file of the journal"))?
+        .arg(flag(
+            alloc,
+            "read-only",
+            "Only read the file: without this, what stands after the last record is cut off",
+        ))
 }
 
 // An option without a value.
@@ -119,7 +124,7 @@ fn show_command<'a>(alloc: Global) -> Result<Command<'a>, AllocError> {
         .arg(word(
             alloc,
             "JOURNAL",
-            "The file of the journal, opened as by replay",
+            "The file of the journal, which is only read",
         ))?
         .arg(flag(alloc, "rejected", "Print the rejected reports alone"))?
         .arg(flag(
@@ -248,7 +253,8 @@ fn wish_of<'a>(matches: &ArgMatches<'a>) -> Option<Wish<'a>> {
     let (name, inner) = matches.subcommand()?;
     if name == "replay" {
         let journal = inner.get_str("JOURNAL")?;
-        return Some(Wish::Replay { journal });
+        let read_only = inner.get_flag("read-only");
+        return Some(Wish::Replay { journal, read_only });
     }
     let spec = inner.get_str("SPEC")?;
     let process = inner.get_str("PROCESS")?;

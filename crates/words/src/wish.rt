@@ -19,9 +19,10 @@ pub enum Wish<'a> {
         spec: &'a str,
         process: &'a str,
     },
-    /// To judge the records of the journal in the file again.
+    /// To judge the records of the journal in the file again; without a change of the file where `read_only` says so.
     Replay {
         journal: &'a str,
+        read_only: bool,
     },
     /// To print the reports of the journal in the file, and why those that were rejected were.
     Show {

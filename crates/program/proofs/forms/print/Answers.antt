@@ -38,6 +38,6 @@ returns-clause-printed g c =
       read = c.in-Ok.ensures.found;
       is = is;
       reads_back = λ small. subst (λ (t : List ℕ). IsRead t (reference (body_primes spec.alphabet (length spec.bodies)) 0) spec) (sym is)
-        (c.text_of.ensures.reads_back script process c.in-Ok.ensures.found (subst (λ (t : List ℕ). length t ≤ 65536) is small));
+          (c.text_of.ensures.reads_back script process c.in-Ok.ensures.found (subst (λ (t : List ℕ). length t ≤ 65536) is small));
     })
     c.text_of.ensures.text

@@ -6,9 +6,9 @@ use Rattle.shared.proofs.Leaving.{all_left, kept_legal}
 use Rattle.shared.proofs.Sums.{told_all}
 use Rattle.shared.proofs.seat.Shared.finish.Goals as goal
 
-module _ (g : _) (c : goal.After-drop-front-inside g) where
+module _ (g : _) (c : goal.After-drop-settled-inside g) where
   history : c.close-session.result.0.history ≡ g.N.Naming.opening ++ c.close-session.result.1
-  history = let i = c.close-session.ensures in i.session.1 ∙ ap (λ (l : List Entry). g.N.Naming.opening ++ l) (sym i.front)
+  history = c.close-session.ensures.session.1
 
   told : IfSome c.audited-count.result (λ n. AllTold c.close-session.result.0.history c.args.shares.items)
   told =
@@ -18,7 +18,7 @@ module _ (g : _) (c : goal.After-drop-front-inside g) where
 
 pub returns-clause-session : goal.returns-clause-session
 returns-clause-session g c =
-    let i = c.close-session.ensures.session in (i.0, (c.into_inner.result, i.1), kept_legal _ _ _ i.0 c.history.ensures.judged)
+    let i = c.close-session.ensures.session in (i.0, (c.close-session.result.1, i.1), kept_legal _ _ _ i.0 c.history.ensures.judged)
 
 pub returns-clause-counted : goal.returns-clause-counted
 returns-clause-counted g c =
@@ -32,3 +32,6 @@ pub returns-clause-crash : goal.returns-clause-crash
 returns-clause-crash g c =
     let kept = c.history.ensures.kept in
     IfSome_then c.audited-count.result (told g c) (λ n t. all_left g.D.Disk.state c.close-session.result.0 kept.0 kept.1 c.args.shares.items kept.2 t)
+
+pub returns-clause-whole : goal.returns-clause-whole
+returns-clause-whole g c many alone = c.audited-count.ensures.whole many alone

@@ -1,0 +1,34 @@
+-- What contracts see of what lies under the lock.
+use Rattle.std.specs.Prelude.{◌≡◌, ℕ, suc, ◌+◌, List, [], ◌∷◌, ◌++◌, length, Bool, Option}
+use Rattle.alphabet.specs.declared.events.Report.{Report}
+use Rattle.session.specs.Entry.{Entry}
+use Rattle.session.specs.View.{IsOf}
+
+-- The settled entries after the opening; the whole history with what is offered; and the entry that closed the session.
+pub record LockedView : Type 0 where
+  pub settled : List Entry
+  pub entries : List Entry
+  pub failed : Option Entry
+
+-- the entry stands at this place of the history, counted from 1
+pub record StandsAt (h : List Entry) (place : ℕ) (e : Entry) : Type 0 where
+  pub before : List Entry
+  pub behind : List Entry
+  pub is : h ≡ (before ++ e ∷ []) ++ behind
+  pub place_is : place ≡ suc (length before)
+
+-- A report's entry stands at this place of the history: the seat's with this number, and this verdict.
+pub record HasEntry (h : List Entry) (place seat number : ℕ) (report : Report) (verdict : Bool) : Type 0 where
+  pub entry : Entry
+  pub is_of : IsOf entry seat number report
+  pub verdict_is : entry.verdict ≡ verdict
+  pub stands : StandsAt h place entry
+
+-- The entries of these reports, with these verdicts, stand one after the other from this place of the history on, numbered from this number
+-- on.
+abbrev pub HasEntries : List Entry → ℕ → ℕ → ℕ → List Report → List Bool → Type 0
+HasEntries h place seat number [] [] = Unit {0}
+HasEntries h place seat number [] (verdict ∷ verdicts) = ⊥
+HasEntries h place seat number (report ∷ reports) [] = ⊥
+HasEntries h place seat number (report ∷ reports) (verdict ∷ verdicts) =
+    HasEntry h place seat number report verdict × HasEntries h (place + 1) seat (number + 1) reports verdicts

@@ -1,0 +1,13 @@
+use Rattle.std.proofs.Common.{◌≡◌, ◌≤◌, ◌+◌, length}
+use Rattle.shared.proofs.turns.offer_all.Given as goal
+
+-- the first reports were taken
+abbrev pub invariant-loop-report : goal.invariant-loop-report
+invariant-loop-report g l = record {
+  count : l.count ≡ l.report-index;
+  counted : l.part.amount ≡ l.fn.part.amount + l.count;
+  parts : l.part.parts ≡ l.fn.part.parts;
+  entries : length l.locked.entries ≡ length l.fn.locked.entries + l.count;
+  small : length l.locked.entries ≤ 1000000;
+  settled : l.locked.settled ≡ l.fn.locked.settled;
+}
