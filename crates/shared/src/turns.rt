@@ -30,6 +30,12 @@ const PAUSED_TRIES: u32 = 6;
 // what is under the lock doesn't go from processor to processor with each of them.
 const PAUSES: u32 = 30;
 
+// How often a thread that waits for a settling looks for it, and lets another run, before it sleeps.
+const LOOKS: u32 = 3;
+
+// How long it sleeps at most, before it looks again, in seconds.
+const LONGEST_SLEEP: u64 = 3600;
+
 // How long a thread that has judged last waits at most before it settles, in microseconds.
 const PATIENCE: u64 = 100;
 
@@ -139,6 +145,27 @@ fn await_others<'a, D: Disk, A: Allocator + Copy, N: Naming, R: Wait>(
     lock(rt, &shared.locked)
 }
 
+// Waits for the next settling. The lock is released meanwhile. Where syncs are fast, all is settled by the time that the threads which are
+// ready have run once, sooner than one that sleeps is woken.
+fn await_settling<'a, D: Disk, A: Allocator + Copy, N: Naming, R: Wait>(
+    rt: &R,
+    shared: &'a Shared<D, A, N>,
+    locked: MutexGuard<'a, Locked<D, A, N>>,
+) -> MutexGuard<'a, Locked<D, A, N>> {
+    let seen = shared.woken.notifications();
+    MutexGuard::unlock(locked);
+    for _ in 0..LOOKS {
+        if shared.woken.notifications() != seen {
+            return lock(rt, &shared.locked);
+        }
+        yield_now();
+    }
+    shared
+        .woken
+        .sleep(rt, seen, Duration::from_secs(LONGEST_SLEEP));
+    shared.locked.lock(rt)
+}
+
 // Waits until so many entries are settled, or the session is closed. Where nobody waits to judge, it settles all itself; otherwise the last of
 // those does.
 fn await_len<'a, D: Disk, A: Allocator + Copy, N: Naming, R: Wait>(
@@ -160,7 +187,7 @@ fn await_len<'a, D: Disk, A: Allocator + Copy, N: Naming, R: Wait>(
             settle(rt, shared, &mut locked);
             settles = false;
         } else {
-            locked = shared.woken.wait(rt, locked);
+            locked = await_settling(rt, shared, locked);
         }
     }
     unreachable!()
