@@ -2,7 +2,6 @@
 use Rattle.std.proofs.Common.{◌≡◌, ℕ, suc, ◌+◌, ◌<◌, ◌≤◌, List, [], ◌∷◌, ◌++◌, length, map, drop, get_or, Bool, true, false, cond, Option, Some, None, Vec, refl, sym, ap, ap₂, subst, ◌∙◌, arith, append_assoc, append-nil}
 use Rattle.alphabet.specs.Channels.{FieldValue, Values}
 use Rattle.syntax.specs.Grammar.{Syntax}
-use Rattle.syntax.specs.Parsing.{syntaxes}
 use Rattle.syntax.specs.View.{shape, shapes}
 use Rattle.syntax.specs.declared.tree.Tree.{Tree}
 use Rattle.tokens.specs.declared.unread.Unread.{Unread}
@@ -15,13 +14,13 @@ use Rattle.values.specs.declared.value.Value.{Value}
 use Rattle.event_phrases.specs.Scopes.{Scope}
 use Rattle.event_phrases.specs.View.{listed}
 use Rattle.event_phrases.proofs.EventNumbers.{drop_item, drop_none}
-use Rattle.event_phrases.proofs.Options.{bind_assoc, step, fails_at}
+use Rattle.event_phrases.proofs.Options.{bind_assoc, step}
 use Rattle.event_phrases.proofs.Scopes.{hidden, seen}
 use Rattle.denotation.specs.Denotes.{paired}
-use Rattle.denotation.specs.Phrases.{is_for_all, takes, arguments}
-use Rattle.denotation.specs.Forms.{calling}
+use Rattle.denotation.specs.Phrases.{is_for_all, takes, arguments, called_with}
 use Rattle.syntax.proofs.Failing.{fails_on}
-use Rattle.denotation.specs.Making.{Count, Made, refer, make_called_with, make_phrase}
+use Rattle.denotation.specs.Bodies.{Body, name, size}
+use Rattle.denotation.specs.Rooms.{spare, fit, fits}
 
 -- ---- lists that grow at their end
 
@@ -49,7 +48,7 @@ abbrev pub argument : Known → Syntax → Option FieldValue
 argument known t = worth known t >>= λ w. the_value w
 
 abbrev pub arguments_of : Known → List Syntax → Option Values
-arguments_of known ts = arguments known (syntaxes ts)
+arguments_of known ts = arguments known ts
 
 arguments_from : (known : Known) (t : Syntax) (ts : List Syntax) → arguments_of known (t ∷ ts) ≡ (argument known t >>= λ v. arguments_of known ts >>= λ vs. Some (v ∷ vs))
 unfolding arguments
@@ -90,21 +89,21 @@ module _ {A : Type 0} (known : Known) (all : List (Tree A)) (i : ℕ) (front : V
 
 -- ---- a call
 
-for_all : (xs : List Name) (ts : List Syntax) → length xs ≡ length ts → is_for_all xs (syntaxes ts) ≡ true
+for_all : (xs : List Name) (ts : List Syntax) → length xs ≡ length ts → is_for_all xs ts ≡ true
 unfolding is_for_all
 for_all [] [] h = refl
 for_all [] (t ∷ ts) h = absurd (omega (arith, h))
 for_all (x ∷ xs) [] h = absurd (omega (arith, h))
 for_all (x ∷ xs) (t ∷ ts) h = for_all xs ts (omega (arith, h))
 
-not_for_all : (xs : List Name) (ts : List Syntax) → (length xs ≡ length ts → ⊥) → is_for_all xs (syntaxes ts) ≡ false
+not_for_all : (xs : List Name) (ts : List Syntax) → (length xs ≡ length ts → ⊥) → is_for_all xs ts ≡ false
 unfolding is_for_all
 not_for_all [] [] h = absurd (h refl)
 not_for_all [] (t ∷ ts) h = refl
 not_for_all (x ∷ xs) [] h = refl
 not_for_all (x ∷ xs) (t ∷ ts) h = not_for_all xs ts (λ e. h (ap suc e))
 
-takes_none : (m : Option Meaning) (ts : List Syntax) → ((xs : List Name) (t : Syntax) → m ≡ Some (parametric xs t) → ⊥) → takes m (syntaxes ts) ≡ false
+takes_none : (m : Option Meaning) (ts : List Syntax) → ((xs : List Name) (t : Syntax) → m ≡ Some (parametric xs t) → ⊥) → takes m ts ≡ false
 unfolding takes
 takes_none None ts h = refl
 takes_none (Some (channel us)) ts h = refl
@@ -113,28 +112,28 @@ takes_none (Some constant_name) ts h = refl
 takes_none (Some (definition t)) ts h = refl
 takes_none (Some (parametric xs t)) ts h = absurd (h xs t refl)
 
-takes_by : (m : Option Meaning) (xs : List Name) (t : Syntax) (ts : List Syntax) → m ≡ Some (parametric xs t) → takes m (syntaxes ts) ≡ is_for_all xs (syntaxes ts)
+takes_by : (m : Option Meaning) (xs : List Name) (t : Syntax) (ts : List Syntax) → m ≡ Some (parametric xs t) → takes m ts ≡ is_for_all xs ts
 unfolding takes
-takes_by m xs t ts d = ap (λ m. takes m (syntaxes ts)) d
+takes_by m xs t ts d = ap (λ m. takes m ts) d
 
-module _ (s : Scope) (f : Name) (ts : List Syntax) (w : Count) where
-  abbrev pub of_call : Option Made
-  of_call = make_phrase (calling f ts) s w
+module _ (s : Scope) (f : Name) (ts : List Syntax) where
+  abbrev of_call : Option Body
+  of_call = called_with f ts s
 
-  abbrev from_arguments : Option Made
-  from_arguments = arguments s.known (syntaxes ts) >>= λ vs. refer (f, vs) w
+  abbrev from_arguments : Option Body
+  from_arguments = arguments s.known ts >>= λ vs. Some (name (f, vs))
 
-  abbrev when_taken : Bool → Option Made
+  abbrev when_taken : Bool → Option Body
   when_taken b = cond b from_arguments None
 
   pub call_hidden : names_value (s.known f) ≡ true → of_call ≡ None
-  unfolding make_phrase make_called_with
-  call_hidden h = hidden (s.known f) (when_taken (takes (meaning s.entries f) (syntaxes ts))) h
+  unfolding called_with
+  call_hidden h = hidden (s.known f) (when_taken (takes (meaning s.entries f) ts)) h
 
   module _ (h : names_value (s.known f) ≡ false) where
-    call_seen : of_call ≡ when_taken (takes (meaning s.entries f) (syntaxes ts))
-    unfolding make_phrase make_called_with
-    call_seen = seen (s.known f) (when_taken (takes (meaning s.entries f) (syntaxes ts))) h
+    call_seen : of_call ≡ when_taken (takes (meaning s.entries f) ts)
+    unfolding called_with
+    call_seen = seen (s.known f) (when_taken (takes (meaning s.entries f) ts)) h
 
     pub call_of_none : ((xs : List Name) (t : Syntax) → meaning s.entries f ≡ Some (parametric xs t) → ⊥) → of_call ≡ None
     call_of_none d = call_seen ∙ ap when_taken (takes_none (meaning s.entries f) ts d)
@@ -147,17 +146,23 @@ module _ (s : Scope) (f : Name) (ts : List Syntax) (w : Count) where
         call_by : of_call ≡ from_arguments
         call_by = call_seen ∙ ap when_taken (takes_by (meaning s.entries f) xs t ts d ∙ for_all xs ts same)
 
-        pub call_fails : (k : Unread) → Fails k (arguments_of s.known ts) → Fails k of_call
-        call_fails k e = subst (λ o. Fails k o) (sym call_by) (fails_at k (arguments_of s.known ts) (λ vs. refer (f, vs) w) e)
+        pub call_fails : (k : Unread) (room : ℕ) → Fails k (arguments_of s.known ts) → Fails k (fits room of_call)
+        unfolding fit
+        call_fails k room e = fails_on k (arguments_of s.known ts) (fits room of_call) (λ n. ap (fits room) (call_by ∙ ap (λ o. o >>= λ vs. Some (name (f, vs))) n)) e
 
-        pub call_so : (vs : Values) → arguments_of s.known ts ≡ Some vs → of_call ≡ refer (f, vs) w
-        call_so vs e = call_by ∙ step (arguments_of s.known ts) (λ vs. refer (f, vs) w) vs e
-
--- ---- parameters
+        pub call_so : (vs : Values) → arguments_of s.known ts ≡ Some vs → (room : ℕ) → fits room of_call ≡ spare 1 (name (f, vs)) room
+        unfolding fit size
+        call_so vs e room = ap (fits room) (call_by ∙ step (arguments_of s.known ts) (λ vs. Some (name (f, vs))) vs e)
 
 -- names by their bytes
 abbrev pub bytes : {A : Type 0} → List (Vec ℕ A) → List Name
 bytes xs = map (λ x. x.items) xs
+
+pub none_fits : (room : ℕ) (o : Option Body) → o ≡ None → fits room o ≡ None
+unfolding fit
+none_fits room o h = ap (fits room) h
+
+-- ---- parameters
 
 module _ {A : Type 0} where
   pub unpaired : (xs : List (Vec ℕ A)) (vs : List (Value A)) → (length xs ≡ length vs → ⊥) → None ≡ paired (bytes xs) (listed vs)

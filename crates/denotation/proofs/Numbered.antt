@@ -1,18 +1,20 @@
 -- Numbers that were given to definitions stay; sizes and depths don't depend on them.
-use Rattle.std.proofs.Common.{◌≡◌, ℕ, suc, ◌+◌, max, List, [], ◌∷◌, ◌++◌, map, refl, sym, ap, ap₂, ◌∙◌, append_assoc}
-use Rattle.std.specs.List.{flat_map}
+use Rattle.std.proofs.Common.{◌≡◌, ℕ, suc, ◌+◌, max, List, [], ◌∷◌, map, ◌++◌, refl, sym, ap, ap₂, ◌∙◌, append_assoc}
 use Rattle.term.specs.Proc as procs
-use Rattle.term.specs.Sizes.{size, depth}
-use Rattle.denotation.specs.Bodies.{Key, Body, stop, skip, prefix, ext, int, seq, par, hide, ren, intr, name, names, numbered}
+use Rattle.term.specs.Sizes as terms
+use Rattle.denotation.specs.Bodies.{size, sizes, depth, Key, Body, stop, skip, prefix, ext, int, seq, par, hide, ren, intr, name, names, numbered}
+use Rattle.denotation.specs.declared.draft.Joint.{Joint}
+use Rattle.denotation.specs.declared.draft.Joint.TheVariants as joints
+use Rattle.denotation.specs.declared.forms.Join.TheVariants as joins
+use Rattle.denotation.specs.Phrases.{joint_of, join_of}
 use Rattle.denotation.specs.Denotes.{place, with_key, with_keys, nodes}
-use Rattle.denotation.specs.Making.{numbered_after, all_numbered_after}
 use Rattle.denotation.proofs.Keys.{keys_append, place_stays, has_with}
 
 -- ---- numbers stay
 
 -- the process with the numbers of a later table
 abbrev Stays : Body → Type 0
-Stays b = (ks more : List Key) → numbered (place (with_keys ks (names b ++ more))) b ≡ numbered_after ks b
+Stays b = (ks more : List Key) → numbered (place (with_keys ks (names b ++ more))) b ≡ numbered (place (with_keys ks (names b))) b
 
 -- the first part of two
 left : (p : Body) (ns : List Key) → Stays p → (ks more : List Key) → numbered (place (with_keys ks ((names p ++ ns) ++ more))) p ≡ numbered (place (with_keys ks (names p ++ ns))) p
@@ -37,18 +39,37 @@ stays (ren R p) ks more = ap (procs.ren R) (stays p ks more)
 stays (intr p q) ks more = ap₂ procs.intr (left p (names q) (stays p) ks more) (right q (names p) (stays q) ks more)
 stays (name k) ks more = ap procs.name (place_stays more (with_key ks k) k (has_with ks k))
 
-pub all_stay : (bs : List Body) (ks more : List Key) → map (numbered (place (with_keys ks (flat_map names bs ++ more)))) bs ≡ all_numbered_after ks bs
-all_stay [] ks more = refl
-all_stay (b ∷ bs) ks more =
-    ap₂ (λ p ps. p ∷ ps) (left b (flat_map names bs) (stays b) ks more)
-    (ap (λ xs. map (numbered (place (with_keys ks xs))) bs) (append_assoc (names b) (flat_map names bs) more) ∙ ap (λ ls. map (numbered (place ls)) bs) (keys_append ks (names b) (flat_map names bs ++ more))
-    ∙ all_stay bs (with_keys ks (names b)) more ∙ sym (ap (λ ls. map (numbered (place ls)) bs) (keys_append ks (names b) (flat_map names bs))))
+-- what was numbered stays so where more is numbered after it
+pub then_more : (b : Body) (ks ls : List Key) (more : List Key) → with_keys ks (names b) ≡ ls → numbered (place (with_keys ls more)) b ≡ numbered (place ls) b
+then_more b ks ls more h =
+    ap (λ ls. numbered (place (with_keys ls more)) b) (sym h) ∙ ap (λ ls. numbered (place ls) b) (sym (keys_append ks (names b) more))
+    ∙ stays b ks more ∙ ap (λ ls. numbered (place ls) b) h
+
+-- ---- two that are joined
+
+pub joint_names : (k : Joint) (p q : Body) → names (joint_of k p q) ≡ names p ++ names q
+unfolding joint_of join_of names
+joint_names (joints.Join joins.Sequence) p q = refl
+joint_names (joints.Join joins.Interrupt) p q = refl
+joint_names (joints.Join joins.External) p q = refl
+joint_names (joints.Join joins.Internal) p q = refl
+joint_names (joints.Join joins.Interleaving) p q = refl
+joint_names (joints.Sharing A) p q = refl
+
+pub joint_depth : (k : Joint) (p q : Body) → depth (joint_of k p q) ≡ suc (max (depth p) (depth q))
+unfolding joint_of join_of depth
+joint_depth (joints.Join joins.Sequence) p q = refl
+joint_depth (joints.Join joins.Interrupt) p q = refl
+joint_depth (joints.Join joins.External) p q = refl
+joint_depth (joints.Join joins.Internal) p q = refl
+joint_depth (joints.Join joins.Interleaving) p q = refl
+joint_depth (joints.Sharing A) p q = refl
 
 -- ---- sizes and depths
 
-module _ (f g : Key → ℕ) where
-  pub same_size : (b : Body) → size (numbered f b) ≡ size (numbered g b)
-  unfolding numbered
+module _ (f : Key → ℕ) where
+  pub same_size : (b : Body) → terms.size (numbered f b) ≡ size b
+  unfolding numbered size
   same_size stop = refl
   same_size skip = refl
   same_size (prefix a p) = ap suc (same_size p)
@@ -61,8 +82,8 @@ module _ (f g : Key → ℕ) where
   same_size (intr p q) = ap₂ (λ m n. suc (m + n)) (same_size p) (same_size q)
   same_size (name k) = refl
 
-  pub same_depth : (b : Body) → depth (numbered f b) ≡ depth (numbered g b)
-  unfolding numbered
+  pub same_depth : (b : Body) → terms.depth (numbered f b) ≡ depth b
+  unfolding numbered depth
   same_depth stop = refl
   same_depth skip = refl
   same_depth (prefix a p) = ap suc (same_depth p)
@@ -75,7 +96,7 @@ module _ (f g : Key → ℕ) where
   same_depth (intr p q) = ap₂ (λ m n. suc (max m n)) (same_depth p) (same_depth q)
   same_depth (name k) = refl
 
-  pub same_nodes : (bs : List Body) → nodes (map (numbered f) bs) ≡ nodes (map (numbered g) bs)
-  unfolding nodes
+  pub same_nodes : (bs : List Body) → nodes (map (numbered f) bs) ≡ sizes bs
+  unfolding nodes sizes
   same_nodes [] = refl
   same_nodes (b ∷ bs) = ap₂ (λ m n. m + n) (same_size b) (same_nodes bs)

@@ -10,8 +10,7 @@ use Rattle.values.specs.View.{Fails}
 use Rattle.event_phrases.specs.Scopes.{Scope, with_input, within}
 use Rattle.event_phrases.proofs.Options.{some_is}
 use Rattle.event_phrases.proofs.Scopes.{behind_input}
-use Rattle.denotation.specs.Forms.{generator_of}
-use Rattle.denotation.specs.Parts.{generator_values}
+use Rattle.denotation.specs.Phrases.{generator_of, generator_values}
 use Rattle.syntax.proofs.Failing.{fails_on}
 use Rattle.denotation.specs.Walks.{Visit, opens, stands, behind_each, found_generator, behind_found, visits, first_scope, Waiting, all_but_last, last_first, visits_after, visits_from, once_found}
 

@@ -5,78 +5,60 @@ use Rattle.std.proofs.lemmas.List.{length-map, length-append, map-append}
 use Rattle.std.proofs.lemmas.List.Elements.{All-append, All-get_or}
 use Rattle.term.specs.Proc.{Proc}
 use Rattle.term.specs.Proc as procs
-use Rattle.term.specs.Sizes.{depth}
+use Rattle.term.specs.Sizes as terms
 use Rattle.values.specs.Values.{◌>>=◌}
-use Rattle.denotation.specs.Bodies.{Key, Body, stop, skip, prefix, ext, int, seq, par, hide, ren, intr, name, names, numbered}
+use Rattle.denotation.specs.Bodies.{Key, Body, stop, skip, prefix, ext, int, seq, par, hide, ren, intr, name, names, numbered, size, sizes, depth}
 use Rattle.event_phrases.specs.Scopes.{Scope}
-use Rattle.denotation.specs.Denotes.{body_of, place, with_keys, met, nodes, Reached}
-use Rattle.denotation.specs.Making.{Count, Made, size_of, sizes_of, numbered_after, made, shallow, make_body, Gathered}
+use Rattle.denotation.specs.Denotes.{body_of, place, with_keys, met, nodes, Reached, Gathered}
+use Rattle.denotation.specs.Rooms.{fit, fits, shallow, within_limits}
 use Rattle.denotation.proofs.Keys.{keys_append}
-use Rattle.denotation.proofs.Numbered.{stays, same_depth, same_nodes}
-use Rattle.denotation.proofs.Rooms.{split, room_enough, room_less}
-use Rattle.denotation.proofs.Made.{body_is}
+use Rattle.denotation.proofs.Numbered.{then_more, same_depth, same_nodes}
+use Rattle.denotation.proofs.Rooms.{split, room_enough, room_less, some_pair}
 use Rattle.event_phrases.proofs.Options.{some_is}
 use Rattle.event_phrases.proofs.Scopes.{take_whole}
 use Rattle.denotation.proofs.Reached.{get_or_view, get_front, keys_grow, met_front, one_reached}
 
 -- ---- one body
 
--- what was made is the body, with numbers given as it is met
-pub record Is (w : Count) (x : Made) (b : Body) : Type 0 where
-  pub numbers : x.0 ≡ numbered_after w.0 b
-  pub met : x.1.0 ≡ with_keys w.0 (names b)
-  pub room : x.1.1 + size_of b ≡ w.1
-  pub deep : depth x.0 ≤ 200
-
 no_some : {A : Type 0} {x : A} → None ≡ Some x → ⊥
 no_some h = cc
 
-shallow_enough : (x : Made) → depth x.0 ≤ 200 → shallow x ≡ Some x
-unfolding shallow
+shallow_enough : (x : Body × ℕ) → depth x.0 ≤ 200 → shallow x ≡ Some x
 shallow_enough x h = grind (arith, h)
 
-shallow_less : (x : Made) → 200 < depth x.0 → shallow x ≡ None
-unfolding shallow
-shallow_less x h = grind (arith, h)
-
-shallow_some : (y x : Made) → shallow y ≡ Some x → (y ≡ x) × (depth y.0 ≤ 200)
-shallow_some y x h = split _ (depth y.0) 200 (λ a. (some_is (sym (shallow_enough y a) ∙ h), a)) (λ a. absurd (no_some (sym (shallow_less y a) ∙ h)))
-
-pub sound_by : (w : Count) (o : Option Body) (x : Made) → (made w o >>= shallow) ≡ Some x → (b : Body) × (o ≡ Some b) × Is w x b
-unfolding made
-sound_by w None x h = absurd (no_some h)
-sound_by w (Some b) x h = split _ (size_of b) w.1 enough (λ a. absurd (no_some (sym (ap (λ o. (o >>= λ r. given r) >>= shallow) (room_less (size_of b) w.1 a)) ∙ h)))
+shallow_some : (y x : Body × ℕ) → shallow y ≡ Some x → (y ≡ x) × (depth y.0 ≤ 200)
+shallow_some y x h = split _ (depth y.0) 200 (λ a. (some_is (sym (shallow_enough y a) ∙ h), a)) (λ a. absurd (no_some (sym (less y a) ∙ h)))
   where
-    given : ℕ → Option Made
-    given r = Some (numbered_after w.0 b, (with_keys w.0 (names b), r))
+    less : (y : Body × ℕ) → 200 < depth y.0 → shallow y ≡ None
+    less y a = grind (arith, a)
 
-    enough : size_of b ≤ w.1 → (c : Body) × (Some b ≡ Some c) × Is w x c
+pub nothing_within : (room : ℕ) (o : Option Body) → o ≡ None → within_limits room o ≡ None
+unfolding fit
+nothing_within room o h = ap (within_limits room) h
+
+-- what there is room for is the body
+pub sound : (room : ℕ) (o : Option Body) (x : Body × ℕ) → (fits room o >>= shallow) ≡ Some x → (o ≡ Some x.0) × (x.1 + size x.0 ≡ room) × (depth x.0 ≤ 200)
+unfolding fit
+sound room None x h = absurd (no_some h)
+sound room (Some b) x h = split _ (size b) room enough (λ a. absurd (no_some (sym (ap (λ o. (o >>= some_pair b) >>= shallow) (room_less (size b) room a)) ∙ h)))
+  where
+    enough : size b ≤ room → (Some b ≡ Some x.0) × (x.1 + size x.0 ≡ room) × (depth x.0 ≤ 200)
     enough a =
-        let s = shallow_some (numbered_after w.0 b, (with_keys w.0 (names b), w.1 - size_of b)) x (sym (ap (λ o. (o >>= λ r. given r) >>= shallow) (room_enough (size_of b) w.1 a)) ∙ h) in
-        let z : w.1 - size_of b ≡ x.1.1 = ap (λ (x : Made). x.1.1) s.0 in
-        (b, refl, record { numbers = ap (λ (x : Made). x.0) (sym s.0); met = ap (λ (x : Made). x.1.0) (sym s.0); room = omega (arith, z, a); deep = subst (λ (x : Made). depth x.0 ≤ 200) s.0 s.1 })
+        let s = shallow_some (b, room - size b) x (sym (ap (λ o. (o >>= some_pair b) >>= shallow) (room_enough (size b) room a)) ∙ h) in
+        let e : b ≡ x.0 = ap (λ (x : Body × ℕ). x.0) s.0 in
+        let z : room - size b ≡ x.1 = ap (λ (x : Body × ℕ). x.1) s.0 in
+        let n : size b ≡ size x.0 = ap size e in
+        (ap (λ b. Some b) e, omega (arith, z, a, n), subst (λ b. depth b ≤ 200) e s.1)
 
-pub body_sound : (s : Scope) (k : Key) (w : Count) (x : Made) → make_body s k w ≡ Some x → (b : Body) × (body_of s k ≡ Some b) × Is w x b
-body_sound s k w x h = sound_by w (body_of s k) x (sym (body_is s k w) ∙ h)
-
-complete_by : (w : Count) (b : Body) → size_of b ≤ w.1 → depth (numbered_after w.0 b) ≤ 200 → (x : Made) × ((made w (Some b) >>= shallow) ≡ Some x)
-unfolding made
-complete_by w b h d =
-    let x : Made = (numbered_after w.0 b, (with_keys w.0 (names b), w.1 - size_of b)) in
-    (x, ap (λ o. (o >>= λ r. given r) >>= shallow) (room_enough (size_of b) w.1 h) ∙ shallow_enough x d)
-  where
-    given : ℕ → Option Made
-    given r = Some (numbered_after w.0 b, (with_keys w.0 (names b), r))
-
-pub body_complete : (s : Scope) (k : Key) (w : Count) (b : Body) → body_of s k ≡ Some b → size_of b ≤ w.1 → depth (numbered_after w.0 b) ≤ 200 → (x : Made) × (make_body s k w ≡ Some x)
-body_complete s k w b h l d =
-    let r = complete_by w b l d in
-    (r.0, body_is s k w ∙ ap (λ o. made w o >>= shallow) h ∙ r.1)
+pub complete : (room : ℕ) (o : Option Body) (b : Body) → o ≡ Some b → size b ≤ room → depth b ≤ 200 → (fits room o >>= shallow) ≡ Some (b, room - size b)
+unfolding fit
+complete room o b e h d =
+    ap (λ o. fits room o >>= shallow) e ∙ ap (λ o. (o >>= some_pair b) >>= shallow) (room_enough (size b) room h) ∙ shallow_enough (b, room - size b) d
 
 -- ---- lists
 
-size_some : (b : Body) → 1 ≤ size_of b
-unfolding numbered
+size_some : (b : Body) → 1 ≤ size b
+unfolding size
 size_some stop = omega arith
 size_some skip = omega arith
 size_some (prefix a p) = omega arith
@@ -89,8 +71,8 @@ size_some (ren R p) = omega arith
 size_some (intr p q) = omega arith
 size_some (name k) = omega arith
 
-pub body_less : (s : Scope) (k : Key) (w : Count) (x : Made) → make_body s k w ≡ Some x → x.1.1 < w.1
-body_less s k w x h = let (b, d, i) = body_sound s k w x h in omega (arith, i.room, size_some b)
+pub body_less : (room : ℕ) (o : Option Body) (x : Body × ℕ) → (fits room o >>= shallow) ≡ Some x → x.1 < room
+body_less room o x h = let (d, r, l) = sound room o x h in omega (arith, r, size_some x.0)
 
 take_front : {A : Type 0} (xs ys : List A) (n : ℕ) → n ≤ length xs → take n (xs ++ ys) ≡ take n xs
 take_front xs ys zero h = refl
@@ -101,13 +83,13 @@ names_push : (bs : List Body) (b : Body) → flat_map names (bs ++ b ∷ []) ≡
 names_push [] b = append-nil (names b)
 names_push (c ∷ bs) b = ap (λ ns. names c ++ ns) (names_push bs b) ∙ sym (append_assoc (names c) (flat_map names bs) (names b))
 
-sizes_push : (bs : List Body) (b : Body) → sizes_of (bs ++ b ∷ []) ≡ sizes_of bs + size_of b
-unfolding nodes
+sizes_push : (bs : List Body) (b : Body) → sizes (bs ++ b ∷ []) ≡ sizes bs + size b
+unfolding sizes
 sizes_push [] b = omega arith
 sizes_push (c ∷ bs) b = omega (arith, sizes_push bs b)
 
-sizes_take : (n : ℕ) (bs : List Body) (d : Body) → n < length bs → sizes_of (take n bs) + size_of (get_or bs n d) ≤ sizes_of bs
-unfolding nodes
+sizes_take : (n : ℕ) (bs : List Body) (d : Body) → n < length bs → sizes (take n bs) + size (get_or bs n d) ≤ sizes bs
+unfolding sizes
 sizes_take n [] d h = absurd (omega (arith, h))
 sizes_take zero (b ∷ bs) d h = omega arith
 sizes_take (suc n) (b ∷ bs) d h = omega (arith, sizes_take n bs d (omega (arith, h)))
@@ -127,7 +109,7 @@ below_push root bs b keys k h below j a =
     let z : length (met root (take j (bs ++ b ∷ []))) ≡ length (met root (take j bs)) = ap (λ xs. length (met root xs)) t in
     omega (arith, goal, z)
 
-only_one : (p : Proc) → depth p ≤ 200 → (k : ℕ) (d : Proc) → k < 1 → depth (get_or (p ∷ []) k d) ≤ 200
+only_one : (p : Proc) → terms.depth p ≤ 200 → (k : ℕ) (d : Proc) → k < 1 → terms.depth (get_or (p ∷ []) k d) ≤ 200
 only_one p h zero d l = h
 only_one p h (suc k) d l = absurd (omega (arith, l))
 
@@ -140,8 +122,8 @@ pub record Progress (s : Scope) (root : Key) (ps : List Proc) (keys : List Key) 
   pub keyed : keys ≡ met root bodies
   pub each : map (body_of s) (take (length bodies) keys) ≡ map Some bodies
   pub low : length bodies ≤ length keys
-  pub left : room + sizes_of bodies ≡ 65536
-  pub deep : All (λ p. depth p ≤ 200) ps
+  pub left : room + sizes bodies ≡ 65536
+  pub deep : All (λ p. terms.depth p ≤ 200) ps
   pub below : (j : ℕ) → j < length bodies → j < length (met root (take j bodies))
   -- they are the first of whatever is reached
   pub only : (ks : List Key) (cs : List Body) → Reached s root ks cs → bodies ≡ take (length bodies) cs
@@ -150,7 +132,7 @@ pub as_many : {s : Scope} {root : Key} {ps : List Proc} {keys : List Key} {room 
 as_many p = ap length (p.numbers []) ∙ length-map p.bodies _
 
 pub start : (s : Scope) (root : Key) → Progress s root [] (root ∷ []) 65536
-unfolding met with_keys nodes
+unfolding met with_keys sizes
 start s root = record { bodies = []; numbers = λ more. refl; keyed = refl; each = refl; low = omega arith; left = omega arith; deep = λ k d h. absurd (omega (arith, h)); below = λ j h. absurd (omega (arith, h)); only = λ ks cs r. refl }
 
 module _ (s : Scope) (root : Key) (ps : List Proc) (keys : List Key) (room : ℕ) (p : Progress s root ps keys room) where
@@ -168,29 +150,31 @@ module _ (s : Scope) (root : Key) (ps : List Proc) (keys : List Key) (room : ℕ
       let b : n < length cs = omega (arith, a, l) in
       (b, ap (λ i. body_of s i) (sym (ap (λ xs. get_or xs n root) k ∙ get_front keys rest n root h)) ∙ sym (get_or_view (body_of s) ks n None root a) ∙ ap (λ xs. get_or xs n None) r.each ∙ get_or_view (λ x. Some x) cs n None stop b)
 
-  pub one_more : (x : Made) → length ps < length keys → make_body s (get_or keys (length ps) root) (keys, room) ≡ Some x → Progress s root (ps ++ x.0 ∷ []) x.1.0 x.1.1
+  pub one_more : (x : Body × ℕ) (q : Proc) (after : List Key) → length ps < length keys → (fits room (body_of s (get_or keys (length ps) root)) >>= shallow) ≡ Some x → with_keys keys (names x.0) ≡ after → q ≡ numbered (place after) x.0 → Progress s root (ps ++ q ∷ []) after x.1
   unfolding met
-  one_more x h e =
+  one_more x q after h e k z =
       let n = length ps in
       let m : n ≡ length p.bodies = as_many p in
-      let (b, d, i) = body_sound s (get_or keys n root) (keys, room) x e in
+      let b = x.0 in
+      let (d, left, low) = sound room (body_of s (get_or keys n root)) x e in
+      let deep : terms.depth q ≤ 200 = let w = ap terms.depth z ∙ same_depth (place after) b in omega (arith, w, low) in
       let l : length (p.bodies ++ b ∷ []) ≡ suc n = length-append p.bodies (b ∷ []) ∙ omega (arith, m) in
       let (rest, g) = keys_grow (names b) keys in
-      let grown : x.1.0 ≡ keys ++ rest = i.met ∙ g in
-      let longer : length x.1.0 ≡ length keys + length rest = ap length grown ∙ length-append keys rest in
-      let later : (more : List Key) → with_keys keys (names b ++ more) ≡ with_keys x.1.0 more = λ more. keys_append keys (names b) more ∙ ap (λ ks. with_keys ks more) (sym i.met) in
+      let grown : after ≡ keys ++ rest = sym k ∙ g in
+      let longer : length after ≡ length keys + length rest = ap length grown ∙ length-append keys rest in
+      let later : (more : List Key) → with_keys keys (names b ++ more) ≡ with_keys after more = λ more. keys_append keys (names b) more ∙ ap (λ ks. with_keys ks more) k in
       record {
         bodies = p.bodies ++ b ∷ [];
-        numbers = λ more. ap₂ (λ ps q. ps ++ q ∷ []) (p.numbers (names b ++ more) ∙ ap (λ ks. map (numbered (place ks)) p.bodies) (later more)) (i.numbers ∙ sym (stays b keys more) ∙ ap (λ ks. numbered (place ks) b) (later more)) ∙ sym (map-append (numbered (place (with_keys x.1.0 more))) p.bodies (b ∷ []));
-        keyed = i.met ∙ ap (λ ks. with_keys ks (names b)) p.keyed ∙ sym (keys_append (root ∷ []) (flat_map names p.bodies) (names b)) ∙ ap (with_keys (root ∷ [])) (sym (names_push p.bodies b));
-        each = ap (λ i. map (body_of s) (take i x.1.0)) l ∙ ap (λ ks. map (body_of s) (take (suc n) ks)) grown
+        numbers = λ more. ap₂ (λ ps q. ps ++ q ∷ []) (p.numbers (names b ++ more) ∙ ap (λ ks. map (numbered (place ks)) p.bodies) (later more)) (z ∙ sym (then_more b keys after more k)) ∙ sym (map-append (numbered (place (with_keys after more))) p.bodies (b ∷ []));
+        keyed = sym k ∙ ap (λ ks. with_keys ks (names b)) p.keyed ∙ sym (keys_append (root ∷ []) (flat_map names p.bodies) (names b)) ∙ ap (with_keys (root ∷ [])) (sym (names_push p.bodies b));
+        each = ap (λ i. map (body_of s) (take i after)) l ∙ ap (λ ks. map (body_of s) (take (suc n) ks)) grown
             ∙ ap (map (body_of s)) (take_front keys rest (suc n) (omega (arith, h)) ∙ take-suc keys n root h)
             ∙ map-append (body_of s) (take n keys) (get_or keys n root ∷ [])
             ∙ ap₂ (λ xs y. xs ++ y ∷ []) (ap (λ i. map (body_of s) (take i keys)) m ∙ p.each) d
             ∙ sym (map-append (λ x. Some x) p.bodies (b ∷ []));
         low = omega (arith, l, longer, h);
-        left = omega (arith, p.left, i.room, sizes_push p.bodies b);
-        deep = All-append (λ p. depth p ≤ 200) ps (x.0 ∷ []) p.deep (only_one x.0 i.deep);
+        left = omega (arith, p.left, left, sizes_push p.bodies b);
+        deep = All-append (λ p. terms.depth p ≤ 200) ps (q ∷ []) p.deep (only_one q deep);
         below = λ j a. below_push root p.bodies b keys p.keyed (omega (arith, h, m)) p.below j (omega (arith, a, l, m));
         only = λ ks cs r.
             let (a, c) = next_of h ks cs r in
@@ -203,7 +187,7 @@ module _ (s : Scope) (root : Key) (ps : List Proc) (keys : List Key) (room : ℕ
   unfolding with_keys
   finish h =
       let m = as_many p in
-      let z : nodes ps ≡ sizes_of p.bodies = ap nodes (p.numbers []) ∙ same_nodes (place keys) (λ k. 0) p.bodies in
+      let z : nodes ps ≡ sizes p.bodies = ap nodes (p.numbers []) ∙ same_nodes (place keys) p.bodies in
       record {
         keys = keys;
         bodies = p.bodies;
@@ -221,18 +205,17 @@ module _ (s : Scope) (root : Key) (ps : List Proc) (keys : List Key) (room : ℕ
       d.numbers ∙ ap₂ (λ ks bs. map (numbered (place ks)) bs) ks bs ∙ sym g.numbers
 
   -- a body that isn't made is missing, or there is no room for it, or it is too deep
-  pub stuck : length ps < length keys → (qs : List Proc) → Gathered s root qs → make_body s (get_or keys (length ps) root) (keys, room) ≡ None → ⊥
+  pub stuck : length ps < length keys → (qs : List Proc) → Gathered s root qs → (fits room (body_of s (get_or keys (length ps) root)) >>= shallow) ≡ None → ⊥
   stuck h qs d e =
       let n = length ps in
       let (a, c) = next_of h d.keys d.bodies d.reached in
       let b = get_or d.bodies n stop in
       let t : p.bodies ≡ take n d.bodies = p.only d.keys d.bodies d.reached ∙ ap (λ i. take i d.bodies) (sym (as_many p)) in
-      let z : sizes_of p.bodies ≡ sizes_of (take n d.bodies) = ap sizes_of t in
-      let all : nodes qs ≡ sizes_of d.bodies = ap nodes d.numbers ∙ same_nodes (place d.keys) (λ k. 0) d.bodies in
+      let z : sizes p.bodies ≡ sizes (take n d.bodies) = ap sizes t in
+      let all : nodes qs ≡ sizes d.bodies = ap nodes d.numbers ∙ same_nodes (place d.keys) d.bodies in
       let k = sizes_take n d.bodies stop a in
       let l : length qs ≡ length d.bodies = ap length d.numbers ∙ length-map d.bodies _ in
-      let deep : depth (get_or qs n procs.stop) ≤ 200 = All-get_or (λ p. depth p ≤ 200) qs n procs.stop (omega (arith, a, l)) d.deep in
+      let deep : terms.depth (get_or qs n procs.stop) ≤ 200 = All-get_or (λ p. terms.depth p ≤ 200) qs n procs.stop (omega (arith, a, l)) d.deep in
       let it : get_or qs n procs.stop ≡ numbered (place d.keys) b = ap (λ xs. get_or xs n procs.stop) d.numbers ∙ get_or_view (numbered (place d.keys)) d.bodies n procs.stop stop a in
-      let same : depth (get_or qs n procs.stop) ≡ depth (numbered_after keys b) = ap depth it ∙ same_depth (place d.keys) (place (with_keys keys (names b))) b in
-      let (x, f) = body_complete s (get_or keys n root) (keys, room) b c (omega (arith, z, all, k, d.large, p.left)) (omega (arith, deep, same)) in
-      no_some (sym e ∙ f)
+      let same : terms.depth (get_or qs n procs.stop) ≡ depth b = ap terms.depth it ∙ same_depth (place d.keys) b in
+      no_some (sym e ∙ complete room (body_of s (get_or keys n root)) b c (omega (arith, z, all, k, d.large, p.left)) (omega (arith, deep, same)))

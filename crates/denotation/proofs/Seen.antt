@@ -1,10 +1,8 @@
 -- Definitions in a table, seen by a view.
-use Rattle.std.proofs.Common.{◌≡◌, ℕ, zero, suc, List, [], ◌∷◌, map, get_or, slice_get, Bool, Some, sym, ap, ◌∙◌}
+use Rattle.std.proofs.Common.{◌≡◌, ℕ, zero, suc, List, [], ◌∷◌, map, get_or, slice_get, Bool, Some, ap, ◌∙◌}
 use Rattle.indexmap.specs.IndexSet.{insert_key}
 use Rattle.denotation.specs.declared.call.Call.{Call}
 use Rattle.denotation.specs.Bodies.{Key}
-use Rattle.event_phrases.specs.Scopes.{Scope}
-use Rattle.denotation.specs.Making.{Count, make_body}
 use Rattle.denotation.specs.View.{key}
 use Rattle.event_phrases.proofs.Options.{some_is}
 
@@ -13,9 +11,8 @@ first_at view [] i x d e = absurd (cc)
 first_at view (y ∷ xs) zero x d e = ap view (some_is e)
 first_at view (y ∷ xs) (suc i) x d e = first_at view xs i x d e
 
-pub seen_body : {A : Type 0} (s : Scope) (xs : List (Call A)) (n m : ℕ) (x : Call A) (k root : Key) (w : Count) → n ≡ m → slice_get xs n ≡ Some x → k ≡ key x → make_body s (get_or (map key xs) m root) w ≡ make_body s k w
-seen_body s xs n m x k root w e is same =
-    ap (λ k. make_body s k w) (first_at key xs m x root (ap (slice_get xs) (sym e) ∙ is) ∙ sym same)
+pub seen_key : {A : Type 0} (xs : List (Call A)) (n : ℕ) (x : Call A) (d : Key) → slice_get xs n ≡ Some x → get_or (map key xs) n d ≡ key x
+seen_key xs n x d is = first_at key xs n x d is
 
 pub seen_root : {A : Type 0} (eq : Call A → Call A → Bool) (keys empty : List (Call A)) (v : Call A) (root : Key) → keys ≡ insert_key eq empty v → empty ≡ [] → key v ≡ root → map key keys ≡ root ∷ []
 seen_root eq keys empty v root h e r = ap (map key) (h ∙ ap (λ ks. insert_key eq ks v) e) ∙ ap (λ k. k ∷ []) r

@@ -1,164 +1,191 @@
--- What is made of a phrase by its form, step by step.
-use Rattle.std.proofs.Common.{◌≡◌, ℕ, List, Bool, true, false, cond, Option, Some, None, refl, sym, ap, subst, ◌∙◌}
-use Rattle.alphabet.specs.Channels.{Channel, event_count}
-use Rattle.alphabet.specs.EventSets.{Set, has}
-use Rattle.term.specs.Proc.{par, hide}
+-- What phrases denote, and the room for it, step by step.
+use Rattle.std.proofs.Common.{◌≡◌, ℕ, ◌+◌, List, [], ◌∷◌, ◌++◌, map, Bool, cond, arith, Option, Some, None, sym, ap, subst, ◌∙◌}
+use Rattle.std.proofs.lemmas.List.{map-append}
+use Rattle.alphabet.specs.Channels.{Values, events, event_count}
+use Rattle.alphabet.specs.EventSets.{Set}
 use Rattle.term.specs.Traces.{Pairs}
-use Rattle.syntax.specs.Grammar.{Syntax}
-use Rattle.syntax.specs.Parsing.{syntaxes}
-use Rattle.tokens.specs.declared.unread.Unread.{Unread}
-use Rattle.values.specs.Values.{◌>>=◌}
-use Rattle.values.specs.View.{Fails}
 use Rattle.values.specs.Worths.{condition}
-use Rattle.event_phrases.specs.EventForms.{two_masked}
-use Rattle.denotation.specs.Parts.{make_renamed_by}
-use Rattle.event_phrases.specs.Events.{Events, masked, pairs_of}
-use Rattle.denotation.specs.Forms.{stops, joined, sharing, alphabetised, hiding, renaming, conditional, guarded, replicated}
-use Rattle.denotation.specs.declared.forms.Join.{Join}
-use Rattle.denotation.specs.Making.{Count, Made, AllMade, make, make_phrase, make_above, make_one, make_renamed, make_alphabetised, make_over, make_replicated, make_stop, join_of}
+use Rattle.event_phrases.specs.Events.{masked, pairs_of}
+use Rattle.syntax.specs.Grammar.{Syntax, Syntaxes}
+use Rattle.syntax.proofs.Failing.{fails_on}
+use Rattle.tokens.specs.declared.unread.Unread.{Unread}
+use Rattle.values.specs.Values.{◌>>=◌, Name}
+use Rattle.values.specs.View.{Fails}
+use Rattle.event_phrases.specs.EventForms.{event_fits}
+use Rattle.event_phrases.specs.Prefixes.{prefix_parts}
 use Rattle.event_phrases.specs.Scopes.{Scope, events_by}
 use Rattle.event_phrases.proofs.Options.{step, fails_at}
+use Rattle.denotation.specs.Bodies.{Body, hide, size, sizes, choice_of}
+use Rattle.denotation.specs.declared.draft.Operation.{Operation}
+use Rattle.denotation.specs.declared.draft.Operation.TheVariants as operations
+use Rattle.denotation.specs.declared.forms.Join.{Join}
+use Rattle.denotation.specs.declared.forms.Join.TheVariants as joins
+use Rattle.denotation.specs.Phrases.{Between, Phrase, hiding, renaming, renamed, conditional, joined, replicated, other, join_of, none_of, operation_of, composed, denoted, over, branches, prefixed_by}
+use Rattle.denotation.specs.Rooms.{spare, fit, fits, all_fit, halved_nodes, spare_joined, operation_nodes, renaming_nodes, renamed_within, behind, with_one}
+use Rattle.denotation.specs.Walks.{Visit, stands, first_scope, visits, on_visits}
+use Rattle.denotation.proofs.Halves.{joint_size, size_halves, all_is}
+use Rattle.denotation.proofs.Rooms.{one_fails, one_so, three_first, three_part, three_second, three_so, part_first, part_fails, part_on, part_so}
+use Rattle.denotation.proofs.Turns.{one_and_rest, all_before}
+use Rattle.denotation.proofs.Walks.{begun, first_is}
 
-module _ (s : Scope) (w : Count) (t : Syntax) where
-  module _ (j : Join) (u : Syntax) where
-    pub joined_first : (k : Unread) → Fails k (make t s w) → Fails k (make_phrase (joined j t u) s w)
-    unfolding make_phrase
-    joined_first k f = fails_at k (make t s w) (λ p. make u s p.1 >>= make_above 1 (join_of j) p) f
+abbrev all_of : List Body → ℕ → Option (List Body × ℕ)
+all_of ps r = Some (ps, r)
 
-    module _ (p : Made) (a : make t s w ≡ Some p) where
-      pub joined_on : make_phrase (joined j t u) s w ≡ (make u s p.1 >>= make_above 1 (join_of j) p)
-      unfolding make_phrase
-      joined_on = step (make t s w) (λ p. make u s p.1 >>= make_above 1 (join_of j) p) p a
+module _ (s : Scope) (room : ℕ) where
+  pub nothing_denoted : (p : Phrase) → other ≡ p → fits room (denoted p s) ≡ None
+  unfolding denoted fit
+  nothing_denoted p e = ap (λ p. fits room (denoted p s)) (sym e)
 
-      pub joined_second : (k : Unread) → Fails k (make u s p.1) → Fails k (make_phrase (joined j t u) s w)
-      joined_second k f = subst (λ o. Fails k o) (sym joined_on) (fails_at k (make u s p.1) (make_above 1 (join_of j) p) f)
+  -- ---- two with something between them
 
-      pub joined_so : (q : Made) → make u s p.1 ≡ Some q → make_phrase (joined j t u) s w ≡ make_above 1 (join_of j) p q
-      joined_so q b = joined_on ∙ step (make u s p.1) (make_above 1 (join_of j) p) q b
+  module _ (m : Between) (t u : Phrase) where
+    more : (p : Body) (o : Operation) (q : Body) → size (composed s o p q) ≡ size p + (size q + operation_nodes o)
+    unfolding size composed operation_nodes
+    more p (operations.Joint k) q = joint_size k p q
+    more p (operations.Alphabetised A B) q = omega arith
 
-  module _ (e u : Syntax) where
-    pub sharing_first : (k : Unread) → Fails k (make t s w) → Fails k (make_phrase (sharing t e u) s w)
-    unfolding make_phrase
-    sharing_first k f = fails_at k (make t s w) (λ p. masked s.channels (events_by s e) >>= λ A. make u s p.1 >>= make_above 1 (par A) p) f
+    pub joined_first : (k : Unread) → Fails k (fits room (denoted t s)) → Fails k (fits room (denoted (joined m t u) s))
+    unfolding denoted
+    joined_first = three_first size size size (λ p o q. composed s o p q) operation_nodes more room (denoted t s) (operation_of s m) (denoted u s)
 
-    module _ (p : Made) (a : make t s w ≡ Some p) where
-      pub sharing_on : make_phrase (sharing t e u) s w ≡ (masked s.channels (events_by s e) >>= λ A. make u s p.1 >>= make_above 1 (par A) p)
-      unfolding make_phrase
-      sharing_on = step (make t s w) (λ p. masked s.channels (events_by s e) >>= λ A. make u s p.1 >>= make_above 1 (par A) p) p a
+    module _ (p : Body × ℕ) (a : fits room (denoted t s) ≡ Some p) where
+      pub joined_between : (k : Unread) → Fails k (operation_of s m) → Fails k (fits room (denoted (joined m t u) s))
+      unfolding denoted
+      joined_between = three_part size size size (λ p o q. composed s o p q) operation_nodes more room (denoted t s) (operation_of s m) (denoted u s) p a
 
-      pub sharing_set : (k : Unread) → Fails k (masked s.channels (events_by s e)) → Fails k (make_phrase (sharing t e u) s w)
-      sharing_set k f = subst (λ o. Fails k o) (sym sharing_on) (fails_at k (masked s.channels (events_by s e)) (λ A. make u s p.1 >>= make_above 1 (par A) p) f)
+      module _ (o : Operation) (b : operation_of s m ≡ Some o) where
+        pub joined_second : (k : Unread) → Fails k (fits p.1 (denoted u s)) → Fails k (fits room (denoted (joined m t u) s))
+        unfolding denoted
+        joined_second = three_second size size size (λ p o q. composed s o p q) operation_nodes more room (denoted t s) (operation_of s m) (denoted u s) p a o b
 
-      sharing_with : (A : Set) → masked s.channels (events_by s e) ≡ Some A → make_phrase (sharing t e u) s w ≡ (make u s p.1 >>= make_above 1 (par A) p)
-      sharing_with A b = sharing_on ∙ step (masked s.channels (events_by s e)) (λ A. make u s p.1 >>= make_above 1 (par A) p) A b
+        pub joined_so : (q : Body × ℕ) → fits p.1 (denoted u s) ≡ Some q → fits room (denoted (joined m t u) s) ≡ spare (operation_nodes o) (composed s o p.0 q.0) q.1
+        unfolding denoted
+        joined_so = three_so size size size (λ p o q. composed s o p q) operation_nodes more room (denoted t s) (operation_of s m) (denoted u s) p a o b
 
-      pub sharing_second : (A : Set) → masked s.channels (events_by s e) ≡ Some A → (k : Unread) → Fails k (make u s p.1) → Fails k (make_phrase (sharing t e u) s w)
-      sharing_second A b k f = subst (λ o. Fails k o) (sym (sharing_with A b)) (fails_at k (make u s p.1) (make_above 1 (par A) p) f)
+  -- ---- one with a set or with pairs
 
-      pub sharing_so : (A : Set) → masked s.channels (events_by s e) ≡ Some A → (q : Made) → make u s p.1 ≡ Some q → make_phrase (sharing t e u) s w ≡ make_above 1 (par A) p q
-      sharing_so A b q d = sharing_with A b ∙ step (make u s p.1) (make_above 1 (par A) p) q d
+  module _ (t : Phrase) (e : Syntax) where
+    hide_size : (p : Body) (A : Set) → size (hide A p) ≡ size p + 1
+    unfolding size
+    hide_size p A = omega arith
 
-  module _ (e : Syntax) where
-    pub hiding_first : (k : Unread) → Fails k (make t s w) → Fails k (make_phrase (hiding t e) s w)
-    unfolding make_phrase
-    hiding_first k f = fails_at k (make t s w) (λ p. masked s.channels (events_by s e) >>= λ A. make_one (hide A) p) f
+    pub hiding_first : (k : Unread) → Fails k (fits room (denoted t s)) → Fails k (fits room (denoted (hiding t e) s))
+    unfolding denoted
+    hiding_first = part_first size size (λ p A. hide A p) (λ A. 1) hide_size room (denoted t s) (masked s.channels (events_by s e))
 
-    hiding_on : (p : Made) → make t s w ≡ Some p → make_phrase (hiding t e) s w ≡ (masked s.channels (events_by s e) >>= λ A. make_one (hide A) p)
-    unfolding make_phrase
-    hiding_on p a = step (make t s w) (λ p. masked s.channels (events_by s e) >>= λ A. make_one (hide A) p) p a
+    module _ (p : Body × ℕ) (a : fits room (denoted t s) ≡ Some p) where
+      pub hiding_set : (k : Unread) → Fails k (masked s.channels (events_by s e)) → Fails k (fits room (denoted (hiding t e) s))
+      unfolding denoted
+      hiding_set = part_fails size size (λ p A. hide A p) (λ A. 1) hide_size room (denoted t s) (masked s.channels (events_by s e)) p a
 
-    pub hiding_set : (p : Made) → make t s w ≡ Some p → (k : Unread) → Fails k (masked s.channels (events_by s e)) → Fails k (make_phrase (hiding t e) s w)
-    hiding_set p a k f = subst (λ o. Fails k o) (sym (hiding_on p a)) (fails_at k (masked s.channels (events_by s e)) (λ A. make_one (hide A) p) f)
+      pub hiding_so : (A : Set) → masked s.channels (events_by s e) ≡ Some A → fits room (denoted (hiding t e) s) ≡ spare 1 (hide A p.0) p.1
+      unfolding denoted
+      hiding_so = part_so size size (λ p A. hide A p) (λ A. 1) hide_size room (denoted t s) (masked s.channels (events_by s e)) p a
 
-    pub hiding_so : (p : Made) → make t s w ≡ Some p → (A : Set) → masked s.channels (events_by s e) ≡ Some A → make_phrase (hiding t e) s w ≡ make_one (hide A) p
-    hiding_so p a A b = hiding_on p a ∙ step (masked s.channels (events_by s e)) (λ A. make_one (hide A) p) A b
+  module _ (t : Phrase) (ts : Syntaxes) where
+    renamed_size : (p : Body) (R : Pairs) → size (renamed (event_count s.channels) R p) ≡ size p + renaming_nodes R
+    unfolding size renamed renaming_nodes
+    renamed_size p [] = omega arith
+    renamed_size p (r ∷ R) = omega arith
 
-  module _ (ts : List Syntax) where
-    pub renaming_first : (k : Unread) → Fails k (make t s w) → Fails k (make_phrase (renaming t ts) s w)
-    unfolding make_phrase
-    renaming_first k f = fails_at k (make t s w) (λ p. pairs_of s.channels s.known (syntaxes ts) >>= λ R. make_renamed (event_count s.channels) R p) f
+    pub renaming_first : (k : Unread) → Fails k (fits room (denoted t s)) → Fails k (fits room (denoted (renaming t ts) s))
+    unfolding denoted
+    renaming_first = part_first size size (λ p R. renamed (event_count s.channels) R p) renaming_nodes renamed_size room (denoted t s) (pairs_of s.channels s.known ts)
 
-    pub renaming_on : (p : Made) → make t s w ≡ Some p → make_phrase (renaming t ts) s w ≡ (pairs_of s.channels s.known (syntaxes ts) >>= λ R. make_renamed (event_count s.channels) R p)
-    unfolding make_phrase
-    renaming_on p a = step (make t s w) (λ p. pairs_of s.channels s.known (syntaxes ts) >>= λ R. make_renamed (event_count s.channels) R p) p a
+    pub renaming_on : (p : Body × ℕ) → fits room (denoted t s) ≡ Some p → fits room (denoted (renaming t ts) s) ≡ renamed_within (event_count s.channels) (pairs_of s.channels s.known ts) p.0 p.1
+    unfolding denoted
+    renaming_on = part_on size size (λ p R. renamed (event_count s.channels) R p) renaming_nodes renamed_size room (denoted t s) (pairs_of s.channels s.known ts)
 
--- with the pairs that were given
-pub renamed_so : (cs : List Channel) (o : Option Pairs) (p : Made) (R Q : Pairs) (n : ℕ) → o ≡ Some R → Q ≡ R → n ≡ event_count cs → make_renamed_by cs o p ≡ make_renamed n Q p
-renamed_so cs o p R Q n h e l = ap (λ o. make_renamed_by cs o p) h ∙ ap (λ R. make_renamed (event_count cs) R p) (sym e) ∙ ap (λ n. make_renamed n Q p) (sym l)
+  -- ---- conditions
 
-two_masked_is : {Y : Type 0} (s : Scope) (o u : Option Events) (f : Set → Set → Option Y) → (masked s.channels o >>= λ A. masked s.channels u >>= λ B. f A B) ≡ (two_masked s.channels o u >>= λ (x : Set × Set). f x.0 x.1)
-unfolding two_masked masked
-two_masked_is s None u f = refl
-two_masked_is s (Some A) None f = refl
-two_masked_is s (Some A) (Some B) f = refl
+  module _ (c : Syntax) (t u : Phrase) where
+    pub conditional_fails : (k : Unread) → Fails k (condition s.known c) → Fails k (fits room (denoted (conditional c t u) s))
+    unfolding denoted fit
+    conditional_fails k f = fails_on k (condition s.known c) (fits room (denoted (conditional c t u) s)) (λ n. ap (λ o. fits room (o >>= λ b. cond b (denoted t s) (denoted u s))) n) f
 
-module _ (s : Scope) (w : Count) (t e g u : Syntax) where
-  pub alphabetised_first : (k : Unread) → Fails k (make t s w) → Fails k (make_phrase (alphabetised t e g u) s w)
-  unfolding make_phrase
-  alphabetised_first k f = fails_at k (make t s w) (λ p. masked s.channels (events_by s e) >>= λ A. masked s.channels (events_by s g) >>= λ B. make u s p.1 >>= make_above 5 (make_alphabetised s (has A) (has B)) p) f
+    pub conditional_so : (b : Bool) → condition s.known c ≡ Some b → fits room (denoted (conditional c t u) s) ≡ fits room (cond b (denoted t s) (denoted u s))
+    unfolding denoted
+    conditional_so b e = ap (λ o. fits room (o >>= λ b. cond b (denoted t s) (denoted u s))) e
 
-  module _ (p : Made) (a : make t s w ≡ Some p) where
-    pub alphabetised_on : make_phrase (alphabetised t e g u) s w ≡ (two_masked s.channels (events_by s e) (events_by s g) >>= λ (x : Set × Set). make u s p.1 >>= make_above 5 (make_alphabetised s (has x.0) (has x.1)) p)
-    unfolding make_phrase
-    alphabetised_on =
-        step (make t s w) (λ p. masked s.channels (events_by s e) >>= λ A. masked s.channels (events_by s g) >>= λ B. make u s p.1 >>= make_above 5 (make_alphabetised s (has A) (has B)) p) p a
-        ∙ two_masked_is s (events_by s e) (events_by s g) (λ A B. make u s p.1 >>= make_above 5 (make_alphabetised s (has A) (has B)) p)
+  -- ---- prefixes
 
-    pub alphabetised_sets : (k : Unread) → Fails k (two_masked s.channels (events_by s e) (events_by s g)) → Fails k (make_phrase (alphabetised t e g u) s w)
-    alphabetised_sets k f =
-        subst (λ o. Fails k o) (sym alphabetised_on)
-        (fails_at k (two_masked s.channels (events_by s e) (events_by s g)) (λ (x : Set × Set). make u s p.1 >>= make_above 5 (make_alphabetised s (has x.0) (has x.1)) p) f)
+  module _ (e : Syntax) (next : Scope → Option Body) where
+    pub no_prefix : (k : Unread) → Fails k (prefix_parts s e) → Fails k (fits room (prefixed_by s e next))
+    unfolding prefixed_by fit
+    no_prefix k f = fails_on k (prefix_parts s e) (fits room (prefixed_by s e next)) (λ n. ap (λ o. fits room (o >>= λ p. branches (event_fits p.0 p.1 p.2 s) next 0 (events s.channels) >>= λ ps. Some (choice_of ps))) n) f
 
-    alphabetised_with : (x : Set × Set) → two_masked s.channels (events_by s e) (events_by s g) ≡ Some x → make_phrase (alphabetised t e g u) s w ≡ (make u s p.1 >>= make_above 5 (make_alphabetised s (has x.0) (has x.1)) p)
-    alphabetised_with x b = alphabetised_on ∙ step (two_masked s.channels (events_by s e) (events_by s g)) (λ (x : Set × Set). make u s p.1 >>= make_above 5 (make_alphabetised s (has x.0) (has x.1)) p) x b
+    module _ (c : Name) (ts : Syntaxes) (sets : List Values) (h : prefix_parts s e ≡ Some (c, ts, sets)) where
+      abbrev all : Option (List Body)
+      all = branches (event_fits c ts sets s) next 0 (events s.channels)
 
-    module _ (x : Set × Set) (b : two_masked s.channels (events_by s e) (events_by s g) ≡ Some x) where
-      pub alphabetised_second : (k : Unread) → Fails k (make u s p.1) → Fails k (make_phrase (alphabetised t e g u) s w)
-      alphabetised_second k f = subst (λ o. Fails k o) (sym (alphabetised_with x b)) (fails_at k (make u s p.1) (make_above 5 (make_alphabetised s (has x.0) (has x.1)) p) f)
+      there : fits room (prefixed_by s e next) ≡ fits room (all >>= λ ps. Some (choice_of ps))
+      unfolding prefixed_by
+      there = ap (fits room) (step (prefix_parts s e) (λ p. branches (event_fits p.0 p.1 p.2 s) next 0 (events s.channels) >>= λ ps. Some (choice_of ps)) (c, ts, sets) h)
 
-      pub alphabetised_so : (q : Made) → make u s p.1 ≡ Some q → make_phrase (alphabetised t e g u) s w ≡ make_above 5 (make_alphabetised s (has x.0) (has x.1)) p q
-      alphabetised_so q d = alphabetised_with x b ∙ step (make u s p.1) (make_above 5 (make_alphabetised s (has x.0) (has x.1)) p) q d
+      choice_size : (ps : List Body) → size (choice_of ps) ≡ sizes ps + halved_nodes ps
+      unfolding join_of none_of
+      choice_size = size_halves joins.External
 
--- ---- conditions
+      pub branches_fail : (k : Unread) → Fails k (all_fit room all) → Fails k (fits room (prefixed_by s e next))
+      branches_fail k f = subst (λ o. Fails k o) (sym there) (one_fails sizes size choice_of halved_nodes choice_size room all k f)
 
-module _ (s : Scope) (w : Count) (c t : Syntax) where
-  module _ (u : Syntax) where
-    pub conditional_fails : (k : Unread) → Fails k (condition s.known c) → Fails k (make_phrase (conditional c t u) s w)
-    unfolding make_phrase
-    conditional_fails k f = fails_at k (condition s.known c) (λ b. cond b (make t s w) (make u s w)) f
+      pub branches_made : (x : List Body × ℕ) → all_fit room all ≡ Some x → fits room (prefixed_by s e next) ≡ spare (halved_nodes x.0) (choice_of x.0) x.1
+      branches_made x g = there ∙ one_so sizes size choice_of halved_nodes choice_size room all x g
 
-    pub conditional_so : (b : Bool) → condition s.known c ≡ Some b → make_phrase (conditional c t u) s w ≡ cond b (make t s w) (make u s w)
-    unfolding make_phrase
-    conditional_so b h = step (condition s.known c) (λ b. cond b (make t s w) (make u s w)) b h
+  -- ---- replicated forms
 
-    pub conditional_first : (b : Bool) → condition s.known c ≡ Some b → b ≡ true → make_phrase (conditional c t u) s w ≡ make t s w
-    conditional_first b h e = conditional_so b h ∙ ap (λ b. cond b (make t s w) (make u s w)) e
+  module _ (j : Join) (gs : List Syntax) (t : Phrase) where
+    on_walk : fits room (denoted (replicated j gs t) s) ≡ (all_fit room (first_scope (visits gs s) >>= on_visits (denoted t)) >>= λ p. spare_joined j p.0 p.1)
+    unfolding denoted
+    on_walk = all_is j room (over gs (denoted t) s) ∙ ap (λ o. all_fit room o >>= λ p. spare_joined j p.0 p.1) (begun (denoted t) gs s)
 
-    pub conditional_second : (b : Bool) → condition s.known c ≡ Some b → b ≡ false → make_phrase (conditional c t u) s w ≡ make u s w
-    conditional_second b h e = conditional_so b h ∙ ap (λ b. cond b (make t s w) (make u s w)) e
+    pub no_first : (k : Unread) → Fails k (first_scope (visits gs s)) → Fails k (fits room (denoted (replicated j gs t) s))
+    unfolding fit
+    no_first k f = fails_on k (first_scope (visits gs s)) (fits room (denoted (replicated j gs t) s)) (λ n. on_walk ∙ ap (λ o. all_fit room (o >>= on_visits (denoted t)) >>= λ p. spare_joined j p.0 p.1) n) f
 
-  pub guarded_fails : (k : Unread) → Fails k (condition s.known c) → Fails k (make_phrase (guarded c t) s w)
-  unfolding make_phrase
-  guarded_fails k f = fails_at k (condition s.known c) (λ b. cond b (make t s w) (make_stop w)) f
+    module _ (us : List Visit) (e : first_scope (visits gs s) ≡ Some us) where
+      from_first : fits room (denoted (replicated j gs t) s) ≡ (all_fit room (on_visits (denoted t) us) >>= λ p. spare_joined j p.0 p.1)
+      from_first = on_walk ∙ ap (λ o. all_fit room (o >>= on_visits (denoted t)) >>= λ p. spare_joined j p.0 p.1) e
 
-  guarded_so : (b : Bool) → condition s.known c ≡ Some b → make_phrase (guarded c t) s w ≡ cond b (make t s w) (make_stop w)
-  unfolding make_phrase
-  guarded_so b h = step (condition s.known c) (λ b. cond b (make t s w) (make_stop w)) b h
+      pub replicated_fails : (k : Unread) → Fails k (all_fit room (on_visits (denoted t) us)) → Fails k (fits room (denoted (replicated j gs t) s))
+      replicated_fails k f = subst (λ o. Fails k o) (sym from_first) (fails_at k (all_fit room (on_visits (denoted t) us)) (λ p. spare_joined j p.0 p.1) f)
 
-  pub guarded_met : (b : Bool) → condition s.known c ≡ Some b → b ≡ true → make_phrase (guarded c t) s w ≡ make t s w
-  guarded_met b h e = guarded_so b h ∙ ap (λ b. cond b (make t s w) (make_stop w)) e
+      pub replicated_so : (x : List Body × ℕ) → all_fit room (on_visits (denoted t) us) ≡ Some x → fits room (denoted (replicated j gs t) s) ≡ spare_joined j x.0 x.1
+      replicated_so x h = from_first ∙ step (all_fit room (on_visits (denoted t) us)) (λ p. spare_joined j p.0 p.1) x h
 
-  pub guarded_not : (b : Bool) → condition s.known c ≡ Some b → b ≡ false → make_phrase (guarded c t) s w ≡ make_phrase stops s w
-  unfolding make_phrase make_stop
-  guarded_not b h e = guarded_so b h ∙ ap (λ b. cond b (make t s w) (make_stop w)) e
+-- ---- the turns of a walk
 
--- ---- replicated forms
+module _ (next : Scope → Option Body) (front : List Body) (us : List Visit) (room : ℕ) (whole : Option (List Body × ℕ)) (inv : behind front (all_fit room (on_visits next us)) ≡ whole) where
+  pub walk_end : us ≡ [] → whole ≡ Some (front, room)
+  unfolding on_visits
+  walk_end h = sym inv ∙ ap (λ us. behind front (all_fit room (on_visits next us))) h ∙ all_before front room
 
-module _ (s : Scope) (w : Count) (j : Join) (gs : List Syntax) (t : Syntax) where
-  pub replicated_fails : (k : Unread) → Fails k (make_over (syntaxes gs) (make t) s w) → Fails k (make_phrase (replicated j gs t) s w)
-  unfolding make_phrase
-  replicated_fails k f = fails_at k (make_over (syntaxes gs) (make t) s w) (λ x. make_replicated j x) f
+  module _ (s : Scope) (vs : List Visit) (h : us ≡ stands s ∷ vs) where
+    standing : whole ≡ (with_one front (fits room (next s)) >>= λ x. behind x.0 (all_fit x.1 (on_visits next vs)))
+    unfolding on_visits
+    standing = sym inv ∙ ap (λ us. behind front (all_fit room (on_visits next us))) h ∙ one_and_rest front room (next s) (on_visits next vs)
 
-  pub replicated_so : (x : AllMade) → make_over (syntaxes gs) (make t) s w ≡ Some x → make_phrase (replicated j gs t) s w ≡ make_replicated j x
-  unfolding make_phrase
-  replicated_so x h = step (make_over (syntaxes gs) (make t) s w) (λ x. make_replicated j x) x h
+    pub stands_fails : (k : Unread) → Fails k (with_one front (fits room (next s))) → Fails k whole
+    stands_fails k f = fails_on k (with_one front (fits room (next s))) whole (λ e. standing ∙ ap (λ o. o >>= λ x. behind x.0 (all_fit x.1 (on_visits next vs))) e) f
+
+    module _ (x : List Body × ℕ) (m : with_one front (fits room (next s)) ≡ Some x) where
+      later : whole ≡ behind x.0 (all_fit x.1 (first_scope vs >>= on_visits next))
+      later = standing ∙ ap (λ o. o >>= λ x. behind x.0 (all_fit x.1 (on_visits next vs))) m ∙ ap (λ o. behind x.0 (all_fit x.1 o)) (first_is next vs)
+
+      pub no_next : (k : Unread) → Fails k (first_scope vs) → Fails k whole
+      unfolding fit
+      no_next k f = fails_on k (first_scope vs) whole (λ e. later ∙ ap (λ o. behind x.0 (all_fit x.1 (o >>= on_visits next))) e) f
+
+      pub next_found : (ws : List Visit) → first_scope vs ≡ Some ws → behind x.0 (all_fit x.1 (on_visits next ws)) ≡ whole
+      next_found ws e = sym (later ∙ ap (λ o. behind x.0 (all_fit x.1 (o >>= on_visits next))) e)
+
+-- with one more, step by step
+
+pub no_process : (k : Unread) (front : List Body) (o : Option (Body × ℕ)) → Fails k o → Fails k (with_one front o)
+no_process k front o f = fails_at k o (λ p. with_one front (Some p)) f
+
+pub one_process : (front new : List Body) (o : Option (Body × ℕ)) (p : Body × ℕ) → o ≡ Some p → new ≡ front ++ p.0 ∷ [] → with_one front o ≡ Some (new, p.1)
+one_process front new o p e n = ap (with_one front) e ∙ ap (λ ps. all_of ps p.1) (sym n)
+
+pub put_behind : {A : Type 0} (view : A → Body) (xs new : List A) (t : A) → new ≡ xs ++ t ∷ [] → map view new ≡ map view xs ++ view t ∷ []
+put_behind view xs new t is = ap (map view) is ∙ map-append view xs (t ∷ [])

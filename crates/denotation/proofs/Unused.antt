@@ -14,8 +14,7 @@ use Rattle.values.specs.Worths.{one, truth, Known, worth, worths, formed, truth_
 use Rattle.values.proofs.Parts.{node_is}
 use Rattle.values.proofs.Keeps.{chosen, if_is, and_is, or_is, Parted, by_if, by_and, by_or, by_all, parted, EachPhrase, by_parts}
 use Rattle.event_phrases.specs.Scopes.{Scope, with_input}
-use Rattle.denotation.specs.Forms.{generator_of}
-use Rattle.denotation.specs.Parts.{generator_values}
+use Rattle.denotation.specs.Phrases.{generator_of, generator_values}
 use Rattle.denotation.specs.Walks.{Visit, opens, fails, stands, behind_each, found_generator, behind_found, visits, first_scope}
 use Rattle.denotation.specs.Ahead.{has_name, is_name_of, uses, some_uses}
 use Rattle.denotation.proofs.Places.{no_items}

@@ -11,8 +11,7 @@ use Rattle.values.specs.Names.{Entry}
 use Rattle.values.specs.Channels.{Declares}
 use Rattle.event_phrases.specs.Events.{KnownEvents, EventsStand}
 use Rattle.event_phrases.specs.Scopes.{Scope}
-use Rattle.denotation.specs.Denotes.{Reached, Denotes}
-use Rattle.denotation.specs.Making.{Gathered}
+use Rattle.denotation.specs.Denotes.{Reached, Denotes, Gathered}
 use Rattle.denotation.proofs.Unique.{one_declared, one_sets}
 
 module _ (t : Syntax) (root : Name) (es : List Entry) (known : Known) (cs : List Channel) (sets : KnownEvents) (d : Declares t es known cs) (e : EventsStand cs known es sets) where

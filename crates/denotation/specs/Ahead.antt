@@ -3,7 +3,7 @@ use Rattle.std.specs.Prelude.{List, [], ◌∷◌, Bool, false, ◌||◌, Option
 use Rattle.syntax.specs.Grammar.{Syntax, Called, Numeral, Node, Syntaxes, NoSyntax, MoreSyntax}
 use Rattle.values.specs.Values.{Name}
 use Rattle.values.specs.Names.{same_name}
-use Rattle.denotation.specs.Forms.{generator_of}
+use Rattle.denotation.specs.Phrases.{generator_of}
 
 unfoldable pub has_name : Option (Name × Syntax) → Name → Bool
 has_name None n = false

@@ -1,26 +1,21 @@
--- What is made of the events that fit a prefix, one after the other.
-use Rattle.std.specs.Prelude.{ℕ, suc, List, [], ◌∷◌, Option, Some, None}
+-- The first branch of a prefix, with the room that is left.
+use Rattle.std.specs.Prelude.{ℕ, List, Option, Some, None}
 use Rattle.alphabet.specs.Channels.{Parts}
-use Rattle.term.specs.Proc.{Proc, prefix}
 use Rattle.values.specs.Values.{◌>>=◌}
 use Rattle.event_phrases.specs.Fitting.{Fitting}
 use Rattle.event_phrases.specs.Leading.{Fit, first_fit}
 use Rattle.event_phrases.specs.Scopes.{Scope}
-use Rattle.denotation.specs.Making.{Count, Made, AllMade, spend, make_behind, put}
+use Rattle.denotation.specs.Bodies.{Body, prefix}
+use Rattle.denotation.specs.Rooms.{fits}
 
 -- a branch with the number of its event and the events after that one, if there is a branch
-abbrev pub FoundFit : Type 0
-FoundFit = Option (ℕ × Proc × List Parts) × Count
+abbrev pub Branch : Type 0
+Branch = Option (ℕ × Body × List Parts) × ℕ
 
-unfoldable pub make_fit : (Scope → Count → Option Made) → Count → Option Fit → Option FoundFit
-make_fit next w None = Some (None, w)
-make_fit next w (Some f) = next f.1 w >>= λ p. spend 1 p.1 >>= λ u. Some (Some (f.0, prefix f.0 p.0, f.2), u)
+abbrev pub branch_of : (Scope → Option Body) → ℕ → Option Fit → Option Branch
+branch_of next room None = Some (None, room)
+branch_of next room (Some f) = fits room (next f.1 >>= λ p. Some (prefix f.0 p)) >>= λ q. Some (Some (f.0, q.0, f.2), q.1)
 
 -- the first branch of these events, where a is the first one's number
-abbrev pub make_first_fit : (Parts → Fitting) → (Scope → Count → Option Made) → ℕ → List Parts → Count → Option FoundFit
-make_first_fit test next a ps w = first_fit test a ps >>= make_fit next w
-
--- the branches of all of these events
-unfoldable pub make_fits : (Parts → Fitting) → (Scope → Count → Option Made) → ℕ → List Parts → Count → Option AllMade
-make_fits test next a [] w = Some ([], w)
-make_fits test next a (p ∷ ps) w = (test p >>= make_behind next a w) >>= λ x. make_fits test next (suc a) ps x.1 >>= λ y. Some (put x.0 y.0, y.1)
+abbrev pub first_branch : (Parts → Fitting) → (Scope → Option Body) → ℕ → List Parts → ℕ → Option Branch
+first_branch test next a ps room = first_fit test a ps >>= branch_of next room

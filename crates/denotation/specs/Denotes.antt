@@ -2,7 +2,7 @@
 use Rattle.std.specs.Prelude.{◌≡◌, ℕ, suc, ◌+◌, ◌<◌, ◌≤◌, List, [], ◌∷◌, ◌++◌, length, take, map, Bool, true, false, Option, Some, None, if◌then◌else◌}
 use Rattle.std.specs.List.{All, flat_map}
 use Rattle.term.specs.Proc.{Proc}
-use Rattle.term.specs.Sizes.{size, depth}
+use Rattle.term.specs.Sizes as terms
 use Rattle.term.specs.Specs.{Specified}
 use Rattle.alphabet.specs.Channels.{FieldValue, Values}
 use Rattle.syntax.specs.Grammar.{Syntax}
@@ -13,7 +13,7 @@ use Rattle.values.specs.Channels.{Declares}
 use Rattle.event_phrases.specs.Events.{KnownEvents, EventsStand}
 use Rattle.denotation.specs.Bodies.{Key, same_key, Body, names, numbered}
 use Rattle.event_phrases.specs.Scopes.{Scope, within}
-use Rattle.denotation.specs.Phrases.{denoted}
+use Rattle.denotation.specs.Phrases.{phrase_of, denoted}
 
 -- ---- the body of a definition
 
@@ -22,7 +22,7 @@ body_by s None = None
 body_by s (Some (channel ts)) = None
 body_by s (Some (datatype ns)) = None
 body_by s (Some constant_name) = None
-body_by s (Some (definition t)) = denoted t s
+body_by s (Some (definition t)) = denoted (phrase_of t) s
 body_by s (Some (parametric xs t)) = None
 
 -- parameters with their values
@@ -33,7 +33,7 @@ paired xs vs = None
 
 -- the body of a definition with parameters, for these values; it sees no other inputs
 unfoldable pub called_by : Scope → Option Meaning → Values → Option Body
-called_by s (Some (parametric xs t)) vs = paired xs vs >>= λ is. denoted t (within s is)
+called_by s (Some (parametric xs t)) vs = paired xs vs >>= λ is. denoted (phrase_of t) (within s is)
 called_by s m vs = None
 
 -- the body of a definition with these values of its parameters
@@ -78,7 +78,16 @@ pub record Reached (s : Scope) (root : Key) (keys : List Key) (bodies : List Bod
 -- the nodes of all of them
 unfoldable pub nodes : List Proc → ℕ
 nodes [] = 0
-nodes (p ∷ ps) = size p + nodes ps
+nodes (p ∷ ps) = terms.size p + nodes ps
+
+-- These are the bodies of what is reached from a root, by their numbers, and they keep the limits.
+pub record Gathered (s : Scope) (root : Key) (ps : List Proc) : Type 0 where
+  pub keys : List Key
+  pub bodies : List Body
+  pub reached : Reached s root keys bodies
+  pub numbers : ps ≡ map (numbered (place keys)) bodies
+  pub deep : All (λ p. terms.depth p ≤ 200) ps
+  pub large : nodes ps ≤ 65536
 
 -- The script with this tree denotes the alphabet and the bodies of this specification for a root.
 pub record Denotes (t : Syntax) (root : Name) (spec : Specified) : Type 0 where
@@ -94,5 +103,5 @@ pub record Denotes (t : Syntax) (root : Name) (spec : Specified) : Type 0 where
   pub reached : Reached (record { entries = entries; channels = spec.alphabet; known = known; sets = sets }) (root, []) keys bodies
   pub numbers : spec.bodies ≡ map (numbered (place keys)) bodies
   -- the limits of bodies
-  pub deep : All (λ p. depth p ≤ 200) spec.bodies
+  pub deep : All (λ p. terms.depth p ≤ 200) spec.bodies
   pub large : nodes spec.bodies ≤ 65536

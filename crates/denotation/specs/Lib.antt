@@ -2,15 +2,12 @@
 pub mod Bodies
 pub mod Phrases
 pub mod Denotes
-pub mod Making
 -- Steps of the program.
-pub mod CallLaws
-pub mod View
-pub mod Forms
-pub mod Shapes
-pub mod Parts
-pub mod Walks
-pub mod Ahead
-pub mod Places
-pub mod BodyParts
+pub mod Rooms
 pub mod Branches
+pub mod Walks
+pub mod Places
+pub mod Ahead
+pub mod Shapes
+pub mod View
+pub mod CallLaws

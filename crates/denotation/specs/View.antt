@@ -1,15 +1,21 @@
 -- What is in memory as plain values.
-use Rattle.std.specs.Prelude.{map}
 use Rattle.denotation.specs.declared.call.Call.{Call}
-use Rattle.denotation.specs.declared.work.Work.{Work}
-use Rattle.denotation.specs.Bodies.{Key}
-use Rattle.denotation.specs.Making.{Count}
+use Rattle.denotation.specs.declared.draft.Draft.{Draft}
+use Rattle.denotation.specs.declared.draft.Draft.TheVariants.{Stop, Skip, Prefix', Both', Hide', Ren', Name}
+use Rattle.denotation.specs.Bodies.{Key, Body, stop, skip, prefix, hide, ren, name}
+use Rattle.denotation.specs.Phrases.{joint_of}
 use Rattle.event_phrases.specs.View.{listed}
 
 -- a definition and the values of its parameters
 abbrev pub key : {A : Type 0} → Call A → Key
 key c = (c.name.items, listed c.arguments.items)
 
--- the definitions that were met, and how many nodes may still be made
-abbrev pub count : {A : Type 0} → Work A → Count
-count w = (map key w.met.keys, w.room)
+-- the body that a draft is
+abbrev pub body : {A : Type 0} → Draft A → Body
+body Stop = stop
+body Skip = skip
+body (Prefix' a p t) = prefix a (body t)
+body (Both' k p t q u) = joint_of k (body t) (body u)
+body (Hide' A p t) = hide A (body t)
+body (Ren' r p t) = ren r.items (body t)
+body (Name c) = name (key c)

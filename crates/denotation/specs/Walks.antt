@@ -1,13 +1,11 @@
 -- The walk through the values of a replicated form's generators, of which the last is the fastest.
 use Rattle.std.specs.Prelude.{List, [], ◌∷◌, ◌++◌, Option, Some, None}
 use Rattle.alphabet.specs.Channels.{FieldValue, Values}
-use Rattle.term.specs.Proc.{Proc}
 use Rattle.syntax.specs.Grammar.{Syntax}
 use Rattle.values.specs.Values.{◌>>=◌, Name}
 use Rattle.event_phrases.specs.Scopes.{Scope, with_input, within}
-use Rattle.denotation.specs.Forms.{generator_of}
-use Rattle.denotation.specs.Making.{Count, Made, AllMade}
-use Rattle.denotation.specs.Parts.{generator_values}
+use Rattle.denotation.specs.Bodies.{Body}
+use Rattle.denotation.specs.Phrases.{generator_of, generator_values}
 
 -- what a walk meets
 pub data Visit : Type 0 where
@@ -36,16 +34,12 @@ unfoldable pub visits : List Syntax → Scope → List Visit
 visits [] s = stands s ∷ []
 visits (g ∷ gs) s = behind_found (visits gs) s (found_generator s g)
 
--- what is made in the scopes that are met
-unfoldable pub make_visits : (Scope → Count → Option Made) → List Visit → Count → Option AllMade
-make_visits next [] w = Some ([], w)
-make_visits next (opens ∷ vs) w = make_visits next vs w
-make_visits next (fails ∷ vs) w = None
-make_visits next (stands s ∷ vs) w = next s w >>= λ p. make_visits next vs p.1 >>= λ q. Some (p.0 ∷ q.0, q.1)
-
--- what is made with one more process
-abbrev pub with_made : List Proc → Option Made → Option AllMade
-with_made front o = o >>= λ p. Some (front ++ p.0 ∷ [], p.1)
+-- what there is in the scopes that are met
+unfoldable pub on_visits : (Scope → Option Body) → List Visit → Option (List Body)
+on_visits next [] = Some []
+on_visits next (opens ∷ vs) = on_visits next vs
+on_visits next (fails ∷ vs) = None
+on_visits next (stands s ∷ vs) = next s >>= λ p. on_visits next vs >>= λ ps. Some (p ∷ ps)
 
 -- what is met from the first scope on, where nothing fails before it
 unfoldable pub first_scope : List Visit → Option (List Visit)

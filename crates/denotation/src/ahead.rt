@@ -4,7 +4,7 @@ ghost use Rattle.syntax.specs.Parsing.{syntaxes};
 ghost use Rattle.syntax.specs.View.{shape, shapes};
 ghost use Rattle.values.specs.Tables.{input};
 ghost use Rattle.event_phrases.specs.Scopes.{within};
-ghost use Rattle.denotation.specs.Forms.{generator_of};
+ghost use Rattle.denotation.specs.Phrases.{generator_of};
 ghost use Rattle.denotation.specs.Ahead.{has_name as has_name_of, is_name_of as is_name_of_these, some_uses, uses as uses_these};
 ghost use Rattle.denotation.specs.Walks.{first_scope, visits};
 

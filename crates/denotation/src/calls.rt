@@ -1,23 +1,21 @@
-//! Terms of calls.
+//! Bodies of calls.
 ghost use Rattle.std.specs.Prelude.{map};
-ghost use Rattle.syntax.specs.Parsing.{syntaxes};
 ghost use Rattle.syntax.specs.View.{shapes};
-ghost use Rattle.term.specs.Proc.{proc};
 ghost use Rattle.values.specs.Tables.{input};
 ghost use Rattle.values.specs.View.{Gives};
 ghost use Rattle.event_phrases.specs.Scopes.{within};
 ghost use Rattle.event_phrases.specs.View.{listed};
-ghost use Rattle.denotation.specs.Forms.{calling};
-ghost use Rattle.denotation.specs.Making.{make_phrase};
-ghost use Rattle.denotation.specs.Phrases.{arguments as arguments_of};
-ghost use Rattle.denotation.specs.View.{count};
+ghost use Rattle.denotation.specs.Bodies.{name as name_of};
+ghost use Rattle.denotation.specs.Phrases.{arguments as arguments_of, called_with as call};
+ghost use Rattle.denotation.specs.Rooms.{fits, spare};
+ghost use Rattle.denotation.specs.View.{body, key};
 
 use crate::call::Call;
-use crate::work::{Work, refer};
+use crate::draft::Draft;
+use crate::room::spend_nodes;
 use event_phrases::{GlobalScope, Scope, wanted_value};
 use std::alloc::Allocator;
 use syntax::Tree;
-use term::Term;
 use tokens::{ScriptErrorKind, Unread, fault};
 use values::Value;
 
@@ -27,13 +25,25 @@ fn argument_values<A: Allocator + Copy, G: GlobalScope<A>>(
     scope: &Scope<'_, A, G>,
     phrases: &[Tree<A>],
 ) -> Result<Vec<Value<A>, A>, Unread>
-    ensures { Gives (λ v. listed v.items) result (arguments_of (within (G.scope scope.now.global.now) (map input scope.now.inputs.items)).known (syntaxes (shapes phrases.now))) }
+    ensures { Gives (λ v. listed v.items) result (arguments_of (within (G.scope scope.now.global.now) (map input scope.now.inputs.items)).known (shapes phrases.now)) }
 {
     let mut found = Vec::new(alloc);
     for phrase in phrases {
         found.push(wanted_value(alloc, scope, phrase)?)?;
     }
     Ok(found)
+}
+
+/// The name of a definition with these values, where there is room for it.
+pub(crate) fn refer<A: Allocator>(
+    call: Call<A>,
+    room: &mut usize,
+    line: u32,
+) -> Result<Draft<A>, Unread>
+    ensures { Gives (λ b. (body b, room.new)) result (spare 1 (name_of (key call)) room.old) }
+{
+    spend_nodes(room, 1, line)?;
+    Ok(Draft::Name(call))
 }
 
 /// A call of the definition with this name, on this line.
@@ -43,9 +53,9 @@ pub(crate) fn called_with<A: Allocator + Copy, G: GlobalScope<A>>(
     name: &[u8],
     arguments: &[Tree<A>],
     line: u32,
-    work: &mut Work<A>,
-) -> Result<Term<A>, Unread>
-    ensures { Gives (λ t. (proc t, count work.new)) result (make_phrase (calling name.now (shapes arguments.now)) (within (G.scope scope.now.global.now) (map input scope.now.inputs.items)) (count work.old)) }
+    room: &mut usize,
+) -> Result<Draft<A>, Unread>
+    ensures { Gives (λ b. (body b, room.new)) result (fits room.old (call name.now (shapes arguments.now) (within (G.scope scope.now.global.now) (map input scope.now.inputs.items)))) }
 {
     if scope.is_value(name) {
         return Err(fault(line, ScriptErrorKind::Expected));
@@ -60,7 +70,7 @@ pub(crate) fn called_with<A: Allocator + Copy, G: GlobalScope<A>>(
                 arguments: argument_values(alloc, scope, arguments)?,
                 name: Vec::from_slice(alloc, name)?,
             };
-            refer(call, work, scope.line)
+            refer(call, room, scope.line)
         }
     }
 }

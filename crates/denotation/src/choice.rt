@@ -1,89 +1,88 @@
-//! Lists of terms joined two and two.
+//! Lists of bodies joined two and two.
 ghost use Rattle.std.specs.Prelude.{◌≡◌, IfOk, map};
-ghost use Rattle.term.specs.Proc.{proc};
-ghost use Rattle.denotation.specs.Making.{halved_nodes, halved_over, join_of, make_choice, make_halved};
-ghost use Rattle.denotation.specs.Parts.{none_of};
 ghost use Rattle.values.specs.View.{Gives};
-ghost use Rattle.denotation.specs.View.{count};
+ghost use Rattle.denotation.specs.Bodies.{choice_of, halved as halved_over};
+ghost use Rattle.denotation.specs.Phrases.{join_of, none_of};
+ghost use Rattle.denotation.specs.Rooms.{halved_nodes, spare};
+ghost use Rattle.denotation.specs.View.{body};
 
+use crate::draft::{Draft, Joint};
 use crate::forms::Join;
 use crate::joining::joined;
-use crate::work::{Work, spend_nodes};
+use crate::room::spend_nodes;
 use std::alloc::{AllocError, Allocator};
-use term::Term;
 use tokens::Unread;
 
-/// What a list without terms is, joined so.
-#[tactic(auto, unfolding(crate::specs::Parts::none_of))]
-fn none<A: Allocator>(join: Join) -> Term<A>
-    ensures { proc result ≡ none_of join }
+/// What a list without bodies is, joined so.
+#[tactic(auto, unfolding(crate::specs::Phrases::none_of))]
+fn none<A: Allocator>(join: Join) -> Draft<A>
+    ensures { body result ≡ none_of join }
 {
     match join {
-        Join::Interleaving => Term::Skip,
-        Join::Sequence | Join::Interrupt | Join::External | Join::Internal => Term::Stop,
+        Join::Interleaving => Draft::Skip,
+        Join::Sequence | Join::Interrupt | Join::External | Join::Internal => Draft::Stop,
     }
 }
 
 /// `STOP` or `SKIP` for none, the one for one, else the first half so joined, joined with the rest so joined.
-#[tactic(auto, using(crate::proofs::Choices::halved_none, crate::proofs::Choices::halved_one, crate::proofs::Choices::halved_halves))]
+#[tactic(auto, using(crate::proofs::Choices::halved_none, crate::proofs::Choices::halved_one, crate::proofs::Choices::halved_halves), unfolding(crate::specs::Phrases::joint_of))]
 fn halved<A: Allocator + Copy>(
     alloc: A,
     join: Join,
-    terms: Vec<Term<A>, A>,
-) -> Result<Term<A>, AllocError>
-    ensures { IfOk result (λ t. proc t ≡ halved_over (join_of join) (none_of join) (map proc terms.items)) }
+    drafts: Vec<Draft<A>, A>,
+) -> Result<Draft<A>, AllocError>
+    ensures { IfOk result (λ b. body b ≡ halved_over (join_of join) (none_of join) (map body drafts.items)) }
 {
-    let mut terms = terms;
-    let length = terms.len();
+    let mut drafts = drafts;
+    let length = drafts.len();
     if length < 2 {
-        return match terms.pop() {
+        return match drafts.pop() {
             Some(only) => Ok(only),
             None => Ok(none(join)),
         };
     }
-    let rest = terms.split_off(length - length / 2)?;
-    let first = halved(alloc, join, terms)?;
+    let rest = drafts.split_off(length - length / 2)?;
+    let first = halved(alloc, join, drafts)?;
     let second = halved(alloc, join, rest)?;
-    joined(alloc, join, first, second)
+    joined(alloc, Joint::Join(join), first, second)
 }
 
-/// How many nodes joining the terms takes itself.
-#[tactic(auto, unfolding(crate::specs::Making::halved_nodes))]
-fn nodes_of_halved<A: Allocator>(terms: &[Term<A>]) -> usize
-    ensures { result ≡ halved_nodes (map proc terms.now) }
+/// How many nodes joining the bodies takes itself.
+#[tactic(auto, unfolding(crate::specs::Rooms::halved_nodes))]
+fn nodes_of_halved<A: Allocator>(drafts: &[Draft<A>]) -> usize
+    ensures { result ≡ halved_nodes (map body drafts.now) }
 {
-    match terms {
+    match drafts {
         [] => 1,
         [_, rest @ ..] => rest.len(),
     }
 }
 
-/// The terms joined two and two, where there is room for the nodes of this.
-#[tactic(auto, unfolding(crate::specs::Making::make_halved))]
+/// The bodies joined two and two, where there is room for the nodes of this.
 pub(crate) fn halved_within<A: Allocator + Copy>(
     alloc: A,
     join: Join,
-    terms: Vec<Term<A>, A>,
-    work: &mut Work<A>,
+    drafts: Vec<Draft<A>, A>,
+    room: &mut usize,
     line: u32,
-) -> Result<Term<A>, Unread>
-    ensures { Gives (λ t. (proc t, count work.new)) result (make_halved (join_of join) (none_of join) (map proc terms.items, count work.old)) }
+) -> Result<Draft<A>, Unread>
+    ensures { Gives (λ b. (body b, room.new)) result (spare (halved_nodes (map body drafts.items)) (halved_over (join_of join) (none_of join) (map body drafts.items)) room.old) }
 {
-    let nodes = nodes_of_halved(&terms);
-    spend_nodes(work, nodes, line)?;
-    let term = halved(alloc, join, terms)?;
-    Ok(term)
+    let nodes = nodes_of_halved(&drafts);
+    spend_nodes(room, nodes, line)?;
+    let joined = halved(alloc, join, drafts)?;
+    Ok(joined)
 }
 
-/// The choice over the terms, where there is room for its nodes.
-#[tactic(auto, unfolding(crate::specs::Making::join_of, crate::specs::Parts::none_of))]
+/// The choice over the bodies, where there is room for its nodes.
+#[tactic(auto, unfolding(crate::specs::Phrases::join_of, crate::specs::Phrases::none_of))]
 pub(crate) fn chosen<A: Allocator + Copy>(
     alloc: A,
-    terms: Vec<Term<A>, A>,
-    work: &mut Work<A>,
+    drafts: Vec<Draft<A>, A>,
+    room: &mut usize,
     line: u32,
-) -> Result<Term<A>, Unread>
-    ensures { Gives (λ t. (proc t, count work.new)) result (make_choice (map proc terms.items, count work.old)) }
+) -> Result<Draft<A>, Unread>
+    ensures { Gives (λ b. (body b, room.new)) result (spare (halved_nodes (map body drafts.items)) (choice_of (map body drafts.items)) room.old) }
 {
-    halved_within(alloc, Join::External, terms, work, line)
+    halved_within(alloc, Join::External, drafts, room, line)
 }

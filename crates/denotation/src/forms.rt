@@ -1,9 +1,8 @@
 //! Phrases for processes by their forms.
-ghost use Rattle.std.specs.Prelude.{◌≡◌, ◌<◌, Some, IfSome};
+ghost use Rattle.std.specs.Prelude.{◌≡◌, map};
 ghost use Rattle.std.specs.Option.{option_map};
 ghost use Rattle.syntax.specs.View.{shape, shapes};
-ghost use Rattle.event_phrases.specs.Forms.{if_none, tall};
-ghost use Rattle.denotation.specs.Forms.{generators_of, generator_of, replicated_phrase, joined_phrase, operation_phrase, form_phrase, phrase_of, inner_tall};
+ghost use Rattle.denotation.specs.Phrases.{form_phrase, generator_of, generators_of, joined_phrase, operation_phrase, or_other, part, phrase_of, replicated_phrase};
 ghost use Rattle.denotation.specs.Shapes.{plain};
 
 use event_phrases::forms::{first, four, name, node, one, three, two};
@@ -12,7 +11,7 @@ use syntax::{Form, Operator, Tree};
 
 /// An operator between two processes that joins them without a set of events.
 #[derive(Clone, Copy, Debug, PartialEq, Eq)]
-pub(crate) enum Join {
+pub enum Join {
     /// `P ; Q`
     Sequence,
     /// `P /\ Q`
@@ -25,7 +24,17 @@ pub(crate) enum Join {
     Interleaving,
 }
 
-/// A phrase for a process.
+/// What stands between two processes.
+#[derive(Clone, Copy)]
+pub(crate) enum Between<'a, A: Allocator> {
+    Join(Join),
+    /// `[| A |]`
+    Sharing(&'a Tree<A>),
+    /// `[ A || B ]`
+    Alphabetised(&'a Tree<A>, &'a Tree<A>),
+}
+
+/// A phrase for a process, by what it is made of.
 pub(crate) enum Phrase<'a, A: Allocator> {
     Stop,
     Skip,
@@ -35,19 +44,13 @@ pub(crate) enum Phrase<'a, A: Allocator> {
     Inside(&'a Tree<A>),
     /// `event -> P`
     Prefix(&'a Tree<A>, &'a Tree<A>),
-    Joined(Join, &'a Tree<A>, &'a Tree<A>),
-    /// `P [| A |] Q`
-    Sharing(&'a Tree<A>, &'a Tree<A>, &'a Tree<A>),
-    /// `P [ A || B ] Q`
-    Alphabetised(&'a Tree<A>, &'a Tree<A>, &'a Tree<A>, &'a Tree<A>),
+    Joined(Between<'a, A>, &'a Tree<A>, &'a Tree<A>),
     /// `P \ A`
     Hiding(&'a Tree<A>, &'a Tree<A>),
     /// `P[[a <- b]]`, with its pairs.
     Renaming(&'a Tree<A>, &'a [Tree<A>]),
-    /// `if b then P else Q`
-    Conditional(&'a Tree<A>, &'a Tree<A>, &'a Tree<A>),
-    /// `b & P`
-    Guarded(&'a Tree<A>, &'a Tree<A>),
+    /// `if b then P else Q`, or `b & P`
+    Conditional(&'a Tree<A>, &'a Tree<A>, Option<&'a Tree<A>>),
     /// `P(x, y)`, with its arguments.
     Calling(&'a [u8], &'a [Tree<A>]),
     /// `[] x:A, y:B @ P`, with its generators.
@@ -55,16 +58,16 @@ pub(crate) enum Phrase<'a, A: Allocator> {
 }
 
 /// Two processes that are joined so.
-#[tactic(auto, unfolding(crate::specs::Forms::joined_phrase))]
+#[tactic(auto, using(crate::proofs::Views::two_parts), unfolding(crate::specs::Phrases::joined_phrase))]
 fn joined<A: Allocator>(join: Join, parts: &[Tree<A>]) -> Option<Phrase<'_, A>>
-    ensures { option_map plain result ≡ joined_phrase join (shapes parts.now) }
+    ensures { option_map plain result ≡ joined_phrase join (map part (shapes parts.now)) }
 {
     let (first, second) = two(parts)?;
-    Some(Phrase::Joined(join, first, second))
+    Some(Phrase::Joined(Between::Join(join), first, second))
 }
 
 /// The generators of a list of them.
-#[tactic(auto, unfolding(crate::specs::Forms::generators_of, crate::specs::Forms::generators_form))]
+#[tactic(auto, unfolding(crate::specs::Phrases::generators_of, crate::specs::Phrases::generators_form))]
 fn generators<A: Allocator>(tree: &Tree<A>) -> Option<&[Tree<A>]>
     ensures { option_map (λ gs. shapes gs.now) result ≡ generators_of (shape tree.now) }
 {
@@ -76,7 +79,7 @@ fn generators<A: Allocator>(tree: &Tree<A>) -> Option<&[Tree<A>]>
 }
 
 /// The name and the set of a generator.
-#[tactic(auto, unfolding(crate::specs::Forms::generator_of, crate::specs::Forms::generator_form))]
+#[tactic(auto, unfolding(crate::specs::Phrases::generator_of, crate::specs::Phrases::generator_form))]
 pub(crate) fn generator<A: Allocator>(tree: &Tree<A>) -> Option<(&[u8], &Tree<A>)>
     ensures { option_map (λ g. (g.0.now, shape g.1.now)) result ≡ generator_of (shape tree.now) }
 {
@@ -91,18 +94,18 @@ pub(crate) fn generator<A: Allocator>(tree: &Tree<A>) -> Option<(&[u8], &Tree<A>
 }
 
 /// A process for all values of generators, joined so.
-#[tactic(auto, unfolding(crate::specs::Forms::replicated_phrase))]
+#[tactic(auto, using(crate::proofs::Views::two_parts), unfolding(crate::specs::Phrases::replicated_phrase))]
 fn replicated<A: Allocator>(join: Join, parts: &[Tree<A>]) -> Option<Phrase<'_, A>>
-    ensures { option_map plain result ≡ replicated_phrase join (shapes parts.now) }
+    ensures { option_map plain result ≡ replicated_phrase join (map part (shapes parts.now)) }
 {
     let (list, process) = two(parts)?;
     Some(Phrase::Replicated(join, generators(list)?, process))
 }
 
 /// The process that this operator with these parts is a phrase for.
-#[tactic(auto, unfolding(crate::specs::Forms::operation_phrase))]
+#[tactic(auto, using(crate::proofs::Views::two_parts, crate::proofs::Views::three_parts, crate::proofs::Views::four_parts, crate::proofs::Views::renaming_parts), unfolding(crate::specs::Phrases::operation_phrase))]
 fn operation<A: Allocator>(operator: Operator, parts: &[Tree<A>]) -> Option<Phrase<'_, A>>
-    ensures { option_map plain result ≡ operation_phrase operator (shapes parts.now) }
+    ensures { option_map plain result ≡ operation_phrase operator (map part (shapes parts.now)) }
 {
     match operator {
         Operator::Prefix => {
@@ -116,11 +119,11 @@ fn operation<A: Allocator>(operator: Operator, parts: &[Tree<A>]) -> Option<Phra
         Operator::Interleaving => joined(Join::Interleaving, parts),
         Operator::Sharing => {
             let (first, set, second) = three(parts)?;
-            Some(Phrase::Sharing(first, set, second))
+            Some(Phrase::Joined(Between::Sharing(set), first, second))
         }
         Operator::Alphabetised => {
             let (first, left, right, second) = four(parts)?;
-            Some(Phrase::Alphabetised(first, left, right, second))
+            Some(Phrase::Joined(Between::Alphabetised(left, right), first, second))
         }
         Operator::Hiding => {
             let (process, set) = two(parts)?;
@@ -132,16 +135,16 @@ fn operation<A: Allocator>(operator: Operator, parts: &[Tree<A>]) -> Option<Phra
         }
         Operator::Guard => {
             let (condition, process) = two(parts)?;
-            Some(Phrase::Guarded(condition, process))
+            Some(Phrase::Conditional(condition, process, None))
         }
         _ => None,
     }
 }
 
 /// The process that this form with these parts is a phrase for.
-#[tactic(auto, unfolding(crate::specs::Forms::form_phrase, event_phrases::specs::Forms::if_none))]
+#[tactic(auto, using(crate::proofs::Views::one_part, crate::proofs::Views::three_parts, crate::proofs::Views::call_parts), unfolding(crate::specs::Phrases::form_phrase, event_phrases::specs::Forms::if_none))]
 fn process_form<A: Allocator>(form: Form, parts: &[Tree<A>]) -> Option<Phrase<'_, A>>
-    ensures { option_map plain result ≡ form_phrase form (shapes parts.now) }
+    ensures { option_map plain result ≡ form_phrase form (map part (shapes parts.now)) }
 {
     match form {
         Form::Stop => match parts {
@@ -153,12 +156,12 @@ fn process_form<A: Allocator>(form: Form, parts: &[Tree<A>]) -> Option<Phrase<'_
             [_, ..] => None,
         },
         Form::Event => Some(Phrase::Called(name(one(parts)?)?)),
-        Form::Brackets => Some(Phrase::Inside(one(parts)?)),
-        Form::Operation(operator) => operation(operator, parts),
         Form::If => {
             let (condition, first, second) = three(parts)?;
-            Some(Phrase::Conditional(condition, first, second))
+            Some(Phrase::Conditional(condition, first, Some(second)))
         }
+        Form::Brackets => Some(Phrase::Inside(one(parts)?)),
+        Form::Operation(operator) => operation(operator, parts),
         Form::Call => {
             let (definition, arguments) = first(parts)?;
             Some(Phrase::Calling(name(definition)?, arguments))
@@ -171,10 +174,9 @@ fn process_form<A: Allocator>(form: Form, parts: &[Tree<A>]) -> Option<Phrase<'_
 }
 
 /// The process that this is a phrase for, by its form.
-#[tactic(auto, unfolding(crate::specs::Forms::phrase_of))]
+#[tactic(auto, using(crate::proofs::Views::phrase_is), unfolding(crate::specs::Phrases::phrase_of))]
 pub(crate) fn process_phrase<A: Allocator>(tree: &Tree<A>) -> Option<Phrase<'_, A>>
-    ensures shape { option_map plain result ≡ phrase_of (shape tree.now) }
-    ensures smaller { IfSome result (λ p. inner_tall (plain p) < tall (shape tree.now)) }
+    ensures { or_other (option_map plain result) ≡ phrase_of (shape tree.now) }
 {
     let (form, parts) = node(tree)?;
     process_form(form, parts)

@@ -3,12 +3,14 @@ ghost use Rattle.std.specs.Prelude.{◌≡◌, ◌∷◌, ◌<◌, Some, List, I
 ghost use Rattle.term.specs.Proc.{Proc, proc};
 ghost use Rattle.values.specs.View.{Gives};
 ghost use Rattle.denotation.specs.Bodies.{Key};
-ghost use Rattle.denotation.specs.Making.{Gathered, make_body};
-ghost use Rattle.denotation.specs.View.{count, key};
+ghost use Rattle.denotation.specs.Denotes.{Gathered, body_of};
+ghost use Rattle.denotation.specs.Rooms.{within_limits};
+ghost use Rattle.denotation.specs.View.{body as body_of_draft, key};
 
 use crate::call::Call;
+use crate::draft::Draft;
 use crate::maker::body;
-use crate::work::Work;
+use crate::numbering::{Met, numbered};
 use event_phrases::GlobalScope;
 use indexmap::IndexSet;
 use std::alloc::{AllocError, Allocator};
@@ -18,9 +20,9 @@ use tokens::Unread;
 /// The most nodes that all bodies have together.
 const NODE_LIMIT: usize = 65_536;
 
-/// Nothing but the root is met, and no nodes are made.
-fn begun<A: Allocator + Copy>(alloc: A, root: &[u8]) -> Result<Work<A>, AllocError>
-    ensures { IfOk result (λ w. count w ≡ ((root.now, []) ∷ [], 65536)) }
+/// Nothing but the root is met.
+fn begun<A: Allocator + Copy>(alloc: A, root: &[u8]) -> Result<Met<A>, AllocError>
+    ensures { IfOk result (λ met. map key met.keys ≡ (root.now, []) ∷ []) }
 {
     let first = Call {
         name: Vec::from_slice(alloc, root)?,
@@ -28,10 +30,7 @@ fn begun<A: Allocator + Copy>(alloc: A, root: &[u8]) -> Result<Work<A>, AllocErr
     };
     let mut met = IndexSet::new(alloc);
     let _new = met.insert(first)?;
-    Ok(Work {
-        met,
-        room: NODE_LIMIT,
-    })
+    Ok(met)
 }
 
 /// The body of the definition that was met with this number.
@@ -39,27 +38,29 @@ fn numbered_body<A: Allocator + Copy, G: GlobalScope<A>>(
     alloc: A,
     global: &G,
     number: usize,
-    work: &mut Work<A>,
-) -> Result<Term<A>, Unread>
-    requires { number < length work.old.met.keys }
-    ensures { (k : Key) → Gives (λ t. (proc t, count work.new)) result (make_body (G.scope global.now) (get_or (map key work.old.met.keys) number k) (count work.old)) }
+    met: &Met<A>,
+    room: &mut usize,
+) -> Result<Draft<A>, Unread>
+    requires { number < length met.now.keys }
+    ensures { (k : Key) → Gives (λ b. (body_of_draft b, room.new)) result (within_limits room.old (body_of (G.scope global.now) (get_or (map key met.now.keys) number k))) }
 {
-    let call = work.met[number].try_clone(alloc)?;
-    body(alloc, global, &call, work)
+    body(alloc, global, &met[number], room)
 }
 
 /// The bodies of what is reached, where nothing but the root is met yet.
 fn bodies<A: Allocator + Copy, G: GlobalScope<A>>(
     alloc: A,
     global: &G,
-    work: &mut Work<A>,
+    met: &mut Met<A>,
 ) -> Result<Vec<Term<A>, A>, Unread>
-    ensures found { (root : Key) → count work.old ≡ (root ∷ [], 65536) → IfOk result (λ v. Gathered (G.scope global.now) root (map proc v.items)) }
-    ensures only { (root : Key) → count work.old ≡ (root ∷ [], 65536) → (ps : List Proc) → Gathered (G.scope global.now) root ps → Gives (λ v. map proc v.items) result (Some ps) }
+    ensures found { (root : Key) → map key met.old.keys ≡ root ∷ [] → IfOk result (λ v. Gathered (G.scope global.now) root (map proc v.items)) }
+    ensures only { (root : Key) → map key met.old.keys ≡ root ∷ [] → (ps : List Proc) → Gathered (G.scope global.now) root ps → Gives (λ v. map proc v.items) result (Some ps) }
 {
+    let mut room = NODE_LIMIT;
     let mut terms = Vec::new(alloc);
-    while terms.len() < work.met.len() {
-        let term = numbered_body(alloc, global, terms.len(), work)?;
+    while terms.len() < met.len() {
+        let draft = numbered_body(alloc, global, terms.len(), met, &mut room)?;
+        let term = numbered(alloc, draft, met)?;
         terms.push(term)?;
     }
     Ok(terms)
@@ -71,7 +72,7 @@ fn bodies<A: Allocator + Copy, G: GlobalScope<A>>(
 ///
 /// `NoSuchProcess` where the script has no such process, `TooDeep` where a body is deeper than 200 and `TooLarge` where all
 /// have more than 65,536 nodes, these two with the line of the definition's name, and the fault of the first phrase that
-/// denotes nothing. Each body is made once; a reference costs one look-up by its hash.
+/// denotes nothing. Each body is made once, and then its definitions get their numbers; a reference costs one look-up by its hash.
 pub fn gathered<A: Allocator + Copy, G: GlobalScope<A>>(
     alloc: A,
     global: &G,
@@ -82,6 +83,6 @@ pub fn gathered<A: Allocator + Copy, G: GlobalScope<A>>(
     // These are given, unless memory runs out, and no others are bodies of what is reached.
     ensures only { (ps : List Proc) → Gathered (G.scope global.now) (root.now, []) ps → Gives (λ v. map proc v.items) result (Some ps) }
 {
-    let mut work = begun(alloc, root)?;
-    bodies(alloc, global, &mut work)
+    let mut met = begun(alloc, root)?;
+    bodies(alloc, global, &mut met)
 }

@@ -1,21 +1,25 @@
-//! What a script denotes: what its phrases for processes denote, and the specification that it denotes for a root; laws, and the
-//! terms made of phrases by this definition.
+//! What a script denotes: what its phrases for processes denote, and the specification that it denotes for a root; a law, and the
+//! bodies made by this definition.
 #![tactic(auto)]
 
 mod ahead;
 mod call;
 mod calls;
 mod choice;
+mod draft;
 mod forms;
 mod gathering;
 mod joining;
 mod law;
 mod maker;
 mod making;
+mod numbering;
 mod replicated;
+mod room;
 mod simple;
 mod walk;
-mod work;
 
+pub use draft::{Joint, Operation};
+pub use forms::Join;
 pub use gathering::gathered;
-pub use law::{one_specification, phrases_are_made};
+pub use law::one_specification;

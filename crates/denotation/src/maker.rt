@@ -1,65 +1,62 @@
 //! The bodies of a script's definitions.
-ghost use Rattle.std.specs.Prelude.{◌≡◌, [], IfOk, map};
+ghost use Rattle.std.specs.Prelude.{◌≡◌, ℕ, [], IfOk, map};
 ghost use Rattle.std.specs.Option.{option_map};
 ghost use Rattle.syntax.specs.View.{shape};
-ghost use Rattle.term.specs.Proc.{proc};
 ghost use Rattle.values.specs.Names.{meaning};
 ghost use Rattle.values.specs.Tables.{input};
 ghost use Rattle.values.specs.View.{Gives};
 ghost use Rattle.event_phrases.specs.Scopes.{within};
 ghost use Rattle.event_phrases.specs.View.{listed};
-ghost use Rattle.denotation.specs.Denotes.{paired};
-ghost use Rattle.denotation.specs.Making.{Count, make_body, make_called, shallow};
-ghost use Rattle.denotation.specs.BodyParts.{make_shallow};
-ghost use Rattle.denotation.specs.View.{count, key};
+ghost use Rattle.denotation.specs.Denotes.{body_of, called_by, paired};
+ghost use Rattle.denotation.specs.Rooms.{shallow, within_limits};
+ghost use Rattle.denotation.specs.Phrases.{denoted, phrase_of};
+ghost use Rattle.denotation.specs.View.{body as body_of_draft, key};
 
 use crate::call::Call;
+use crate::draft::Draft;
 use crate::making::process;
-use crate::work::Work;
 use event_phrases::{GlobalScope, Scope};
 use std::alloc::{AllocError, Allocator};
 use syntax::Tree;
-use term::Term;
 use tokens::{ScriptErrorKind, Unread, fault};
 use values::{Input, Value};
 
 /// The greatest depth of a body.
 const DEEPEST: u64 = 200;
 
-/// The same, unless the term is too deep.
-#[tactic(auto, unfolding(crate::specs::Making::shallow))]
-fn unless_deep<A: Allocator>(term: Term<A>, line: u32) -> Result<Term<A>, Unread>
-    ensures { (w : Count) → Gives (λ t. (proc t, w)) result (shallow (proc term, w)) }
+/// The same, unless it is too deep.
+fn unless_deep<A: Allocator>(draft: Draft<A>, line: u32) -> Result<Draft<A>, Unread>
+    ensures { (room : ℕ) → Gives (λ b. (body_of_draft b, room)) result (shallow (body_of_draft draft, room)) }
 {
-    if term.depth() > DEEPEST {
+    if draft.depth() > DEEPEST {
         return Err(fault(line, ScriptErrorKind::TooDeep));
     }
-    Ok(term)
+    Ok(draft)
 }
 
-/// The term made of a definition's body in this scope: `TooDeep` with the line of the definition's name where it is deeper
+/// The draft made of a definition's body in this scope: `TooDeep` with the line of the definition's name where it is deeper
 /// than 200.
 fn body_within<'a, A: Allocator + Copy, G: GlobalScope<A>>(
     alloc: A,
     scope: &Scope<'a, A, G>,
     tree: &'a Tree<A>,
-    work: &mut Work<A>,
-) -> Result<Term<A>, Unread>
-    ensures { Gives (λ t. (proc t, count work.new)) result (make_shallow (shape tree.now) (within (G.scope scope.now.global.now) (map input scope.now.inputs.items)) (count work.old)) }
+    room: &mut usize,
+) -> Result<Draft<A>, Unread>
+    ensures { Gives (λ b. (body_of_draft b, room.new)) result (within_limits room.old (denoted (phrase_of (shape tree.now)) (within (G.scope scope.now.global.now) (map input scope.now.inputs.items)))) }
 {
-    let term = process(alloc, scope, tree, work)?;
-    unless_deep(term, scope.line)
+    let draft = process(alloc, scope, tree, room)?;
+    unless_deep(draft, scope.line)
 }
 
-/// The term made of the body of the definition without parameters that has this name: `NoSuchProcess` where there is no such
+/// The draft made of the body of the definition without parameters that has this name: `NoSuchProcess` where there is no such
 /// process.
 fn plain_body<A: Allocator + Copy, G: GlobalScope<A>>(
     alloc: A,
     global: &G,
     name: &[u8],
-    work: &mut Work<A>,
-) -> Result<Term<A>, Unread>
-    ensures { Gives (λ t. (proc t, count work.new)) result (make_body (G.scope global.now) (name.now, []) (count work.old)) }
+    room: &mut usize,
+) -> Result<Draft<A>, Unread>
+    ensures { Gives (λ b. (body_of_draft b, room.new)) result (within_limits room.old (body_of (G.scope global.now) (name.now, []))) }
 {
     if !global.is_process(name) {
         return Err(fault(1, ScriptErrorKind::NoSuchProcess));
@@ -72,7 +69,7 @@ fn plain_body<A: Allocator + Copy, G: GlobalScope<A>>(
                 inputs: Vec::new(alloc),
                 line: global.line(name),
             };
-            body_within(alloc, &scope, tree, work)
+            body_within(alloc, &scope, tree, room)
         }
     }
 }
@@ -98,16 +95,16 @@ fn parameter_inputs<A: Allocator + Copy>(
     Ok(Some(inputs))
 }
 
-/// The term made of the body of the definition with parameters that has this name, for these values of them: `NoSuchProcess`
+/// The draft made of the body of the definition with parameters that has this name, for these values of them: `NoSuchProcess`
 /// where there is none with as many. The body sees no other inputs.
 fn called_body<A: Allocator + Copy, G: GlobalScope<A>>(
     alloc: A,
     global: &G,
     name: &[u8],
     arguments: &[Value<A>],
-    work: &mut Work<A>,
-) -> Result<Term<A>, Unread>
-    ensures { Gives (λ t. (proc t, count work.new)) result (make_called (G.scope global.now) (meaning (G.scope global.now).entries name.now) (listed arguments.now) (count work.old)) }
+    room: &mut usize,
+) -> Result<Draft<A>, Unread>
+    ensures { Gives (λ b. (body_of_draft b, room.new)) result (within_limits room.old (called_by (G.scope global.now) (meaning (G.scope global.now).entries name.now) (listed arguments.now))) }
 {
     match global.with_parameters(name) {
         None => Err(fault(1, ScriptErrorKind::NoSuchProcess)),
@@ -119,25 +116,25 @@ fn called_body<A: Allocator + Copy, G: GlobalScope<A>>(
                     inputs,
                     line: global.line(name),
                 };
-                body_within(alloc, &scope, tree, work)
+                body_within(alloc, &scope, tree, room)
             }
         },
     }
 }
 
-/// The term made of the body of the definition with this name, for these values of its parameters: `NoSuchProcess` where
+/// The draft made of the body of the definition with this name, for these values of its parameters: `NoSuchProcess` where
 /// there is no such process, `TooDeep` with the line of the definition's name where it is deeper than 200.
 pub(crate) fn body<A: Allocator + Copy, G: GlobalScope<A>>(
     alloc: A,
     global: &G,
     call: &Call<A>,
-    work: &mut Work<A>,
-) -> Result<Term<A>, Unread>
-    ensures { Gives (λ t. (proc t, count work.new)) result (make_body (G.scope global.now) (key call.now) (count work.old)) }
+    room: &mut usize,
+) -> Result<Draft<A>, Unread>
+    ensures { Gives (λ b. (body_of_draft b, room.new)) result (within_limits room.old (body_of (G.scope global.now) (key call.now))) }
 {
     if call.arguments.is_empty() {
-        plain_body(alloc, global, &call.name, work)
+        plain_body(alloc, global, &call.name, room)
     } else {
-        called_body(alloc, global, &call.name, &call.arguments, work)
+        called_body(alloc, global, &call.name, &call.arguments, room)
     }
 }

@@ -1,39 +1,36 @@
-//! Terms made of phrases for processes.
+//! Bodies made of phrases for processes.
 ghost use Rattle.std.specs.Prelude.{◌<◌, ◌≤◌, suc, drop, Some, IfOk, IfSome, map};
 ghost use Rattle.std.specs.Option.{option_map};
 ghost use Rattle.alphabet.specs.Channels.{events as events_of};
+ghost use Rattle.syntax.specs.Parsing.{syntaxes};
 ghost use Rattle.syntax.specs.View.{shape, shapes};
-ghost use Rattle.term.specs.Proc.{proc};
 ghost use Rattle.values.specs.Tables.{input};
 ghost use Rattle.values.specs.View.{Gives};
 ghost use Rattle.event_phrases.specs.Leading.{led_fits};
 ghost use Rattle.event_phrases.specs.Scopes.{within};
-ghost use Rattle.denotation.specs.Branches.{make_first_fit, make_fits};
-ghost use Rattle.denotation.specs.Forms.{joined, sharing, alphabetised, hiding, renaming, conditional, guarded, replicated};
-ghost use Rattle.denotation.specs.Making.{make, make_phrase, make_prefixed};
-ghost use Rattle.denotation.specs.Places.{from_scope};
-ghost use Rattle.denotation.specs.Shapes.{plain};
-ghost use Rattle.denotation.specs.Walks.{make_visits, with_made};
 ghost use Rattle.event_phrases.specs.View.{listed};
-ghost use Rattle.denotation.specs.View.{count};
+ghost use Rattle.denotation.specs.Branches.{first_branch};
+ghost use Rattle.denotation.specs.Phrases.{branches as branches_of, conditional, denoted, hiding, joined, phrase_of, prefixed_by, renaming, replicated};
+ghost use Rattle.denotation.specs.Places.{from_scope};
+ghost use Rattle.denotation.specs.Rooms.{all_fit, fits, with_one};
+ghost use Rattle.denotation.specs.Shapes.{or_stops, plain, plain_between};
+ghost use Rattle.denotation.specs.View.{body};
+ghost use Rattle.denotation.specs.Walks.{on_visits};
 
 use crate::calls::called_with;
 use crate::choice::chosen;
-use crate::forms::{Join, Phrase, process_phrase};
-use crate::joining::{
-    alphabetised_within, behind_event, hidden, joined_within, renamed_by, shared,
-};
+use crate::draft::Draft;
+use crate::forms::{Between, Join, Phrase, process_phrase};
+use crate::joining::{behind_event, composed, hidden, operation_of, renamed_by};
 use crate::replicated::all_joined;
 use crate::simple::{called, skip, stop};
 use crate::walk::{Place, first_place, next_place};
-use crate::work::Work;
 use event_phrases::forms::event_parts;
 use event_phrases::{
-    GlobalScope, Prefix, Scope, next_fitting, prefix_of, two_sets, wanted_events, wanted_truth,
+    GlobalScope, Prefix, Scope, next_fitting, prefix_of, wanted_events, wanted_truth,
 };
 use std::alloc::Allocator;
 use syntax::Tree;
-use term::Term;
 use tokens::{ScriptErrorKind, Unread, fault};
 
 /// The first branch of a prefix from the event with this number on, with its event's number.
@@ -43,9 +40,9 @@ fn next_branch<'a, A: Allocator + Copy, G: GlobalScope<A>>(
     scope: &Scope<'a, A, G>,
     prefix: &Prefix<'a, A>,
     from: usize,
-    work: &mut Work<A>,
-) -> Result<Option<(usize, Term<A>)>, Unread>
-    ensures branch { Gives (λ o. (option_map (λ p. (p.0, proc p.1, drop (suc p.0) (events_of (G.scope scope.now.global.now).channels))) o, count work.new)) result (make_first_fit (led_fits prefix.now.channel.now (listed prefix.now.leading.items) (shapes prefix.now.fields.now) (map (λ v. listed v.items) prefix.now.sets.now) (within (G.scope scope.now.global.now) (map input scope.now.inputs.items))) (make (shape prefix.now.then.now)) from (drop from (events_of (G.scope scope.now.global.now).channels)) (count work.old)) }
+    room: &mut usize,
+) -> Result<Option<(usize, Draft<A>)>, Unread>
+    ensures branch { Gives (λ o. (option_map (λ p. (p.0, body p.1, drop (suc p.0) (events_of (G.scope scope.now.global.now).channels))) o, room.new)) result (first_branch (led_fits prefix.now.channel.now (listed prefix.now.leading.items) (shapes prefix.now.fields.now) (map (λ v. listed v.items) prefix.now.sets.now) (within (G.scope scope.now.global.now) (map input scope.now.inputs.items))) (denoted (phrase_of (shape prefix.now.then.now))) from (drop from (events_of (G.scope scope.now.global.now).channels)) room.old) }
     ensures number { IfOk result (λ o. IfSome o (λ p. (from ≤ p.0) × (p.0 < 256))) }
 {
     let found = next_fitting(alloc, scope, prefix, from)?;
@@ -57,9 +54,9 @@ fn next_branch<'a, A: Allocator + Copy, G: GlobalScope<A>>(
                 inputs,
                 line: scope.line,
             };
-            let term = process(alloc, &inner, prefix.then, work)?;
-            let term = behind_event(alloc, number, term, work, scope.line)?;
-            Ok(Some((number, term)))
+            let then = process(alloc, &inner, prefix.then, room)?;
+            let branch = behind_event(alloc, number, then, room, scope.line)?;
+            Ok(Some((number, branch)))
         }
     }
 }
@@ -70,18 +67,18 @@ fn branches<'a, A: Allocator + Copy, G: GlobalScope<A>>(
     alloc: A,
     scope: &Scope<'a, A, G>,
     prefix: &Prefix<'a, A>,
-    work: &mut Work<A>,
-) -> Result<Vec<Term<A>, A>, Unread>
-    ensures { Gives (λ v. (map proc v.items, count work.new)) result (make_fits (led_fits prefix.now.channel.now (listed prefix.now.leading.items) (shapes prefix.now.fields.now) (map (λ v. listed v.items) prefix.now.sets.now) (within (G.scope scope.now.global.now) (map input scope.now.inputs.items))) (make (shape prefix.now.then.now)) 0 (events_of (G.scope scope.now.global.now).channels) (count work.old)) }
+    room: &mut usize,
+) -> Result<Vec<Draft<A>, A>, Unread>
+    ensures { Gives (λ v. (map body v.items, room.new)) result (all_fit room.old (branches_of (led_fits prefix.now.channel.now (listed prefix.now.leading.items) (shapes prefix.now.fields.now) (map (λ v. listed v.items) prefix.now.sets.now) (within (G.scope scope.now.global.now) (map input scope.now.inputs.items))) (denoted (phrase_of (shape prefix.now.then.now))) 0 (events_of (G.scope scope.now.global.now).channels))) }
 {
-    let mut terms = Vec::new(alloc);
+    let mut drafts = Vec::new(alloc);
     let mut from = 0;
     loop {
-        let found = next_branch(alloc, scope, prefix, from, work)?;
+        let found = next_branch(alloc, scope, prefix, from, room)?;
         match found {
-            None => return Ok(terms),
-            Some((number, term)) => {
-                terms.push(term)?;
+            None => return Ok(drafts),
+            Some((number, branch)) => {
+                drafts.push(branch)?;
                 from = number + 1;
             }
         }
@@ -95,66 +92,31 @@ fn prefixed<'a, A: Allocator + Copy, G: GlobalScope<A>>(
     scope: &Scope<'a, A, G>,
     event: &'a Tree<A>,
     then: &'a Tree<A>,
-    work: &mut Work<A>,
-) -> Result<Term<A>, Unread>
-    ensures { Gives (λ t. (proc t, count work.new)) result (make_prefixed (within (G.scope scope.now.global.now) (map input scope.now.inputs.items)) (shape event.now) (make (shape then.now)) (count work.old)) }
+    room: &mut usize,
+) -> Result<Draft<A>, Unread>
+    ensures { Gives (λ b. (body b, room.new)) result (fits room.old (prefixed_by (within (G.scope scope.now.global.now) (map input scope.now.inputs.items)) (shape event.now) (denoted (phrase_of (shape then.now))))) }
 {
     let prefix = prefix_of(alloc, scope, event, then)?;
-    let terms = branches(alloc, scope, &prefix, work)?;
-    chosen(alloc, terms, work, scope.line)
+    let drafts = branches(alloc, scope, &prefix, room)?;
+    chosen(alloc, drafts, room, scope.line)
 }
 
-/// Two processes that are joined so.
+/// Two processes with this between them.
 #[cycle(making)]
 fn joined_phrases<'a, A: Allocator + Copy, G: GlobalScope<A>>(
     alloc: A,
     scope: &Scope<'a, A, G>,
-    join: Join,
+    between: Between<'a, A>,
     first: &'a Tree<A>,
     second: &'a Tree<A>,
-    work: &mut Work<A>,
-) -> Result<Term<A>, Unread>
-    ensures { Gives (λ t. (proc t, count work.new)) result (make_phrase (joined join (shape first.now) (shape second.now)) (within (G.scope scope.now.global.now) (map input scope.now.inputs.items)) (count work.old)) }
+    room: &mut usize,
+) -> Result<Draft<A>, Unread>
+    ensures { Gives (λ b. (body b, room.new)) result (fits room.old (denoted (joined (plain_between between.entry) (phrase_of (shape first.now)) (phrase_of (shape second.now))) (within (G.scope scope.now.global.now) (map input scope.now.inputs.items)))) }
 {
-    let first = process(alloc, scope, first, work)?;
-    let second = process(alloc, scope, second, work)?;
-    joined_within(alloc, join, first, second, work, scope.line)
-}
-
-/// `P [| A |] Q`
-#[cycle(making)]
-fn sharing_phrases<'a, A: Allocator + Copy, G: GlobalScope<A>>(
-    alloc: A,
-    scope: &Scope<'a, A, G>,
-    first: &'a Tree<A>,
-    set: &'a Tree<A>,
-    second: &'a Tree<A>,
-    work: &mut Work<A>,
-) -> Result<Term<A>, Unread>
-    ensures { Gives (λ t. (proc t, count work.new)) result (make_phrase (sharing (shape first.now) (shape set.now) (shape second.now)) (within (G.scope scope.now.global.now) (map input scope.now.inputs.items)) (count work.old)) }
-{
-    let first = process(alloc, scope, first, work)?;
-    let set = wanted_events(alloc, scope, set)?;
-    let second = process(alloc, scope, second, work)?;
-    shared(alloc, set, first, second, work, scope.line)
-}
-
-/// `P [ A || B ] Q`, where the sets are A and B.
-#[cycle(making)]
-fn alphabetised_phrases<'a, A: Allocator + Copy, G: GlobalScope<A>>(
-    alloc: A,
-    scope: &Scope<'a, A, G>,
-    first: &'a Tree<A>,
-    sets: (&'a Tree<A>, &'a Tree<A>),
-    second: &'a Tree<A>,
-    work: &mut Work<A>,
-) -> Result<Term<A>, Unread>
-    ensures { Gives (λ t. (proc t, count work.new)) result (make_phrase (alphabetised (shape first.now) (shape sets.entry.0.now) (shape sets.entry.1.now) (shape second.now)) (within (G.scope scope.now.global.now) (map input scope.now.inputs.items)) (count work.old)) }
-{
-    let first = process(alloc, scope, first, work)?;
-    let sets = two_sets(alloc, scope, sets.0, sets.1)?;
-    let second = process(alloc, scope, second, work)?;
-    alphabetised_within(alloc, scope, sets, first, second, work)
+    let first = process(alloc, scope, first, room)?;
+    let operation = operation_of(alloc, scope, between)?;
+    let second = process(alloc, scope, second, room)?;
+    composed(alloc, scope, operation, first, second, room)
 }
 
 /// `P \ A`
@@ -164,13 +126,13 @@ fn hiding_phrase<'a, A: Allocator + Copy, G: GlobalScope<A>>(
     scope: &Scope<'a, A, G>,
     tree: &'a Tree<A>,
     set: &'a Tree<A>,
-    work: &mut Work<A>,
-) -> Result<Term<A>, Unread>
-    ensures { Gives (λ t. (proc t, count work.new)) result (make_phrase (hiding (shape tree.now) (shape set.now)) (within (G.scope scope.now.global.now) (map input scope.now.inputs.items)) (count work.old)) }
+    room: &mut usize,
+) -> Result<Draft<A>, Unread>
+    ensures { Gives (λ b. (body b, room.new)) result (fits room.old (denoted (hiding (phrase_of (shape tree.now)) (shape set.now)) (within (G.scope scope.now.global.now) (map input scope.now.inputs.items)))) }
 {
-    let term = process(alloc, scope, tree, work)?;
+    let draft = process(alloc, scope, tree, room)?;
     let set = wanted_events(alloc, scope, set)?;
-    hidden(alloc, set, term, work, scope.line)
+    hidden(alloc, set, draft, room, scope.line)
 }
 
 /// `P[[a <- b]]`, with its pairs.
@@ -180,93 +142,77 @@ fn renaming_phrase<'a, A: Allocator + Copy, G: GlobalScope<A>>(
     scope: &Scope<'a, A, G>,
     tree: &'a Tree<A>,
     pairs: &'a [Tree<A>],
-    work: &mut Work<A>,
-) -> Result<Term<A>, Unread>
-    ensures { Gives (λ t. (proc t, count work.new)) result (make_phrase (renaming (shape tree.now) (shapes pairs.now)) (within (G.scope scope.now.global.now) (map input scope.now.inputs.items)) (count work.old)) }
+    room: &mut usize,
+) -> Result<Draft<A>, Unread>
+    ensures { Gives (λ b. (body b, room.new)) result (fits room.old (denoted (renaming (phrase_of (shape tree.now)) (syntaxes (shapes pairs.now))) (within (G.scope scope.now.global.now) (map input scope.now.inputs.items)))) }
 {
-    let term = process(alloc, scope, tree, work)?;
-    renamed_by(alloc, scope, pairs, term, work)
+    let draft = process(alloc, scope, tree, room)?;
+    renamed_by(alloc, scope, pairs, draft, room)
 }
 
-/// `if b then P else Q`, where the trees are those of P and Q: the one that isn't chosen isn't looked at.
+/// `if b then P else Q`, where the trees are those of P and Q, or `b & P`, where there is none of Q and P, or else `STOP`, is
+/// chosen: what isn't chosen isn't looked at.
 #[cycle(making)]
 fn conditional_phrase<'a, A: Allocator + Copy, G: GlobalScope<A>>(
     alloc: A,
     scope: &Scope<'a, A, G>,
     condition: &'a Tree<A>,
-    trees: (&'a Tree<A>, &'a Tree<A>),
-    work: &mut Work<A>,
-) -> Result<Term<A>, Unread>
-    ensures { Gives (λ t. (proc t, count work.new)) result (make_phrase (conditional (shape condition.now) (shape trees.entry.0.now) (shape trees.entry.1.now)) (within (G.scope scope.now.global.now) (map input scope.now.inputs.items)) (count work.old)) }
+    trees: (&'a Tree<A>, Option<&'a Tree<A>>),
+    room: &mut usize,
+) -> Result<Draft<A>, Unread>
+    ensures { Gives (λ b. (body b, room.new)) result (fits room.old (denoted (conditional (shape condition.now) (phrase_of (shape trees.entry.0.now)) (or_stops trees.entry.1)) (within (G.scope scope.now.global.now) (map input scope.now.inputs.items)))) }
 {
     let holds = wanted_truth(alloc, scope, condition)?;
     if holds {
-        process(alloc, scope, trees.0, work)
-    } else {
-        process(alloc, scope, trees.1, work)
+        return process(alloc, scope, trees.0, room);
+    }
+    match trees.1 {
+        Some(other) => process(alloc, scope, other, room),
+        None => stop(room, scope.line),
     }
 }
 
-/// `b & P`, which is `STOP` where the condition isn't met: then P isn't looked at.
-#[cycle(making)]
-fn guarded_phrase<'a, A: Allocator + Copy, G: GlobalScope<A>>(
-    alloc: A,
-    scope: &Scope<'a, A, G>,
-    condition: &'a Tree<A>,
-    then: &'a Tree<A>,
-    work: &mut Work<A>,
-) -> Result<Term<A>, Unread>
-    ensures { Gives (λ t. (proc t, count work.new)) result (make_phrase (guarded (shape condition.now) (shape then.now)) (within (G.scope scope.now.global.now) (map input scope.now.inputs.items)) (count work.old)) }
-{
-    let holds = wanted_truth(alloc, scope, condition)?;
-    if holds {
-        process(alloc, scope, then, work)
-    } else {
-        stop(work, scope.line)
-    }
-}
-
-/// Appends the term that is made of this phrase.
+/// Appends the body that is made of this phrase.
 #[cycle(making)]
 fn put_process<'a, A: Allocator + Copy, G: GlobalScope<A>>(
     alloc: A,
     scope: &Scope<'a, A, G>,
     tree: &'a Tree<A>,
-    terms: &mut Vec<Term<A>, A>,
-    work: &mut Work<A>,
+    drafts: &mut Vec<Draft<A>, A>,
+    room: &mut usize,
 ) -> Result<(), Unread>
-    ensures { Gives (λ _. (map proc terms.new.items, count work.new)) result (with_made (map proc terms.old.items) (make (shape tree.now) (within (G.scope scope.now.global.now) (map input scope.now.inputs.items)) (count work.old))) }
+    ensures { Gives (λ _. (map body drafts.new.items, room.new)) result (with_one (map body drafts.old.items) (fits room.old (denoted (phrase_of (shape tree.now)) (within (G.scope scope.now.global.now) (map input scope.now.inputs.items))))) }
 {
-    let term = process(alloc, scope, tree, work)?;
-    terms.push(term)?;
+    let draft = process(alloc, scope, tree, room)?;
+    drafts.push(draft)?;
     Ok(())
 }
 
-/// The terms made of this phrase in the first place and in those after it.
+/// The bodies made of this phrase in the first place and in those after it.
 #[cycle(making)]
 fn over<'a, A: Allocator + Copy, G: GlobalScope<A>>(
     alloc: A,
     scope: &Scope<'a, A, G>,
     first: Option<Place<'a, A>>,
     then: &'a Tree<A>,
-    work: &mut Work<A>,
-) -> Result<Vec<Term<A>, A>, Unread>
-    ensures { Gives (λ v. (map proc v.items, count work.new)) result (make_visits (make (shape then.now)) (from_scope (G.scope scope.now.global.now) first.entry) (count work.old)) }
+    room: &mut usize,
+) -> Result<Vec<Draft<A>, A>, Unread>
+    ensures { Gives (λ v. (map body v.items, room.new)) result (all_fit room.old (on_visits (denoted (phrase_of (shape then.now))) (from_scope (G.scope scope.now.global.now) first.entry))) }
 {
     let mut at = first;
-    let mut terms = Vec::new(alloc);
+    let mut drafts = Vec::new(alloc);
     while let Some(Place { inputs, outer, .. }) = at {
         let inner = Scope {
             global: scope.global,
             inputs,
             line: scope.line,
         };
-        put_process(alloc, &inner, then, &mut terms, work)?;
+        put_process(alloc, &inner, then, &mut drafts, room)?;
         let Scope { inputs, .. } = inner;
         let next = next_place(alloc, scope, inputs, outer)?;
         at = next;
     }
-    Ok(terms)
+    Ok(drafts)
 }
 
 /// `[] x:A, y:B @ P` and the like on this line, where the form is its generators and P.
@@ -277,71 +223,64 @@ fn replicated_phrase<'a, A: Allocator + Copy, G: GlobalScope<A>>(
     join: Join,
     form: (&'a [Tree<A>], &'a Tree<A>),
     line: u32,
-    work: &mut Work<A>,
-) -> Result<Term<A>, Unread>
-    ensures { Gives (λ t. (proc t, count work.new)) result (make_phrase (replicated join (shapes form.entry.0.now) (shape form.entry.1.now)) (within (G.scope scope.now.global.now) (map input scope.now.inputs.items)) (count work.old)) }
+    room: &mut usize,
+) -> Result<Draft<A>, Unread>
+    ensures { Gives (λ b. (body b, room.new)) result (fits room.old (denoted (replicated join (shapes form.entry.0.now) (phrase_of (shape form.entry.1.now))) (within (G.scope scope.now.global.now) (map input scope.now.inputs.items)))) }
 {
     let first = first_place(alloc, scope, form.0)?;
-    let terms = over(alloc, scope, first, form.1, work)?;
-    all_joined(alloc, join, terms, work, scope.line, line)
+    let drafts = over(alloc, scope, first, form.1, room)?;
+    all_joined(alloc, join, drafts, room, scope.line, line)
 }
 
-/// The term made of a phrase by its form, on this line.
+/// The body made of a phrase by its form, on this line.
 #[cycle(making)]
 fn made<'a, A: Allocator + Copy, G: GlobalScope<A>>(
     alloc: A,
     scope: &Scope<'a, A, G>,
     phrase: Phrase<'a, A>,
     line: u32,
-    work: &mut Work<A>,
-) -> Result<Term<A>, Unread>
-    ensures { Gives (λ t. (proc t, count work.new)) result (make_phrase (plain phrase.entry) (within (G.scope scope.now.global.now) (map input scope.now.inputs.items)) (count work.old)) }
+    room: &mut usize,
+) -> Result<Draft<A>, Unread>
+    ensures { Gives (λ b. (body b, room.new)) result (fits room.old (denoted (plain phrase.entry) (within (G.scope scope.now.global.now) (map input scope.now.inputs.items)))) }
 {
     match phrase {
-        Phrase::Stop => stop(work, scope.line),
-        Phrase::Skip => skip(work, scope.line),
-        Phrase::Called(name) => called(alloc, scope, name, line, work),
-        Phrase::Inside(inner) => process(alloc, scope, inner, work),
-        Phrase::Prefix(event, then) => prefixed(alloc, scope, event, then, work),
-        Phrase::Joined(join, first, second) => {
-            joined_phrases(alloc, scope, join, first, second, work)
+        Phrase::Stop => stop(room, scope.line),
+        Phrase::Inside(inner) => process(alloc, scope, inner, room),
+        Phrase::Prefix(event, then) => prefixed(alloc, scope, event, then, room),
+        Phrase::Joined(between, first, second) => {
+            joined_phrases(alloc, scope, between, first, second, room)
         }
-        Phrase::Sharing(first, set, second) => {
-            sharing_phrases(alloc, scope, first, set, second, work)
-        }
-        Phrase::Alphabetised(first, left, right, second) => {
-            alphabetised_phrases(alloc, scope, first, (left, right), second, work)
-        }
+        Phrase::Skip => skip(room, scope.line),
+        Phrase::Called(name) => called(alloc, scope, name, line, room),
         Phrase::Hiding(process_tree, set) => {
-            hiding_phrase(alloc, scope, process_tree, set, work)
+            hiding_phrase(alloc, scope, process_tree, set, room)
         }
         Phrase::Renaming(process_tree, pairs) => {
-            renaming_phrase(alloc, scope, process_tree, pairs, work)
+            renaming_phrase(alloc, scope, process_tree, pairs, room)
         }
         Phrase::Conditional(condition, first, second) => {
-            conditional_phrase(alloc, scope, condition, (first, second), work)
+            conditional_phrase(alloc, scope, condition, (first, second), room)
         }
-        Phrase::Guarded(condition, then) => guarded_phrase(alloc, scope, condition, then, work),
-        Phrase::Calling(name, arguments) => called_with(alloc, scope, name, arguments, line, work),
+        Phrase::Calling(name, arguments) => called_with(alloc, scope, name, arguments, line, room),
         Phrase::Replicated(join, generators, then) => {
-            replicated_phrase(alloc, scope, join, (generators, then), line, work)
+            replicated_phrase(alloc, scope, join, (generators, then), line, room)
         }
     }
 }
 
-/// The term made of a phrase for a process. A fault has the line of the phrase that is at fault; too many nodes have the
+/// The body made of a phrase for a process. A fault has the line of the phrase that is at fault; too many nodes have the
 /// line of the definition's name.
 #[cycle(making)]
 pub(crate) fn process<'a, A: Allocator + Copy, G: GlobalScope<A>>(
     alloc: A,
     scope: &Scope<'a, A, G>,
     tree: &'a Tree<A>,
-    work: &mut Work<A>,
-) -> Result<Term<A>, Unread>
-    ensures { Gives (λ t. (proc t, count work.new)) result (make (shape tree.now) (within (G.scope scope.now.global.now) (map input scope.now.inputs.items)) (count work.old)) }
+    room: &mut usize,
+) -> Result<Draft<A>, Unread>
+    ensures { Gives (λ b. (body b, room.new)) result (fits room.old (denoted (phrase_of (shape tree.now)) (within (G.scope scope.now.global.now) (map input scope.now.inputs.items)))) }
 {
     match process_phrase(tree) {
-        Some(phrase) => made(alloc, scope, phrase, tree.line(), work),
+        Some(phrase) => made(alloc, scope, phrase, tree.line(), room),
         None => match event_parts(tree) {
             Some(_) => Err(scope.no_channel(tree)),
             None => Err(fault(tree.line(), ScriptErrorKind::Expected)),

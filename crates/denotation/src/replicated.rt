@@ -1,21 +1,19 @@
 //! The parts of replicated forms that make no process.
 ghost use Rattle.std.specs.Prelude.{map};
 ghost use Rattle.syntax.specs.View.{shape};
-ghost use Rattle.term.specs.Proc.{proc};
 ghost use Rattle.values.specs.Tables.{input};
 ghost use Rattle.values.specs.View.{Gives, values};
 ghost use Rattle.event_phrases.specs.Scopes.{within};
-ghost use Rattle.denotation.specs.Making.{make_replicated};
-ghost use Rattle.denotation.specs.Parts.{generator_values};
-ghost use Rattle.denotation.specs.View.{count};
+ghost use Rattle.denotation.specs.Phrases.{all_joined as joined_all, generator_values};
+ghost use Rattle.denotation.specs.Rooms.{spare_joined};
+ghost use Rattle.denotation.specs.View.{body};
 
 use crate::choice::halved_within;
+use crate::draft::Draft;
 use crate::forms::Join;
-use crate::work::Work;
 use event_phrases::{GlobalScope, Scope, wanted_values};
 use std::alloc::Allocator;
 use syntax::Tree;
-use term::Term;
 use tokens::{ScriptErrorKind, Unread, fault};
 use values::Values;
 
@@ -36,27 +34,26 @@ pub(crate) fn values_of<A: Allocator + Copy, G: GlobalScope<A>>(
     wanted_values(alloc, scope, set)
 }
 
-/// The terms of a replicated form on this line, joined so.
-#[tactic(auto, unfolding(crate::specs::Making::make_replicated))]
+/// The bodies of a replicated form on this line, joined so.
 pub(crate) fn all_joined<A: Allocator + Copy>(
     alloc: A,
     join: Join,
-    terms: Vec<Term<A>, A>,
-    work: &mut Work<A>,
-    body: u32,
+    drafts: Vec<Draft<A>, A>,
+    room: &mut usize,
+    definition: u32,
     line: u32,
-) -> Result<Term<A>, Unread>
-    ensures { Gives (λ t. (proc t, count work.new)) result (make_replicated join (map proc terms.items, count work.old)) }
+) -> Result<Draft<A>, Unread>
+    ensures { Gives (λ b. (body b, room.new)) result (spare_joined join (map body drafts.items) room.old) }
 {
     match join {
         Join::Sequence | Join::Interrupt => Err(fault(line, ScriptErrorKind::Expected)),
         Join::Internal => {
-            let length = terms.len();
+            let length = drafts.len();
             if length < 1 {
                 return Err(fault(line, ScriptErrorKind::OutOfRange));
             }
-            halved_within(alloc, join, terms, work, body)
+            halved_within(alloc, join, drafts, room, definition)
         }
-        Join::External | Join::Interleaving => halved_within(alloc, join, terms, work, body),
+        Join::External | Join::Interleaving => halved_within(alloc, join, drafts, room, definition),
     }
 }

@@ -1,48 +1,48 @@
-//! Terms of phrases with no process in them.
+//! Bodies of phrases with no process in them.
 ghost use Rattle.std.specs.Prelude.{map};
-ghost use Rattle.term.specs.Proc.{proc};
 ghost use Rattle.values.specs.Tables.{input};
 ghost use Rattle.values.specs.View.{Gives};
-ghost use Rattle.denotation.specs.Forms.{called as called_by, skips, stops};
-ghost use Rattle.denotation.specs.Making.{make_phrase};
-ghost use Rattle.event_phrases.specs.Scopes.{Scope as ScopeOf, within};
-ghost use Rattle.denotation.specs.View.{count};
+ghost use Rattle.event_phrases.specs.Scopes.{within};
+ghost use Rattle.denotation.specs.Bodies.{skip as skip_of, stop as stop_of};
+ghost use Rattle.denotation.specs.Phrases.{called as called_by, denoted};
+ghost use Rattle.denotation.specs.Rooms.{fits, spare};
+ghost use Rattle.denotation.specs.View.{body};
 
 use crate::call::Call;
-use crate::work::{Work, refer, spend_nodes};
+use crate::calls::refer;
+use crate::draft::Draft;
+use crate::room::spend_nodes;
 use event_phrases::{GlobalScope, Scope};
 use std::alloc::Allocator;
-use term::Term;
 use tokens::{ScriptErrorKind, Unread, fault};
 
 /// `STOP`, where there is room for it.
-#[tactic(auto, unfolding(crate::specs::Making::make_phrase))]
-pub(crate) fn stop<A: Allocator>(work: &mut Work<A>, line: u32) -> Result<Term<A>, Unread>
-    ensures { (s : ScopeOf) → Gives (λ t. (proc t, count work.new)) result (make_phrase stops s (count work.old)) }
+#[tactic(auto, unfolding(crate::specs::Phrases::denoted, crate::specs::Bodies::size, crate::specs::Rooms::fit))]
+pub(crate) fn stop<A: Allocator>(room: &mut usize, line: u32) -> Result<Draft<A>, Unread>
+    ensures { Gives (λ b. (body b, room.new)) result (spare 1 stop_of room.old) }
 {
-    spend_nodes(work, 1, line)?;
-    Ok(Term::Stop)
+    spend_nodes(room, 1, line)?;
+    Ok(Draft::Stop)
 }
 
 /// `SKIP`, where there is room for it.
-#[tactic(auto, unfolding(crate::specs::Making::make_phrase))]
-pub(crate) fn skip<A: Allocator>(work: &mut Work<A>, line: u32) -> Result<Term<A>, Unread>
-    ensures { (s : ScopeOf) → Gives (λ t. (proc t, count work.new)) result (make_phrase skips s (count work.old)) }
+pub(crate) fn skip<A: Allocator>(room: &mut usize, line: u32) -> Result<Draft<A>, Unread>
+    ensures { Gives (λ b. (body b, room.new)) result (spare 1 skip_of room.old) }
 {
-    spend_nodes(work, 1, line)?;
-    Ok(Term::Skip)
+    spend_nodes(room, 1, line)?;
+    Ok(Draft::Skip)
 }
 
 /// The definition with this name, on this line.
-#[tactic(auto, unfolding(crate::specs::Making::make_phrase), using(event_phrases::proofs::Scopes::hidden, event_phrases::proofs::Scopes::seen))]
+#[tactic(auto, unfolding(crate::specs::Phrases::denoted, crate::specs::Rooms::fit, crate::specs::Bodies::size), using(event_phrases::proofs::Scopes::hidden, event_phrases::proofs::Scopes::seen))]
 pub(crate) fn called<A: Allocator + Copy, G: GlobalScope<A>>(
     alloc: A,
     scope: &Scope<'_, A, G>,
     name: &[u8],
     line: u32,
-    work: &mut Work<A>,
-) -> Result<Term<A>, Unread>
-    ensures { Gives (λ t. (proc t, count work.new)) result (make_phrase (called_by name.now) (within (G.scope scope.now.global.now) (map input scope.now.inputs.items)) (count work.old)) }
+    room: &mut usize,
+) -> Result<Draft<A>, Unread>
+    ensures { Gives (λ b. (body b, room.new)) result (fits room.old (denoted (called_by name.now) (within (G.scope scope.now.global.now) (map input scope.now.inputs.items)))) }
 {
     if scope.is_value(name) {
         return Err(fault(line, ScriptErrorKind::Expected));
@@ -54,5 +54,5 @@ pub(crate) fn called<A: Allocator + Copy, G: GlobalScope<A>>(
         name: Vec::from_slice(alloc, name)?,
         arguments: Vec::new(alloc),
     };
-    refer(call, work, scope.line)
+    refer(call, room, scope.line)
 }

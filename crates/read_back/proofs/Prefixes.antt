@@ -14,10 +14,11 @@ use Rattle.values.specs.Values.{◌>>=◌, Name, is_same}
 use Rattle.values.specs.Names.{same_name}
 use Rattle.event_phrases.specs.Events.{fields_named, channel_fields, unless_value}
 use Rattle.denotation.specs.Bodies.{Body, prefix, choice_of, halved, halved_in}
+use Rattle.event_phrases.specs.EventForms.{event_fits}
 use Rattle.event_phrases.specs.Fitting.{against, fits_field, fitting, has_all, then_fits}
 use Rattle.event_phrases.specs.Prefixes.{fields_pass, has_event, at_no_fault, prefix_parts}
 use Rattle.event_phrases.specs.Scopes.{Scope}
-use Rattle.denotation.specs.Phrases.{branches, prefixed, with_branch}
+use Rattle.denotation.specs.Phrases.{branch_on, branches, prefixed_by}
 use Rattle.read_back.proofs.Trees.{dotted_trees, tree_of_event, no_parts}
 use Rattle.read_back.proofs.Readable.{IsGiven, IsPrintedScope}
 use Rattle.read_back.proofs.Given.{all_same, all_themselves, name_itself, among-In, AreChosen, chosen, AllGiven, field_given}
@@ -124,50 +125,41 @@ fits_given s (w ∷ ws) (v ∷ vs) (set ∷ sets) g h k =
 
 -- ---- the branches
 
-bind_itself : {A : Type 0} (o : Option A) → (o >>= λ x. Some x) ≡ o
-bind_itself None = refl
-bind_itself (Some x) = refl
-
 module _ (next : Scope → Option Body) (s : Scope) (c : Name) (ts : Syntaxes) (sets : List Values) where
+  -- the branches of these events, where k is the first one's number
+  abbrev branches_from : ℕ → List Parts → Option (List Body)
+  branches_from k ps = branches (event_fits c ts sets s) next k ps
+
   -- the event adds no branch
   abbrev Skips : Parts → Type 0
-  Skips p = (k : ℕ) (ps : List Parts) → branches next c ts sets s k (p ∷ ps) ≡ branches next c ts sets s (suc k) ps
-
-  -- the event adds a branch in front
-  abbrev Takes : Parts → Type 0
-  Takes p = (k : ℕ) (ps : List Parts) → branches next c ts sets s k (p ∷ ps) ≡ (branches next c ts sets s (suc k) ps >>= λ qs. next s >>= λ q. Some (prefix k q ∷ qs))
+  Skips p = event_fits c ts sets s p ≡ Some None
 
   skips : (p : Parts) (b : Bool) → same_name c p.channel ≡ b → (b ≡ true → fitting ts sets p.values s ≡ Some None) → Skips p
-  unfolding branches
-  skips p true e f k ps =
-      ap (λ b. cond b (fitting ts sets p.values s >>= λ x. branches next c ts sets s (suc k) ps >>= with_branch next k x) (branches next c ts sets s (suc k) ps)) e
-      ∙ ap (λ o. o >>= λ x. branches next c ts sets s (suc k) ps >>= with_branch next k x) (f refl)
-      ∙ bind_itself (branches next c ts sets s (suc k) ps)
-  skips p false e f k ps =
-      ap (λ b. cond b (fitting ts sets p.values s >>= λ x. branches next c ts sets s (suc k) ps >>= with_branch next k x) (branches next c ts sets s (suc k) ps)) e
+  unfolding event_fits
+  skips p true e f = ap (λ b. cond b (fitting ts sets p.values s) (Some None)) e ∙ f refl
+  skips p false e f = ap (λ b. cond b (fitting ts sets p.values s) (Some None)) e
 
-  takes : (p : Parts) → same_name c p.channel ≡ true → fitting ts sets p.values s ≡ Some (Some s) → Takes p
-  unfolding branches
-  takes p e f k ps =
-      ap (λ b. cond b (fitting ts sets p.values s >>= λ x. branches next c ts sets s (suc k) ps >>= with_branch next k x) (branches next c ts sets s (suc k) ps)) e
-      ∙ ap (λ o. o >>= λ x. branches next c ts sets s (suc k) ps >>= with_branch next k x) f
+  takes : (p : Parts) → same_name c p.channel ≡ true → fitting ts sets p.values s ≡ Some (Some s) → event_fits c ts sets s p ≡ Some (Some s)
+  unfolding event_fits
+  takes p e f = ap (λ b. cond b (fitting ts sets p.values s) (Some None)) e ∙ f
 
-  none_taken : (ps : List Parts) (k : ℕ) → ((j : ℕ) (q : Parts) → slice_get ps j ≡ Some q → Skips q) → branches next c ts sets s k ps ≡ Some []
+  none_taken : (ps : List Parts) (k : ℕ) → ((j : ℕ) (q : Parts) → slice_get ps j ≡ Some q → Skips q) → branches_from k ps ≡ Some []
   unfolding branches
   none_taken [] k h = refl
-  none_taken (p ∷ ps) k h = h 0 p refl k ps ∙ none_taken ps (suc k) (λ j q e. h (suc j) q e)
+  none_taken (p ∷ ps) k h = ap (λ o. o >>= branch_on next k (branches_from (suc k) ps)) (h 0 p refl) ∙ none_taken ps (suc k) (λ j q e. h (suc j) q e)
 
-  one_taken : (ps : List Parts) (k i : ℕ) (p : Parts) → slice_get ps i ≡ Some p → Takes p → ((j : ℕ) (q : Parts) → slice_get ps j ≡ Some q → j ≢ i → Skips q) → branches next c ts sets s k ps ≡ (next s >>= λ q. Some (prefix (k + i) q ∷ []))
+  -- the only branch, in front
+  one_taken : (ps : List Parts) (k i : ℕ) (p : Parts) → slice_get ps i ≡ Some p → event_fits c ts sets s p ≡ Some (Some s) → ((j : ℕ) (q : Parts) → slice_get ps j ≡ Some q → j ≢ i → Skips q) → branches_from k ps ≡ (next s >>= λ q. Some (prefix (k + i) q ∷ []))
   unfolding branches
   one_taken [] k i p e t h = absurd (none-some p e)
   one_taken (r ∷ ps) k zero p e t h =
       let same : k ≡ k + 0 = omega arith in
-      subst (λ x. branches next c ts sets s k (x ∷ ps) ≡ (branches next c ts sets s (suc k) ps >>= λ qs. next s >>= λ q. Some (prefix k q ∷ qs))) (sym (same_Some r p e)) (t k ps)
-      ∙ ap (λ o. o >>= λ qs. next s >>= λ q. Some (prefix k q ∷ qs)) (none_taken ps (suc k) (λ j q f. h (suc j) q f (λ z. omega arith)))
+      ap (λ o. o >>= branch_on next k (branches_from (suc k) ps)) (ap (event_fits c ts sets s) (same_Some r p e) ∙ t)
+      ∙ ap (λ o. next s >>= λ q. o >>= λ qs. Some (prefix k q ∷ qs)) (none_taken ps (suc k) (λ j q f. h (suc j) q f (λ z. omega arith)))
       ∙ ap (λ n. next s >>= λ q. Some (prefix n q ∷ [])) same
   one_taken (r ∷ ps) k (suc i) p e t h =
       let same : suc k + i ≡ k + suc i = omega arith in
-      h 0 r refl (λ z. omega arith) k ps
+      ap (λ o. o >>= branch_on next k (branches_from (suc k) ps)) (h 0 r refl (λ z. omega arith))
       ∙ one_taken ps (suc k) i p e t (λ j q f ne. h (suc j) q f (λ z. ne (omega arith)))
       ∙ ap (λ n. next s >>= λ q. Some (prefix n q ∷ [])) same
 
@@ -220,7 +212,7 @@ module _ (s : Scope) (primes m : ℕ) (h : IsPrintedScope s primes m) (a : ℕ) 
   fits_so : (q : Parts) → In q (events s.channels) → same_name parts.channel q.channel ≡ true → fitting (dotted_trees parts.values) its_channel.fields q.values s ≡ Some (cond (pointwise is_same parts.values q.values) (Some s) None)
   fits_so q i e = fits_given s parts.values q.values its_channel.fields is_given is_chosen (also_chosen q i e)
 
-  its_branches : (next : Scope → Option Body) → branches next parts.channel (dotted_trees parts.values) its_channel.fields s 0 (events s.channels) ≡ (next s >>= λ q. Some (prefix a q ∷ []))
+  its_branches : (next : Scope → Option Body) → branches (event_fits parts.channel (dotted_trees parts.values) its_channel.fields s) next 0 (events s.channels) ≡ (next s >>= λ q. Some (prefix a q ∷ []))
   its_branches next =
       let z : 0 + a ≡ a = omega arith in
       one_taken next s parts.channel (dotted_trees parts.values) its_channel.fields (events s.channels) 0 a parts at
@@ -249,9 +241,9 @@ module _ (s : Scope) (primes m : ℕ) (h : IsPrintedScope s primes m) (a : ℕ) 
       ∙ ap (λ b. cond b (Some tt) (fields_pass (dotted_trees parts.values) its_channel.fields s) >>= λ u. Some (parts.channel, dotted_trees parts.values, its_channel.fields)) has_one
 
   -- the process after the event, with the event before it
-  pub prefix_denoted : (next : Scope → Option Body) → prefixed s (tree_of_event s.channels (ev a)) next ≡ (next s >>= λ q. Some (prefix a q))
-  unfolding prefixed
+  pub prefix_denoted : (next : Scope → Option Body) → prefixed_by s (tree_of_event s.channels (ev a)) next ≡ (next s >>= λ q. Some (prefix a q))
+  unfolding prefixed_by
   prefix_denoted next =
-      ap (λ o. o >>= λ p. branches next p.0 p.1 p.2 s 0 (events s.channels) >>= λ ps. Some (choice_of ps)) its_parts
+      ap (λ o. o >>= λ p. branches (event_fits p.0 p.1 p.2 s) next 0 (events s.channels) >>= λ ps. Some (choice_of ps)) its_parts
       ∙ ap (λ o. o >>= λ ps. Some (choice_of ps)) (its_branches next)
       ∙ only_choice next (next s)

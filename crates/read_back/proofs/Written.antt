@@ -1,29 +1,34 @@
 -- What phrases denote has a text: its events, sets and pairs lie in Sigma, and its renamings are in order.
-use Rattle.std.proofs.Common.{◌≡◌, ℕ, zero, suc, ◌+◌, ◌<◌, ◌≤◌, List, [], ◌∷◌, ◌++◌, map, length, take, drop, nat_lt, Bool, true, false, cond, ◌&&◌, not, Option, Some, None, refl, sym, ap, subst, ◌∙◌, arith}
+use Rattle.std.proofs.Common.{◌≡◌, ℕ, zero, suc, ◌+◌, ◌<◌, ◌≤◌, List, [], ◌∷◌, ◌++◌, map, length, take, drop, nat_lt, Bool, true, false, cond, ◌&&◌, Option, Some, None, refl, sym, ap, subst, ◌∙◌, arith}
 use Rattle.std.proofs.lemmas.Bool.{ltb-true, false≢true}
 use Rattle.std.proofs.lemmas.List.{length-map}
 use Rattle.std.specs.List.{flat_map}
 use Rattle.std.specs.Cmp.Lexicographic.{pointwise}
 use Rattle.alphabet.specs.declared.events.Event.TheVariants.{Tick as tick, Of as ev}
+use Rattle.alphabet.specs.EventSets.{Set, has}
 use Rattle.alphabet.specs.Channels.{FieldValue, Values, Channel, Parts, events, event_count}
 use Rattle.alphabet.proofs.Lists.{and-left}
 use Rattle.alphabet.proofs.ChannelPlaces.{event_count-is}
 use Rattle.term.specs.Proc.{Proc, bodies_of}
 use Rattle.term.specs.Traces.{Pairs}
 use Rattle.term.specs.Specs.{SetInSigma}
-use Rattle.syntax.specs.declared.form.Form.{Form}
 use Rattle.syntax.specs.declared.form.Form.TheVariants as forms
-use Rattle.syntax.specs.declared.operator.Operator.TheVariants as operators
-use Rattle.syntax.specs.Grammar.{Syntax, Called, Numeral, Node, Syntaxes, NoSyntax, MoreSyntax}
+use Rattle.syntax.specs.Grammar.{Syntax, Called, Node, Syntaxes, NoSyntax, MoreSyntax}
 use Rattle.values.specs.Values.{◌>>=◌, Name, is_among, is_same}
 use Rattle.values.specs.Worths.{Worth, one, many, truth, Known, worth, condition, the_set}
 use Rattle.values.specs.Names.{Meaning, channel, datatype, constant_name, definition, parametric, is_constant, meaning, same_name, is_process}
-use Rattle.event_phrases.specs.Events.{Events, Beginning, unless_value, field_value, beginning, begins_so, number_in, pairs_from, pair_of, pairs_of, set_below, set_of, both}
+use Rattle.event_phrases.specs.Events.{Events, Beginning, unless_value, field_value, beginning, begins_so, number_in, pairs_from, pair_of, pairs_of, set_below, set_of, masked, both}
+use Rattle.event_phrases.specs.EventForms.{event_fits, two_masked, outside}
 use Rattle.denotation.specs.Bodies.{Key, Body, stop, skip, prefix, ext, int, seq, par, hide, ren, intr, name, names, numbered, half, halved_in, halved, choice_of}
 use Rattle.event_phrases.specs.Fitting.{Fitting, against, against_input, against_part, fits_field, then_fits, fitting}
 use Rattle.event_phrases.specs.Prefixes.{prefix_parts}
-use Rattle.event_phrases.specs.Scopes.{Scope, within, with_input, unless_constant, events_by}
-use Rattle.denotation.specs.Phrases.{with_branch, branches, prefixed, takes, arguments, called_with, for_each, generated, over, some_internal, renamed, alphabetised, denoted, denoted_form}
+use Rattle.event_phrases.specs.Scopes.{Scope, within, with_input, events_by}
+use Rattle.denotation.specs.declared.draft.Joint.TheVariants as joints
+use Rattle.denotation.specs.declared.draft.Operation.{Operation}
+use Rattle.denotation.specs.declared.draft.Operation.TheVariants as operations
+use Rattle.denotation.specs.declared.forms.Join.{Join}
+use Rattle.denotation.specs.declared.forms.Join.TheVariants as joins
+use Rattle.denotation.specs.Phrases.{Between, with_join, with_set, with_sets, Phrase, stops, skips, called, inside, prefixed, joined, hiding, renaming, conditional, calling, replicated, other, phrase_of, generator_of, branch_on, branches, prefixed_by, takes, arguments, called_with, generator_values, for_each, over, join_of, joint_of, none_of, all_joined, renamed, operation_of, composed, denoted}
 use Rattle.denotation.specs.Denotes.{body_by, paired, called_by, body_of, place, Reached}
 use Rattle.event_phrases.proofs.SetsBelow.{member_is}
 use Rattle.declared_names.proofs.Chains.{bind_some, some_same}
@@ -152,30 +157,38 @@ fitting_same ts sets vs s inner e = absurd cc
 abbrev NextLies : List Channel → (Scope → Option Body) → Type 0
 NextLies cs next = (s : Scope) (b : Body) → s.channels ≡ cs → next s ≡ Some b → Lies (event_count cs) b
 
-module _ (cs : List Channel) (next : Scope → Option Body) (h : NextLies cs next) (c : Name) (ts : Syntaxes) (sets : List Values) (s : Scope) (same : s.channels ≡ cs) where
-  branch_lies : (a : ℕ) (x : Option Scope) (qs ps : List Body) → a < event_count cs → ((m : Scope) → x ≡ Some m → m.channels ≡ cs) → AllLie (event_count cs) qs → with_branch next a x qs ≡ Some ps → AllLie (event_count cs) ps
-  branch_lies a None qs ps l k g e = subst (AllLie (event_count cs)) (some_same e) g
-  branch_lies a (Some m) qs ps l k g e =
-      let (p, u, v) = bind_some (next m) (λ p. Some (prefix a p ∷ qs)) ps e in
-      subst (AllLie (event_count cs)) (some_same v) ((l, h m p (k m refl) u), g)
+event_same : (c : Name) (ts : Syntaxes) (sets : List Values) (s : Scope) (r : Parts) (inner : Scope) → event_fits c ts sets s r ≡ some_scope inner → inner.channels ≡ s.channels
+unfolding event_fits
+event_same c ts sets s r inner e = by (same_name c r.channel) e
+  where
+    by : (b : Bool) → cond b (fitting ts sets r.values s) (Some None) ≡ some_scope inner → inner.channels ≡ s.channels
+    by true e = fitting_same ts sets r.values s inner e
+    by false e = absurd cc
 
-  branches_lie : (rs : List Parts) (a : ℕ) (ps : List Body) → a + length rs ≤ event_count cs → branches next c ts sets s a rs ≡ Some ps → AllLie (event_count cs) ps
+module _ (cs : List Channel) (next : Scope → Option Body) (h : NextLies cs next) (c : Name) (ts : Syntaxes) (sets : List Values) (s : Scope) (same : s.channels ≡ cs) where
+  -- the branches of these events, where a is the first one's number
+  abbrev branches_from : ℕ → List Parts → Option (List Body)
+  branches_from a rs = branches (event_fits c ts sets s) next a rs
+
+  branches_lie : (rs : List Parts) (a : ℕ) (ps : List Body) → a + length rs ≤ event_count cs → branches_from a rs ≡ Some ps → AllLie (event_count cs) ps
   unfolding branches
   branches_lie [] a ps l e = subst (AllLie (event_count cs)) (some_same e) tt
-  branches_lie (r ∷ rs) a ps l e = by (same_name c r.channel) e (λ qs f. branches_lie rs (suc a) qs (omega (arith, l)) f)
+  branches_lie (r ∷ rs) a ps l e =
+      let (x, u, v) = bind_some (event_fits c ts sets s r) (branch_on next a (branches_from (suc a) rs)) ps e in
+      by x u v (λ qs f. branches_lie rs (suc a) qs (omega (arith, l)) f)
     where
-      by : (b : Bool) → cond b (fitting ts sets r.values s >>= λ x. branches next c ts sets s (suc a) rs >>= with_branch next a x) (branches next c ts sets s (suc a) rs) ≡ Some ps → ((qs : List Body) → branches next c ts sets s (suc a) rs ≡ Some qs → AllLie (event_count cs) qs) → AllLie (event_count cs) ps
-      by true e rec =
-          let (x, u, v) = bind_some (fitting ts sets r.values s) (λ x. branches next c ts sets s (suc a) rs >>= with_branch next a x) ps e in
-          let (qs, y, z) = bind_some (branches next c ts sets s (suc a) rs) (with_branch next a x) ps v in
-          branch_lies a x qs ps (omega (arith, l)) (λ m g. fitting_same ts sets r.values s m (u ∙ ap (λ o. Some o) g) ∙ same) (rec qs y) z
-      by false e rec = rec ps e
+      by : (x : Option Scope) → event_fits c ts sets s r ≡ Some x → branch_on next a (branches_from (suc a) rs) x ≡ Some ps → ((qs : List Body) → branches_from (suc a) rs ≡ Some qs → AllLie (event_count cs) qs) → AllLie (event_count cs) ps
+      by None u v rec = rec ps v
+      by (Some m) u v rec =
+          let (p, w, x) = bind_some (next m) (λ p. branches_from (suc a) rs >>= λ qs. Some (prefix a p ∷ qs)) ps v in
+          let (qs, y, z) = bind_some (branches_from (suc a) rs) (λ qs. Some (prefix a p ∷ qs)) ps x in
+          subst (AllLie (event_count cs)) (some_same z) ((omega (arith, l), h m p (event_same c ts sets s r m u ∙ same) w), rec qs y)
 
-prefixed_lies : (cs : List Channel) (next : Scope → Option Body) → NextLies cs next → (s : Scope) (t : Syntax) (b : Body) → s.channels ≡ cs → prefixed s t next ≡ Some b → Lies (event_count cs) b
-unfolding prefixed
+prefixed_lies : (cs : List Channel) (next : Scope → Option Body) → NextLies cs next → (s : Scope) (t : Syntax) (b : Body) → s.channels ≡ cs → prefixed_by s t next ≡ Some b → Lies (event_count cs) b
+unfolding prefixed_by
 prefixed_lies cs next h s t b same e =
-    let (p, u, v) = bind_some (prefix_parts s t) (λ p. branches next p.0 p.1 p.2 s 0 (events s.channels) >>= λ ps. Some (choice_of ps)) b e in
-    let (ps, x, y) = bind_some (branches next p.0 p.1 p.2 s 0 (events s.channels)) (λ ps. Some (choice_of ps)) b v in
+    let (p, u, v) = bind_some (prefix_parts s t) (λ p. branches (event_fits p.0 p.1 p.2 s) next 0 (events s.channels) >>= λ ps. Some (choice_of ps)) b e in
+    let (ps, x, y) = bind_some (branches (event_fits p.0 p.1 p.2 s) next 0 (events s.channels)) (λ ps. Some (choice_of ps)) b v in
     let z : length (events s.channels) ≡ length (events cs) = ap (λ ds. length (events ds)) same in
     subst (Lies (event_count cs)) (some_same y) (choice_lies (event_count cs) ps (branches_lie cs next h p.0 p.1 p.2 s same (events s.channels) 0 ps (omega (arith, z, event_count-is cs)) x))
 
@@ -241,11 +254,11 @@ module _ (cs : List Channel) where
   sigma : (ds : List Channel) (A : Events) → ds ≡ cs → SetInSigma n (set_of ds A)
   sigma ds A same = subst (λ es. SetInSigma (event_count es) (set_of ds A)) same (below_sigma (event_count ds) A)
 
-  two_lie : (f : Body → Body → Body) → ((p q : Body) → Lies n p → Lies n q → Lies n (f p q)) → (o r : Option Body) (b : Body) → ((p : Body) → o ≡ Some p → Lies n p) → ((q : Body) → r ≡ Some q → Lies n q) → (o >>= λ p. r >>= λ q. Some (f p q)) ≡ Some b → Lies n b
-  two_lie f g o r b h k e =
-      let (p, u, v) = bind_some o (λ p. r >>= λ q. Some (f p q)) b e in
-      let (q, x, y) = bind_some r (λ q. Some (f p q)) b v in
-      subst (Lies n) (some_same y) (g p q (h p u) (k q x))
+  mask_lies : (ds : List Channel) (o : Option Events) (A : Set) → ds ≡ cs → masked ds o ≡ Some A → SetInSigma n A
+  unfolding masked
+  mask_lies ds o A same e =
+      let (B, u, v) = bind_some o (λ B. Some (set_of ds B)) A e in
+      subst (SetInSigma n) (some_same v) (sigma ds B same)
 
   named_lies : (o : Option Worth) (r : Option Body) (b : Body) → ((p : Body) → r ≡ Some p → Lies n p) → unless_value o r ≡ Some b → Lies n b
   named_lies None r b h e = h b e
@@ -258,7 +271,7 @@ module _ (cs : List Channel) where
   name_lies c false p e = absurd cc
 
   -- a call is a name
-  call_lies : (f : Name) (ts : Syntaxes) (s : Scope) (b : Body) → called_with f ts s ≡ Some b → Lies n b
+  call_lies : (f : Name) (ts : List Syntax) (s : Scope) (b : Body) → called_with f ts s ≡ Some b → Lies n b
   unfolding called_with
   call_lies f ts s b e = named_lies (s.known f) (cond (takes (meaning s.entries f) ts) (arguments s.known ts >>= λ vs. Some (name (f, vs))) None) b (λ p g. by (takes (meaning s.entries f) ts) p g) e
     where
@@ -288,83 +301,88 @@ module _ (cs : List Channel) where
       let (rs, c, d) = bind_some (for_each next s x vs) (λ rs. Some (qs ++ rs)) ps b in
       subst (AllLie n) (some_same d) (both_lie n qs rs (h (with_input s x v) qs same a) (each_lies next h x vs s rs same c))
 
-  generated_lies : (g : Syntax) (next : Scope → Option (List Body)) → EachLies next → EachLies (generated g next)
-  unfolding generated
-  generated_lies (Node forms.Generator (MoreSyntax (Called x) (MoreSyntax t NoSyntax))) next h s ps same e =
-      let (vs, a, b) = bind_some (unless_constant s x (worth s.known t >>= λ w. the_set w)) (λ vs. for_each next s x vs) ps e in
-      each_lies next h x vs s ps same b
-  generated_lies g next h s ps same e = absurd cc
-
-  over_lies : (gs : Syntaxes) (next : Scope → Option Body) → NextLies cs next → EachLies (over gs next)
+  over_lies : (gs : List Syntax) (next : Scope → Option Body) → NextLies cs next → EachLies (over gs next)
   unfolding over
-  over_lies NoSyntax next h s ps same e =
+  over_lies [] next h s ps same e =
       let (p, a, b) = bind_some (next s) (λ p. Some (p ∷ [])) ps e in
       subst (AllLie n) (some_same b) (h s p same a, tt)
-  over_lies (MoreSyntax g gs) next h s ps same e = generated_lies g (over gs next) (over_lies gs next h) s ps same e
+  over_lies (g ∷ gs) next h s ps same e =
+      let (p, a, b) = bind_some (generator_of g) (λ p. generator_values s p.0 p.1 >>= for_each (over gs next) s p.0) ps e in
+      let (vs, c, d) = bind_some (generator_values s p.0 p.1) (for_each (over gs next) s p.0) ps b in
+      each_lies (over gs next) (over_lies gs next h) p.0 vs s ps same d
 
-  internal_lies : (ps : List Body) (b : Body) → AllLie n ps → some_internal ps ≡ Some b → Lies n b
-  unfolding some_internal
-  internal_lies [] b h e = absurd cc
-  internal_lies (p ∷ ps) b h e = subst (Lies n) (some_same e) (halved_lies n int stop (λ p q i j. (i, j)) tt (p ∷ ps) h)
+  -- ---- joins
 
-  -- what joins the list of what a replicated form denotes
-  replicated_lies : (join : List Body → Option Body) → ((ps : List Body) (b : Body) → AllLie n ps → join ps ≡ Some b → Lies n b) → (gs : Syntaxes) (next : Scope → Option Body) → NextLies cs next → (s : Scope) (b : Body) → s.channels ≡ cs → (over gs next s >>= λ ps. join ps) ≡ Some b → Lies n b
-  replicated_lies join h gs next k s b same e =
-      let (ps, u, v) = bind_some (over gs next s) (λ ps. join ps) b e in
-      h ps b (over_lies gs next k s ps same u) v
+  join_lies : (j : Join) (p q : Body) → Lies n p → Lies n q → Lies n (join_of j p q)
+  unfolding join_of
+  join_lies joins.Sequence p q h k = (h, k)
+  join_lies joins.Interrupt p q h k = (h, k)
+  join_lies joins.External p q h k = (h, k)
+  join_lies joins.Internal p q h k = (h, k)
+  join_lies joins.Interleaving p q h k = (none_sigma n, h, k)
 
-  -- ---- forms
+  none_lies : (j : Join) → Lies n (none_of j)
+  unfolding none_of
+  none_lies joins.Sequence = tt
+  none_lies joins.Interrupt = tt
+  none_lies joins.External = tt
+  none_lies joins.Internal = tt
+  none_lies joins.Interleaving = tt
 
-  mutual
-    unfolding denoted denoted_form
+  halves : (j : Join) (ps : List Body) (b : Body) → AllLie n ps → Some (halved (join_of j) (none_of j) ps) ≡ Some b → Lies n b
+  halves j ps b h e = subst (Lies n) (some_same e) (halved_lies n (join_of j) (none_of j) (join_lies j) (none_lies j) ps h)
 
-    pub lies : (t : Syntax) (s : Scope) (b : Body) → s.channels ≡ cs → denoted t s ≡ Some b → Lies n b
-    lies (Called c) s b same e = absurd cc
-    lies (Numeral k) s b same e = absurd cc
-    lies (Node f ts) s b same e = form_lies f ts s b same e
+  all_joined_lie : (j : Join) (ps : List Body) (b : Body) → AllLie n ps → all_joined j ps ≡ Some b → Lies n b
+  unfolding all_joined
+  all_joined_lie joins.Sequence ps b h e = absurd cc
+  all_joined_lie joins.Interrupt ps b h e = absurd cc
+  all_joined_lie joins.Internal [] b h e = absurd cc
+  all_joined_lie joins.Internal (p ∷ ps) b h e = halves joins.Internal (p ∷ ps) b h e
+  all_joined_lie joins.External ps b h e = halves joins.External ps b h e
+  all_joined_lie joins.Interleaving ps b h e = halves joins.Interleaving ps b h e
 
-    form_lies : (f : Form) (ts : Syntaxes) (s : Scope) (b : Body) → s.channels ≡ cs → denoted_form f ts s ≡ Some b → Lies n b
-    form_lies forms.Stop NoSyntax s b same e = subst (Lies n) (some_same e) tt
-    form_lies forms.Skip NoSyntax s b same e = subst (Lies n) (some_same e) tt
-    form_lies forms.Event (MoreSyntax (Called c) NoSyntax) s b same e = named_lies (s.known c) (cond (is_process s.entries c) (Some (name (c, []))) None) b (λ p f. name_lies c (is_process s.entries c) p f) e
-    form_lies forms.Brackets (MoreSyntax t NoSyntax) s b same e = lies t s b same e
-    form_lies (forms.Operation operators.Prefix) (MoreSyntax u (MoreSyntax t NoSyntax)) s b same e = prefixed_lies cs (denoted t) (λ m p g f. lies t m p g f) s u b same e
-    form_lies (forms.Operation operators.Sequence) (MoreSyntax t (MoreSyntax u NoSyntax)) s b same e = two_lie seq (λ p q h k. (h, k)) (denoted t s) (denoted u s) b (λ p f. lies t s p same f) (λ q f. lies u s q same f) e
-    form_lies (forms.Operation operators.Interrupt) (MoreSyntax t (MoreSyntax u NoSyntax)) s b same e = two_lie intr (λ p q h k. (h, k)) (denoted t s) (denoted u s) b (λ p f. lies t s p same f) (λ q f. lies u s q same f) e
-    form_lies (forms.Operation operators.ExternalChoice) (MoreSyntax t (MoreSyntax u NoSyntax)) s b same e = two_lie ext (λ p q h k. (h, k)) (denoted t s) (denoted u s) b (λ p f. lies t s p same f) (λ q f. lies u s q same f) e
-    form_lies (forms.Operation operators.InternalChoice) (MoreSyntax t (MoreSyntax u NoSyntax)) s b same e = two_lie int (λ p q h k. (h, k)) (denoted t s) (denoted u s) b (λ p f. lies t s p same f) (λ q f. lies u s q same f) e
-    form_lies (forms.Operation operators.Interleaving) (MoreSyntax t (MoreSyntax u NoSyntax)) s b same e = two_lie (par 0) (λ p q h k. (none_sigma n, h, k)) (denoted t s) (denoted u s) b (λ p f. lies t s p same f) (λ q f. lies u s q same f) e
-    form_lies (forms.Operation operators.Sharing) (MoreSyntax t (MoreSyntax a (MoreSyntax u NoSyntax))) s b same e =
-        let (p, v, w) = bind_some (denoted t s) (λ p. events_by s a >>= λ A. denoted u s >>= λ q. Some (par (set_of s.channels A) p q)) b e in
-        let (A, x, y) = bind_some (events_by s a) (λ A. denoted u s >>= λ q. Some (par (set_of s.channels A) p q)) b w in
-        let (q, z, o) = bind_some (denoted u s) (λ q. Some (par (set_of s.channels A) p q)) b y in
-        subst (Lies n) (some_same o) (sigma s.channels A same, lies t s p same v, lies u s q same z)
-    form_lies (forms.Operation operators.Alphabetised) (MoreSyntax t (MoreSyntax a (MoreSyntax c (MoreSyntax u NoSyntax)))) s b same e =
-        let (p, v, w) = bind_some (denoted t s) (λ p. events_by s a >>= λ A. events_by s c >>= λ B. denoted u s >>= λ q. Some (alphabetised (event_count s.channels) (set_of s.channels) p A B q)) b e in
-        let (A, x, y) = bind_some (events_by s a) (λ A. events_by s c >>= λ B. denoted u s >>= λ q. Some (alphabetised (event_count s.channels) (set_of s.channels) p A B q)) b w in
-        let (B, i, j) = bind_some (events_by s c) (λ B. denoted u s >>= λ q. Some (alphabetised (event_count s.channels) (set_of s.channels) p A B q)) b y in
-        let (q, z, o) = bind_some (denoted u s) (λ q. Some (alphabetised (event_count s.channels) (set_of s.channels) p A B q)) b j in
-        subst (Lies n) (some_same o)
-        (sigma s.channels (both A B) same, (sigma s.channels (λ k. nat_lt k (event_count s.channels) && not (A k)) same, lies t s p same v, tt), (sigma s.channels (λ k. nat_lt k (event_count s.channels) && not (B k)) same, lies u s q same z, tt))
-    form_lies (forms.Operation operators.Hiding) (MoreSyntax t (MoreSyntax a NoSyntax)) s b same e =
-        let (p, v, w) = bind_some (denoted t s) (λ p. events_by s a >>= λ A. Some (hide (set_of s.channels A) p)) b e in
-        let (A, x, y) = bind_some (events_by s a) (λ A. Some (hide (set_of s.channels A) p)) b w in
-        subst (Lies n) (some_same y) (sigma s.channels A same, lies t s p same v)
-    form_lies (forms.Operation operators.Renaming) (MoreSyntax t ts) s b same e =
-        let (p, v, w) = bind_some (denoted t s) (λ p. pairs_of s.channels s.known ts >>= λ R. Some (renamed (event_count s.channels) R p)) b e in
-        let (R, x, y) = bind_some (pairs_of s.channels s.known ts) (λ R. Some (renamed (event_count s.channels) R p)) b w in
-        let h : AllPairs n R = subst (λ ds. AllPairs (event_count ds) R) same (all_below s.channels s.known ts R x) in
-        subst (Lies n) (ap (λ ds. renamed (event_count ds) R p) (sym same) ∙ some_same y) (renamed_lies n R p h (lies t s p same v))
-    form_lies (forms.Operation operators.Guard) (MoreSyntax c (MoreSyntax t NoSyntax)) s b same e =
-        chosen_lies (condition s.known c) (denoted t s) (Some stop) b (λ g. lies t s b same g) (λ g. subst (Lies n) (some_same g) tt) e
-    form_lies forms.If (MoreSyntax c (MoreSyntax t (MoreSyntax u NoSyntax))) s b same e = chosen_lies (condition s.known c) (denoted t s) (denoted u s) b (λ g. lies t s b same g) (λ g. lies u s b same g) e
-    form_lies forms.Call (MoreSyntax (Called f) ts) s b same e = call_lies f ts s b e
-    form_lies forms.ReplicatedExternal (MoreSyntax (Node forms.Generators gs) (MoreSyntax t NoSyntax)) s b same e =
-        replicated_lies (λ ps. Some (halved ext stop ps)) (λ ps c h g. subst (Lies n) (some_same g) (choice_lies n ps h)) gs (denoted t) (λ m p g f. lies t m p g f) s b same e
-    form_lies forms.ReplicatedInternal (MoreSyntax (Node forms.Generators gs) (MoreSyntax t NoSyntax)) s b same e = replicated_lies some_internal internal_lies gs (denoted t) (λ m p g f. lies t m p g f) s b same e
-    form_lies forms.ReplicatedInterleaving (MoreSyntax (Node forms.Generators gs) (MoreSyntax t NoSyntax)) s b same e =
-        replicated_lies (λ ps. Some (halved (par 0) skip ps)) (λ ps c h g. subst (Lies n) (some_same g) (halved_lies n (par 0) skip (λ p q i j. (none_sigma n, i, j)) tt ps h)) gs (denoted t) (λ m p g f. lies t m p g f) s b same e
-    form_lies f ts s b same e = absurd cc
+  -- ---- what stands between two
+
+  composed_lies : (s : Scope) (m : Between) (o : Operation) (p q : Body) → s.channels ≡ cs → operation_of s m ≡ Some o → Lies n p → Lies n q → Lies n (composed s o p q)
+  unfolding operation_of composed joint_of
+  composed_lies s (with_join j) o p q same e h k = subst (λ o. Lies n (composed s o p q)) (some_same e) (join_lies j p q h k)
+  composed_lies s (with_set a) o p q same e h k =
+      let (A, x, y) = bind_some (masked s.channels (events_by s a)) (λ A. Some (operations.Joint (joints.Sharing A))) o e in
+      subst (λ o. Lies n (composed s o p q)) (some_same y) (mask_lies s.channels (events_by s a) A same x, h, k)
+  composed_lies s (with_sets a c) o p q same e h k =
+      let (S, x, y) = bind_some (two_masked s.channels (events_by s a) (events_by s c)) (λ S. Some (operations.Alphabetised S.0 S.1)) o e in
+      subst (λ o. Lies n (composed s o p q)) (some_same y)
+      (sigma s.channels (both (has S.0) (has S.1)) same, (sigma s.channels (outside (event_count s.channels) (has S.0)) same, h, tt), (sigma s.channels (outside (event_count s.channels) (has S.1)) same, k, tt))
+
+  -- ---- each phrase
+
+  pub lies : (t : Phrase) (s : Scope) (b : Body) → s.channels ≡ cs → denoted t s ≡ Some b → Lies n b
+  unfolding denoted
+  lies stops s b same e = subst (Lies n) (some_same e) tt
+  lies (inside t) s b same e = lies t s b same e
+  lies (prefixed u t) s b same e = prefixed_lies cs (denoted t) (λ m p g f. lies t m p g f) s u b same e
+  lies (joined m t u) s b same e =
+      let (p, v, w) = bind_some (denoted t s) (λ p. operation_of s m >>= λ o. denoted u s >>= λ q. Some (composed s o p q)) b e in
+      let (o, x, y) = bind_some (operation_of s m) (λ o. denoted u s >>= λ q. Some (composed s o p q)) b w in
+      let (q, z, r) = bind_some (denoted u s) (λ q. Some (composed s o p q)) b y in
+      subst (Lies n) (some_same r) (composed_lies s m o p q same x (lies t s p same v) (lies u s q same z))
+  lies skips s b same e = subst (Lies n) (some_same e) tt
+  lies (called c) s b same e = named_lies (s.known c) (cond (is_process s.entries c) (Some (name (c, []))) None) b (λ p f. name_lies c (is_process s.entries c) p f) e
+  lies (hiding t a) s b same e =
+      let (p, v, w) = bind_some (denoted t s) (λ p. masked s.channels (events_by s a) >>= λ A. Some (hide A p)) b e in
+      let (A, x, y) = bind_some (masked s.channels (events_by s a)) (λ A. Some (hide A p)) b w in
+      subst (Lies n) (some_same y) (mask_lies s.channels (events_by s a) A same x, lies t s p same v)
+  lies (renaming t ts) s b same e =
+      let (p, v, w) = bind_some (denoted t s) (λ p. pairs_of s.channels s.known ts >>= λ R. Some (renamed (event_count s.channels) R p)) b e in
+      let (R, x, y) = bind_some (pairs_of s.channels s.known ts) (λ R. Some (renamed (event_count s.channels) R p)) b w in
+      let h : AllPairs n R = subst (λ ds. AllPairs (event_count ds) R) same (all_below s.channels s.known ts R x) in
+      subst (Lies n) (ap (λ ds. renamed (event_count ds) R p) (sym same) ∙ some_same y) (renamed_lies n R p h (lies t s p same v))
+  lies (conditional c t u) s b same e = chosen_lies (condition s.known c) (denoted t s) (denoted u s) b (λ g. lies t s b same g) (λ g. lies u s b same g) e
+  lies (calling f ts) s b same e = call_lies f ts s b e
+  lies (replicated j gs t) s b same e =
+      let (ps, u, v) = bind_some (over gs (denoted t) s) (all_joined j) b e in
+      all_joined_lie j ps b (over_lies gs (denoted t) (λ m p g f. lies t m p g f) s ps same u) v
+  lies other s b same e = absurd cc
 
 -- ---- bodies with numbers
 
@@ -374,14 +392,14 @@ by_lies cs s None b same e = absurd cc
 by_lies cs s (Some (channel ts)) b same e = absurd cc
 by_lies cs s (Some (datatype ns)) b same e = absurd cc
 by_lies cs s (Some constant_name) b same e = absurd cc
-by_lies cs s (Some (definition t)) b same e = lies cs t s b same e
+by_lies cs s (Some (definition t)) b same e = lies cs (phrase_of t) s b same e
 by_lies cs s (Some (parametric xs t)) b same e = absurd cc
 
 called_lies : (cs : List Channel) (s : Scope) (m : Option Meaning) (vs : Values) (b : Body) → s.channels ≡ cs → called_by s m vs ≡ Some b → Lies (event_count cs) b
 unfolding called_by
 called_lies cs s (Some (parametric xs t)) vs b same e =
-    let (is, u, v) = bind_some (paired xs vs) (λ is. denoted t (within s is)) b e in
-    lies cs t (within s is) b same v
+    let (is, u, v) = bind_some (paired xs vs) (λ is. denoted (phrase_of t) (within s is)) b e in
+    lies cs (phrase_of t) (within s is) b same v
 called_lies cs s m vs b same e = absurd cc
 
 body_lies : (s : Scope) (k : Key) (b : Body) → body_of s k ≡ Some b → Lies (event_count s.channels) b

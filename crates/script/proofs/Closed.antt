@@ -9,8 +9,7 @@ use Rattle.term.specs.Specs.{LiesIn, IsClosed}
 use Rattle.term.specs.declared.names.Names.TheVariants.{Steps}
 use Rattle.denotation.specs.Bodies.{Key, names, numbered}
 use Rattle.event_phrases.specs.Scopes.{Scope}
-use Rattle.denotation.specs.Denotes.{place, met}
-use Rattle.denotation.specs.Making.{Gathered}
+use Rattle.denotation.specs.Denotes.{place, met, Gathered}
 use Rattle.denotation.proofs.Reached.{keys_grow}
 use Rattle.read_back.proofs.Readable.{IsWritten}
 use Rattle.read_back.proofs.Reaching.{reached_many}

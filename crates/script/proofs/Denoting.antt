@@ -14,8 +14,7 @@ use Rattle.values.specs.Channels.{Declares}
 use Rattle.denotation.specs.Bodies.{Body, names}
 use Rattle.event_phrases.specs.Events.{KnownEvents, EventsStand}
 use Rattle.event_phrases.specs.Scopes.{Scope}
-use Rattle.denotation.specs.Denotes.{Denotes, body_by, body_of, met}
-use Rattle.denotation.specs.Making.{Gathered}
+use Rattle.denotation.specs.Denotes.{Denotes, body_by, body_of, met, Gathered}
 use Rattle.denotation.proofs.Reached.{keys_grow}
 use Rattle.denotation.proofs.Unique.{one_declared, one_sets}
 use Rattle.denotation.proofs.Whole.{denotes_from}

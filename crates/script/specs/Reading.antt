@@ -9,8 +9,7 @@ use Rattle.values.specs.Values.{Name}
 use Rattle.values.specs.Worths.{Known}
 use Rattle.values.specs.Names.{Entry}
 use Rattle.event_phrases.specs.Events.{KnownEvents, EventsStand}
-use Rattle.denotation.specs.Denotes.{Denotes}
-use Rattle.denotation.specs.Making.{Gathered}
+use Rattle.denotation.specs.Denotes.{Denotes, Gathered}
 
 -- These are the bodies of what is reached from the root, where a script declares this.
 pub record AreBodies (channels : List Channel) (known : Known) (entries : List Entry) (root : Name) (bodies : List Proc) : Type 0 where

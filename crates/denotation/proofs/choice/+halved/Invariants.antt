@@ -2,4 +2,4 @@ use Rattle.std.proofs.Common.{length}
 use Rattle.denotation.proofs.choice.+halved.Given as goal
 
 abbrev pub decreases-halved : goal.decreases-halved
-decreases-halved g l = length l.terms.items
+decreases-halved g l = length l.drafts.items

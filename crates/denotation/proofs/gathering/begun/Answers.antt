@@ -1,8 +1,6 @@
-use Rattle.std.proofs.Common.{◌≡◌, List, ℕ, map, [], ◌∷◌, ap, ap₂}
+use Rattle.std.proofs.Common.{List, ℕ, ap, ap₂, []}
 use Rattle.alphabet.specs.Channels.{Values}
 use Rattle.event_phrases.specs.View.{listed}
-use Rattle.denotation.specs.Bodies.{Key}
-use Rattle.denotation.specs.View.{key}
 use Rattle.denotation.proofs.FirstPlaces.{same}
 use Rattle.denotation.proofs.Seen.{seen_root}
 use Rattle.denotation.proofs.gathering.begun.Goals as goal
@@ -10,5 +8,4 @@ use Rattle.denotation.proofs.gathering.begun.Goals as goal
 pub returns : goal.returns
 returns g c =
     let root = ap₂ (λ (n : List ℕ) (vs : Values). (n, vs)) c.in_ok-from_slice.ensures.items (ap listed c.new.ensures.items) in
-    let h : map key c.insert.new.self.keys ≡ (c.args.root.now, []) ∷ [] = seen_root same c.insert.new.self.keys c.new-met.result.keys _ (c.args.root.now, []) c.in_ok-_new.ensures.keys c.new-met.ensures.empty root in
-    ap (λ (ks : List Key). (ks, 65536)) h
+    seen_root same c.insert.new.self.keys c.new-met.result.keys _ (c.args.root.now, []) c.in_ok-_new.ensures.keys c.new-met.ensures.empty root

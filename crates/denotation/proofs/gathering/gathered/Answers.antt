@@ -2,13 +2,13 @@ use Rattle.std.proofs.Common.{[]}
 use Rattle.std.proofs.lemmas.Result.{err_from_is_err_and}
 use Rattle.denotation.proofs.gathering.gathered.Goals as goal
 
-pub returns-in_err-work-clause-only : goal.returns-in_err-work-clause-only
-returns-in_err-work-clause-only g c = λ ps d.
+pub returns-in_err-met-clause-only : goal.returns-in_err-met-clause-only
+returns-in_err-met-clause-only g c = λ ps d.
     let p = err_from_is_err_and c.from_residual.result c.from_residual.ensures.1 in
     rw (p.1, p.2) tt
 
 pub returns-clause-found : goal.returns-clause-found
-returns-clause-found g c = c.bodies.ensures.found (c.args.root.now, []) c.in_ok-work.ensures
+returns-clause-found g c = c.bodies.ensures.found (c.args.root.now, []) c.in_ok-met.ensures
 
 pub returns-clause-only : goal.returns-clause-only
-returns-clause-only g c = c.bodies.ensures.only (c.args.root.now, []) c.in_ok-work.ensures
+returns-clause-only g c = c.bodies.ensures.only (c.args.root.now, []) c.in_ok-met.ensures

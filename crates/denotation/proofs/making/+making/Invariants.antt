@@ -1,65 +1,53 @@
 use Rattle.std.proofs.Common.{◌≡◌, ◌+◌, ◌-◌, ◌*◌, map, drop, length}
 use Rattle.alphabet.specs.Channels.{events}
 use Rattle.syntax.specs.View.{shape, shapes}
-use Rattle.term.specs.Proc.{proc}
 use Rattle.values.specs.Tables.{input}
 use Rattle.event_phrases.specs.Leading.{led_fits}
 use Rattle.event_phrases.specs.Scopes.{within}
-use Rattle.event_phrases.specs.Forms.{tall}
-use Rattle.denotation.specs.Forms.{inner_tall}
-use Rattle.denotation.specs.Branches.{make_fits}
-use Rattle.denotation.specs.Making.{make, branches_behind}
-use Rattle.denotation.specs.Shapes.{plain}
 use Rattle.event_phrases.specs.View.{listed}
-use Rattle.denotation.specs.View.{count}
+use Rattle.denotation.specs.Phrases.{phrase_of, weight, denoted, branches}
 use Rattle.denotation.specs.Places.{from_scope}
-use Rattle.denotation.specs.Walks.{make_visits}
+use Rattle.denotation.specs.Rooms.{all_fit, behind}
+use Rattle.denotation.specs.Shapes.{plain, or_stops}
+use Rattle.denotation.specs.View.{body}
+use Rattle.denotation.specs.Walks.{on_visits}
 use Rattle.denotation.proofs.making.+making.Given as goal
 
 abbrev pub decreases-process : goal.decreases-process
-decreases-process g l = 6 * tall (shape l.tree.now)
+decreases-process g l = 6 * weight (phrase_of (shape l.tree.now)) + 1
 
 abbrev pub decreases-made : goal.decreases-made
-decreases-made g l = 6 * inner_tall (plain l.phrase) + 5
+decreases-made g l = 6 * weight (plain l.phrase)
 
 abbrev pub decreases-prefixed : goal.decreases-prefixed
-decreases-prefixed g l = 6 * tall (shape l.then.now) + 4
+decreases-prefixed g l = 6 * weight (phrase_of (shape l.then.now)) + 5
 
 abbrev pub decreases-branches : goal.decreases-branches
-decreases-branches g l = 6 * tall (shape l.prefix.now.then.now) + 3
+decreases-branches g l = 6 * weight (phrase_of (shape l.prefix.now.then.now)) + 4
 
 abbrev pub decreases-next_branch : goal.decreases-next_branch
-decreases-next_branch g l = 6 * tall (shape l.prefix.now.then.now) + 2
+decreases-next_branch g l = 6 * weight (phrase_of (shape l.prefix.now.then.now)) + 3
 
 abbrev pub decreases-joined_phrases : goal.decreases-joined_phrases
-decreases-joined_phrases g l = 6 * (tall (shape l.first.now) + tall (shape l.second.now)) + 4
-
-abbrev pub decreases-sharing_phrases : goal.decreases-sharing_phrases
-decreases-sharing_phrases g l = 6 * (tall (shape l.first.now) + tall (shape l.second.now)) + 4
-
-abbrev pub decreases-alphabetised_phrases : goal.decreases-alphabetised_phrases
-decreases-alphabetised_phrases g l = 6 * (tall (shape l.first.now) + tall (shape l.second.now)) + 4
+decreases-joined_phrases g l = 6 * (weight (phrase_of (shape l.first.now)) + weight (phrase_of (shape l.second.now))) + 5
 
 abbrev pub decreases-hiding_phrase : goal.decreases-hiding_phrase
-decreases-hiding_phrase g l = 6 * tall (shape l.tree.now) + 4
+decreases-hiding_phrase g l = 6 * weight (phrase_of (shape l.tree.now)) + 5
 
 abbrev pub decreases-renaming_phrase : goal.decreases-renaming_phrase
-decreases-renaming_phrase g l = 6 * tall (shape l.tree.now) + 4
+decreases-renaming_phrase g l = 6 * weight (phrase_of (shape l.tree.now)) + 5
 
 abbrev pub decreases-conditional_phrase : goal.decreases-conditional_phrase
-decreases-conditional_phrase g l = 6 * (tall (shape l.trees.0.now) + tall (shape l.trees.1.now)) + 4
-
-abbrev pub decreases-guarded_phrase : goal.decreases-guarded_phrase
-decreases-guarded_phrase g l = 6 * tall (shape l.then.now) + 4
+decreases-conditional_phrase g l = 6 * (weight (phrase_of (shape l.trees.0.now)) + weight (or_stops l.trees.1)) + 5
 
 abbrev pub decreases-put_process : goal.decreases-put_process
-decreases-put_process g l = 6 * tall (shape l.tree.now) + 1
+decreases-put_process g l = 6 * weight (phrase_of (shape l.tree.now)) + 2
 
 abbrev pub decreases-over : goal.decreases-over
-decreases-over g l = 6 * tall (shape l.then.now) + 2
+decreases-over g l = 6 * weight (phrase_of (shape l.then.now)) + 3
 
 abbrev pub decreases-replicated_phrase : goal.decreases-replicated_phrase
-decreases-replicated_phrase g l = 6 * tall (shape l.form.1.now) + 3
+decreases-replicated_phrase g l = 6 * weight (phrase_of (shape l.form.1.now)) + 5
 
 abbrev pub decreases-over-loop-at : goal.decreases-over-loop-at
 decreases-over-loop-at g l = length (from_scope (g.G.GlobalScope.scope l.scope.global.now) l.at)
@@ -67,16 +55,16 @@ decreases-over-loop-at g l = length (from_scope (g.G.GlobalScope.scope l.scope.g
 abbrev pub invariant-over-loop-at : goal.invariant-over-loop-at
 invariant-over-loop-at g l =
     let s = g.G.GlobalScope.scope l.scope.global.now in
-    let next = make (shape l.then) in
-    branches_behind (map proc l.terms.items) (make_visits next (from_scope s l.at) (count l.work)) ≡ make_visits next (from_scope s l.fn.first) (count l.fn.work)
+    let next = denoted (phrase_of (shape l.then)) in
+    behind (map body l.drafts.items) (all_fit l.room (on_visits next (from_scope s l.at))) ≡ all_fit l.fn.room (on_visits next (from_scope s l.fn.first))
 
-abbrev pub decreases-branches-loop-terms : goal.decreases-branches-loop-terms
-decreases-branches-loop-terms g l = 256 - l.from
+abbrev pub decreases-branches-loop-drafts : goal.decreases-branches-loop-drafts
+decreases-branches-loop-drafts g l = 256 - l.from
 
-abbrev pub invariant-branches-loop-terms : goal.invariant-branches-loop-terms
-invariant-branches-loop-terms g l =
+abbrev pub invariant-branches-loop-drafts : goal.invariant-branches-loop-drafts
+invariant-branches-loop-drafts g l =
     let s = within (g.G.GlobalScope.scope l.scope.global.now) (map input l.scope.inputs.items) in
     let es = events (g.G.GlobalScope.scope l.scope.global.now).channels in
     let test = led_fits l.prefix.channel.now (listed l.prefix.leading.items) (shapes l.prefix.fields.now) (map (λ v. listed v.items) l.prefix.sets.now) s in
-    let next = make (shape l.prefix.then.now) in
-    branches_behind (map proc l.terms.items) (make_fits test next l.from (drop l.from es) (count l.work)) ≡ make_fits test next 0 es (count l.fn.work)
+    let next = denoted (phrase_of (shape l.prefix.then.now)) in
+    behind (map body l.drafts.items) (all_fit l.room (branches test next l.from (drop l.from es))) ≡ all_fit l.fn.room (branches test next 0 es)

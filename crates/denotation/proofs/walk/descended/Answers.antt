@@ -5,7 +5,7 @@ use Rattle.values.specs.Tables.{input}
 use Rattle.denotation.specs.Places.{innermost_first, from_place, from_next}
 use Rattle.denotation.specs.Walks.{first_scope}
 use Rattle.denotation.proofs.Places.{some_visits, arrived, opening_fails, opened_next, opened_none, one_less}
-use Rattle.denotation.proofs.Replications.{none_first, some_first}
+use Rattle.denotation.proofs.Walks.{none_first, some_first}
 use Rattle.denotation.proofs.walk.descended.Goals as goal
 
 pub returns-in_err-entered : goal.returns-in_err-entered
