@@ -23,7 +23,7 @@ struct Talked {
 }
 
 // Reports why no session of the script opens, and answers the exit status. A disk in memory fails only where memory runs out.
-fn tell_unopened<E: Write + IsTerminal>(
+pub(crate) fn tell_unopened<E: Write + IsTerminal>(
     errors: &mut E,
     name: &str,
     script: &[u8],

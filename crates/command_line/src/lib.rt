@@ -5,6 +5,7 @@
 //! them to those calls.
 #![tactic(auto)]
 
+mod by_line;
 mod checking;
 mod evidence;
 mod forms;
@@ -19,6 +20,7 @@ mod server;
 mod showing;
 mod telling;
 
+pub use by_line::check_in;
 pub use checking::check;
 pub use forms::print;
 pub use replaying::{replay, replay_read_only};
