@@ -5,7 +5,7 @@ ghost use Rattle.program.specs.Exits.{attended_exit};
 ghost use Rattle.command_line.specs.Commands.{AttendedTo, IsRefusal};
 
 use crate::checking::tell_unopened;
-use crate::scripts::text_of;
+use crate::scripts::{Script, text_of};
 use crate::telling::tell_fault;
 use disk::Disk;
 use memory_disks::MemoryDisk;
@@ -101,15 +101,15 @@ pub fn check_in<R: Files + AllocGlobal + Wait, T: Source, W: Sink, E: Write + Is
     ensures { ((before : Option (List ℕ)) × AttendedTo manner process.now (T.left reader.old) (T.left reader.new) (W.contents writer.old) (W.contents writer.new) before result)
         ⊎ (IsRefusal result × (reader.new ≡ reader.old) × (writer.new ≡ writer.old)) }
 {
-    let script = match text_of(rt, name, errors) {
-        Ok(script) => script,
+    let text = match text_of(rt, name, errors) {
+        Ok(text) => text,
         Err(exit) => return exit,
     };
     let process = process.as_bytes();
     match talk(
         rt,
         rt.alloc(),
-        &script,
+        &text,
         process,
         names,
         manner,
@@ -118,6 +118,13 @@ pub fn check_in<R: Files + AllocGlobal + Wait, T: Source, W: Sink, E: Write + Is
         errors,
     ) {
         Ok(ended) => tell_end(errors, name, ended),
-        Err(error) => tell_unopened(errors, name, &script, names, error),
+        Err(error) => {
+            let script = Script {
+                name,
+                text: &text,
+                process,
+            };
+            tell_unopened(errors, rt.alloc(), &script, names, manner.explain, error)
+        }
     }
 }

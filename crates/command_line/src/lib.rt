@@ -12,6 +12,7 @@ mod forms;
 mod hints;
 mod journal_files;
 mod limits;
+mod marks;
 mod patient;
 mod replaying;
 mod running;
