@@ -99,7 +99,8 @@ def replay(file: bytes, name: str = "j") -> Answer:
 def after_last_record(file: bytes, name: str = "j") -> bytes:
     """What `show` reports of the bytes after the last record of a journal; nothing where there are none."""
     count = len(file) - opened(file).length
-    return b"%s: %d bytes after the last record\n" % (name.encode(), count) if count else b""
+    what = b"byte" if count == 1 else b"bytes"
+    return b"%s: %d %s after the last record\n" % (name.encode(), count, what) if count else b""
 
 
 def show(file: bytes, name: str = "j", rejected: bool = False, coverage: bool = False, as_json: bool = False) -> Answer:
