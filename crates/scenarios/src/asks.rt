@@ -8,11 +8,13 @@
 //! | `number SEAT` | the number of the seat's next report |
 //! | `report SEAT NUMBER FLOOR E NAME` or `.. R NAME ..` | as the line protocol answers a report |
 //! | `ready SEAT NUMBER FLOOR E NAME` or `.. R NAME ..` | the same, made ready first and then written: the verdict and the length between the two, and whether the entry written is the `same` |
+//! | `offer SEAT NUMBER E NAME` or `.. R NAME ..` | what is offered as the seat's report: the verdict, and its place after the history and what is offered |
+//! | `settle` | `settled`, or the fault |
 //! | `times COUNT SEAT E NAME` or `.. R NAME ..` | so many reports of the seat, each its next: how many were accepted |
 
 ghost use Rattle.std.specs.Prelude.{◌≡◌, IfSome};
 ghost use Rattle.journal.specs.Reports.{AreEvents, IsReport};
-ghost use Rattle.session.specs.View.{IsIdle, IsReadyFor};
+ghost use Rattle.session.specs.View.{IsReadyFor};
 
 use crate::memory::Memory;
 use alphabet::{Alphabet, EventSet, Report};
@@ -87,10 +89,11 @@ fn put_fault(fault: Fault, out: &mut Output) {
 }
 
 /// Reports what the words ask for.
-fn report<D: Disk, A: Allocator + Copy>(session: &mut Session<D, A>, words: &str, out: &mut Output)
-    requires idle { IsIdle session.old }
-    ensures idle { IsIdle session.new }
-{
+fn report<D: Disk, A: Allocator + Copy>(
+    session: &mut Session<D, A>,
+    words: &str,
+    out: &mut Output,
+) {
     match wanted_by(session.spec().alphabet(), words) {
         Some(wanted) => {
             let answer = session.report(wanted.seat, wanted.number, wanted.floor, &wanted.report);
@@ -108,7 +111,6 @@ fn write_ready<D: Disk, A: Allocator + Copy>(
     out: &mut Output,
 )
     requires { IsReadyFor session.old ready }
-    ensures idle { IsIdle session.new }
 {
     memory.begin_quiet();
     let (entry, length) = (ready.entry(), session.history().len());
@@ -130,10 +132,7 @@ fn ready<D: Disk, A: Allocator + Copy + Drop>(
     words: &str,
     memory: Memory,
     out: &mut Output,
-)
-    requires idle { IsIdle session.old }
-    ensures idle { IsIdle session.new }
-{
+) {
     match wanted_by(session.spec().alphabet(), words) {
         Some(wanted) => {
             match session.ready(wanted.seat, wanted.number, wanted.floor, &wanted.report) {
@@ -145,6 +144,40 @@ fn ready<D: Disk, A: Allocator + Copy + Drop>(
     }
 }
 
+/// Offers what the words `SEAT NUMBER REPORT` ask for.
+fn offer<D: Disk, A: Allocator + Copy>(session: &mut Session<D, A>, words: &str, out: &mut Output) {
+    let (seat, words) = first_word(words);
+    let (number, words) = first_word(words);
+    let seat = SeatNumber::new(seat.parse().unwrap_or(0));
+    match (seat, report_of(session.spec().alphabet(), words)) {
+        (Some(seat), Some(report)) => {
+            let answer = session.offer(seat, number.parse().unwrap_or(0), &report);
+            let place = session
+                .history()
+                .len()
+                .saturating_add(session.offered().len());
+            put_answer(answer, place, out);
+        }
+        _ => out.put("no such report"),
+    }
+}
+
+/// Settles what is offered, which takes no memory.
+fn settle<D: Disk, A: Allocator + Copy>(
+    session: &mut Session<D, A>,
+    memory: Memory,
+    out: &mut Output,
+) {
+    memory.begin_quiet();
+    let answer = session.settle();
+    let asked = memory.end_quiet();
+    match answer {
+        Ok(()) => out.put("settled"),
+        Err(fault) => put_fault(fault, out),
+    }
+    out.put(asked);
+}
+
 /// Reports this so many times, each as the seat's next. How many were accepted is answered.
 fn accepted<D: Disk, A: Allocator + Copy>(
     session: &mut Session<D, A>,
@@ -152,9 +185,7 @@ fn accepted<D: Disk, A: Allocator + Copy>(
     seat: SeatNumber,
     report: &Report,
 ) -> u64
-    requires report { IsReport session.old.spec.alphabet report.now }
-    requires idle { IsIdle session.old }
-    ensures idle { IsIdle session.new }
+    requires { IsReport session.old.spec.alphabet report.now }
 {
     let mut accepted: u64 = 0;
     for _ in 0..count {
@@ -169,10 +200,7 @@ fn accepted<D: Disk, A: Allocator + Copy>(
 }
 
 /// Reports so many times what the words `COUNT SEAT REPORT` ask for.
-fn times<D: Disk, A: Allocator + Copy>(session: &mut Session<D, A>, words: &str, out: &mut Output)
-    requires idle { IsIdle session.old }
-    ensures idle { IsIdle session.new }
-{
+fn times<D: Disk, A: Allocator + Copy>(session: &mut Session<D, A>, words: &str, out: &mut Output) {
     let (count, words) = first_word(words);
     let (seat, words) = first_word(words);
     let seat = SeatNumber::new(seat.parse().unwrap_or(0));
@@ -187,10 +215,7 @@ fn times<D: Disk, A: Allocator + Copy>(session: &mut Session<D, A>, words: &str,
 }
 
 /// A seat joins.
-fn join<D: Disk, A: Allocator>(session: &mut Session<D, A>, out: &mut Output)
-    requires idle { IsIdle session.old }
-    ensures idle { IsIdle session.new }
-{
+fn join<D: Disk, A: Allocator>(session: &mut Session<D, A>, out: &mut Output) {
     match session.join() {
         Ok(seat) => {
             out.put("J ");
@@ -261,15 +286,14 @@ fn answer<D: Disk, A: Allocator + Copy + Drop>(
     ask: &str,
     memory: Memory,
     out: &mut Output,
-)
-    requires idle { IsIdle session.old }
-    ensures idle { IsIdle session.new }
-{
+) {
     let (kind, words) = first_word(ask);
     match kind {
         "J" => join(session, out),
         "report" => report(session, words, out),
         "ready" => ready(session, words, memory, out),
+        "offer" => offer(session, words, out),
+        "settle" => settle(session, memory, out),
         "times" => times(session, words, out),
         _ => {
             memory.begin_quiet();
@@ -285,9 +309,7 @@ pub(crate) fn answer_all<D: Disk, A: Allocator + Copy + Drop>(
     asks: &str,
     memory: Memory,
     out: &mut Output,
-)
-    requires idle { IsIdle session.old }
-{
+) {
     let mut has_begun = false;
     for ask in asks.split("; ") {
         out.put(if has_begun { "; " } else { "" });

@@ -1,7 +1,5 @@
 //! Sessions on disks in memory, of which some fail.
 
-ghost use Rattle.std.specs.Prelude.{◌≡◌, [], IfOk};
-
 use crate::asks::answer_all;
 use crate::memory::{Memory, Way};
 use disk::Disk;
@@ -73,9 +71,7 @@ fn begun<D: Disk + Drop, A: Allocator + Copy + Drop>(
     alloc: A,
     disk: D,
     scene: &Scene,
-) -> Result<Session<D, A>, (SessionError, D)>
-    ensures { IfOk result (λ session. session.offered ≡ []) }
-{
+) -> Result<Session<D, A>, (SessionError, D)> {
     match scene.new {
         Some((root, script)) => Session::create(alloc, disk, script.as_bytes(), root.as_bytes()),
         None => match Session::replay(alloc, disk) {
