@@ -1,14 +1,16 @@
 -- A report to a session moves the course of one who reports alone.
 use Rattle.std.proofs.Common.{◌≡◌, ◌≤◌, ℕ, ◌||◌, List, [], ◌∷◌, ◌++◌, length, Bool, true, false, Option, Some, None, refl, sym, ap, ◌∙◌, subst, arith}
 use Rattle.std.specs.Prelude.{IsTrue, ◌↔◌, is_some}
+use Rattle.std.proofs.lemmas.List.{append-nil}
 use Rattle.alphabet.specs.declared.events.Report.{Report}
 use Rattle.term.specs.Proc.{Proc, bodies_of}
-use Rattle.term.specs.Specs.{Specified}
 use Rattle.term.specs.Verdict.{Verdict}
 use Rattle.session.specs.Entry.{Entry}
 use Rattle.session.specs.Entries.{events, next_number}
 use Rattle.session.specs.Legal.{Fits}
-use Rattle.session.specs.View.{IsOf}
+use Rattle.session.specs.Monitors.{Stops}
+use Rattle.session.specs.AfterFault.TheVariants as limit
+use Rattle.session.specs.View.{IsOf, SessionView, entries}
 use Rattle.session.specs.Faults.{Explains, ExplainsReport}
 use Rattle.session.specs.declared.fault.Fault.{Fault as SessionFault}
 use Rattle.session.specs.declared.fault.Fault.TheVariants as session
@@ -17,32 +19,61 @@ use Rattle.attending.specs.Courses.{Adds, Leaves}
 use Rattle.attending.specs.Reported.{reported_as}
 use Rattle.attending.specs.Standing.{course_of}
 
-pub judged : (B : ℕ → Proc) (h h' : List Entry) (f f' : Option Entry) (e : Entry) (seat number place : ℕ) (r : Report) →
-    IsOf e seat number r → Fits B h e → h' ≡ h ++ e ∷ [] → f ≡ None → f' ≡ None → place ≡ length h' →
-    Adds B (course_of h f) r (record { verdict = e.verdict; place = place }) (course_of h' f')
-judged B h h' f f' e seat number place r is fits appended was now stands = record {
-  verdict = subst (λ (x : Report). IsTrue e.verdict ↔ Verdict B (events h) x) is.report_is fits.verdict;
+-- where nothing is offered, a report is judged after the history
+all : {D : Type 0} (t : SessionView D) → t.offered ≡ [] → entries t ≡ t.history
+all t none = ap (λ (l : List Entry). t.history ++ l) none ∙ append-nil t.history
+
+pub judged : {D : Type 0} (old new : SessionView D) (e : Entry) (seat number place : ℕ) (r : Report) → old.offered ≡ [] →
+    IsOf e seat number r → Fits (bodies_of old.spec.bodies) (entries old) e → new.history ≡ entries old ++ e ∷ [] → old.failed ≡ None → new.failed ≡ None → place ≡ length new.history →
+    Adds (bodies_of old.spec.bodies) (course_of old.history old.failed) r (record { verdict = e.verdict; place = place }) (course_of new.history new.failed)
+judged old new e seat number place r none is fits appended was now stands = record {
+  verdict = subst (λ (x : Report). IsTrue e.verdict ↔ Verdict (bodies_of old.spec.bodies) (events old.history) x) is.report_is
+      (subst (λ (h : List Entry). Fits (bodies_of old.spec.bodies) h e) (all old none) fits).verdict;
   entry = e;
   report_is = is.report_is;
   verdict_is = refl;
-  appended = appended;
+  appended = appended ∙ ap (λ (h : List Entry). h ++ e ∷ []) (all old none);
   place = stands;
   same = ap is_some now ∙ sym (ap is_some was);
 }
 
-pub refused : (spec : Specified) (h h' : List Entry) (f f' : Option Entry) (seat number : ℕ) (r : Report) (fault : SessionFault) →
-    length h ≤ 1000000 → (f ≡ None → number ≡ next_number h seat) → h' ≡ h → ExplainsReport spec f h seat number 0 r f' fault →
-    Leaves spec (course_of h f) r (reported_as fault) (course_of h' f')
-refused spec h h' f f' seat number r session.Depth small turn same (e, now) = record { why = e.1; same = same; closed = ap is_some now }
-refused spec h h' f f' seat number r session.States small turn same (e, now) = record { why = e.1; same = same; closed = ap is_some now }
-refused spec h h' f f' seat number r session.Seats small turn same (e, now) = absurd e
-refused spec h h' f f' seat number r session.History small turn same (e, now) = record { why = omega (arith, small, e.3); same = same; closed = ap is_some now }
-refused spec h h' f f' seat number r session.Turn small turn same (e, now) = absurd (e.1 (turn e.0))
-refused spec h h' f f' seat number r session.Behind small turn same (e, now) = absurd (omega (arith, e.2))
-refused spec h h' f f' seat number r (session.Journal x) small turn same (taken, is, fits, now) = record { why = tt; same = same; closed = ap is_some now }
-refused spec h h' f f' seat number r (session.Closed x) small turn same (e, now) = record { why = tt; same = same; closed = ap is_some (now ∙ e) }
-refused spec h h' f f' seat number r session.Memory small turn same (e, now) = record { why = tt; same = same; closed = ap is_some now }
+pub refused : {D : Type 0} (old new : SessionView D) (seat number : ℕ) (r : Report) (fault : SessionFault) →
+    length old.history ≤ 1000000 → (old.failed ≡ None → old.offered ≡ []) → number ≡ next_number (entries old) seat → new.history ≡ old.history → ExplainsReport old new seat number 0 r fault →
+    Leaves old.spec (course_of old.history old.failed) r (reported_as fault) (course_of new.history new.failed)
+refused old new seat number r session.Depth small idle turn same (e, left, now) = record {
+  why = subst (λ (h : List Entry). Stops old.spec (events h) r limit.Depth) (all old (idle e.0.is_open)) e.1;
+  same = same;
+  closed = ap is_some now;
+}
+refused old new seat number r session.States small idle turn same (e, left, now) = record {
+  why = subst (λ (h : List Entry). Stops old.spec (events h) r limit.States) (all old (idle e.0.is_open)) e.1;
+  same = same;
+  closed = ap is_some now;
+}
+refused old new seat number r session.Seats small idle turn same (e, left, now) = absurd e
+refused old new seat number r session.History small idle turn same (e, left, now) = record {
+  why = omega (arith, small, subst (λ (h : List Entry). 1000000 ≤ length h) (all old (idle e.0)) e.3);
+  same = same;
+  closed = ap is_some now;
+}
+refused old new seat number r session.Turn small idle turn same (e, left, now) = absurd (e.1 turn)
+refused old new seat number r session.Behind small idle turn same (e, left, now) = absurd (omega (arith, e.2))
+refused old new seat number r (session.Journal x) small idle turn same fails = record { why = tt; same = same; closed = ap is_some fails.closed }
+refused old new seat number r (session.Closed x) small idle turn same (e, left, now) = record { why = tt; same = same; closed = ap is_some (now ∙ e) }
+refused old new seat number r session.Memory small idle turn same (e, left, now) = record { why = tt; same = same; closed = ap is_some now }
 
--- the number of the next report, where nothing is offered
-pub next_of : (f : Option Entry) (h offered : List Entry) (seat number : ℕ) → (f ≡ None → offered ≡ []) → number ≡ next_number (h ++ offered) seat → h ++ [] ≡ h → f ≡ None → number ≡ next_number h seat
-next_of f h offered seat number idle is nil none = is ∙ ap (λ (l : List Entry). next_number (h ++ l) seat) (idle none) ∙ ap (λ (l : List Entry). next_number l seat) nil
+failed_is_open : (x : Entry) (f : Option Entry) → f ≡ Some x → f ≡ None → ⊥
+failed_is_open x f some none = absurd (sym some ∙ none)
+
+-- after a fault nothing is offered in an open session, if so it was before
+pub still_idle : {D : Type 0} (old new : SessionView D) (seat number : ℕ) (r : Report) (fault : SessionFault) →
+    (old.failed ≡ None → old.offered ≡ []) → ExplainsReport old new seat number 0 r fault → new.failed ≡ None → new.offered ≡ []
+still_idle old new seat number r session.Depth idle (e, left, now) none = left ∙ idle (sym now ∙ none)
+still_idle old new seat number r session.States idle (e, left, now) none = left ∙ idle (sym now ∙ none)
+still_idle old new seat number r session.Seats idle (e, left, now) none = absurd e
+still_idle old new seat number r session.History idle (e, left, now) none = left ∙ idle (sym now ∙ none)
+still_idle old new seat number r session.Turn idle (e, left, now) none = left ∙ idle (sym now ∙ none)
+still_idle old new seat number r session.Behind idle (e, left, now) none = left ∙ idle (sym now ∙ none)
+still_idle old new seat number r (session.Journal x) idle fails none = absurd (failed_is_open x new.failed fails.closed none)
+still_idle old new seat number r (session.Closed x) idle (e, left, now) none = left ∙ idle (sym now ∙ none)
+still_idle old new seat number r session.Memory idle (e, left, now) none = left ∙ idle (sym now ∙ none)

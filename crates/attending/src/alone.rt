@@ -1,11 +1,10 @@
 //! One who reports alone to a session.
 
-ghost use Rattle.std.specs.Prelude.{◌≡◌, [], false, IfOk};
+ghost use Rattle.std.specs.Prelude.{◌≡◌, [], None, false, IfOk};
 ghost use Rattle.alphabet.specs.Channels.{event_count};
 ghost use Rattle.term.specs.Proc.{bodies_of};
 ghost use Rattle.session.specs.Reports.{IsReport};
 ghost use Rattle.session.specs.Legal.{IsJudged};
-ghost use Rattle.session.specs.View.{IsIdle};
 ghost use Rattle.wire.specs.Requests.{IsRequestBelow};
 ghost use Rattle.wire.specs.Replies.{Answers, IsAnswerBelow};
 ghost use Rattle.attending.specs.Courses.{Reports, Statuses, Nexts, status_of};
@@ -23,7 +22,7 @@ use wire::{Answer, Fault, Receipt, Request, Status, Summary};
 pub(crate) struct Alone<D: Disk, A: Allocator> {
     pub(crate) session: Session<D, A>,
     seat: SeatNumber,
-    ghost idle: { IsIdle session },
+    ghost idle: { session.failed ≡ None → session.offered ≡ [] },
 }
 
 /// The first seat of a session.
