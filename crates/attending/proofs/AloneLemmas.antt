@@ -61,19 +61,3 @@ refused old new seat number r session.Behind small idle turn same (e, left, now)
 refused old new seat number r (session.Journal x) small idle turn same fails = record { why = tt; same = same; closed = ap is_some fails.closed }
 refused old new seat number r (session.Closed x) small idle turn same (e, left, now) = record { why = tt; same = same; closed = ap is_some (now ∙ e) }
 refused old new seat number r session.Memory small idle turn same (e, left, now) = record { why = tt; same = same; closed = ap is_some now }
-
-failed_is_open : (x : Entry) (f : Option Entry) → f ≡ Some x → f ≡ None → ⊥
-failed_is_open x f some none = absurd (sym some ∙ none)
-
--- after a fault nothing is offered in an open session, if so it was before
-pub still_idle : {D : Type 0} (old new : SessionView D) (seat number : ℕ) (r : Report) (fault : SessionFault) →
-    (old.failed ≡ None → old.offered ≡ []) → ExplainsReport old new seat number 0 r fault → new.failed ≡ None → new.offered ≡ []
-still_idle old new seat number r session.Depth idle (e, left, now) none = left ∙ idle (sym now ∙ none)
-still_idle old new seat number r session.States idle (e, left, now) none = left ∙ idle (sym now ∙ none)
-still_idle old new seat number r session.Seats idle (e, left, now) none = absurd e
-still_idle old new seat number r session.History idle (e, left, now) none = left ∙ idle (sym now ∙ none)
-still_idle old new seat number r session.Turn idle (e, left, now) none = left ∙ idle (sym now ∙ none)
-still_idle old new seat number r session.Behind idle (e, left, now) none = left ∙ idle (sym now ∙ none)
-still_idle old new seat number r (session.Journal x) idle fails none = absurd (failed_is_open x new.failed fails.closed none)
-still_idle old new seat number r (session.Closed x) idle (e, left, now) none = left ∙ idle (sym now ∙ none)
-still_idle old new seat number r session.Memory idle (e, left, now) none = left ∙ idle (sym now ∙ none)

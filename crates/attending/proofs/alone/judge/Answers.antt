@@ -2,7 +2,7 @@ use Rattle.std.proofs.Common.{◌≡◌, ap, sym, subst, length}
 use Rattle.wire.specs.declared.answers.Fault.{Fault}
 use Rattle.attending.specs.Courses.{Leaves}
 use Rattle.attending.specs.Standing.{course_of}
-use Rattle.attending.proofs.AloneLemmas.{judged, refused, still_idle}
+use Rattle.attending.proofs.AloneLemmas.{judged, refused}
 use Rattle.attending.proofs.alone.judge.Goals as goal
 
 pub returns-in-Ok-clause-reports : goal.returns-in-Ok-clause-reports
