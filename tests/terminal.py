@@ -7,6 +7,7 @@ Standard error is a pseudo-terminal of its own.
 """
 import os
 import pty
+import select
 import subprocess
 
 import large
@@ -116,27 +117,25 @@ def knows_marks(program):
     return b"--explain" in done.stdout
 
 
-def read_all(end):
-    """What was written to the other end of a pseudo-terminal, after its last writer has closed it."""
-    parts = []
-    while True:
-        try:
-            part = os.read(end, 65536)
-        except OSError:
-            break
-        if not part:
-            break
-        parts.append(part)
-    return b"".join(parts).decode("utf-8", "replace").replace("\r\n", "\n").splitlines()
+END = b"the command has ended"
+"""What is written to the terminal once a command has ended. A terminal whose last writer has gone may lose what it holds."""
 
 
 def on_terminal(command, folder):
+    """What the command writes to a terminal, and its status."""
     mine, other = pty.openpty()
     child = subprocess.Popen(command, cwd=folder, stdin=subprocess.DEVNULL, stdout=subprocess.DEVNULL, stderr=other)
-    os.close(other)
-    lines = read_all(mine)
+    text = b""
+    ended = False
+    while not text.endswith(END):
+        if select.select([mine], [], [], 0.01)[0]:
+            text += os.read(mine, 65536)
+        elif not ended and child.poll() is not None:
+            os.write(other, END)
+            ended = True
     os.close(mine)
-    return lines, child.wait(timeout=SECONDS)
+    os.close(other)
+    return text[: -len(END)].decode("utf-8", "replace").replace("\r\n", "\n").splitlines(), child.wait(timeout=SECONDS)
 
 
 def elsewhere(command, folder):
