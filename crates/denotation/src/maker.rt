@@ -18,14 +18,14 @@ use crate::making::process;
 use event_phrases::{GlobalScope, Scope};
 use std::alloc::{AllocError, Allocator};
 use syntax::Tree;
-use tokens::{ScriptErrorKind, Unread, fault};
+use tokens::{Position, ScriptErrorKind, Unread, fault};
 use values::{Input, Value};
 
 /// The greatest depth of a body.
 const DEEPEST: u64 = 200;
 
 /// The same, unless it is too deep.
-fn unless_deep<A: Allocator>(draft: Draft<A>, line: u32) -> Result<Draft<A>, Unread>
+fn unless_deep<A: Allocator>(draft: Draft<A>, line: Position) -> Result<Draft<A>, Unread>
     ensures { (room : ℕ) → Gives (λ b. (body_of_draft b, room)) result (shallow (body_of_draft draft, room)) }
 {
     if draft.depth() > DEEPEST {
@@ -59,10 +59,10 @@ fn plain_body<A: Allocator + Copy, G: GlobalScope<A>>(
     ensures { Gives (λ b. (body_of_draft b, room.new)) result (within_limits room.old (body_of (G.scope global.now) (name.now, []))) }
 {
     if !global.is_process(name) {
-        return Err(fault(1, ScriptErrorKind::NoSuchProcess));
+        return Err(fault(Position::Line(1), ScriptErrorKind::NoSuchProcess));
     }
     match global.definition(name) {
-        None => Err(fault(1, ScriptErrorKind::NoSuchProcess)),
+        None => Err(fault(Position::Line(1), ScriptErrorKind::NoSuchProcess)),
         Some(tree) => {
             let scope = Scope {
                 global,
@@ -107,9 +107,9 @@ fn called_body<A: Allocator + Copy, G: GlobalScope<A>>(
     ensures { Gives (λ b. (body_of_draft b, room.new)) result (within_limits room.old (called_by (G.scope global.now) (meaning (G.scope global.now).entries name.now) (listed arguments.now))) }
 {
     match global.with_parameters(name) {
-        None => Err(fault(1, ScriptErrorKind::NoSuchProcess)),
+        None => Err(fault(Position::Line(1), ScriptErrorKind::NoSuchProcess)),
         Some((parameters, tree)) => match parameter_inputs(alloc, parameters, arguments)? {
-            None => Err(fault(1, ScriptErrorKind::NoSuchProcess)),
+            None => Err(fault(Position::Line(1), ScriptErrorKind::NoSuchProcess)),
             Some(inputs) => {
                 let scope = Scope {
                     global,

@@ -1,14 +1,17 @@
 -- A text's tokens, and the tree that they have.
-use Rattle.std.proofs.Common.{◌≡◌, ℕ, List, Result, Ok, Err, IsErr, IsErrAnd, MatchResult, ap, ◌∙◌}
+use Rattle.std.proofs.Common.{◌≡◌, ℕ, List, Result, Ok, Err, IsErr, IsErrAnd, MatchResult, true, ap, ◌∙◌}
 use Rattle.tokens.specs.Lexeme.{Lexeme}
 use Rattle.tokens.specs.declared.error.ScriptErrorKind.TheVariants as errors
 use Rattle.tokens.specs.declared.error.ScriptError.{ScriptError}
 use Rattle.tokens.specs.Text.{HasTokens}
 use Rattle.syntax.specs.Grammar.{Syntax}
-use Rattle.syntax.specs.Script.{IsScript, HasTree}
+use Rattle.syntax.specs.Script.{IsScript, HasTree, IsPhrase, HasPhrase, is_one_line}
 
 pub has_tree : (text : List ℕ) (toks : List Lexeme) (t : Syntax) → HasTokens text toks → IsScript toks t → HasTree text t
 has_tree text toks t h i = record { tokens = toks; read = h; is = i }
+
+pub has_phrase : (text : List ℕ) (toks : List Lexeme) (t : Syntax) → is_one_line text ≡ true → HasTokens text toks → IsPhrase toks t → HasPhrase text t
+has_phrase text toks t l h i = record { line = l; tokens = toks; read = h; is = i }
 
 -- an error that is handed on
 pub only_memory : {X : Type 0} (P : X → Type 0) (r : Result X ScriptError) (e : ScriptError) → IsErr r → IsErrAnd r (λ x. x ≡ e) → e.kind ≡ errors.Memory → MatchResult r P (λ e. e.kind ≡ errors.Memory)
