@@ -7,14 +7,15 @@ ghost use Rattle.values.specs.Tables.{input};
 ghost use Rattle.values.specs.View.{Gives};
 ghost use Rattle.event_phrases.specs.Scopes.{within};
 ghost use Rattle.event_phrases.specs.View.{listed};
-ghost use Rattle.denotation.specs.Denotes.{body_of, called_by, paired};
+ghost use Rattle.denotation.specs.Denotes.{body_of, body_under as body_below, called_by, is_nameless as has_no_name, paired};
 ghost use Rattle.denotation.specs.Rooms.{shallow, within_limits};
 ghost use Rattle.denotation.specs.Phrases.{denoted, phrase_of};
-ghost use Rattle.denotation.specs.View.{body as body_of_draft, key};
+ghost use Rattle.denotation.specs.View.{body as body_of_draft, key, root as root_view};
 
 use crate::call::Call;
 use crate::draft::Draft;
 use crate::making::process;
+use crate::root::Root;
 use event_phrases::{GlobalScope, Scope};
 use std::alloc::{AllocError, Allocator};
 use syntax::Tree;
@@ -136,5 +137,51 @@ pub(crate) fn body<A: Allocator + Copy, G: GlobalScope<A>>(
         plain_body(alloc, global, &call.name, room)
     } else {
         called_body(alloc, global, &call.name, &call.arguments, room)
+    }
+}
+
+/// The draft made of a phrase for a process that stands beside the script.
+fn phrase_body<A: Allocator + Copy, G: GlobalScope<A>>(
+    alloc: A,
+    global: &G,
+    phrase: &Tree<A>,
+    room: &mut usize,
+) -> Result<Draft<A>, Unread>
+    ensures { Gives (λ b. (body_of_draft b, room.new)) result (within_limits room.old (denoted (phrase_of (shape phrase.now)) (G.scope global.now))) }
+{
+    let scope = Scope {
+        global,
+        inputs: Vec::new(alloc),
+        line: phrase.line(),
+    };
+    body_within(alloc, &scope, phrase, room)
+}
+
+/// Whether what is called has no name, and no values.
+fn is_nameless<A: Allocator>(call: &Call<A>) -> bool
+    ensures { result ≡ has_no_name (key call.now) }
+{
+    call.name.is_empty() && call.arguments.is_empty()
+}
+
+/// The draft made of the body of the definition that is called, where the one without a name is the root's phrase.
+pub(crate) fn body_under<A: Allocator + Copy, G: GlobalScope<A>>(
+    alloc: A,
+    global: &G,
+    root: &Root<'_, A>,
+    call: &Call<A>,
+    room: &mut usize,
+) -> Result<Draft<A>, Unread>
+    ensures { Gives (λ b. (body_of_draft b, room.new)) result (within_limits room.old (body_below (root_view root.now) (G.scope global.now) (key call.now))) }
+{
+    match root {
+        Root::Named(_) => body(alloc, global, call, room),
+        Root::Phrase(phrase) => {
+            if is_nameless(call) {
+                phrase_body(alloc, global, phrase, room)
+            } else {
+                body(alloc, global, call, room)
+            }
+        }
     }
 }
