@@ -1,5 +1,5 @@
 -- What it is that a text is a script with this tree.
-use Rattle.std.specs.Prelude.{◌≡◌, ◌≤◌, ℕ, List, [], ◌∷◌, Bool, true, false, nat_le}
+use Rattle.std.specs.Prelude.{◌≡◌, ◌≤◌, ℕ, List, Bool, true, not, ◌&&◌, ◌==◌, length, nat_le}
 use Rattle.std.specs.List.{list_all}
 use Rattle.tokens.specs.Lexeme.{Lexeme}
 use Rattle.tokens.specs.Text.{HasTokens, is_of_line}
@@ -29,9 +29,8 @@ pub record IsPhrase (tokens : List Lexeme) (t : Syntax) : Type 0 where
   pub spelled : tokens ≡ flat t
 
 -- one byte or more, and no line feed
-unfoldable pub is_one_line : List ℕ → Bool
-is_one_line [] = false
-is_one_line (c ∷ text) = list_all is_of_line (c ∷ text)
+abbrev pub is_one_line : List ℕ → Bool
+is_one_line text = not (length text == 0) && list_all is_of_line text
 
 -- the text is one line, whose tokens are a phrase with this tree
 pub record HasPhrase (text : List ℕ) (t : Syntax) : Type 0 where

@@ -2,7 +2,9 @@
 ghost use Rattle.std.specs.Prelude.{◌≡◌, ◌≤◌, IfOk, MatchResult, length};
 ghost use Rattle.tokens.specs.declared.error.ScriptErrorKind.TheVariants as kinds;
 ghost use Rattle.tokens.specs.declared.unread.Unread.TheVariants.{Memory};
+ghost use Rattle.std.specs.List.{list_all};
 ghost use Rattle.tokens.specs.Lexeme.{lexemes};
+ghost use Rattle.tokens.specs.Text.{is_of_line};
 ghost use Rattle.syntax.specs.Grammar.{Syntax};
 ghost use Rattle.syntax.specs.Script.{HasPhrase, IsPhrase, is_one_line as one_line};
 ghost use Rattle.syntax.specs.View.{shape};
@@ -14,12 +16,17 @@ use crate::tree::Tree;
 use std::alloc::Allocator;
 use tokens::{MAX_SCRIPT_LEN, Position, ScriptError, ScriptErrorKind, Token, Unread, scan_phrase};
 
+fn has_no_line_feed(text: &[u8]) -> bool
+    ensures { result ≡ list_all is_of_line text.now }
+{
+    text.iter().all(|byte| *byte != b'\n')
+}
+
 /// Whether a text is one line: one byte or more, and no line feed.
-#[tactic(auto, unfolding(crate::specs::Script::is_one_line))]
 fn is_one_line(text: &[u8]) -> bool
     ensures { result ≡ one_line text.now }
 {
-    !text.is_empty() && text.iter().all(|byte| *byte != b'\n')
+    !text.is_empty() && has_no_line_feed(text)
 }
 
 /// What is wrong with a text that isn't one line: it ends at once, or has a line feed.

@@ -24,7 +24,7 @@ use crate::parts::{Parsed, Parts};
 use crate::piece::{Fields, Kind, Piece, Place, Sign, Start};
 use crate::tree::Tree;
 use std::alloc::Allocator;
-use tokens::{Symbol, Token, Unread, Word};
+use tokens::{Position, Symbol, Token, Unread, Word};
 
 /// A name that must stand first.
 #[tactic(auto, unfolding(crate::specs::Parsing::name_at, crate::specs::Grammar::is_open))]

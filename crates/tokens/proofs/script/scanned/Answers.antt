@@ -41,9 +41,6 @@ loop-rest-preserved g c =
 pub slice_bounds-steps-count : goal.slice_bounds-steps-count
 slice_bounds-steps-count g c = omega (arith, step_shorter c.loop-rest.rest.now (step_of c.in-Ok.part) c.in-Ok.ensures)
 
-pub slice_bounds-steps-length : goal.slice_bounds-steps-length
-slice_bounds-steps-length g c = omega (arith, step_shorter c.loop-rest.rest.now (step_of c.in-Ok.part) c.in-Ok.ensures)
-
 pub loop-rest-smaller : goal.loop-rest-smaller
 loop-rest-smaller g c = step_shorter c.loop-rest.rest.now (step_of c.in-Ok.part) c.in-Ok.ensures
 
