@@ -26,6 +26,7 @@ struct Talked {
 fn tell_unopened<E: Write + IsTerminal>(
     errors: &mut E,
     name: &str,
+    process: &str,
     script: &[u8],
     names: Names,
     error: SessionError,
@@ -33,7 +34,7 @@ fn tell_unopened<E: Write + IsTerminal>(
     ensures { IsRefusal result }
 {
     match error {
-        SessionError::Script(fault) => tell_script(errors, name, script, &fault),
+        SessionError::Script(fault) => tell_script(errors, name, process, script, &fault),
         SessionError::Device => tell_opening(errors, name, names, SessionError::Memory),
         error => tell_opening(errors, name, names, error),
     }
@@ -101,9 +102,16 @@ pub fn check<R: Files + AllocGlobal + Wait, T: Source, W: Sink, E: Write + IsTer
         Ok(script) => script,
         Err(exit) => return exit,
     };
-    let process = process.as_bytes();
-    match talk(rt, rt.alloc(), &script, process, names, reader, writer) {
+    match talk(
+        rt,
+        rt.alloc(),
+        &script,
+        process.as_bytes(),
+        names,
+        reader,
+        writer,
+    ) {
         Ok(talked) => tell_end(errors, name, talked),
-        Err(error) => tell_unopened(errors, name, &script, names, error),
+        Err(error) => tell_unopened(errors, name, process, &script, names, error),
     }
 }

@@ -54,7 +54,7 @@ pub fn print<R: Files + AllocGlobal, O: Write, E: Write + IsTerminal>(
     };
     match program::print(rt.alloc(), &script, process.as_bytes()) {
         Ok(text) => write(&text, Exit::Done, output, errors),
-        Err(PrintError::Script(fault)) => tell_script(errors, name, &script, &fault),
+        Err(PrintError::Script(fault)) => tell_script(errors, name, process, &script, &fault),
         Err(PrintError::Memory) => tell_fault(errors, name, "40 memory", Exit::Limit),
     }
 }

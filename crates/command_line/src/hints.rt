@@ -6,7 +6,7 @@ use std::fs::File;
 use std::io::{self, IsTerminal, Write};
 use std::rt::Files;
 use term::Names;
-use tokens::{ScriptError, ScriptErrorKind};
+use tokens::{Position, ScriptError, ScriptErrorKind};
 
 /// The most bytes of a line that are shown.
 const MOST_SHOWN: usize = 200;
@@ -21,6 +21,14 @@ fn from_line(text: &[u8], line: u32) -> &[u8] {
         }
     }
     rest
+}
+
+/// The text from the line of this position on: a column is one of the only line.
+fn line_at(text: &[u8], position: Position) -> &[u8] {
+    match position {
+        Position::Line(line) => from_line(text, line),
+        Position::Column(_) => text,
+    }
 }
 
 /// The byte as it is shown: what a terminal doesn't print becomes `?`, a tab a blank.
@@ -70,19 +78,15 @@ fn is_on_its_line(kind: ScriptErrorKind) -> bool {
     )
 }
 
-/// Shows, where the errors go to a terminal, the line of the script that the fault is on, and what the fault means. Where
+/// Shows, where the errors go to a terminal, the line of the text that the fault is on, and what the fault means. Where
 /// that fails there is nobody to tell.
-pub(crate) fn show_fault<E: Write + IsTerminal>(
-    errors: &mut E,
-    script: &[u8],
-    fault: &ScriptError,
-) {
+pub(crate) fn show_fault<E: Write + IsTerminal>(errors: &mut E, text: &[u8], fault: &ScriptError) {
     if !errors.is_terminal() {
         return;
     }
     if is_on_its_line(fault.kind) {
         let _ = write!(errors, "{:>5} | ", fault.line);
-        let _ = write_line(errors, from_line(script, fault.line));
+        let _ = write_line(errors, line_at(text, fault.line));
     }
     let _ = writeln!(errors, "        {}", meaning_of(fault.kind));
 }

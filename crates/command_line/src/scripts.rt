@@ -11,14 +11,14 @@ use std::alloc::Global;
 use std::fs::OpenOptions;
 use std::io::{self, ErrorKind, IsTerminal, Read, Write};
 use std::rt::Files;
-use tokens::{ScriptError, ScriptErrorKind};
+use tokens::{Position, ScriptError, ScriptErrorKind};
 
 /// One byte more than a script may have.
 const TOO_MANY: u64 = 65_537;
 
 /// That there is no memory for a script, which is read from its first line on.
 const NO_MEMORY: ScriptError = ScriptError {
-    line: 1,
+    line: Position::Line(1),
     kind: ScriptErrorKind::Memory,
 };
 
@@ -33,7 +33,7 @@ fn tell_unread<E: Write + IsTerminal>(errors: &mut E, name: &str, kind: ErrorKin
     ensures { IsRefusal result }
 {
     match kind {
-        ErrorKind::OutOfMemory => tell_script(errors, name, &[], &NO_MEMORY),
+        ErrorKind::OutOfMemory => tell_script(errors, name, "", &[], &NO_MEMORY),
         _ => tell_fault(errors, name, "cannot read", Exit::FileFailed),
     }
 }
@@ -59,13 +59,13 @@ pub(crate) fn tell_read<E: Write + IsTerminal>(
     alloc: Global,
     name: &str,
     script: &[u8],
-    process: &[u8],
+    process: &str,
     errors: &mut E,
 ) -> Result<(), Exit>
     ensures { IfOk result (λ _. (spec : Specified) × IsRead script.now process.now spec) }
 {
-    match read(alloc, script, process) {
+    match read(alloc, script, process.as_bytes()) {
         Ok(_) => Ok(()),
-        Err(fault) => Err(tell_script(errors, name, script, &fault)),
+        Err(fault) => Err(tell_script(errors, name, process, script, &fault)),
     }
 }

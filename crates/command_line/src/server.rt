@@ -193,6 +193,7 @@ fn session_at<R: Files<File = File> + AllocGlobal, E: Write + IsTerminal>(
                 rt,
                 errors,
                 service.spec,
+                service.process,
                 script,
                 names,
                 service.journal,
@@ -231,12 +232,6 @@ fn script_of<R: Files + AllocGlobal, E: Write + IsTerminal>(
     errors: &mut E,
 ) -> Result<Vec<u8>, Exit> {
     let script = text_of(rt, service.spec, errors)?;
-    tell_read(
-        rt.alloc(),
-        service.spec,
-        &script,
-        service.process.as_bytes(),
-        errors,
-    )?;
+    tell_read(rt.alloc(), service.spec, &script, service.process, errors)?;
     Ok(script)
 }

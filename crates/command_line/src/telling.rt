@@ -13,7 +13,7 @@ use std::fs::File;
 use std::io::{IsTerminal, Write};
 use std::rt::Files;
 use term::Names;
-use tokens::ScriptError;
+use tokens::{Position, ScriptError};
 
 /// Writes one line on the errors, and answers the status. Where that fails there is nobody to tell.
 pub(crate) fn tell_fault<E: Write>(errors: &mut E, name: &str, fault: &str, exit: Exit) -> Exit
@@ -31,17 +31,22 @@ pub fn tell_no_memory<E: Write>(errors: &mut E) -> u8
     Exit::Limit.code()
 }
 
-/// Reports why the script is refused, on a terminal with its line.
+/// Reports why the script is refused for the process, on a terminal with its line: a fault of the process's phrase by that, with a column.
 pub(crate) fn tell_script<E: Write + IsTerminal>(
     errors: &mut E,
     name: &str,
+    process: &str,
     script: &[u8],
     fault: &ScriptError,
 ) -> Exit
     ensures { result ≡ script_exit fault.now }
 {
+    let (name, text) = match fault.line {
+        Position::Line(_) => (name, script),
+        Position::Column(_) => (process, process.as_bytes()),
+    };
     let _ = writeln!(errors, "{name}:{fault}");
-    show_fault(errors, script, fault);
+    show_fault(errors, text, fault);
     Exit::of_script(fault)
 }
 
@@ -102,6 +107,7 @@ pub(crate) fn tell_open<R: Files<File = File>, E: Write + IsTerminal>(
     rt: &R,
     errors: &mut E,
     spec: &str,
+    process: &str,
     script: &[u8],
     names: Names,
     journal: &str,
@@ -110,7 +116,9 @@ pub(crate) fn tell_open<R: Files<File = File>, E: Write + IsTerminal>(
     ensures { result ≡ open_exit error }
 {
     match error {
-        OpenError::Begin(SessionError::Script(fault)) => tell_script(errors, spec, script, &fault),
+        OpenError::Begin(SessionError::Script(fault)) => {
+            tell_script(errors, spec, process, script, &fault)
+        }
         OpenError::Begin(SessionError::Device) => {
             tell_journal(rt, errors, journal, SessionError::Device)
         }
