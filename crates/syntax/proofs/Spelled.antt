@@ -19,7 +19,7 @@ use Rattle.syntax.specs.declared.form.Form.TheVariants as forms
 use Rattle.syntax.specs.Operators.{opening, opens, level, behind}
 use Rattle.syntax.specs.Rules.{rule, is_heavy, form_level}
 use Rattle.syntax.specs.Grammar.{Syntax, Numeral, Node, Syntaxes, flat, spell, spell_signs, spell_part, height_of, highest, nesting, nests, nests_part, level_in, is, is_called, is_numeral, is_value, takes, left_fits, may_stand, Fits, FitAll}
-use Rattle.syntax.specs.Script.{IsPhrase, IsScript}
+use Rattle.syntax.specs.Script.{IsPhrase as IsOnePhrase, IsScript}
 use Rattle.syntax.specs.Parsing.{◌>>=◌, Found, Row, Reader, syntaxes, name_at, number_at, numeral_at, may_be_number, is_alone, form_at, fields_of, turned, row, node_of, node, next_operator, may_begin, grown, climb_on, climb, pick, operand_on, operand, go_on, read_in, reads, inside, reader, may_open, ended, whole}
 use Rattle.syntax.proofs.Sound.{bind_some, guard_some, some_is, some_of, name_is, fit_sign, fit_open, spell_sign, spell_open, nests_sign, nests_open, IsPart, IsSound, Rowed, row_sound, tidy}
 use Rattle.syntax.proofs.Climbed.{next_goes}
@@ -294,7 +294,7 @@ whole_sound toks t e =
     record { kind = g.kind; fits = g.fits; high = g.high; nested = g.nested; spelled = g.spelled ∙ append-nil (flat t) }
 
 -- or a phrase
-pub phrase_sound : (toks : List Lexeme) (t : Syntax) → whole (kinds.Phrase 16) toks ≡ Some t → IsPhrase toks t
+pub phrase_sound : (toks : List Lexeme) (t : Syntax) → whole (kinds.Phrase 16) toks ≡ Some t → IsOnePhrase toks t
 unfolding is
 phrase_sound toks t e =
     let g = all_sound (kinds.Phrase 16) toks t e in
