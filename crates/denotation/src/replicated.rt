@@ -40,7 +40,7 @@ pub(crate) fn all_joined<A: Allocator + Copy>(
     join: Join,
     drafts: Vec<Draft<A>, A>,
     room: &mut usize,
-    definition: u32,
+    definition: Position,
     line: Position,
 ) -> Result<Draft<A>, Unread>
     ensures { Gives (λ b. (body b, room.new)) result (spare_joined join (map body drafts.items) room.old) }

@@ -1,5 +1,7 @@
 -- The root of a printed script: the name of its first body, as a phrase.
-use Rattle.std.proofs.Common.{◌≡◌, ℕ, zero, suc, ◌+◌, ◌<◌, ◌≤◌, List, [], ◌∷◌, ◌++◌, map, length, Bool, true, false, not, ◌&&◌, ◌==◌, refl, sym, ap, ap₂, ◌∙◌, subst, arith, append-nil}
+use Rattle.std.proofs.Common.{◌≡◌, ℕ, ◌+◌, ◌<◌, ◌≤◌, List, [], ◌∷◌, ◌++◌, length, Bool, true, false, not, ◌&&◌, ◌==◌, refl, sym, ap, ap₂, ◌∙◌, arith, append-nil}
+use Rattle.std.specs.Prelude.{codes}
+use Rattle.alphabet.specs.Channels.{Channel}
 use Rattle.std.specs.List.{list_all, flat_map, range_with_len}
 use Rattle.std.proofs.lemmas.List.{length-append}
 use Rattle.std.proofs.lemmas.List.Folds.{list_all-append}
@@ -10,9 +12,8 @@ use Rattle.term.specs.Specs.{Specified}
 use Rattle.tokens.specs.Lexeme.{Name as name_lexeme}
 use Rattle.tokens.specs.Text.{All, IsName, is_name_byte, is_prime, is_of_line, HasTokens}
 use Rattle.syntax.specs.Script.{IsPhrase, is_one_line, HasPhrase}
-use Rattle.syntax.specs.Grammar.{Syntax}
 use Rattle.printing.specs.Names.{datatype_primes, constants}
-use Rattle.printing.specs.Printed.{printed, reference, body_line, body_lines, channel_line, datatype_line}
+use Rattle.printing.specs.Printed.{printed, process_text, reference, body_line, body_lines, channel_line, datatype_line}
 use Rattle.read_back.proofs.Processes.{proper_reference}
 use Rattle.read_back.proofs.Scanned.{IsProper, letter_high, nothing_read, proper_read}
 use Rattle.read_back.proofs.Texts.{same_read}
@@ -65,12 +66,14 @@ name_phrase n h small =
 
 -- ---- the first body's
 
-first_line : (cs : _) (primes : ℕ) (Ps : List Proc) → 0 < length Ps → length (reference primes 0) ≤ length (body_lines cs primes Ps)
+first_line : (cs : List Channel) (primes : ℕ) (Ps : List Proc) → 0 < length Ps → length (reference primes 0) ≤ length (body_lines cs primes Ps)
 first_line cs primes [] h = absurd (omega (arith, h))
 first_line cs primes (P ∷ Ps) h =
-    let own = body_line cs primes 0 P in
-    let others = flat_map (λ k. body_line cs primes k (bodies_of (P ∷ Ps) k)) (range_with_len 1 (length Ps)) in
-    omega (arith, length-append own others, length-append (reference primes 0) _)
+    let name = reference primes 0 in
+    let text = process_text cs primes P in
+    let others : List ℕ = flat_map (λ k. body_line cs primes k (bodies_of (P ∷ Ps) k)) (range_with_len 1 (length Ps)) in
+    let whole : length (body_lines cs primes (P ∷ Ps)) ≡ length (body_line cs primes 0 P) + length others = length-append (body_line cs primes 0 P) others in
+    omega (arith, whole, length-append ((name ++ codes " = ") ++ text) (codes "\n"), length-append (name ++ codes " = ") text, length-append name (codes " = "))
 
 pub printed_root : (spec : Specified) → 0 < length spec.bodies → length (printed spec) ≤ 65536 → HasPhrase (reference (printed_primes spec) 0) (named (reference (printed_primes spec) 0))
 printed_root spec some small =

@@ -77,7 +77,7 @@ impl<'a, A: Allocator + Copy> GlobalScope<A> for Script<'a, A> {
     fn line(&self, name: &[u8]) -> Position {
         match self.names.entries.get(name) {
             Some(entry) => entry.line,
-            None => 1,
+            None => Position::Line(1),
         }
     }
 

@@ -175,5 +175,5 @@ pub fn constant_set<A: Allocator + Clone>(
     for name in names {
         worths.push(Worth::One(Value::Constant(name.clone()?)))?;
     }
-    listed(alloc, worths, 1)
+    listed(alloc, worths, Position::Line(1))
 }
