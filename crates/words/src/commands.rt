@@ -300,7 +300,7 @@ fn has_one_line(wish: &Wish<'_>) -> bool {
 
 // The fault of use of a process that has a line feed.
 fn bad_process(alloc: Global, wish: &Wish<'_>) -> Result<Error, AllocError> {
-    let command = match wish {
+    let mut command = match wish {
         Wish::Print { .. } => print_command(alloc)?.bin_name("cspwatch print")?,
         Wish::Serve(_) => serve_command(alloc)?.bin_name("cspwatch serve")?,
         _ => check_command(alloc)?.bin_name("cspwatch check")?,
