@@ -11,7 +11,8 @@ use Rattle.term.specs.Proc.{Proc, bodies_of}
 use Rattle.term.specs.Specs.{Specified}
 use Rattle.tokens.specs.Lexeme.{Name as name_lexeme}
 use Rattle.tokens.specs.Text.{All, IsName, is_name_byte, is_prime, is_of_line, HasTokens}
-use Rattle.syntax.specs.Script.{IsPhrase, is_one_line, HasPhrase}
+use Rattle.syntax.specs.Script.{is_one_line, HasPhrase}
+use Rattle.syntax.proofs.Texts.{name_is_phrase}
 use Rattle.printing.specs.Names.{datatype_primes, constants}
 use Rattle.printing.specs.Printed.{printed, process_text, reference, body_line, body_lines, channel_line, datatype_line}
 use Rattle.read_back.proofs.Processes.{proper_reference}
@@ -58,11 +59,8 @@ name_phrase n h small =
       line = name_is_one_line n h.0;
       tokens = name_lexeme n ∷ [];
       read = (small, same_read (sym (append-nil n)) refl (proper_read n [] [] h tt nothing_read));
-      is = phrase;
+      is = name_is_phrase n;
     }
-  where
-    phrase : IsPhrase (name_lexeme n ∷ []) (named n)
-    phrase = record { kind = refl; fits = (refl, (tt, (refl, refl))); high = omega arith; nested = omega arith; spelled = refl }
 
 -- ---- the first body's
 
