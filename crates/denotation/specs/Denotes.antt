@@ -5,8 +5,7 @@ use Rattle.term.specs.Proc.{Proc}
 use Rattle.term.specs.Sizes as terms
 use Rattle.term.specs.Specs.{Specified}
 use Rattle.alphabet.specs.Channels.{FieldValue, Values}
-use Rattle.syntax.specs.Grammar.{Syntax, Called, Numeral, Node, Syntaxes, NoSyntax, MoreSyntax}
-use Rattle.syntax.specs.declared.form.Form.TheVariants as forms
+use Rattle.syntax.specs.Grammar.{Syntax}
 use Rattle.values.specs.Values.{◌>>=◌, Name}
 use Rattle.values.specs.Worths.{Known}
 use Rattle.values.specs.Names.{Entry, Meaning, channel, datatype, constant_name, definition, parametric, meaning, is_process}
@@ -14,7 +13,7 @@ use Rattle.values.specs.Channels.{Declares}
 use Rattle.event_phrases.specs.Events.{KnownEvents, EventsStand}
 use Rattle.denotation.specs.Bodies.{Key, same_key, Body, names, numbered}
 use Rattle.event_phrases.specs.Scopes.{Scope, within}
-use Rattle.denotation.specs.Phrases.{phrase_of, denoted}
+use Rattle.denotation.specs.Phrases.{Phrase, called, phrase_of, denoted}
 
 -- ---- the body of a definition
 
@@ -50,10 +49,18 @@ pub data Root : Type 0 where
   named : Name → Root
   phrased : Syntax → Root
 
+-- the name that a phrase is
+unfoldable pub name_called : Phrase → Option Name
+name_called (called n) = Some n
+name_called p = None
+
+unfoldable pub root_by : Syntax → Option Name → Root
+root_by t None = phrased t
+root_by t (Some n) = named n
+
 -- the root that a phrase is: a name alone is that process
-unfoldable pub root_of : Syntax → Root
-root_of (Node forms.Event (MoreSyntax (Called n) NoSyntax)) = named n
-root_of t = phrased t
+abbrev pub root_of : Syntax → Root
+root_of t = root_by t (name_called (phrase_of t))
 
 -- the definition that a root is
 unfoldable pub root_key : Root → Key

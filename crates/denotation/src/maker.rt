@@ -1,5 +1,5 @@
 //! The bodies of a script's definitions.
-ghost use Rattle.std.specs.Prelude.{◌≡◌, ℕ, [], IfOk, map};
+ghost use Rattle.std.specs.Prelude.{◌≡◌, ◌&&◌, ℕ, [], IfOk, length, map, nat_eq};
 ghost use Rattle.std.specs.Option.{option_map};
 ghost use Rattle.syntax.specs.View.{shape};
 ghost use Rattle.values.specs.Names.{meaning};
@@ -7,7 +7,7 @@ ghost use Rattle.values.specs.Tables.{input};
 ghost use Rattle.values.specs.View.{Gives};
 ghost use Rattle.event_phrases.specs.Scopes.{within};
 ghost use Rattle.event_phrases.specs.View.{listed};
-ghost use Rattle.denotation.specs.Denotes.{body_of, body_under as body_below, called_by, is_nameless as has_no_name, paired};
+ghost use Rattle.denotation.specs.Denotes.{body_of, body_under as body_below, called_by, paired};
 ghost use Rattle.denotation.specs.Rooms.{shallow, within_limits};
 ghost use Rattle.denotation.specs.Phrases.{denoted, phrase_of};
 ghost use Rattle.denotation.specs.View.{body as body_of_draft, key, root as root_view};
@@ -159,7 +159,7 @@ fn phrase_body<A: Allocator + Copy, G: GlobalScope<A>>(
 
 /// Whether what is called has no name, and no values.
 fn is_nameless<A: Allocator>(call: &Call<A>) -> bool
-    ensures { result ≡ has_no_name (key call.now) }
+    ensures { result ≡ (nat_eq (length call.now.name.items) 0 && nat_eq (length call.now.arguments.items) 0) }
 {
     call.name.is_empty() && call.arguments.is_empty()
 }

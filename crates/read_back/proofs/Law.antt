@@ -1,5 +1,5 @@
 -- What is printed reads back.
-use Rattle.std.proofs.Common.{◌≡◌, ℕ, ◌+◌, ◌<◌, ◌≤◌, List, [], ◌∷◌, length, Some, true, sym, ap, ◌∙◌, arith}
+use Rattle.std.proofs.Common.{◌≡◌, ℕ, ◌+◌, ◌<◌, ◌≤◌, List, [], ◌∷◌, length, Some, true, sym, ap, ◌∙◌, subst, arith}
 use Rattle.std.specs.List.{flat_map}
 use Rattle.std.proofs.lemmas.List.{length-map, length-append}
 use Rattle.term.specs.Specs.{Specified}
@@ -12,6 +12,7 @@ use Rattle.declarations.proofs.Meanings.{AreNamed, named}
 use Rattle.declared_names.proofs.TextNames.{texts_have_names}
 use Rattle.denotation.specs.Bodies.{names}
 use Rattle.denotation.proofs.Reached.{keys_grow}
+use Rattle.denotation.proofs.Roots.{name_root}
 use Rattle.read_back.proofs.Reaching.{reached_many}
 use Rattle.denotation.specs.Denotes.{Root, root_of, root_key, met, Denotes}
 use Rattle.printing.specs.Names.{body_primes}
@@ -54,7 +55,6 @@ some_bodies {spec = spec} root d =
 -- where some text denotes the specification, its printed form does, if it is no longer than a text may be
 pub printed_reads_back : (text : List ℕ) (root : Root) (t : Syntax) (spec : Specified) → HasTree text t → Denotes t root spec → length (printed spec) ≤ 65536
     → (u : Syntax) × HasTree (printed spec) u × (v : Syntax) × HasPhrase (reference (body_primes spec.alphabet (length spec.bodies)) 0) v × Denotes u (root_of v) spec
-unfolding root_of
 printed_reads_back text root t spec h d fits =
     let p = printable text root t spec h d in
-    (script_tree spec, has_tree t root spec d p fits, name_tree (reference (printed_primes spec) 0), printed_root spec (some_bodies root d) fits, denotes t root spec d p fits)
+    (script_tree spec, has_tree t root spec d p fits, name_tree (reference (printed_primes spec) 0), printed_root spec (some_bodies root d) fits, subst (λ (r : Root). Denotes (script_tree spec) r spec) (sym (name_root (reference (printed_primes spec) 0))) (denotes t root spec d p fits))
