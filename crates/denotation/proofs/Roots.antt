@@ -1,5 +1,6 @@
 -- Roots, and the bodies below them.
-use Rattle.std.proofs.Common.{◌≡◌, ◌≢◌, ℕ, List, [], ◌∷◌, length, nat_eq, Bool, true, false, ◌&&◌, None, cond, refl, ap}
+use Rattle.std.proofs.Common.{◌≡◌, ◌≢◌, ℕ, suc, inl, inr, arith, List, [], ◌∷◌, length, nat_eq, Bool, true, false, ◌&&◌, None, cond, refl, ap}
+use Rattle.std.proofs.lemmas.Bool.Decides.{eqb_tells}
 use Rattle.syntax.specs.declared.form.Form.TheVariants as forms
 use Rattle.syntax.specs.Grammar.{Syntax, Called, Node, NoSyntax, MoreSyntax}
 use Rattle.event_phrases.specs.Forms.{one_of, name_of, if_none}
@@ -14,11 +15,14 @@ use Rattle.denotation.specs.declared.forms.Phrase.TheVariants as phrases
 use Rattle.denotation.specs.Shapes.{plain}
 use Rattle.denotation.specs.Phrases.{phrase_of, parts_of, form_phrase, denoted}
 
+some_more : (n : ℕ) → nat_eq (suc n) 0 ≡ false
+some_more n = elim (eqb_tells (suc n) 0) [ inl p ↦ absurd (omega (arith, p.1)) | inr p ↦ p.0 ]
+
 pub nameless : {A : Type 0} (n : Name) (vs : List (Value A)) → (nat_eq (length n) 0 && nat_eq (length vs) 0) ≡ is_nameless (n, listed vs)
 unfolding is_nameless
 nameless [] [] = refl
-nameless [] (v ∷ vs) = refl
-nameless (c ∷ n) vs = refl
+nameless [] (v ∷ vs) = some_more (length vs)
+nameless (c ∷ n) vs = ap (λ b. b && nat_eq (length vs) 0) (some_more (length n))
 
 pub below_phrase : (t : Syntax) (s : Scope) (k : Key) → is_nameless k ≡ true → body_under (phrased t) s k ≡ denoted (phrase_of t) s
 unfolding body_under

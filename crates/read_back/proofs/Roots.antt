@@ -1,11 +1,12 @@
 -- The root of a printed script: the name of its first body, as a phrase.
-use Rattle.std.proofs.Common.{◌≡◌, ℕ, ◌+◌, ◌<◌, ◌≤◌, List, [], ◌∷◌, ◌++◌, length, Bool, true, false, not, ◌&&◌, ◌==◌, refl, sym, ap, ap₂, ◌∙◌, arith, append-nil}
+use Rattle.std.proofs.Common.{◌≡◌, ℕ, suc, inl, inr, ◌+◌, ◌<◌, ◌≤◌, List, [], ◌∷◌, ◌++◌, length, Bool, true, false, not, ◌&&◌, ◌==◌, refl, sym, ap, ap₂, ◌∙◌, arith, append-nil}
 use Rattle.std.specs.Prelude.{codes}
 use Rattle.alphabet.specs.Channels.{Channel}
 use Rattle.std.specs.List.{list_all, flat_map, range_with_len}
 use Rattle.std.proofs.lemmas.List.{length-append}
 use Rattle.std.proofs.lemmas.List.Folds.{list_all-append}
 use Rattle.std.proofs.lemmas.Bool.{eqb-true}
+use Rattle.std.proofs.lemmas.Bool.Decides.{eqb_tells}
 use Rattle.std.specs.Char.{is_ascii_alphabetic}
 use Rattle.term.specs.Proc.{Proc, bodies_of}
 use Rattle.term.specs.Specs.{Specified}
@@ -43,9 +44,13 @@ letter_of_line c h = by (c == 10) refl
     by false e = refl
     by true e = absurd (let k : is_ascii_alphabetic 10 ≡ true = ap is_ascii_alphabetic (sym (eqb-true c 10 e)) ∙ h in cc)
 
+some_more : (n : ℕ) → (suc n == 0) ≡ false
+some_more n = elim (eqb_tells (suc n) 0) [ inl p ↦ absurd (omega (arith, p.1)) | inr p ↦ p.0 ]
+
 name_is_one_line : (w : List ℕ) → IsName w → is_one_line w ≡ true
 name_is_one_line w n =
     ap is_one_line n.spelled
+    ∙ ap (λ b. not b && list_all is_of_line (n.first ∷ (n.body ++ n.primes))) (some_more (length (n.body ++ n.primes)))
     ∙ ap (λ b. b && list_all is_of_line (n.body ++ n.primes)) (letter_of_line n.first n.letter)
     ∙ list_all-append is_of_line n.body n.primes
     ∙ ap₂ (λ (a b : Bool). a && b) (all_of_line is_name_byte name_byte_of_line n.body n.bytes) (all_of_line is_prime prime_of_line n.primes n.ends)
