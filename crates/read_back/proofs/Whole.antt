@@ -133,6 +133,7 @@ module _ (t : Syntax) (root : Root) (spec : Specified) (d : Denotes t root spec)
   }
 
   pub denotes : Denotes (script_tree spec) (named (reference primes 0)) spec
+  unfolding body_under root_key
   denotes = record {
     entries = printed_entries spec;
     known = printed_known spec p.sound few p.written;
