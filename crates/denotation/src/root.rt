@@ -12,6 +12,7 @@ use std::alloc::Allocator;
 use syntax::Tree;
 
 /// What is reached from.
+#[derive(Drop)]
 pub enum Root<'a, A: Allocator> {
     /// A process of the script, by its name.
     Named(&'a [u8]),
