@@ -1,5 +1,5 @@
 -- The exit statuses.
-use Rattle.std.specs.Prelude.{ℕ, Bool, true, false, ◌||◌, cond, Result, Ok, Err, List, zero, suc}
+use Rattle.std.specs.Prelude.{ℕ, Bool, true, false, ◌||◌, cond, nat_lt, Result, Ok, Err, List, zero, suc}
 use Rattle.shared.specs.Entry.{Entry}
 use Rattle.shared.specs.Entries.{summary_of}
 use Rattle.wire.specs.declared.answers.Tally.{Tally}
@@ -36,7 +36,7 @@ abbrev pub exit_of : Result End WireError → Tally → Exit
 exit_of (Err Read) tally = FileFailed
 exit_of (Err Write) tally = FileFailed
 exit_of (Err Memory) tally = Limit
-exit_of (Ok end) tally = cond tally.rejected Rejected (cond tally.limit Limit (cond (tally.misuse || is_too_long end) Misuse Done))
+exit_of (Ok end) tally = cond tally.rejected Rejected (cond tally.limit Limit (cond (nat_lt 0 tally.unjudged || is_too_long end) Misuse Done))
 
 -- 1 where there is a rejected report, else 0
 abbrev pub rejected_exit : ℕ → Exit
