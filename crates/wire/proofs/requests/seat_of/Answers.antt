@@ -1,5 +1,5 @@
 -- A text that isn't read is no seat's: what is read of a decimal text is its number.
-use Rattle.std.proofs.Common.{◌≡◌, ◌≢◌, ◌<◌, ◌^◌, ℕ, List, decimal, sym, ◌∙◌, ap, subst, arith}
+use Rattle.std.proofs.Common.{◌≡◌, ℕ, List, decimal, sym, ◌∙◌, ap, subst, arith}
 use Rattle.std.specs.Str.{IsAscii}
 use Rattle.std.proofs.lemmas.Bool.{true≢false}
 use Rattle.std.proofs.lemmas.Bool.Decides.{Decides-eqb}
@@ -7,7 +7,7 @@ use Rattle.std.proofs.lemmas.Fmt.{parse-decimal, IsAscii-decimal}
 use Rattle.std.proofs.lemmas.Slice.Eq.{slice_eq-Decides}
 use Rattle.std.proofs.lemmas.Str.{IsUtf8-from_ascii}
 use Rattle.wire.proofs.requests.seat_of.Goals as goal
-use Rattle.wire.proofs.requests.seat_of.Goals.{then-seat-eq0-via-then-seat-eq0, then-seat-eq0-via-else-seat-eq0+then-NAMES-seat}
+use Rattle.wire.proofs.requests.seat_of.Goals.{then-seat-eq0-via-then-seat-eq0, then-seat-eq0-via-else-seat-eq0+then-seat-gt-NAMES}
 
 pub returns-in_default : goal.returns-in_default
 returns-in_default c n name e =
@@ -23,7 +23,7 @@ returns-then-seat-eq0 c n name e =
     let same : c.in-Ok-parse.seat ≡ n = cc (parsed, c.in-Ok-parse.is) in
     elim c.then-seat-eq0.branch [
       | then-seat-eq0-via-then-seat-eq0 w ↦ omega (arith, same, name.0, w.if-seat-eq0.true)
-      | then-seat-eq0-via-else-seat-eq0+then-NAMES-seat w ↦ omega (arith, same, name.1, w.if-NAMES-seat.true)
+      | then-seat-eq0-via-else-seat-eq0+then-seat-gt-NAMES w ↦ omega (arith, same, name.1, w.if-seat-gt-NAMES.true)
     ]
 
 pub returns-else-eq : goal.returns-else-eq
