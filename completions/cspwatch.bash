@@ -27,7 +27,7 @@ _cspwatch() {
     esac
     if [[ $current == -* ]]; then
         case $command in
-            check) COMPREPLY=($(compgen -W "--large --help -h" -- "$current")) ;;
+            check) COMPREPLY=($(compgen -W "--large --explain --quiet --first --help -h" -- "$current")) ;;
             serve) COMPREPLY=($(compgen -W "--listen --connections --large --help -h" -- "$current")) ;;
             replay) COMPREPLY=($(compgen -W "--read-only --help -h" -- "$current")) ;;
             show) COMPREPLY=($(compgen -W "--rejected --coverage --format --help -h" -- "$current")) ;;

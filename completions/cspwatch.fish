@@ -38,6 +38,9 @@ complete -c cspwatch -n "not __fish_seen_subcommand_from $commands" -a print -d 
 complete -c cspwatch -n "not __fish_seen_subcommand_from $commands" -a help -d 'print help'
 complete -c cspwatch -n "__fish_seen_subcommand_from help" -a "$commands"
 complete -c cspwatch -n "__fish_seen_subcommand_from check serve" -l large -d 'use the limits for large systems'
+complete -c cspwatch -n "__fish_seen_subcommand_from check" -l explain -d 'say why reports were rejected'
+complete -c cspwatch -n "__fish_seen_subcommand_from check" -l quiet -d 'leave out the replies to accepted reports'
+complete -c cspwatch -n "__fish_seen_subcommand_from check" -l first -d 'end after the first rejected report'
 complete -c cspwatch -n "__fish_seen_subcommand_from serve" -l listen -x -a '127.0.0.1:0' -d 'the address to listen on'
 complete -c cspwatch -n "__fish_seen_subcommand_from serve" -l connections -x -d 'how many connections are taken'
 complete -c cspwatch -n "__fish_seen_subcommand_from replay" -l read-only -d 'only read the file'

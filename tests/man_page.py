@@ -20,7 +20,7 @@ PAGE = os.path.join(ROOT, "man", "cspwatch.1")
 COMPLETIONS = os.path.join(ROOT, "completions")
 SECONDS = 60
 
-UNRELEASED = {"--large", "--read-only"}
+UNRELEASED = {"--large", "--read-only", "--explain", "--quiet", "--first"}
 """Options that came after the last release."""
 
 SCRIPT = "channel a\nP = a -> Q'\nQ' = STOP\n"
@@ -34,6 +34,7 @@ LINES = [
     (["serve", "p.csp", "P", ""], {"p.csp"}),
     (["serve", "p.csp", "P", "j", "--"], {"--listen", "--connections", "--large"}),
     (["check", "--l"], {"--large"}),
+    (["check", "--"], {"--large", "--explain", "--quiet", "--first"}),
     (["check", "--large", "p.csp", ""], {"P", "Q'"}),
     (["serve", "--large", ""], {"p.csp"}),
     (["show", "--format", ""], {"text", "json"}),

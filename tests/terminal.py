@@ -14,26 +14,17 @@ import pytest
 
 SECONDS = 60
 
-UNKNOWN = "        a name isn't declared, or a value depends on itself"
+NOT_FOUND = "        a name isn't declared, or a value depends on itself"
+UNKNOWN = "        unknown name 'Q'"
 NO_TOKEN = "        no token begins like this, or a comment isn't closed"
 SERVE = ["serve", "p.csp", "P", "j", "--listen", "127.0.0.1:0", "--connections"]
 SERVE_EXAMPLE = "Example: cspwatch serve p.csp P run.journal --listen 127.0.0.1:7000 --connections 2"
 GOOD, UNDECLARED = b"channel a\nP = a -> STOP\n", b"channel a\nP = a -> Q\n"
+UNDECLARED_SHOWN = ["    2 | P = a -> Q", "      |          ^", UNKNOWN]
 
 # What is tried, the command's words, the script's bytes, the fault on standard error wherever that goes (None: any text), what
 # a terminal shows below it, and the exit status.
 ROWS = [
-    ("a name that isn't declared", ["check", "p.csp", "P"], UNDECLARED, ["p.csp:2: 4 unknown"], ["    2 | P = a -> Q", UNKNOWN], 3),
-    ("the same when printing", ["print", "p.csp", "P"], UNDECLARED, ["p.csp:2: 4 unknown"], ["    2 | P = a -> Q", UNKNOWN], 3),
-    ("the same when serving", SERVE + ["1"], UNDECLARED, ["p.csp:2: 4 unknown"], ["    2 | P = a -> Q", UNKNOWN], 3),
-    ("a line without an end", ["check", "p.csp", "P"], b"channel a\n\nP = a -> Q",
-     ["p.csp:3: 4 unknown"], ["    3 | P = a -> Q", UNKNOWN], 3),
-    ("a line that ends with a carriage return", ["check", "p.csp", "P"], b"channel a\r\nP = a -> Q\r\n",
-     ["p.csp:2: 4 unknown"], ["    2 | P = a -> Q", UNKNOWN], 3),
-    ("a control character isn't sent to the terminal", ["check", "p.csp", "P"], b"channel a\nP =\ta -> \x1b[2J STOP\n",
-     ["p.csp:2: 1 byte"], ["    2 | P = a -> ?[2J STOP", "        a control character, or one that is not ASCII"], 3),
-    ("two hundred bytes of a long line", ["check", "p.csp", "P"], b"channel a\nP = $" + b" " * 300 + b"STOP\n",
-     ["p.csp:2: 2 token"], ["    2 | P = $" + " " * 195, NO_TOKEN], 3),
     ("no line for a fault of the whole script", ["check", "p.csp", "Q"], GOOD,
      ["p.csp:1: 12 process"], ["        the script defines no process of this name"], 3),
     ("an example of the command that was used wrongly", SERVE + ["0"], GOOD, None, [SERVE_EXAMPLE], 2),
@@ -70,11 +61,59 @@ ROWS_WITH_LARGE = [
     ("a journal of version 2 with --large", SERVE + ["1", "--large"], {"p.csp": GOOD, "j": TWO}, ["j: 54 specification"], [OTHER], 4),
     ("a journal of another process", SERVE[:2] + ["Q"] + SERVE[3:] + ["1"], {"p.csp": GOOD + b"Q = STOP\n", "j": TWO_OF_MORE},
      ["j: 54 specification"], [OTHER], 4),
-    ("a fault of the script with --large", ["check", "--large", "p.csp", "P"], UNDECLARED,
-     ["p.csp:2: 4 unknown"], ["    2 | P = a -> Q", UNKNOWN], 3),
     ("an example of the command where --large has a value", ["check", "--large=yes", "p.csp", "P"], GOOD, None,
      ["Example: printf 'E a\\nR a b\\n' | cspwatch check p.csp P"], 2),
 ]
+
+CHECK = ["check", "p.csp", "P"]
+
+# The same for a program that marks on its line what a fault of a script is about.
+ROWS_WITH_MARKS = [
+    ("a name that isn't declared", CHECK, UNDECLARED, ["p.csp:2: 4 unknown"], UNDECLARED_SHOWN, 3),
+    ("the same when printing", ["print", "p.csp", "P"], UNDECLARED, ["p.csp:2: 4 unknown"], UNDECLARED_SHOWN, 3),
+    ("the same when serving", SERVE + ["1"], UNDECLARED, ["p.csp:2: 4 unknown"], UNDECLARED_SHOWN, 3),
+    ("the same with --large", ["check", "--large", "p.csp", "P"], UNDECLARED, ["p.csp:2: 4 unknown"], UNDECLARED_SHOWN, 3),
+    ("the same with --quiet", ["check", "--quiet", "p.csp", "P"], UNDECLARED, ["p.csp:2: 4 unknown"], UNDECLARED_SHOWN, 3),
+    ("with --explain it is shown everywhere", ["check", "--explain", "p.csp", "P"], UNDECLARED, ["p.csp:2: 4 unknown"] + UNDECLARED_SHOWN, [], 3),
+    ("a line without an end", CHECK, b"channel a\n\nP = a -> Q", ["p.csp:3: 4 unknown"],
+     ["    3 | P = a -> Q", "      |          ^", UNKNOWN], 3),
+    ("a line that ends with a carriage return", CHECK, b"channel a\r\nP = a -> Q\r\n", ["p.csp:2: 4 unknown"], UNDECLARED_SHOWN, 3),
+    ("a name beside signs, and before a comment", CHECK, b"channel a\nP = (a->(Q)) -- Q isn't there\n", ["p.csp:2: 4 unknown"],
+     ["    2 | P = (a->(Q)) -- Q isn't there", "      |          ^", UNKNOWN], 3),
+    ("a name after a comment in brackets", CHECK, b"channel a\nP = {- Q -} a -> Q\n", ["p.csp:2: 4 unknown"],
+     ["    2 | P = {- Q -} a -> Q", "      |                  ^", UNKNOWN], 3),
+    ("a tab before a name", CHECK, b"channel a\nP =\ta -> Q\n", ["p.csp:2: 4 unknown"], UNDECLARED_SHOWN, 3),
+    ("the second of two names is unknown", CHECK, b"channel a\nQ' = STOP\nP = Q' ||| Q\n", ["p.csp:3: 4 unknown"],
+     ["    3 | P = Q' ||| Q", "      |            ^", UNKNOWN], 3),
+    ("a name far down", CHECK, b"channel a\n" + b"\n" * 9999 + b"P = a -> Q\n", ["p.csp:10001: 4 unknown"],
+     [" 10001 | P = a -> Q", "       |          ^", UNKNOWN], 3),
+    ("a name that isn't shown", CHECK, b"channel a\nP = a ->" + b" " * 200 + b"Q\n", ["p.csp:2: 4 unknown"],
+     ["    2 | P = a ->" + " " * 192, NOT_FOUND], 3),
+    ("the last name that is shown", CHECK, b"channel a\nP = a ->" + b" " * 191 + b"Q\n", ["p.csp:2: 4 unknown"],
+     ["    2 | P = a ->" + " " * 191 + "Q", "      | " + " " * 199 + "^", UNKNOWN], 3),
+    ("a script in which no line can be longer", CHECK, UNDECLARED + b"-" * (65536 - len(UNDECLARED)), ["p.csp:2: 4 unknown"],
+     ["    2 | P = a -> Q", NOT_FOUND], 3),
+    ("a value that depends on itself", CHECK, b"channel a : {0..N}\nN = N + 1\nP = a.0 -> STOP\n", ["p.csp:2: 4 unknown"],
+     ["    2 | N = N + 1", "      |     ^", "        the value of 'N' depends on itself"], 3),
+    ("a name that is declared twice", CHECK, b"channel a, a\nP = STOP\n", ["p.csp:1: 5 redeclared"],
+     ["    1 | channel a, a", "      |            ^", "        'a' is declared twice"], 3),
+    ("something else is expected", CHECK, b"channel a\nP = a -> -> STOP\n", ["p.csp:2: 3 expected"],
+     ["    2 | P = a -> -> STOP", "      |          ^", "        something else is expected here"], 3),
+    ("where the text ends", CHECK, b"channel a\nP = a ->\n", ["p.csp:3: 3 expected"],
+     ["    3 | ", "        something else is expected here"], 3),
+    ("a control character isn't sent to the terminal", CHECK, b"channel a\nP =\ta -> \x1b[2J STOP\n", ["p.csp:2: 1 byte"],
+     ["    2 | P = a -> ?[2J STOP", "      |          ^", "        a control character, or one that is not ASCII"], 3),
+    ("two hundred bytes of a long line", CHECK, b"channel a\nP = $" + b" " * 300 + b"STOP\n", ["p.csp:2: 2 token"],
+     ["    2 | P = $" + " " * 195, "      |     ^", NO_TOKEN], 3),
+]
+
+
+def knows_marks(program):
+    """Whether the program marks what a fault is about, as one does that knows `check --explain`, or has to."""
+    if os.path.realpath(program) == os.path.realpath(large.BUILT):
+        return True
+    done = subprocess.run([program, "check", "--help"], stdin=subprocess.DEVNULL, capture_output=True, timeout=SECONDS)
+    return b"--explain" in done.stdout
 
 
 def read_all(end):
@@ -126,4 +165,11 @@ def test_row(program, tmp_path, words, script, fault, below, status):
 def test_row_with_large(program, tmp_path, words, given, fault, below, status):
     if not large.is_known(program):
         pytest.skip("the program doesn't know --large")
+    check_row(program, tmp_path, words, given, fault, below, status)
+
+
+@pytest.mark.parametrize("words, given, fault, below, status", [row[1:] for row in ROWS_WITH_MARKS], ids=[row[0] for row in ROWS_WITH_MARKS])
+def test_row_with_marks(program, tmp_path, words, given, fault, below, status):
+    if not knows_marks(program):
+        pytest.skip("the program doesn't know --explain")
     check_row(program, tmp_path, words, given, fault, below, status)

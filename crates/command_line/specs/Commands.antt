@@ -10,7 +10,11 @@ use Rattle.wire.specs.Replies.{status_text}
 use Rattle.script.specs.Reading.{IsRead}
 use Rattle.program.specs.Conversations.{Conversed}
 use Rattle.program.specs.Courses.{status_of}
-use Rattle.program.specs.Exits.{exit_of, replay_exit}
+use Rattle.program.specs.Exits.{attended_exit, exit_of, replay_exit}
+use Rattle.program.specs.Standing.{Standing, unattended}
+use Rattle.program.specs.Attendances.{Attendance}
+use Rattle.program.specs.Manner.{Manner}
+use Rattle.program.specs.Ending.{Ending}
 use Rattle.program.specs.Options.{Options}
 use Rattle.program.specs.Prints.{IsPrinted}
 use Rattle.program.specs.Showings.{Displays}
@@ -35,6 +39,17 @@ pub record Judged (process : List ℕ) (left rest old new : Option (List ℕ)) (
   pub tally : Tally
   pub conversed : Conversed spec left rest old new end history tally
   pub exit_is : exit ≡ exit_of end tally
+
+-- The bytes out, and those on the errors up to its end, are the definition's for the bytes in and this manner, by what some script denotes
+-- for the process, and the exit status is that of the check.
+pub record AttendedTo (manner : Manner) (process : List ℕ) (left rest old new errors : Option (List ℕ)) (exit : Exit) : Type 0 where
+  pub script : List ℕ
+  pub spec : Specified
+  pub read : IsRead script process spec
+  pub end : Result Ending WireError
+  pub last : Standing
+  pub attended : Attendance manner spec (unattended errors) last left rest old new end
+  pub exit_is : exit ≡ attended_exit end last.tally
 
 -- What was written is the printed form of what some script denotes for the process.
 pub record Printed (process : List ℕ) (old new : Option (List ℕ)) : Type 0 where

@@ -3,8 +3,8 @@
 ghost use Rattle.std.specs.Prelude.{◌≡◌, ◌⊎◌, IfOk, IfErr};
 ghost use Rattle.command_line.specs.Commands.{IsRefusal, Judged};
 
-use crate::scripts::text_of;
-use crate::telling::{tell_fault, tell_opening, tell_script};
+use crate::scripts::{Script, text_of};
+use crate::telling::{explain_script, tell_fault, tell_opening};
 use disk::Disk;
 use memory_disks::MemoryDisk;
 use program::{Checked, Exit, SessionError};
@@ -22,20 +22,22 @@ struct Talked {
     exit: Exit,
 }
 
-// Reports why no session of the script opens, and answers the exit status. A disk in memory fails only where memory runs out.
-fn tell_unopened<E: Write + IsTerminal>(
+// Reports why no session of the script opens, where it is to be explained with the line of a fault, and answers the exit status. A disk in
+// memory fails only where memory runs out.
+pub(crate) fn tell_unopened<E: Write + IsTerminal>(
     errors: &mut E,
-    name: &str,
-    script: &[u8],
+    alloc: Global,
+    script: &Script<'_>,
     names: Names,
+    explain: bool,
     error: SessionError,
 ) -> Exit
     ensures { IsRefusal result }
 {
     match error {
-        SessionError::Script(fault) => tell_script(errors, name, script, &fault),
-        SessionError::Device => tell_opening(errors, name, names, SessionError::Memory),
-        error => tell_opening(errors, name, names, error),
+        SessionError::Script(fault) => explain_script(errors, alloc, script, &fault, explain),
+        SessionError::Device => tell_opening(errors, script.name, names, SessionError::Memory),
+        error => tell_opening(errors, script.name, names, error),
     }
 }
 
@@ -97,13 +99,20 @@ pub fn check<R: Files + AllocGlobal + Wait, T: Source, W: Sink, E: Write + IsTer
     ensures { Judged process.now (T.left reader.old) (T.left reader.new) (W.contents writer.old) (W.contents writer.new) result
         ⊎ (IsRefusal result × (reader.new ≡ reader.old) × (writer.new ≡ writer.old)) }
 {
-    let script = match text_of(rt, name, errors) {
-        Ok(script) => script,
+    let text = match text_of(rt, name, errors) {
+        Ok(text) => text,
         Err(exit) => return exit,
     };
     let process = process.as_bytes();
-    match talk(rt, rt.alloc(), &script, process, names, reader, writer) {
+    match talk(rt, rt.alloc(), &text, process, names, reader, writer) {
         Ok(talked) => tell_end(errors, name, talked),
-        Err(error) => tell_unopened(errors, name, &script, names, error),
+        Err(error) => {
+            let script = Script {
+                name,
+                text: &text,
+                process,
+            };
+            tell_unopened(errors, rt.alloc(), &script, names, false, error)
+        }
     }
 }

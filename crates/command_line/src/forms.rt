@@ -5,7 +5,7 @@ ghost use Rattle.std.specs.Io.KnownBytes.{Appends};
 ghost use Rattle.program.specs.declared.exit.Exit.TheVariants.{Done, FileFailed};
 ghost use Rattle.command_line.specs.Commands.{Printed};
 
-use crate::scripts::text_of;
+use crate::scripts::{Script, text_of};
 use crate::telling::{tell_fault, tell_script};
 use program::{Exit, PrintError};
 use std::io::{IsTerminal, Write};
@@ -48,13 +48,21 @@ pub fn print<R: Files + AllocGlobal, O: Write, E: Write + IsTerminal>(
 ) -> Exit
     ensures { result ≡ Done → Printed process.now (O.contents output.old) (O.contents output.new) }
 {
-    let script = match text_of(rt, name, errors) {
-        Ok(script) => script,
+    let text = match text_of(rt, name, errors) {
+        Ok(text) => text,
         Err(exit) => return exit,
     };
-    match program::print(rt.alloc(), &script, process.as_bytes()) {
-        Ok(text) => write(&text, Exit::Done, output, errors),
-        Err(PrintError::Script(fault)) => tell_script(errors, name, &script, &fault),
+    let process = process.as_bytes();
+    match program::print(rt.alloc(), &text, process) {
+        Ok(printed) => write(&printed, Exit::Done, output, errors),
+        Err(PrintError::Script(fault)) => {
+            let script = Script {
+                name,
+                text: &text,
+                process,
+            };
+            tell_script(errors, rt.alloc(), &script, &fault)
+        }
         Err(PrintError::Memory) => tell_fault(errors, name, "40 memory", Exit::Limit),
     }
 }

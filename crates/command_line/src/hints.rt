@@ -1,7 +1,11 @@
-//! What a terminal shows below a fault: of a script its line and what it means, of a limit what it means, of the words an example.
+//! What a terminal shows below a fault: of a script its line, where it is there, and what it means, of a limit what it means, of the
+//! words an example.
 
 use crate::evidence::beginning;
+use crate::marks::{declares, first_word, place_of_fault};
+use crate::scripts::Script;
 use program::SessionError;
+use std::alloc::Global;
 use std::fs::File;
 use std::io::{self, IsTerminal, Write};
 use std::rt::Files;
@@ -23,6 +27,15 @@ fn from_line(text: &[u8], line: u32) -> &[u8] {
     rest
 }
 
+/// What stands before the line with this number, the line without its LF, and what stands after it.
+fn parts_at(text: &[u8], line: u32) -> (&[u8], &[u8], &[u8]) {
+    let len = text.len().saturating_sub(from_line(text, line).len());
+    let (before, rest) = text.split_at(len);
+    let len = rest.iter().take_while(|byte| **byte != b'\n').count();
+    let (line, after) = rest.split_at(len);
+    (before, line, after)
+}
+
 /// The byte as it is shown: what a terminal doesn't print becomes `?`, a tab a blank.
 fn shown_byte(byte: u8) -> u8 {
     match byte {
@@ -32,10 +45,10 @@ fn shown_byte(byte: u8) -> u8 {
     }
 }
 
-/// Writes the first line of the text, as far as it is shown.
-fn write_line<E: Write>(errors: &mut E, text: &[u8]) -> io::Result<()> {
-    for byte in text.iter().take(MOST_SHOWN) {
-        if matches!(*byte, b'\n' | b'\r') {
+/// Writes the line, as far as it is shown.
+fn write_line<E: Write>(errors: &mut E, line: &[u8]) -> io::Result<()> {
+    for byte in line.iter().take(MOST_SHOWN) {
+        if *byte == b'\r' {
             break;
         }
         errors.write_all(&[shown_byte(*byte)])?;
@@ -70,21 +83,102 @@ fn is_on_its_line(kind: ScriptErrorKind) -> bool {
     )
 }
 
-/// Shows, where the errors go to a terminal, the line of the script that the fault is on, and what the fault means. Where
-/// that fails there is nobody to tell.
-pub(crate) fn show_fault<E: Write + IsTerminal>(
+/// Writes so many blanks.
+fn write_blanks<E: Write>(errors: &mut E, count: usize) -> io::Result<()> {
+    for _ in 0..count {
+        errors.write_all(b" ")?;
+    }
+    Ok(())
+}
+
+/// Writes a line that marks what stands there on the line above, which has this number.
+fn write_mark<E: Write>(errors: &mut E, number: u32, place: usize) -> io::Result<()> {
+    let margin = if number < 10_000 { 5 } else { 6 };
+    write_blanks(errors, margin)?;
+    errors.write_all(b" | ")?;
+    write_blanks(errors, place)?;
+    errors.write_all(b"^\n")
+}
+
+/// What is written before and after the name that the fault is about, where that tells more than what its kind means.
+fn words_about(
+    alloc: Global,
+    script: &Script<'_>,
+    kind: ScriptErrorKind,
+    name: &[u8],
+) -> Option<(&'static str, &'static str)> {
+    if name.is_empty() || name.len() > MOST_SHOWN {
+        return None;
+    }
+    match kind {
+        ScriptErrorKind::UnknownName => {
+            if declares(alloc, script.text, script.process, name)? {
+                Some(("the value of '", "' depends on itself"))
+            } else {
+                Some(("unknown name '", "'"))
+            }
+        }
+        ScriptErrorKind::Redeclared => Some(("'", "' is declared twice")),
+        _ => None,
+    }
+}
+
+/// Writes what the fault means, which is about this name.
+fn write_about<E: Write>(
     errors: &mut E,
-    script: &[u8],
+    alloc: Global,
+    script: &Script<'_>,
+    kind: ScriptErrorKind,
+    name: &[u8],
+) -> io::Result<()> {
+    match words_about(alloc, script, kind, name) {
+        Some((before, after)) => {
+            write!(errors, "        {before}")?;
+            errors.write_all(name)?;
+            writeln!(errors, "{after}")
+        }
+        None => writeln!(errors, "        {}", meaning_of(kind)),
+    }
+}
+
+/// Writes the line of the script that the fault is on, a mark below the place, where that is found, and what the fault means.
+fn write_on_line<E: Write>(
+    errors: &mut E,
+    alloc: Global,
+    script: &Script<'_>,
+    fault: &ScriptError,
+) -> io::Result<()> {
+    let (before, line, after) = parts_at(script.text, fault.line);
+    write!(errors, " {:>4} | ", fault.line)?;
+    write_line(errors, line)?;
+    match place_of_fault(alloc, before, line, after, script.process, fault) {
+        Some(place) if place < MOST_SHOWN => {
+            write_mark(errors, fault.line, place)?;
+            write_about(
+                errors,
+                alloc,
+                script,
+                fault.kind,
+                first_word(&line[place..]),
+            )
+        }
+        _ => writeln!(errors, "        {}", meaning_of(fault.kind)),
+    }
+}
+
+/// Shows the line of the script that the fault is on, where on it, and what the fault means, on lines that begin with a blank. Where
+/// that fails there is nobody to tell.
+pub(crate) fn show_fault<E: Write>(
+    errors: &mut E,
+    alloc: Global,
+    script: &Script<'_>,
     fault: &ScriptError,
 ) {
-    if !errors.is_terminal() {
-        return;
-    }
-    if is_on_its_line(fault.kind) {
-        let _ = write!(errors, "{:>5} | ", fault.line);
-        let _ = write_line(errors, from_line(script, fault.line));
-    }
-    let _ = writeln!(errors, "        {}", meaning_of(fault.kind));
+    let _ = if is_on_its_line(fault.kind) {
+        write_on_line(errors, alloc, script, fault)
+    } else {
+        writeln!(errors, "        {}", meaning_of(fault.kind))
+    };
 }
 
 /// What the limit means, where names are kept so.

@@ -5,12 +5,14 @@
 //! them to those calls.
 #![tactic(auto)]
 
+mod by_line;
 mod checking;
 mod evidence;
 mod forms;
 mod hints;
 mod journal_files;
 mod limits;
+mod marks;
 mod patient;
 mod replaying;
 mod running;
@@ -19,6 +21,7 @@ mod server;
 mod showing;
 mod telling;
 
+pub use by_line::check_in;
 pub use checking::check;
 pub use forms::print;
 pub use replaying::{replay, replay_read_only};

@@ -3,6 +3,7 @@ ghost use Rattle.std.specs.Prelude.{◌≡◌};
 ghost use Rattle.program.specs.declared.exit.Exit.{Exit as Status};
 ghost use Rattle.program.specs.Exits.{exit_code};
 
+use crate::by_line::{check_in, is_wanted};
 use crate::checking::check;
 use crate::forms::print;
 use crate::limits::names_by;
@@ -11,7 +12,7 @@ use crate::replaying::{replay, replay_read_only};
 use crate::server::serve;
 use crate::showing::show;
 use crate::telling::tell_use;
-use program::Exit;
+use program::{Exit, Manner};
 use std::convert::AsStr;
 use std::fs::File;
 use std::io::{IsTerminal, Read, Write};
@@ -20,7 +21,46 @@ use std::rt::Files;
 use std::sync::Wait;
 use std::thread::Threads;
 use wire::Plain;
-use words::{Wish, example_of, read_words};
+use words::{Check, Wish, example_of, read_words};
+
+// Judges the reports on the input, and answers the exit status.
+fn fulfil_check<R: Files + AllocGlobal + Wait, I: Read, O: Write, E: Write + IsTerminal>(
+    rt: &R,
+    wished: &Check<'_>,
+    input: &mut I,
+    output: &mut O,
+    errors: &mut E,
+) -> Exit {
+    let mut reader = Plain::new(Patient::new(&mut *input));
+    let mut writer = Plain::new(&mut *output);
+    let names = names_by(wished.large);
+    let manner = Manner {
+        explain: wished.explain,
+        quiet: wished.quiet,
+        first: wished.first,
+    };
+    if is_wanted(manner) {
+        return check_in(
+            rt,
+            wished.spec,
+            wished.process,
+            names,
+            manner,
+            &mut reader,
+            &mut writer,
+            errors,
+        );
+    }
+    check(
+        rt,
+        wished.spec,
+        wished.process,
+        names,
+        &mut reader,
+        &mut writer,
+        errors,
+    )
+}
 
 // Does what is wished for, and answers the exit status.
 fn fulfil<
@@ -35,23 +75,7 @@ fn fulfil<
     E: Write + IsTerminal,
 >(rt: &R, wish: &Wish<'_>, input: &mut I, output: &mut O, errors: &mut E) -> Exit {
     match wish {
-        Wish::Check {
-            spec,
-            process,
-            large,
-        } => {
-            let mut reader = Plain::new(Patient::new(&mut *input));
-            let mut writer = Plain::new(&mut *output);
-            check(
-                rt,
-                spec,
-                process,
-                names_by(*large),
-                &mut reader,
-                &mut writer,
-                errors,
-            )
-        }
+        Wish::Check(wished) => fulfil_check(rt, wished, input, output, errors),
         Wish::Print { spec, process } => print(rt, spec, process, output, errors),
         Wish::Replay {
             journal,

@@ -13,6 +13,15 @@ use std::io::{self, ErrorKind, IsTerminal, Read, Write};
 use std::rt::Files;
 use tokens::{ScriptError, ScriptErrorKind};
 
+/// A script, and the process that is wanted of it.
+#[derive(Clone, Copy)]
+pub(crate) struct Script<'a> {
+    /// The name of its file.
+    pub(crate) name: &'a str,
+    pub(crate) text: &'a [u8],
+    pub(crate) process: &'a [u8],
+}
+
 /// One byte more than a script may have.
 const TOO_MANY: u64 = 65_537;
 
@@ -29,11 +38,21 @@ fn read_file<R: Files>(rt: &R, name: &str, text: &mut Vec<u8>) -> io::Result<usi
 }
 
 // Reports why the file can't be read, and answers the status.
-fn tell_unread<E: Write + IsTerminal>(errors: &mut E, name: &str, kind: ErrorKind) -> Exit
+fn tell_unread<E: Write + IsTerminal>(
+    errors: &mut E,
+    alloc: Global,
+    name: &str,
+    kind: ErrorKind,
+) -> Exit
     ensures { IsRefusal result }
 {
+    let script = Script {
+        name,
+        text: &[],
+        process: &[],
+    };
     match kind {
-        ErrorKind::OutOfMemory => tell_script(errors, name, &[], &NO_MEMORY),
+        ErrorKind::OutOfMemory => tell_script(errors, alloc, &script, &NO_MEMORY),
         _ => tell_fault(errors, name, "cannot read", Exit::FileFailed),
     }
 }
@@ -50,7 +69,7 @@ pub(crate) fn text_of<R: Files + AllocGlobal, E: Write + IsTerminal>(
     let mut text = Vec::new(rt.alloc());
     match read_file(rt, name, &mut text) {
         Ok(_) => Ok(text),
-        Err(fault) => Err(tell_unread(errors, name, fault.kind())),
+        Err(fault) => Err(tell_unread(errors, rt.alloc(), name, fault.kind())),
     }
 }
 
@@ -66,6 +85,13 @@ pub(crate) fn tell_read<E: Write + IsTerminal>(
 {
     match read(alloc, script, process) {
         Ok(_) => Ok(()),
-        Err(fault) => Err(tell_script(errors, name, script, &fault)),
+        Err(fault) => {
+            let script = Script {
+                name,
+                text: script,
+                process,
+            };
+            Err(tell_script(errors, alloc, &script, &fault))
+        }
     }
 }

@@ -5,7 +5,7 @@ ghost use Rattle.command_line.specs.Statuses.{run_exit};
 use crate::forms::put_out;
 use crate::journal_files::{journal_at, keep_name, take_away};
 use crate::limits::names_by;
-use crate::scripts::{tell_read, text_of};
+use crate::scripts::{Script, tell_read, text_of};
 use crate::telling::{tell_fault, tell_open};
 use disk::Disk;
 use file_disk::FileDisk;
@@ -189,15 +189,12 @@ fn session_at<R: Files<File = File> + AllocGlobal, E: Write + IsTerminal>(
         Ok(session) => Ok((session, is_made)),
         Err((error, _)) => {
             take_away(rt, service.journal, is_made);
-            Err(tell_open(
-                rt,
-                errors,
-                service.spec,
-                script,
-                names,
-                service.journal,
-                error,
-            ))
+            let script = Script {
+                name: service.spec,
+                text: script,
+                process: service.process.as_bytes(),
+            };
+            Err(tell_open(rt, errors, &script, names, service.journal, error))
         }
     }
 }

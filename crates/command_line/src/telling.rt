@@ -5,10 +5,12 @@ ghost use Rattle.program.specs.declared.exit.Exit.TheVariants.{Limit};
 ghost use Rattle.command_line.specs.Statuses.{open_exit};
 
 use crate::hints::{show_example, show_fault, show_header, show_limit, show_other};
+use crate::scripts::Script;
 use clap::Error;
 use clap::error::ErrorKind;
 use program::{Exit, SessionError};
 use serving::OpenError;
+use std::alloc::Global;
 use std::fs::File;
 use std::io::{IsTerminal, Write};
 use std::rt::Files;
@@ -31,18 +33,33 @@ pub fn tell_no_memory<E: Write>(errors: &mut E) -> u8
     Exit::Limit.code()
 }
 
+/// Reports why the script is refused, on a terminal, or where it is to be explained, with its line.
+pub(crate) fn explain_script<E: Write + IsTerminal>(
+    errors: &mut E,
+    alloc: Global,
+    script: &Script<'_>,
+    fault: &ScriptError,
+    explain: bool,
+) -> Exit
+    ensures { result ≡ script_exit fault.now }
+{
+    let _ = writeln!(errors, "{}:{fault}", script.name);
+    if explain || errors.is_terminal() {
+        show_fault(errors, alloc, script, fault);
+    }
+    Exit::of_script(fault)
+}
+
 /// Reports why the script is refused, on a terminal with its line.
 pub(crate) fn tell_script<E: Write + IsTerminal>(
     errors: &mut E,
-    name: &str,
-    script: &[u8],
+    alloc: Global,
+    script: &Script<'_>,
     fault: &ScriptError,
 ) -> Exit
     ensures { result ≡ script_exit fault.now }
 {
-    let _ = writeln!(errors, "{name}:{fault}");
-    show_fault(errors, script, fault);
-    Exit::of_script(fault)
+    explain_script(errors, alloc, script, fault, false)
 }
 
 /// Reports which limit the specification's opening meets, where names are kept so, or that memory ran out; on a terminal with what the
@@ -98,11 +115,10 @@ pub(crate) fn tell_journal<R: Files<File = File>, E: Write + IsTerminal>(
 }
 
 /// Reports why there is no session of the script on the journal, and answers the status.
-pub(crate) fn tell_open<R: Files<File = File>, E: Write + IsTerminal>(
+pub(crate) fn tell_open<R: Files<File = File> + AllocGlobal, E: Write + IsTerminal>(
     rt: &R,
     errors: &mut E,
-    spec: &str,
-    script: &[u8],
+    script: &Script<'_>,
     names: Names,
     journal: &str,
     error: OpenError,
@@ -110,11 +126,16 @@ pub(crate) fn tell_open<R: Files<File = File>, E: Write + IsTerminal>(
     ensures { result ≡ open_exit error }
 {
     match error {
-        OpenError::Begin(SessionError::Script(fault)) => tell_script(errors, spec, script, &fault),
+        OpenError::Begin(SessionError::Script(fault)) => tell_script(
+            errors,
+            rt.alloc(),
+            script,
+            &fault,
+        ),
         OpenError::Begin(SessionError::Device) => {
             tell_journal(rt, errors, journal, SessionError::Device)
         }
-        OpenError::Begin(error) => tell_opening(errors, spec, names, error),
+        OpenError::Begin(error) => tell_opening(errors, script.name, names, error),
         OpenError::Replay(error) => tell_journal(rt, errors, journal, error),
         OpenError::OtherSpecification => {
             let exit = tell_fault(errors, journal, "54 specification", Exit::BadJournal);

@@ -35,7 +35,7 @@ use Rattle.wire.specs.declared.engine.WireError.{WireError}
 use Rattle.wire.specs.Replies.{Noted, noted, TakesNoName, LineReplies}
 use Rattle.wire.specs.Talks.{Serves}
 use Rattle.wire.proofs.CarryLemmas.{CarriesCalls, lines_carried, serves_on, serves_back}
-use Rattle.program.specs.Courses.{Course, begun, Adds, Leaves, IsWhy, closes, Reports, Statuses, Nexts, status_of}
+use Rattle.attending.specs.Courses.{Course, begun, Adds, Leaves, IsWhy, closes, Reports, Statuses, Nexts, status_of}
 use Rattle.program.specs.Conversations.{no_answers, Conversed}
 
 -- what the seat has seen, as a course

@@ -8,7 +8,7 @@ use Rattle.wire.specs.Talks.{Serves}
 use Rattle.wire.specs.declared.answers.Tally.{Tally}
 use Rattle.wire.specs.declared.engine.End.{End}
 use Rattle.wire.specs.declared.engine.WireError.{WireError}
-use Rattle.program.specs.Courses.{Course, begun, Reports, Statuses, Nexts}
+use Rattle.attending.specs.Courses.{Course, begun, Reports, Statuses, Nexts}
 
 -- no line was answered yet
 abbrev pub no_answers : Tally

@@ -2,6 +2,8 @@
 use Rattle.std.specs.Prelude.{ℕ, Bool, true, false, ◌||◌, cond, nat_lt, Result, Ok, Err, List, zero, suc}
 use Rattle.shared.specs.Entry.{Entry}
 use Rattle.shared.specs.Entries.{summary_of}
+use Rattle.attending.specs.declared.manner.Ending.{Ending}
+use Rattle.attending.specs.declared.manner.Ending.TheVariants.{By, Rejected as Rejecting}
 use Rattle.wire.specs.declared.answers.Tally.{Tally}
 use Rattle.wire.specs.declared.engine.End.{End}
 use Rattle.wire.specs.declared.engine.End.TheVariants.{Line}
@@ -37,6 +39,12 @@ exit_of (Err Read) tally = FileFailed
 exit_of (Err Write) tally = FileFailed
 exit_of (Err Memory) tally = Limit
 exit_of (Ok end) tally = cond tally.rejected Rejected (cond tally.limit Limit (cond (nat_lt 0 tally.unjudged || is_too_long end) Misuse Done))
+
+-- after a check line by line: that of any conversation, and 1 where its first rejected report ended it
+abbrev pub attended_exit : Result Ending WireError → Tally → Exit
+attended_exit (Ok Rejecting) tally = Rejected
+attended_exit (Ok (By end)) tally = exit_of (Ok end) tally
+attended_exit (Err error) tally = exit_of (Err error) tally
 
 -- 1 where there is a rejected report, else 0
 abbrev pub rejected_exit : ℕ → Exit

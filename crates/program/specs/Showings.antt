@@ -11,7 +11,7 @@ use Rattle.shown.specs.declared.options.Format.{Format}
 use Rattle.shown.specs.declared.options.Format.TheVariants.{Text, Json}
 use Rattle.shown.specs.declared.options.Options.{Options}
 use Rattle.shown.specs.Shows.{Shows}
-use Rattle.program.specs.Courses.{status_by}
+use Rattle.attending.specs.Courses.{status_by}
 use Rattle.program.specs.declared.showing.DisplayError.{DisplayError}
 use Rattle.program.specs.declared.showing.DisplayError.TheVariants.{Session, Output}
 

@@ -1,8 +1,9 @@
 //! The exit statuses.
 
 ghost use Rattle.std.specs.Prelude.{◌≡◌};
-ghost use Rattle.program.specs.Exits.{exit_code, exit_of, opening_exit, script_exit, journal_exit};
+ghost use Rattle.program.specs.Exits.{attended_exit, exit_code, exit_of, opening_exit, script_exit, journal_exit};
 
+use attending::Ending;
 use shared::SessionError;
 use tokens::{ScriptError, ScriptErrorKind};
 use wire::{End, Tally, WireError};
@@ -56,6 +57,17 @@ impl Exit {
             Ok(End::Line) => Exit::Misuse,
             Ok(_) if 0 < tally.unjudged => Exit::Misuse,
             Ok(_) => Exit::Done,
+        }
+    }
+
+    /// After a check line by line, as after any conversation: one that its first rejected report ended is `Rejected`.
+    pub fn of_attended(end: Result<Ending, WireError>, tally: Tally) -> Exit
+        ensures { result ≡ attended_exit end tally }
+    {
+        match end {
+            Ok(Ending::Rejected) => Exit::Rejected,
+            Ok(Ending::By(end)) => Exit::of(Ok(end), tally),
+            Err(error) => Exit::of(Err(error), tally),
         }
     }
 

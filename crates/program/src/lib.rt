@@ -11,6 +11,7 @@ mod replaying;
 mod showing;
 mod summaries;
 
+pub use attending::{Attended, Ending, Manner, attend};
 pub use checking::{Checked, check};
 pub use exit::Exit;
 pub use forms::{PrintError, print};

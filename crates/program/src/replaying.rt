@@ -9,7 +9,7 @@ ghost use Rattle.shared.specs.SessionFaults.{journal_error};
 ghost use Rattle.shared.specs.Records.{names_of};
 ghost use Rattle.shared.specs.Scripts.{HasNoSession, IsOutside, IsReadAs, IsReplayOf};
 ghost use Rattle.wire.specs.Replies.{status_text};
-ghost use Rattle.program.specs.Courses.{status_of};
+ghost use Rattle.attending.specs.Courses.{status_of};
 ghost use Rattle.program.specs.Exits.{rejected_exit, replay_exit};
 
 use crate::exit::Exit;

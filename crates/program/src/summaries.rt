@@ -2,7 +2,7 @@
 
 ghost use Rattle.std.specs.Prelude.{◌≡◌, ◌++◌, decimal, OnOk, IfOk};
 ghost use Rattle.wire.specs.Replies.{status_text};
-ghost use Rattle.program.specs.Courses.{status_by};
+ghost use Rattle.attending.specs.Courses.{status_by};
 ghost use Rattle.program.specs.Showings.{summary_text};
 ghost use Rattle.shown.specs.declared.options.Format.TheVariants.{Json};
 

@@ -7,3 +7,6 @@ pub mod Sending
 pub mod OneList
 pub mod OneText
 pub mod Kept
+pub mod Parting
+pub mod Nearest
+pub mod ReasonLines

@@ -94,8 +94,9 @@ pub(crate) fn refused(_fault: AfterFault) -> AllocError
     AllocError
 }
 
-/// Makes the trace longer by the entry, if it is an accepted event. That meets no limit, since it met none when it was judged.
-pub(crate) fn follow<A: Allocator + Copy>(
+/// Makes the trace longer by the entry, if it is an accepted event. That meets no limit, since it met none when it was judged; so `AllocError`
+/// comes alone, where memory is refused, and the trace stays then. Costs what judging the entry costs.
+pub fn follow<A: Allocator + Copy>(
     monitor: &mut Monitor<A>,
     entry: &Entry,
 ) -> Result<(), AllocError>

@@ -7,12 +7,17 @@ mod entries;
 mod laws;
 mod lines;
 mod names;
+mod nearness;
 mod options;
+mod reasons;
 mod remarks;
 mod said;
 mod tally;
 mod whole;
 
+pub use entries::follow;
 pub use laws::{one_list_of_acceptances, one_text};
+pub use monitor::Monitor;
 pub use options::{Format, Options, Selection};
+pub use reasons::put_reason;
 pub use whole::{ShowError, show};

@@ -77,7 +77,7 @@ pub(crate) fn put_names<A: Allocator, B: Allocator>(
 }
 
 /// Appends the names of the events of the set, with what stands between them.
-fn put_joined<A: Allocator, B: Allocator>(
+pub(crate) fn put_joined<A: Allocator, B: Allocator>(
     text: &mut Vec<u8, B>,
     alphabet: &Alphabet<A>,
     set: EventSet,

@@ -108,8 +108,8 @@ fn make_desk<B: Allocator + Clone>(alloc: B) -> Result<Desk<B>, AllocError>
     })
 }
 
-// Sends all of the text, or a beginning of it.
-fn send<W: Sink>(writer: &mut W, text: &[u8]) -> Result<(), SinkFault>
+/// Sends all of the text and flushes, or sends a beginning of it where the writer fails.
+pub fn send<W: Sink>(writer: &mut W, text: &[u8]) -> Result<(), SinkFault>
     ensures ok { OnOk result (Appends (W.contents writer.old) (W.contents writer.new) text.now) }
     ensures handed_on { OnOk result (W.has_handed_on writer.new) }
     ensures cut { OnErr result ((n : ℕ) × Appends (W.contents writer.old) (W.contents writer.new) (take n text.now)) }

@@ -1,6 +1,6 @@
 //! The command line.
 use crate::addresses::address_of;
-use crate::wish::{Service, Wish};
+use crate::wish::{Check, Service, Wish};
 use clap::error::ErrorKind;
 use clap::{Arg, ArgAction, ArgMatches, Command, Error};
 use connections::Connections;
@@ -71,7 +71,14 @@ fn check_command<'a>(alloc: Global) -> Result<Command<'a>, AllocError> {
         "The process of the script to judge by",
         CHECK_EXAMPLE,
     )?
-    .arg(large_option(alloc))
+    .arg(large_option(alloc))?
+    .arg(flag(
+        alloc,
+        "explain",
+        "Say on standard error why each report was rejected",
+    ))?
+    .arg(flag(alloc, "quiet", "Leave out the replies to accepted reports"))?
+    .arg(flag(alloc, "first", "End after the first rejected report"))
 }
 
 fn print_command<'a>(alloc: Global) -> Result<Command<'a>, AllocError> {
@@ -259,11 +266,14 @@ fn wish_of<'a>(matches: &ArgMatches<'a>) -> Option<Wish<'a>> {
     let spec = inner.get_str("SPEC")?;
     let process = inner.get_str("PROCESS")?;
     match name {
-        "check" => Some(Wish::Check {
+        "check" => Some(Wish::Check(Check {
             spec,
             process,
             large: inner.get_flag("large"),
-        }),
+            explain: inner.get_flag("explain"),
+            quiet: inner.get_flag("quiet"),
+            first: inner.get_flag("first"),
+        })),
         "print" => Some(Wish::Print { spec, process }),
         _ => None,
     }

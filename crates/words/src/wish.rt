@@ -7,30 +7,33 @@ use std::net::SocketAddrV4;
 /// What the words ask for. The words for a file are its name.
 #[derive(Clone, Copy)]
 pub enum Wish<'a> {
-    /// To judge the reports on standard input by the process of the script in the file `spec`, by the limits for large systems where
-    /// `large` says so.
-    Check {
-        spec: &'a str,
-        process: &'a str,
-        large: bool,
-    },
+    /// To judge the reports on standard input by the process of the script in the file `spec`.
+    Check(Check<'a>),
     /// To print what the script in the file `spec` denotes for the process.
-    Print {
-        spec: &'a str,
-        process: &'a str,
-    },
+    Print { spec: &'a str, process: &'a str },
     /// To judge the records of the journal in the file again; without a change of the file where `read_only` says so.
-    Replay {
-        journal: &'a str,
-        read_only: bool,
-    },
+    Replay { journal: &'a str, read_only: bool },
     /// To print the reports of the journal in the file, and why those that were rejected were.
-    Show {
-        journal: &'a str,
-        options: Options,
-    },
+    Show { journal: &'a str, options: Options },
     /// To judge the reports of connections by the process of the script in the file `spec`, with the journal in its file.
     Serve(Service<'a>),
+}
+
+/// What is checked, and what is wanted beside the replies.
+#[derive(Clone, Copy)]
+pub struct Check<'a> {
+    /// The file of the script.
+    pub spec: &'a str,
+    /// The process of the script to judge by.
+    pub process: &'a str,
+    /// Whether the limits are those for large systems.
+    pub large: bool,
+    /// Whether it is said why reports are rejected.
+    pub explain: bool,
+    /// Whether the replies to accepted reports are left out.
+    pub quiet: bool,
+    /// Whether the first rejected report ends the check.
+    pub first: bool,
 }
 
 /// What is served, and where.

@@ -7,11 +7,11 @@ use Rattle.term.specs.Proc.{Proc, bodies_of, root}
 use Rattle.term.specs.Specs.{Specified}
 use Rattle.term.specs.Meaning.{Trace}
 use Rattle.term.specs.Verdict.{Verdict}
-use Rattle.shared.specs.AfterFault.TheVariants as limit
-use Rattle.shared.specs.Monitors.{Stops}
-use Rattle.shared.specs.Entry.{Entry}
-use Rattle.shared.specs.Summary.{Summary}
-use Rattle.shared.specs.Entries.{events, summary_of}
+use Rattle.session.specs.AfterFault.TheVariants as limit
+use Rattle.session.specs.Monitors.{Stops}
+use Rattle.session.specs.Entry.{Entry}
+use Rattle.session.specs.Summary.{Summary}
+use Rattle.session.specs.Entries.{events, summary_of}
 use Rattle.wire.specs.declared.answers.Receipt.{Receipt}
 use Rattle.wire.specs.declared.answers.Status.{Status}
 use Rattle.wire.specs.declared.answers.Fault.{Fault}

@@ -1,0 +1,5 @@
+pub mod AloneLemmas
+pub mod AttendLemmas
+pub mod ListenLemmas
+pub mod ReasonLemmas
+pub mod SigmaLemmas

@@ -1,0 +1,124 @@
+//! What is written on the errors for a line.
+
+ghost use Rattle.std.specs.Prelude.{◌≡◌, ◌++◌, [], ◌∷◌, not, List, OnOk, decimal};
+ghost use Rattle.term.specs.Proc.{bodies_of};
+ghost use Rattle.session.specs.Entry.{Entry as entry_type};
+ghost use Rattle.session.specs.Entries.{events};
+ghost use Rattle.session.specs.Legal.{IsJudged};
+ghost use Rattle.wire.specs.Replies.{Answers, TakesNoName};
+ghost use Rattle.attending.specs.Courses.{Course, Reports, Statuses, Nexts};
+ghost use Rattle.attending.specs.Lines.{Explains, IsReasonIf, ending_text};
+ghost use Rattle.attending.specs.Preparing.{Moves};
+
+use itoa::Buffer;
+use session::Entry;
+use shown::{Monitor, follow, put_reason};
+use std::alloc::{AllocError, Allocator};
+use wire::{Answer, Request};
+
+/// Appends a number in decimal.
+fn put_number<A: Allocator>(text: &mut Vec<u8, A>, number: u64) -> Result<(), AllocError>
+    ensures { OnOk result (text.new.items ≡ text.old.items ++ decimal number) }
+{
+    let mut buffer = Buffer::new();
+    text.extend_from_slice(buffer.format(number).as_bytes())
+}
+
+/// Makes why the line names no event, where it ends in CR or in a blank.
+fn put_ending<A: Allocator>(
+    text: &mut Vec<u8, A>,
+    number: u64,
+    line: &[u8],
+) -> Result<(), AllocError>
+    requires { text.old.items ≡ [] }
+    ensures { OnOk result (text.new.items ≡ ending_text number line.now) }
+{
+    if line.is_empty() {
+        return Ok(());
+    }
+    let last = line[line.len() - 1];
+    if last == b'\r' {
+        text.extend_from_slice(b"line ")?;
+        put_number(text, number)?;
+        return text.extend_from_slice(b": ERR 11 event, the line ends in CR\n");
+    }
+    if last == b' ' {
+        text.extend_from_slice(b"line ")?;
+        put_number(text, number)?;
+        return text.extend_from_slice(b": ERR 11 event, the line ends in a blank\n");
+    }
+    Ok(())
+}
+
+/// Makes why the report was rejected, if it was.
+fn put_reason_if<A: Allocator + Copy>(
+    text: &mut Vec<u8, A>,
+    monitor: &Monitor<A>,
+    alloc: A,
+    number: u64,
+    entry: &Entry,
+    place: u64,
+) -> Result<(), AllocError>
+    requires { text.old.items ≡ [] }
+    ensures { (before : List entry_type) → monitor.now.trace ≡ events before →
+        OnOk result (IsReasonIf (not entry.now.verdict) monitor.now.spec number before place entry.now.report text.new.items) }
+{
+    if entry.verdict {
+        return Ok(());
+    }
+    put_reason(text, monitor, alloc, number, place, &entry.report)
+}
+
+/// Makes why the report of the history's last entry was rejected, if it was, and goes on by the entry.
+fn put_judged<A: Allocator + Copy>(
+    text: &mut Vec<u8, A>,
+    monitor: &mut Monitor<A>,
+    alloc: A,
+    number: u64,
+    entry: &Entry,
+    place: u64,
+) -> Result<(), AllocError>
+    requires none { text.old.items ≡ [] }
+    requires fits { (before : List entry_type) × (monitor.old.trace ≡ events before) × IsJudged monitor.old.spec (before ++ entry.now ∷ []) }
+    ensures spec { monitor.new.spec ≡ monitor.old.spec }
+    ensures trace { (before : List entry_type) → monitor.old.trace ≡ events before → OnOk result (monitor.new.trace ≡ events (before ++ entry.now ∷ [])) }
+    ensures text { (before : List entry_type) → monitor.old.trace ≡ events before →
+        OnOk result (IsReasonIf (not entry.now.verdict) monitor.old.spec number before place entry.now.report text.new.items) }
+{
+    put_reason_if(text, monitor, alloc, number, entry, place)?;
+    follow(monitor, entry)
+}
+
+/// Makes what is written for the line with this number, and goes on by what it reported. The history is that after the line.
+pub(crate) fn put_explanation<A: Allocator + Copy>(
+    text: &mut Vec<u8, A>,
+    monitor: &mut Monitor<A>,
+    alloc: A,
+    number: u64,
+    line: &[u8],
+    request: &Request,
+    answer: &Answer,
+    history: &[Entry],
+) -> Result<(), AllocError>
+    requires none { text.old.items ≡ [] }
+    requires judged { IsJudged monitor.old.spec history.now }
+    requires answers { Moves monitor.old.spec monitor.old.trace request.now answer.now history.now }
+    ensures spec { monitor.new.spec ≡ monitor.old.spec }
+    ensures trace { OnOk result (monitor.new.trace ≡ events history.now) }
+    ensures explains { (old : Course) (new : Course) → monitor.old.trace ≡ events old.history → new.history ≡ history.now
+        → Answers (Reports monitor.old.spec) Statuses (Nexts (bodies_of monitor.old.spec.bodies)) TakesNoName old request.now new answer.now
+        → OnOk result (Explains monitor.old.spec number old.history line.now request.now answer.now text.new.items) }
+{
+    match request {
+        Request::Judge(_) => match answer {
+            Answer::Judged(receipt) => {
+                let last = history.len() - 1;
+                let entry = history[last];
+                put_judged(text, monitor, alloc, number, &entry, receipt.place)
+            }
+            _ => Ok(()),
+        },
+        Request::UnknownEvent => put_ending(text, number, line),
+        _ => Ok(()),
+    }
+}
