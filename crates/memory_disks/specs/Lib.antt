@@ -1,4 +1,5 @@
 -- To believe.
+pub mod Folders
 pub mod Shown
 pub mod Replay
 pub mod Remains
