@@ -1,5 +1,4 @@
 -- To believe.
-pub mod Folders
 pub mod Shown
 pub mod Replay
 pub mod Remains

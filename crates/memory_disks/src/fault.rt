@@ -27,7 +27,7 @@ pub struct FaultDisk<A: Allocator> {
 }
 
 /// Whether the call that begins is to fail. It counts this call.
-pub(crate) fn fails_now(left: &mut u64, afterwards: Afterwards) -> bool
+fn fails_now(left: &mut u64, afterwards: Afterwards) -> bool
     ensures fails { IsTrue result ↔ (left.old ≡ 1) }
     ensures never { left.old ≡ 0 → left.new ≡ 0 }
     ensures counts { 1 < left.old → left.new + 1 ≡ left.old }

@@ -5,12 +5,8 @@
 mod bytes;
 mod crash;
 mod fault;
-mod fault_folder;
 mod memory;
-mod memory_folder;
 
 pub use crash::{Call, CrashDisk, Part};
 pub use fault::{Afterwards, FaultDisk};
-pub use fault_folder::FaultFolder;
 pub use memory::MemoryDisk;
-pub use memory_folder::MemoryFolder;
