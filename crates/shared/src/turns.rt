@@ -361,8 +361,26 @@ pub(crate) fn take_turn<D: Disk, A: Allocator + Copy, N: Naming, R: Wait>(
     }
 }
 
-/// Gives a name to a seat that has another number so far, knows this much and has reported nothing, once all that is offered is settled. The
-/// answer is how many entries of the name the settled list has with the opening, and that list.
+// Gives a name to a seat that has another number so far and has reported nothing, once all that is offered is settled. The answer is how
+// many entries of the name the settled list has with the opening, and that list.
+fn name_under<D: Disk, A: Allocator + Copy, N: Naming, R: Wait>(
+    rt: &R,
+    shared: &Shared<D, A, N>,
+    locked: &mut Locked<D, A, N>,
+    name: SeatNumber,
+    former: SeatNumber,
+) -> Result<(u32, Counts<N>), NameFault>
+    ensures later { IfOk result (λ n. StartsWith n.1 locked.old.settled) }
+    ensures count { IfOk result (λ n. (n.0 ≡ length (calls (N.opening ++ n.1) name)) × (n.0 ≤ 1000000)) }
+{
+    settle(rt, shared, locked);
+    match locked.name(name, former) {
+        Ok(count) => Ok((count, locked.list())),
+        Err(fault) => Err(fault),
+    }
+}
+
+/// The same for a seat that knows this much, under the lock.
 pub(crate) fn named_at<D: Disk, A: Allocator + Copy, N: Naming, R: Wait>(
     rt: &R,
     shared: &Shared<D, A, N>,
@@ -374,12 +392,7 @@ pub(crate) fn named_at<D: Disk, A: Allocator + Copy, N: Naming, R: Wait>(
     ensures count { IfOk result (λ n. (n.0 ≡ length (calls (N.opening ++ n.1) name)) × (n.0 ≤ 1000000)) }
 {
     let mut locked = locked_for(rt, shared, known);
-    settle(rt, shared, &mut locked);
-    let named = locked.name(name, former);
-    let counts = locked.list();
+    let named = name_under(rt, shared, &mut locked, name, former);
     MutexGuard::unlock(locked);
-    match named {
-        Ok(count) => Ok((count, counts)),
-        Err(fault) => Err(fault),
-    }
+    named
 }
