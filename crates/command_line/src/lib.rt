@@ -7,6 +7,7 @@
 
 mod checking;
 mod evidence;
+mod following;
 mod forms;
 mod hints;
 mod journal_files;
@@ -17,6 +18,7 @@ mod running;
 mod scripts;
 mod server;
 mod showing;
+mod sockets;
 mod telling;
 
 pub use checking::check;

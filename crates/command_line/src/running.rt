@@ -4,6 +4,7 @@ ghost use Rattle.program.specs.declared.exit.Exit.{Exit as Status};
 ghost use Rattle.program.specs.Exits.{exit_code};
 
 use crate::checking::check;
+use crate::following::follow;
 use crate::forms::print;
 use crate::limits::names_by;
 use crate::patient::Patient;
@@ -19,6 +20,7 @@ use std::net::{Net, TcpListener, TcpStream};
 use std::rt::Files;
 use std::sync::Wait;
 use std::thread::Threads;
+use std::time::Clock;
 use wire::Plain;
 use words::{Wish, example_of, read_words};
 
@@ -29,6 +31,7 @@ fn fulfil<
         + AllocGlobal
         + Threads
         + Wait
+        + Clock
         + Sync,
     I: Read,
     O: Write,
@@ -61,7 +64,16 @@ fn fulfil<
             journal,
             read_only: true,
         } => replay_read_only(rt, journal, output, errors),
-        Wish::Show { journal, options } => show(rt, journal, *options, output, errors),
+        Wish::Show {
+            journal,
+            options,
+            follow: false,
+        } => show(rt, journal, *options, output, errors),
+        Wish::Show {
+            journal,
+            options,
+            follow: true,
+        } => follow(rt, journal, *options, output, errors),
         Wish::Serve(service) => serve(rt, service, output, errors),
     }
 }
@@ -74,6 +86,7 @@ fn fulfil_words<
         + AllocGlobal
         + Threads
         + Wait
+        + Clock
         + Sync,
     I: Read,
     O: Write,
@@ -98,6 +111,7 @@ pub fn run<
         + AllocGlobal
         + Threads
         + Wait
+        + Clock
         + Sync,
     I: Read,
     O: Write,

@@ -44,6 +44,13 @@ status_of closed account =
 abbrev pub status_code : RunStatus → ℕ
 status_code status.Done = 0
 status_code status.Rejected = 1
+status_code status.Misuse = 2
 status_code status.Closed = 4
 status_code status.AcceptFailed = 5
 status_code status.Limit = 6
+
+-- How a service ends: as a run does, but that a line that wasn't judged comes before a limit.
+abbrev pub service_status : Bool → Bool → Bool → Bool → Bool → RunStatus
+service_status closed accept_failed rejected misuse limit =
+    cond closed status.Closed (cond accept_failed status.AcceptFailed
+    (cond rejected status.Rejected (cond misuse status.Misuse (cond limit status.Limit status.Done))))
