@@ -1,6 +1,6 @@
 -- A service so far, with one connection more, and with one more that is over.
 use Rattle.std.proofs.Common.{◌≡◌, ◌⊎◌, inl, inr, ℕ, ◌+◌, ◌<◌, List, [], ◌∷◌, ◌++◌, length, refl, ap, subst, sym, ◌∙◌, append_assoc, arith, length-append}
-use Rattle.std.specs.Prelude.{Bool, true, false, ◌||◌, Option, Result, map, sum_by}
+use Rattle.std.specs.Prelude.{Bool, true, false, ◌||◌, Option, Result, map, sum_by, Ok, Err, OnOk, OnErr}
 use Rattle.std.specs.List.{list_any}
 use Rattle.std.proofs.Math.Bool.{or_comm}
 use Rattle.std.proofs.lemmas.List.{append-nil}
@@ -12,13 +12,14 @@ use Rattle.connections.specs.declared.outcome.Ending.{Ending}
 use Rattle.connections.specs.declared.outcome.Outcome.{Outcome}
 use Rattle.connections.specs.declared.outcome.Outcome.TheVariants.{Over, Refused, NotStarted}
 use Rattle.connections.specs.declared.totals.Totals.{Totals}
+use Rattle.connections.specs.declared.visits.Running.{Running}
 use Rattle.connections.specs.declared.visits.Visit.{Visit}
 use Rattle.connections.specs.declared.visits.Visited.{Visited}
 use Rattle.connections.specs.declared.visits.Visited.TheVariants as visited
 use Rattle.connections.specs.Accounts.{has_rejected, met_limit}
 use Rattle.connections.specs.Outcomes.{InTurn, IsOutcome, ending_of, places_of}
-use Rattle.connections.specs.Services.{IsSum, IsWithout, was_misused}
-use Rattle.connections.specs.Visiting.{Begins, Comes, State, present, past, visits_of, outcomes_of, outcome_after, place_after, Book, IsAdded, IsState, IsVisit, IsVisited, IsSoFar, Leave, none, more, Leaves, Without}
+use Rattle.connections.specs.Services.{IsSum, IsWithout, capped, unjudged_of}
+use Rattle.connections.specs.Visiting.{Begins, Comes, State, present, past, visits_of, outcomes_of, outcome_after, place_after, Book, IsAdded, IsState, IsVisit, IsVisited, IsSoFar, Leave, none, more, Leaves, Without, before_place, promises}
 use Rattle.connections.proofs.Turns.{turn_more}
 
 or_in : (a b c : Bool) → (a || (b || c)) ≡ ((a || b) || c)
@@ -31,13 +32,21 @@ any_last : {P : Type 0} (f : Ending → Bool) (os : List (Outcome P)) (o : Outco
 any_last f [] o = or_comm (f (ending_of o)) false
 any_last f (x ∷ os) o = ap (λ b. f (ending_of x) || b) (any_last f os o) ∙ or_in (f (ending_of x)) (list_any f (map ending_of os)) (f (ending_of o))
 
--- where each test is met by one ending more, so is the sum
+count_more : {P : Type 0} (f : Ending → ℕ) (os : List (Outcome P)) (o : Outcome P)
+    → sum_by f (map ending_of (os ++ o ∷ [])) ≡ sum_by f (map ending_of os) + f (ending_of o)
+count_more f [] o = omega arith
+count_more f (x ∷ os) o = let rest = count_more f os o in omega (arith, rest)
+
+capped_in : (n m : ℕ) → capped (capped n + m) ≡ capped (n + m)
+capped_in n m = omega arith
+
+-- where each test and each count is met by one ending more, so is the sum
 pub sum_more : (es fs : List Ending) (e : Ending) (old new : Totals) → ((f : Ending → Bool) → list_any f fs ≡ (list_any f es || f e))
-    → IsSum es old → IsAdded old e new → IsSum fs new
-sum_more es fs e old new each sum added = record {
+    → ((f : Ending → ℕ) → sum_by f fs ≡ sum_by f es + f e) → IsSum es old → IsAdded old e new → IsSum fs new
+sum_more es fs e old new each count sum added = record {
   rejected = added.rejected ∙ (ap (λ b. b || has_rejected e) sum.rejected ∙ sym (each has_rejected));
   limit = added.limit ∙ (ap (λ b. b || met_limit e) sum.limit ∙ sym (each met_limit));
-  misuse = added.misuse ∙ (ap (λ b. b || was_misused e) sum.misuse ∙ sym (each was_misused));
+  unjudged = added.unjudged ∙ (ap (λ n. capped (n + unjudged_of e)) sum.unjudged ∙ (capped_in (sum_by unjudged_of es) (unjudged_of e) ∙ sym (ap capped (count unjudged_of))));
 }
 
 places_more : {P : Type 0} (answered : P → ℕ) (os : List (Outcome P)) (o : Outcome P)
@@ -55,6 +64,25 @@ places_last answered (x ∷ os) o =
 pub without_between : {V : Type 0} (v : V) (xs ys : List V) → Without v (xs ++ v ∷ ys) (xs ++ ys)
 without_between v [] ys = inl (refl, refl)
 without_between v (x ∷ xs) ys = inr (xs ++ ys, refl, without_between v xs ys)
+
+pub without_promise : {P V : Type 0} (x : Running P V) (xs ys : List (Running P V)) → Without x.thread.promise (promises (xs ++ x ∷ ys)) (promises (xs ++ ys))
+without_promise x [] ys = inl (refl, refl)
+without_promise x (y ∷ xs) ys = inr (promises (xs ++ ys), refl, without_promise x xs ys)
+
+pub promises_last : {P V : Type 0} (xs : List (Running P V)) (x : Running P V) → promises (xs ++ x ∷ []) ≡ promises xs ++ x.thread.promise ∷ []
+promises_last [] x = refl
+promises_last (y ∷ xs) x = ap (λ vs. y.thread.promise ∷ vs) (promises_last xs x)
+
+abbrev pub book : {V : Type 0} → List V → Totals → ℕ → ℕ → Book V
+book visits totals free counted = record { visits = visits; totals = totals; free = free; counted = counted }
+
+-- the book before a place was given, or refused
+pub taken_book : {P V E : Type 0} (r : Result P E) (visits : List V) (totals : Totals) (free free' counted counted' : ℕ)
+    → OnOk r (free' + 1 ≡ free) → OnErr r (free' ≡ free) → counted' ≡ counted → before_place r (book visits totals free' counted') ≡ book visits totals free counted
+taken_book (Ok place) visits totals free free' counted counted' ok err same =
+    ap (λ n. book visits totals n counted') ok ∙ ap (λ n. book visits totals free n) same
+taken_book (Err fault) visits totals free free' counted counted' ok err same =
+    ap (λ n. book visits totals n counted') err ∙ ap (λ n. book visits totals free n) same
 
 abbrev pub IsNone : {V : Type 0} → List V → Type 0
 IsNone [] = Unit {0}
@@ -120,6 +148,7 @@ module _ {G P R W A L : Type 0} (gate : G) (gives : P → Type 0) (refuses : Fau
     turns : InTurn takes Is first new now
     there : visits_of new ≡ visits
     tests : (f : Ending → Bool) → list_any f (map ending_of (outcomes_of new)) ≡ (list_any f (map ending_of (outcomes_of states)) || f (ending_of (outcome_after gone)))
+    counts : (f : Ending → ℕ) → sum_by f (map ending_of (outcomes_of new)) ≡ sum_by f (map ending_of (outcomes_of states)) + f (ending_of (outcome_after gone))
     long : length new ≡ length states
     fewer : length (visits_of new) + 1 ≡ length (visits_of states)
     worth_more : sum_by answered (places_of (outcomes_of new)) ≡ sum_by answered (places_of (outcomes_of states)) + answered (place_after gone)
@@ -137,6 +166,7 @@ module _ {G P R W A L : Type 0} (gate : G) (gives : P → Type 0) (refuses : Fau
         turns = (turns.0, turns.1, turns.2, turns.3, turns.4, rest.turns);
         there = rest.there;
         tests = λ f. ap (λ b. f (ending_of o) || b) (rest.tests f) ∙ or_in (f (ending_of o)) (list_any f (map ending_of (outcomes_of ss))) (f (ending_of (outcome_after gone)));
+        counts = λ f. let count = rest.counts f in omega (arith, count);
         long = ap suc rest.long;
         fewer = rest.fewer;
         worth_more = omega (arith, before, after, sums);
@@ -152,6 +182,7 @@ module _ {G P R W A L : Type 0} (gate : G) (gives : P → Type 0) (refuses : Fau
         turns = (turns.0, turns.1, turns.2, turns.3, came turns.0 turns.1 is.0 gone is.1 comes, turns.5);
         there = sym here.1;
         tests = λ f. or_comm (f (ending_of (outcome_after gone))) (list_any f (map ending_of (outcomes_of ss)));
+        counts = λ f. omega arith;
         long = refl;
         fewer = omega arith;
         worth_more = omega (arith, more, one);
@@ -164,6 +195,7 @@ module _ {G P R W A L : Type 0} (gate : G) (gives : P → Type 0) (refuses : Fau
         turns = (turns.0, turns.1, turns.2, turns.3, turns.4, rest.turns);
         there = ap (λ vs. u ∷ vs) rest.there ∙ sym later.1;
         tests = rest.tests;
+        counts = rest.counts;
         long = ap suc rest.long;
         fewer = omega (arith, fewer);
         worth_more = rest.worth_more;
@@ -179,7 +211,7 @@ module _ {G P R W A L : Type 0} (gate : G) (gives : P → Type 0) (refuses : Fau
         states = changed.new;
         turns = changed.turns;
         there = changed.there;
-        sum = sum_more (map ending_of (outcomes_of far.states)) (map ending_of (outcomes_of changed.new)) (ending_of (outcome_after leaves.gone)) old.totals new.totals changed.tests far.sum leaves.added;
+        sum = sum_more (map ending_of (outcomes_of far.states)) (map ending_of (outcomes_of changed.new)) (ending_of (outcome_after leaves.gone)) old.totals new.totals changed.tests changed.counts far.sum leaves.added;
         some = λ is. subst (λ n. 0 < n) (sym changed.long) (far.some is);
         free_are = omega (arith, fewer, free_is, free_are);
         counted_are = omega (arith, counted_is, counted_are, sums);
@@ -205,7 +237,8 @@ module _ {G P R W A L : Type 0} (gate : G) (gives : P → Type 0) (refuses : Fau
         turns = turn_more takes Is first now next far.states (past o) far.turns (r, w, taken, was);
         there = there ∙ (far.there ∙ sym visits);
         sum = sum_more (map ending_of (outcomes_of far.states)) (map ending_of (outcomes_of states)) (ending_of o) old.totals new.totals
-            (λ f. ap (λ os. list_any f (map ending_of os)) gone ∙ any_last f (outcomes_of far.states) o) far.sum added;
+            (λ f. ap (λ os. list_any f (map ending_of os)) gone ∙ any_last f (outcomes_of far.states) o)
+            (λ f. ap (λ os. sum_by f (map ending_of os)) gone ∙ count_more f (outcomes_of far.states) o) far.sum added;
         some = λ is. some_last far.states (past o);
         free_are = omega (arith, long, free_are, free_is);
         counted_are = omega (arith, counted_is, counted_are, last, sums);

@@ -1,5 +1,5 @@
 -- What came of the connections of a service, which gives its places again.
-use Rattle.std.specs.Prelude.{◌≡◌, ◌⊎◌, ◌||◌, ℕ, ◌+◌, ◌<◌, Bool, true, false, List, length, map, sum_by, Option, Result, Ok, Err}
+use Rattle.std.specs.Prelude.{◌≡◌, ◌⊎◌, ℕ, ◌+◌, ◌-◌, ◌^◌, ◌<◌, min, Bool, true, false, cond, List, length, map, sum_by, Option, Result, Ok, Err}
 use Rattle.std.specs.List.{list_any}
 use Rattle.wire.specs.declared.answers.Fault.{Fault}
 use Rattle.wire.specs.declared.answers.Fault.TheVariants.{Seats}
@@ -26,17 +26,25 @@ was_too_long (Ok Quit) = false
 was_too_long (Ok Input) = false
 was_too_long (Err error) = false
 
--- a line of the connection was no command, named no event, or was too long
-abbrev pub was_misused : Ending → Bool
-was_misused (Served end tally) = tally.misuse || was_too_long end
-was_misused (Refused fault) = false
-was_misused NotStarted = false
+-- so far a count goes
+abbrev pub capped : ℕ → ℕ
+capped n = min n (2 ^ 64 - 1)
+
+-- how many lines there were that were no command, or named no event
+abbrev pub misuses : Tally → ℕ
+misuses tally = cond tally.misuse 1 0
+
+-- how many lines of the connection weren't judged, since they were no command, named no event, or were too long
+abbrev pub unjudged_of : Ending → ℕ
+unjudged_of (Served end tally) = misuses tally + cond (was_too_long end) 1 0
+unjudged_of (Refused fault) = 0
+unjudged_of NotStarted = 0
 
 -- This came of these connections together.
 pub record IsSum (endings : List Ending) (totals : Totals) : Type 0 where
   pub rejected : totals.rejected ≡ list_any has_rejected endings
   pub limit : totals.limit ≡ list_any met_limit endings
-  pub misuse : totals.misuse ≡ list_any was_misused endings
+  pub unjudged : totals.unjudged ≡ capped (sum_by unjudged_of endings)
 
 -- How a service ended that had taken so many connections: by an accept that failed; or once all were over, where that is asked for.
 abbrev pub IsClosing : {A : Type 0} → (A → A → Type 0) → A → Bool → ℕ → Bool → Type 0

@@ -16,7 +16,7 @@ use Rattle.connections.specs.declared.visits.Visited.{Visited}
 use Rattle.connections.specs.declared.visits.Visited.TheVariants as visited
 use Rattle.connections.specs.Outcomes.{InTurn, IsOutcome, ending_of, places_of}
 use Rattle.connections.specs.Accounts.{has_rejected, met_limit}
-use Rattle.connections.specs.Services.{IsSum, IsWithout, was_misused}
+use Rattle.connections.specs.Services.{IsSum, IsWithout, capped, unjudged_of}
 
 -- A connection that was taken: its thread runs, or it is over.
 pub data State (G P R W : Type 0) : Type 0 where
@@ -67,7 +67,7 @@ outcome_after (visited.CalledOff place) = outcome.NotStarted
 pub record IsAdded (old : Totals) (ending : Ending) (new : Totals) : Type 0 where
   pub rejected : new.rejected ≡ (old.rejected || has_rejected ending)
   pub limit : new.limit ≡ (old.limit || met_limit ending)
-  pub misuse : new.misuse ≡ (old.misuse || was_misused ending)
+  pub unjudged : new.unjudged ≡ capped (old.unjudged + unjudged_of ending)
 
 -- What is known of a hall: what its threads promise, the totals, how many places are free, and how many reports were answered at those that
 -- were given back.

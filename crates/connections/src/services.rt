@@ -89,7 +89,7 @@ fn place_for<T: Threads + Wait + Clock, G: Reusable, V: Promise<Visited<G::Place
     ensures any { hall.new.any ≡ hall.old.any }
     ensures capacity { vec_capacity hall.new.running ≡ vec_capacity hall.old.running }
 {
-    for _ in 0..ASKS {
+    for _turn in 0..ASKS {
         match ask(rt, alloc, gate, hall, threads) {
             Err(Fault::Seats) => sleep(rt, Duration::from_millis(ASK_AGAIN)),
             answer => return answer,
@@ -199,7 +199,7 @@ where
     ensures ends { MatchBool result (A.fails accept.new accept.new) ((terms.until_idle ≡ true) × (hall.new.any ≡ true)) }
 {
     let mut failures = 0u8;
-    for _ in rt.forever() {
+    for _turn in rt.forever() {
         match take_next(rt, alloc, scope, accept, gate, hall, terms.threads) {
             Look::Failed => {
                 if failures >= terms.retries {

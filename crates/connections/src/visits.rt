@@ -130,16 +130,6 @@ impl<P: Drop, V: Promise<Visited<P>>> Running<P, V> {
     }
 }
 
-// The place that a thread gives back, and how its connection ended.
-fn part<P>(gone: Visited<P>) -> (P, Ending)
-    ensures { (result.0 ≡ place_after gone) × (result.1 ≡ ending_of (outcome_after gone)) }
-{
-    match gone {
-        Visited::Over(Over { place, end, tally }) => (place, Ending::Served(end, tally)),
-        Visited::CalledOff(place) => (place, Ending::NotStarted),
-    }
-}
-
 /// Gives the place back of a connection that is over, and adds how it ended.
 pub(crate) fn leave<T: Wait, G: Reusable, V: Promise<Visited<G::Place>>>(
     rt: &T,
@@ -153,9 +143,16 @@ pub(crate) fn leave<T: Wait, G: Reusable, V: Promise<Visited<G::Place>>>(
     ensures free { G.free hall.new.places ≡ G.free hall.old.places + 1 }
     ensures counted { G.counted hall.new.places ≡ G.counted hall.old.places + G.answered (place_after gone) }
 {
-    let (place, ending) = part(gone);
-    gate.leave(rt, place, &mut hall.places);
-    hall.totals.add(&ending);
+    match gone {
+        Visited::Over(Over { place, end, tally }) => {
+            gate.leave(rt, place, &mut hall.places);
+            hall.totals.add(&Ending::Served(end, tally));
+        }
+        Visited::CalledOff(place) => {
+            gate.leave(rt, place, &mut hall.places);
+            hall.totals.add(&Ending::NotStarted);
+        }
+    }
 }
 
 // Takes out what runs at this index.
@@ -168,7 +165,8 @@ fn taken_out<P: Drop, V: Promise<Visited<P>>>(
     ensures len { length running.new.items + 1 ≡ length running.old.items }
     ensures capacity { vec_capacity running.new ≡ vec_capacity running.old }
 {
-    let Running { thread, is_over } = running.remove(index);
+    let one = running.remove(index);
+    let Running { thread, is_over } = one;
     drop(is_over);
     thread
 }
@@ -190,6 +188,26 @@ fn join_one<T: Threads + Wait, G: Reusable, V: Promise<Visited<G::Place>>>(
     leave(rt, gate, hall, thread.join(rt));
 }
 
+// Gives the place back of the connection with this index, where its thread has said that it is over. The answer is the index after it.
+fn join_if_over<T: Threads + Wait, G: Reusable, V: Promise<Visited<G::Place>>>(
+    rt: &T,
+    gate: &G,
+    hall: &mut Hall<G::Place, V, G::Places>,
+    index: usize,
+) -> usize
+    requires { index < length hall.old.running.items }
+    ensures goes_on { GoesOn V.kept_by G.answered (book_of G.free G.counted hall.old) (book_of G.free G.counted hall.new) }
+    ensures any { hall.new.any ≡ hall.old.any }
+    ensures passed { length hall.new.running.items + (index + 1) ≡ length hall.old.running.items + result }
+    ensures capacity { vec_capacity hall.new.running ≡ vec_capacity hall.old.running }
+{
+    if !hall.running[index].is_over() {
+        return index + 1;
+    }
+    join_one(rt, gate, hall, index);
+    index
+}
+
 /// Gives the places back of those connections whose threads have said that they are over.
 pub(crate) fn join_ended<T: Threads + Wait, G: Reusable, V: Promise<Visited<G::Place>>>(
     rt: &T,
@@ -202,11 +220,7 @@ pub(crate) fn join_ended<T: Threads + Wait, G: Reusable, V: Promise<Visited<G::P
 {
     let mut index = 0;
     while index < hall.running.len() {
-        if hall.running[index].is_over() {
-            join_one(rt, gate, hall, index);
-        } else {
-            index += 1;
-        }
+        index = join_if_over(rt, gate, hall, index);
     }
 }
 
@@ -220,7 +234,9 @@ pub(crate) fn join_all<T: Threads + Wait, G: Reusable, V: Promise<Visited<G::Pla
     ensures any { hall.new.any ≡ hall.old.any }
     ensures none { hall.new.running.items ≡ [] }
 {
-    while !hall.running.is_empty() {
+    let mut left = hall.running.len();
+    while left > 0 {
         join_one(rt, gate, hall, 0);
+        left -= 1;
     }
 }
