@@ -1,6 +1,6 @@
 -- A service so far, with one connection more, and with one more that is over.
 use Rattle.std.proofs.Common.{◌≡◌, ◌⊎◌, inl, inr, ℕ, ◌+◌, ◌<◌, List, [], ◌∷◌, ◌++◌, length, refl, ap, subst, sym, ◌∙◌, append_assoc, arith, length-append}
-use Rattle.std.specs.Prelude.{Bool, true, false, ◌||◌, Option, Result, map, sum_by, Ok, Err, OnOk, OnErr}
+use Rattle.std.specs.Prelude.{Bool, true, false, ◌||◌, Option, Result, map, sum_by, Ok, Err, OnOk, OnErr, MatchBool}
 use Rattle.std.specs.List.{list_any}
 use Rattle.std.proofs.Math.Bool.{or_comm}
 use Rattle.std.proofs.lemmas.List.{append-nil}
@@ -18,8 +18,8 @@ use Rattle.connections.specs.declared.visits.Visited.{Visited}
 use Rattle.connections.specs.declared.visits.Visited.TheVariants as visited
 use Rattle.connections.specs.Accounts.{has_rejected, met_limit}
 use Rattle.connections.specs.Outcomes.{InTurn, IsOutcome, ending_of, places_of}
-use Rattle.connections.specs.Services.{IsSum, IsWithout, capped, unjudged_of}
-use Rattle.connections.specs.Visiting.{Begins, Comes, State, present, past, visits_of, outcomes_of, outcome_after, place_after, Book, IsAdded, IsState, IsVisit, IsVisited, IsSoFar, Leave, none, more, Leaves, Without, before_place, promises}
+use Rattle.connections.specs.Services.{IsClosing, IsSum, IsWithout, capped, unjudged_of}
+use Rattle.connections.specs.Visiting.{Begins, Comes, State, present, past, visits_of, outcomes_of, outcome_after, place_after, Book, IsAdded, IsState, IsVisit, IsVisited, IsSoFar, Leave, none, more, Leaves, Without, before_place, with_one, promises}
 use Rattle.connections.proofs.Turns.{turn_more}
 
 or_in : (a b c : Bool) → (a || (b || c)) ≡ ((a || b) || c)
@@ -124,12 +124,12 @@ module _ {G P R W A L : Type 0} (gate : G) (gives : P → Type 0) (refuses : Fau
   abbrev ComesAt : P → R → W → Visited P → Type 0
   ComesAt place r w gone = Comes serves gate place (left r) (contents w) gone
 
-  came : (r : R) (w : W) (place : P) (gone : Visited P) → gives place → ComesAt place r w gone → Was r w (outcome_after gone)
+  pub came : (r : R) (w : W) (place : P) (gone : Visited P) → gives place → ComesAt place r w gone → Was r w (outcome_after gone)
   came r w place (visited.Over over) given comes = (place, comes.0, comes.1, given, comes.2)
   came r w place (visited.CalledOff last) given comes = tt
 
   -- what was answered at the place that comes back
-  worth : (r : R) (w : W) (place : P) (gone : Visited P) → answered place ≡ 0 → ComesAt place r w gone
+  pub worth : (r : R) (w : W) (place : P) (gone : Visited P) → answered place ≡ 0 → ComesAt place r w gone
       → sum_by answered (places_of (outcome_after gone ∷ [])) ≡ answered (place_after gone)
   worth r w place (visited.Over over) nothing comes = omega arith
   worth r w place (visited.CalledOff last) nothing comes = sym (ap answered comes ∙ nothing)
@@ -221,6 +221,12 @@ module _ {G P R W A L : Type 0} (gate : G) (gives : P → Type 0) (refuses : Fau
   so_far_on first now places old _ any far none = far
   so_far_on first now places old _ any far (more mid new before last) = so_far_left first now places mid new any (so_far_on first now places old mid any far before) last
 
+  -- the same, after an accept that took none
+  pub so_far_still : (first now now' : A) (places : L) (old new : Book (Visit G P R W)) (any any' : Bool) → SoFar first now places old any → now' ≡ now → any' ≡ any
+      → Leave Kept answered old new → SoFar first now' places new any'
+  so_far_still first now now' places old new any any' far here same leave =
+      subst (λ n. SoFar first n places new any') (sym here) (subst (λ b. SoFar first now places new b) (sym same) (so_far_on first now places old new any far leave))
+
   -- one connection more, of which this came at once
   pub so_far_past : (first now next : A) (places : L) (old new : Book (Visit G P R W)) (any : Bool) (r : R) (w : W) (o : Outcome P)
       → SoFar first now places old any → takes now r w next → Was r w o → new.visits ≡ old.visits → IsAdded old.totals (ending_of o) new.totals
@@ -288,3 +294,12 @@ module _ {G P R W A L : Type 0} (gate : G) (gives : P → Type 0) (refuses : Fau
   all_long [] nobody = refl
   all_long (present v ∷ ss) nobody = absurd nobody
   all_long (past o ∷ ss) nobody = ap suc (all_long ss nobody)
+
+pub by_bool : {X Y : Type 0} (b : Bool) → (b ≡ true → X) → (b ≡ false → Y) → MatchBool b X Y
+by_bool true x y = x refl
+by_bool false x y = y refl
+
+pub closes : {A : Type 0} (fails : A → A → Type 0) (last : A) (until any : Bool) (n : ℕ) (b : Bool) → MatchBool b (fails last last) ((until ≡ true) × (any ≡ true))
+    → (any ≡ true → 0 < n) → IsClosing fails last until n b
+closes fails last until any n true ends some = ends
+closes fails last until any n false ends some = (ends.0, some ends.1)

@@ -108,9 +108,13 @@ pub data Leave {V P : Type 0} (kept : V → Visited P → Type 0) (answered : P 
 abbrev pub GoesOn : {V P : Type 0} → (V → Visited P → Type 0) → (P → ℕ) → Book V → Book V → Type 0
 GoesOn {V} kept answered old new = (first : Book V) → Leave kept answered first old → Leave kept answered first new
 
+-- with one place more that is free
+abbrev pub with_one : {V : Type 0} → Book V → Book V
+with_one book = record book { free = book.free + 1 }
+
 -- before a place was given, where one was
 abbrev pub before_place : {V P X : Type 0} → Result P X → Book V → Book V
-before_place (Ok place) book = record book { free = book.free + 1 }
+before_place (Ok place) book = with_one book
 before_place (Err fault) book = book
 
 module _ {G P R W A L : Type 0} (gate : G) (gives : P → Type 0) (refuses : Fault → Type 0)

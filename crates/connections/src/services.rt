@@ -1,8 +1,8 @@
 //! Connections without end, each served by a thread of its own, at a place that is given back once it is over.
 
-ghost use Rattle.std.specs.Prelude.{◌≡◌, ◌<◌, ◌≤◌, true, [], length, vec_capacity, IfOk, IfErr, MatchBool};
+ghost use Rattle.std.specs.Prelude.{◌≡◌, ◌<◌, ◌≤◌, Bool, true, false, [], length, vec_capacity, IfOk, IfErr, IfSome, MatchBool};
 ghost use Rattle.connections.specs.Services.{Came, IsWithout};
-ghost use Rattle.connections.specs.Visiting.{GoesOn, IsSoFar, before_place, book_of};
+ghost use Rattle.connections.specs.Visiting.{GoesOn, IsSoFar, before_place, book_of, with_one};
 
 use crate::gate::{AcceptFault, Listen, Reusable};
 use crate::outcome::Ending;
@@ -98,6 +98,37 @@ fn place_for<T: Threads + Wait + Clock, G: Reusable, V: Promise<Visited<G::Place
     Err(Fault::Seats)
 }
 
+// Serves a connection that was taken, at a place that was given, in a thread of its own.
+fn serve_at<'s, E, T, A, G>(
+    rt: &'s T,
+    alloc: Global,
+    scope: &Scope<'s, E>,
+    gate: &'s G,
+    hall: &mut Hall<G::Place, Visit<G, G::Place, A::Reader, A::Writer>, G::Places>,
+    place: G::Place,
+    reader: A::Reader,
+    writer: A::Writer,
+)
+where
+    T: Threads + Wait + Sync,
+    A: Listen,
+    G: Reusable + Sync,
+    A::Reader: 's,
+    A::Writer: 's,
+    G::Place: 's,
+    requires given { G.gives gate.now place × (G.answered place ≡ 0) }
+    requires room { length hall.old.running.items < vec_capacity hall.old.running }
+    ensures so_far { (first now next : A) (places : G.Places) (any : Bool) → IsSoFar gate.now (G.gives gate.now) (G.refuses gate.now) G.serves G.answered G.free G.counted A.takes A.Reader.left A.Writer.contents first now places (with_one (book_of G.free G.counted hall.old)) any
+        → A.takes now reader writer next → IsSoFar gate.now (G.gives gate.now) (G.refuses gate.now) G.serves G.answered G.free G.counted A.takes A.Reader.left A.Writer.contents first next places (book_of G.free G.counted hall.new) true }
+    ensures any { hall.new.any ≡ hall.old.any }
+    ensures capacity { vec_capacity hall.new.running ≡ vec_capacity hall.old.running }
+{
+    match start(rt, alloc, scope, gate, place, reader, writer) {
+        Ok(running) => hall.running.push_reserved(running),
+        Err(gone) => leave(rt, gate, hall, gone),
+    }
+}
+
 // Serves a connection that was taken, in a thread of its own, where there is a place for it.
 fn admit<'s, E, T, A, G>(
     rt: &'s T,
@@ -124,10 +155,9 @@ where
 {
     hall.any = true;
     match place_for(rt, alloc, gate, hall, threads) {
-        Ok(place) => match start(rt, alloc, scope, gate, place, reader, writer) {
-            Ok(running) => hall.running.push_reserved(running),
-            Err(gone) => leave(rt, gate, hall, gone),
-        },
+        Ok(place) => {
+            serve_at::<E, T, A, G>(rt, alloc, scope, gate, hall, place, reader, writer);
+        }
         Err(fault) => {
             let _ = refuse(&mut writer, fault);
             hall.totals.add(&Ending::Refused(fault));
@@ -160,7 +190,8 @@ where
     ensures capacity { vec_capacity hall.new.running ≡ vec_capacity hall.old.running }
 {
     match accept.accept_soon() {
-        Ok(Some((reader, writer))) => {
+        Ok(Some(connection)) => {
+            let (reader, writer) = connection;
             admit::<E, T, A, G>(rt, alloc, scope, gate, hall, threads, reader, writer);
             Look::Taken
         }
@@ -172,6 +203,40 @@ where
             join_ended(rt, gate, hall);
             Look::Failed
         }
+    }
+}
+
+// Whether no connection is there, and there was one.
+fn is_idle<P: Drop, V: Promise<Visited<P>>, L>(hall: &Hall<P, V, L>) -> bool
+    ensures { result ≡ true → hall.now.any ≡ true }
+{
+    hall.any && hall.running.is_empty()
+}
+
+// After such a look: whether an accept failed, where the service ends; or that it goes on. It counts the failures in a row.
+fn closing(look: Look, terms: Terms, idle: bool, failures: &mut u8) -> Option<bool>
+    ensures failed { IfSome result (λ accept_failed. accept_failed ≡ true → look ≡ Look.Failed) }
+    ensures idle { IfSome result (λ accept_failed. accept_failed ≡ false → (terms.until_idle ≡ true) × (idle ≡ true)) }
+{
+    if look != Look::Failed {
+        *failures = 0;
+        return if look == Look::Nobody && terms.until_idle && idle {
+            Some(false)
+        } else {
+            None
+        };
+    }
+    if *failures >= terms.retries {
+        return Some(true);
+    }
+    *failures += 1;
+    None
+}
+
+// Waits a moment after an accept that failed.
+fn pause<T: Clock>(rt: &T, look: Look) {
+    if look == Look::Failed {
+        sleep(rt, Duration::from_millis(ACCEPT_AGAIN));
     }
 }
 
@@ -200,22 +265,12 @@ where
 {
     let mut failures = 0u8;
     for _turn in rt.forever() {
-        match take_next(rt, alloc, scope, accept, gate, hall, terms.threads) {
-            Look::Failed => {
-                if failures >= terms.retries {
-                    return true;
-                }
-                failures += 1;
-                sleep(rt, Duration::from_millis(ACCEPT_AGAIN));
-            }
-            Look::Taken => failures = 0,
-            Look::Nobody => {
-                failures = 0;
-                if terms.until_idle && hall.any && hall.running.is_empty() {
-                    return false;
-                }
-            }
+        let look = take_next(rt, alloc, scope, accept, gate, hall, terms.threads);
+        let idle = is_idle(hall);
+        if let Some(accept_failed) = closing(look, terms, idle, &mut failures) {
+            return accept_failed;
         }
+        pause(rt, look);
     }
     unreachable!()
 }
