@@ -1,9 +1,10 @@
 -- A service so far, with one connection more, and with one more that is over.
-use Rattle.std.proofs.Common.{◌≡◌, ◌⊎◌, inl, inr, ℕ, ◌+◌, ◌<◌, List, [], ◌∷◌, ◌++◌, length, refl, ap, subst, sym, ◌∙◌, append_assoc, arith, length-append}
+use Rattle.std.proofs.Common.{◌≡◌, ◌⊎◌, inl, inr, ℕ, ◌+◌, ◌<◌, List, [], ◌∷◌, ◌++◌, length, refl, ap, subst, sym, ◌∙◌, append_assoc, arith, length-append, suc, true≢false}
 use Rattle.std.specs.Prelude.{Bool, true, false, ◌||◌, Option, Result, map, sum_by, Ok, Err, OnOk, OnErr, MatchBool}
 use Rattle.std.specs.List.{list_any}
 use Rattle.std.proofs.Math.Bool.{or_comm}
 use Rattle.std.proofs.lemmas.List.{append-nil}
+use Rattle.std.proofs.lemmas.List.Sums.{sum_by-append}
 use Rattle.wire.specs.declared.answers.Fault.{Fault}
 use Rattle.wire.specs.declared.answers.Tally.{Tally}
 use Rattle.wire.specs.declared.engine.End.{End}
@@ -35,7 +36,11 @@ any_last f (x ∷ os) o = ap (λ b. f (ending_of x) || b) (any_last f os o) ∙ 
 count_more : {P : Type 0} (f : Ending → ℕ) (os : List (Outcome P)) (o : Outcome P)
     → sum_by f (map ending_of (os ++ o ∷ [])) ≡ sum_by f (map ending_of os) + f (ending_of o)
 count_more f [] o = omega arith
-count_more f (x ∷ os) o = let rest = count_more f os o in omega (arith, rest)
+count_more f (x ∷ os) o =
+    let rest = count_more f os o in
+    let all = sum_by-append f (ending_of x ∷ []) (map ending_of (os ++ o ∷ [])) in
+    let some = sum_by-append f (ending_of x ∷ []) (map ending_of os) in
+    omega (arith, rest, all, some)
 
 capped_in : (n m : ℕ) → capped (capped n + m) ≡ capped (n + m)
 capped_in n m = omega arith
@@ -51,7 +56,7 @@ sum_more es fs e old new each count sum added = record {
 
 places_more : {P : Type 0} (answered : P → ℕ) (os : List (Outcome P)) (o : Outcome P)
     → sum_by answered (places_of (o ∷ os)) ≡ sum_by answered (places_of (o ∷ [])) + sum_by answered (places_of os)
-places_more answered os (Over over) = omega arith
+places_more answered os (Over over) = sum_by-append answered (over.place ∷ []) (places_of os)
 places_more answered os (Refused fault) = refl
 places_more answered os NotStarted = refl
 
@@ -166,7 +171,11 @@ module _ {G P R W A L : Type 0} (gate : G) (gives : P → Type 0) (refuses : Fau
         turns = (turns.0, turns.1, turns.2, turns.3, turns.4, rest.turns);
         there = rest.there;
         tests = λ f. ap (λ b. f (ending_of o) || b) (rest.tests f) ∙ or_in (f (ending_of o)) (list_any f (map ending_of (outcomes_of ss))) (f (ending_of (outcome_after gone)));
-        counts = λ f. let count = rest.counts f in omega (arith, count);
+        counts = λ f.
+            let count = rest.counts f in
+            let all = sum_by-append f (ending_of o ∷ []) (map ending_of (outcomes_of rest.new)) in
+            let some = sum_by-append f (ending_of o ∷ []) (map ending_of (outcomes_of ss)) in
+            omega (arith, count, all, some);
         long = ap suc rest.long;
         fewer = rest.fewer;
         worth_more = omega (arith, before, after, sums);
@@ -182,7 +191,9 @@ module _ {G P R W A L : Type 0} (gate : G) (gives : P → Type 0) (refuses : Fau
         turns = (turns.0, turns.1, turns.2, turns.3, came turns.0 turns.1 is.0 gone is.1 comes, turns.5);
         there = sym here.1;
         tests = λ f. or_comm (f (ending_of (outcome_after gone))) (list_any f (map ending_of (outcomes_of ss)));
-        counts = λ f. omega arith;
+        counts = λ f.
+            let all = sum_by-append f (ending_of (outcome_after gone) ∷ []) (map ending_of (outcomes_of ss)) in
+            omega (arith, all);
         long = refl;
         fewer = omega arith;
         worth_more = omega (arith, more, one);
@@ -279,7 +290,7 @@ module _ {G P R W A L : Type 0} (gate : G) (gives : P → Type 0) (refuses : Fau
     turns = refl;
     there = sym visits;
     sum = sum;
-    some = λ is. absurd (search rules);
+    some = λ is. absurd (true≢false (sym is));
     free_are = omega (arith, free_is);
     counted_are = omega (arith, counted_is);
   }

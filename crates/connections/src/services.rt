@@ -213,24 +213,31 @@ fn is_idle<P: Drop, V: Promise<Visited<P>>, L>(hall: &Hall<P, V, L>) -> bool
     hall.any && hall.running.is_empty()
 }
 
-// After such a look: whether an accept failed, where the service ends; or that it goes on. It counts the failures in a row.
-fn closing(look: Look, terms: Terms, idle: bool, failures: &mut u8) -> Option<bool>
-    ensures failed { IfSome result (λ accept_failed. accept_failed ≡ true → look ≡ Look.Failed) }
-    ensures idle { IfSome result (λ accept_failed. accept_failed ≡ false → (terms.until_idle ≡ true) × (idle ≡ true)) }
+// After an accept that failed: whether the service ends. It counts the failures in a row.
+fn after_failure(terms: Terms, failures: &mut u8) -> Option<bool>
+    ensures { IfSome result (λ accept_failed. accept_failed ≡ true) }
 {
-    if look != Look::Failed {
-        *failures = 0;
-        return if look == Look::Nobody && terms.until_idle && idle {
-            Some(false)
-        } else {
-            None
-        };
-    }
     if *failures >= terms.retries {
         return Some(true);
     }
     *failures += 1;
     None
+}
+
+// After such a look: whether an accept failed, where the service ends; or that it goes on.
+fn closing(look: Look, terms: Terms, idle: bool, failures: &mut u8) -> Option<bool>
+    ensures failed { IfSome result (λ accept_failed. accept_failed ≡ true → look ≡ Look.Failed) }
+    ensures idle { IfSome result (λ accept_failed. accept_failed ≡ false → (terms.until_idle ≡ true) × (idle ≡ true)) }
+{
+    if look == Look::Failed {
+        return after_failure(terms, failures);
+    }
+    *failures = 0;
+    if look == Look::Nobody && terms.until_idle && idle {
+        Some(false)
+    } else {
+        None
+    }
 }
 
 // Waits a moment after an accept that failed.

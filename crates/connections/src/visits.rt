@@ -137,7 +137,8 @@ pub(crate) fn leave<T: Wait, G: Reusable, V: Promise<Visited<G::Place>>>(
     hall: &mut Hall<G::Place, V, G::Places>,
     gone: Visited<G::Place>,
 )
-    ensures running { hall.new.running ≡ hall.old.running }
+    ensures running { hall.new.running.items ≡ hall.old.running.items }
+    ensures capacity { vec_capacity hall.new.running ≡ vec_capacity hall.old.running }
     ensures any { hall.new.any ≡ hall.old.any }
     ensures added { IsAdded hall.old.totals (ending_of (outcome_after gone)) hall.new.totals }
     ensures free { G.free hall.new.places ≡ G.free hall.old.places + 1 }

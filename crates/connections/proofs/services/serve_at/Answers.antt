@@ -15,5 +15,5 @@ returns-in-Err-clause-so_far g c first now next places any far taken =
     let comes = c.in-Err.ensures.called_off in
     so_far_past c.args.gate.now (g.G.Gate.gives c.args.gate.now) (g.G.Gate.refuses c.args.gate.now) g.G.Gate.serves g.G.Reusable.answered g.G.Reusable.free g.G.Reusable.counted g.A.Accept.takes g.A.Reader.Source.left g.A.Writer.Sink.contents first now next places (with_one (book_of g.G.Reusable.free g.G.Reusable.counted c.args.hall.now)) _ any c.args.reader c.args.writer (outcome_after gone) far taken
     (came c.args.gate.now (g.G.Gate.gives c.args.gate.now) (g.G.Gate.refuses c.args.gate.now) g.G.Gate.serves g.G.Reusable.answered g.G.Reusable.free g.G.Reusable.counted g.A.Accept.takes g.A.Reader.Source.left g.A.Writer.Sink.contents c.args.reader c.args.writer c.args.place gone c.requires.given.0 comes)
-    (ap (λ rs. promises rs.items) c.leave.ensures.running) c.leave.ensures.added c.leave.ensures.free
+    (ap promises c.leave.ensures.running) c.leave.ensures.added c.leave.ensures.free
     (c.leave.ensures.counted ∙ ap (λ n. g.G.Reusable.counted c.args.hall.now.places + n) (sym (worth c.args.gate.now (g.G.Gate.gives c.args.gate.now) (g.G.Gate.refuses c.args.gate.now) g.G.Gate.serves g.G.Reusable.answered g.G.Reusable.free g.G.Reusable.counted g.A.Accept.takes g.A.Reader.Source.left g.A.Writer.Sink.contents c.args.reader c.args.writer c.args.place gone c.requires.given.1 comes)))

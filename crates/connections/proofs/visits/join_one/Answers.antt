@@ -8,7 +8,7 @@ returns-clause-goes_on g c first before =
     record {
       visit = c.taken_out-thread.result.promise;
       gone = c.join.result;
-      out = subst (λ rs. Without c.taken_out-thread.result.promise (promises c.args.hall.now.running.items) (promises rs.items)) (sym c.leave.ensures.running) c.taken_out-thread.ensures.out;
+      out = subst (λ rs. Without c.taken_out-thread.result.promise (promises c.args.hall.now.running.items) (promises rs)) (sym c.leave.ensures.running) c.taken_out-thread.ensures.out;
       kept_by = c.join.ensures;
       added = c.leave.ensures.added;
       free_is = c.leave.ensures.free;

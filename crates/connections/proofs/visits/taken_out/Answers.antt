@@ -1,4 +1,4 @@
-use Rattle.std.proofs.Common.{◌≡◌, ◌∷◌, ◌++◌, take, drop, sym, ap, subst, ◌∙◌}
+use Rattle.std.proofs.Common.{◌≡◌, ◌∷◌, ◌++◌, suc, take, drop, sym, ap, subst, ◌∙◌}
 use Rattle.std.proofs.Math.Seq.{split_at}
 use Rattle.connections.specs.Visiting.{Without, promises}
 use Rattle.connections.proofs.SoFar.{without_promise}
