@@ -57,12 +57,12 @@ sum_more es fs e old new each count sum added = record {
 places_more : {P : Type 0} (answered : P → ℕ) (os : List (Outcome P)) (o : Outcome P)
     → sum_by answered (places_of (o ∷ os)) ≡ sum_by answered (places_of (o ∷ [])) + sum_by answered (places_of os)
 places_more answered os (Over over) = sum_by-append answered (over.place ∷ []) (places_of os)
-places_more answered os (Refused fault) = refl
-places_more answered os NotStarted = refl
+places_more answered os (Refused fault) = omega arith
+places_more answered os NotStarted = omega arith
 
 places_last : {P : Type 0} (answered : P → ℕ) (os : List (Outcome P)) (o : Outcome P)
     → sum_by answered (places_of (os ++ o ∷ [])) ≡ sum_by answered (places_of os) + sum_by answered (places_of (o ∷ []))
-places_last answered [] o = refl
+places_last answered [] o = omega arith
 places_last answered (x ∷ os) o =
     let more = places_last answered os o in let first = places_more answered (os ++ o ∷ []) x in let rest = places_more answered os x in omega (arith, more, first, rest)
 
@@ -142,10 +142,10 @@ module _ {G P R W A L : Type 0} (gate : G) (gives : P → Type 0) (refuses : Fau
   -- what a thread promises, of its connection
   promised : (r : R) (w : W) (v : Visit G P R W) (gone : Visited P) → (is : Meets r w v) → Kept v gone → ComesAt is.0 r w gone
   promised r w v gone is kept =
-      subst (λ x. Comes serves gate is.0 (left r) (contents x) gone) is.6
-      (subst (λ x. Comes serves gate is.0 (left x) (contents v.writer.value) gone) is.5
-      (subst (λ x. Comes serves gate x (left v.reader.value) (contents v.writer.value) gone) is.4
-      (subst (λ x. Comes serves x v.place.value (left v.reader.value) (contents v.writer.value) gone) is.3 kept)))
+      subst (λ x. Comes serves gate is.0 (left r) (contents x) gone) is.3.3
+      (subst (λ x. Comes serves gate is.0 (left x) (contents v.writer.value) gone) is.3.2
+      (subst (λ x. Comes serves gate x (left v.reader.value) (contents v.writer.value) gone) is.3.1
+      (subst (λ x. Comes serves x v.place.value (left v.reader.value) (contents v.writer.value) gone) is.3.0 kept)))
 
   -- states in which this one is over that was there
   record Changed (first now : A) (states : List (State G P R W)) (visits : List (Visit G P R W)) (gone : Visited P) : Type 0 where
@@ -231,6 +231,9 @@ module _ {G P R W A L : Type 0} (gate : G) (gives : P → Type 0) (refuses : Fau
   pub so_far_on : (first now : A) (places : L) (old new : Book (Visit G P R W)) (any : Bool) → SoFar first now places old any → Leave Kept answered old new → SoFar first now places new any
   so_far_on first now places old _ any far none = far
   so_far_on first now places old _ any far (more mid new before last) = so_far_left first now places mid new any (so_far_on first now places old mid any far before) last
+
+  pub so_far_flag : (first now : A) (places : L) (book : Book (Visit G P R W)) (any any' : Bool) → SoFar first now places book any → any' ≡ any → SoFar first now places book any'
+  so_far_flag first now places book any any' far same = subst (λ b. SoFar first now places book b) (sym same) far
 
   -- the same, after an accept that took none
   pub so_far_still : (first now now' : A) (places : L) (old new : Book (Visit G P R W)) (any any' : Bool) → SoFar first now places old any → now' ≡ now → any' ≡ any

@@ -62,6 +62,7 @@ fn ask<T: Threads + Wait, G: Reusable, V: Promise<Visited<G::Place>>>(
     hall: &mut Hall<G::Place, V, G::Places>,
     threads: u8,
 ) -> Result<G::Place, Fault>
+    requires back { G.takes_back gate.now }
     ensures given { IfOk result (λ place. G.gives gate.now place × (G.answered place ≡ 0) × (length hall.new.running.items < threads)) }
     ensures refused { IfErr result (IsWithout (G.refuses gate.now)) }
     ensures goes_on { GoesOn V.kept_by G.answered (book_of G.free G.counted hall.old) (before_place result (book_of G.free G.counted hall.new)) }
@@ -83,6 +84,7 @@ fn place_for<T: Threads + Wait + Clock, G: Reusable, V: Promise<Visited<G::Place
     hall: &mut Hall<G::Place, V, G::Places>,
     threads: u8,
 ) -> Result<G::Place, Fault>
+    requires back { G.takes_back gate.now }
     ensures given { IfOk result (λ place. G.gives gate.now place × (G.answered place ≡ 0) × (length hall.new.running.items < threads)) }
     ensures refused { IfErr result (IsWithout (G.refuses gate.now)) }
     ensures goes_on { GoesOn V.kept_by G.answered (book_of G.free G.counted hall.old) (before_place result (book_of G.free G.counted hall.new)) }
@@ -116,6 +118,7 @@ where
     A::Reader: 's,
     A::Writer: 's,
     G::Place: 's,
+    requires back { G.takes_back gate.now }
     requires given { G.gives gate.now place × (G.answered place ≡ 0) }
     requires room { length hall.old.running.items < vec_capacity hall.old.running }
     ensures so_far { (first now next : A) (places : G.Places) (any : Bool) → IsSoFar gate.now (G.gives gate.now) (G.refuses gate.now) G.serves G.answered G.free G.counted A.takes A.Reader.left A.Writer.contents first now places (with_one (book_of G.free G.counted hall.old)) any
@@ -148,7 +151,8 @@ where
     A::Writer: 's,
     G::Place: 's,
     G::Places: 's,
-    requires { threads ≤ vec_capacity hall.old.running }
+    requires back { G.takes_back gate.now }
+    requires room { threads ≤ vec_capacity hall.old.running }
     ensures so_far { (first now next : A) (places : G.Places) → IsSoFar gate.now (G.gives gate.now) (G.refuses gate.now) G.serves G.answered G.free G.counted A.takes A.Reader.left A.Writer.contents first now places (book_of G.free G.counted hall.old) hall.old.any
         → A.takes now reader writer next → IsSoFar gate.now (G.gives gate.now) (G.refuses gate.now) G.serves G.answered G.free G.counted A.takes A.Reader.left A.Writer.contents first next places (book_of G.free G.counted hall.new) hall.new.any }
     ensures capacity { vec_capacity hall.new.running ≡ vec_capacity hall.old.running }
@@ -183,7 +187,8 @@ where
     A::Writer: 's,
     G::Place: 's,
     G::Places: 's,
-    requires { threads ≤ vec_capacity hall.old.running }
+    requires back { G.takes_back gate.now }
+    requires room { threads ≤ vec_capacity hall.old.running }
     ensures so_far { (first : A) (places : G.Places) → IsSoFar gate.now (G.gives gate.now) (G.refuses gate.now) G.serves G.answered G.free G.counted A.takes A.Reader.left A.Writer.contents first accept.old places (book_of G.free G.counted hall.old) hall.old.any
         → IsSoFar gate.now (G.gives gate.now) (G.refuses gate.now) G.serves G.answered G.free G.counted A.takes A.Reader.left A.Writer.contents first accept.new places (book_of G.free G.counted hall.new) hall.new.any }
     ensures failed { result ≡ Look.Failed → A.fails accept.new accept.new }
@@ -265,7 +270,8 @@ where
     A::Writer: 's,
     G::Place: 's,
     G::Places: 's,
-    requires { terms.threads ≤ vec_capacity hall.old.running }
+    requires back { G.takes_back gate.now }
+    requires room { terms.threads ≤ vec_capacity hall.old.running }
     ensures so_far { (first : A) (places : G.Places) → IsSoFar gate.now (G.gives gate.now) (G.refuses gate.now) G.serves G.answered G.free G.counted A.takes A.Reader.left A.Writer.contents first accept.old places (book_of G.free G.counted hall.old) hall.old.any
         → IsSoFar gate.now (G.gives gate.now) (G.refuses gate.now) G.serves G.answered G.free G.counted A.takes A.Reader.left A.Writer.contents first accept.new places (book_of G.free G.counted hall.new) hall.new.any }
     ensures ends { MatchBool result (A.fails accept.new accept.new) ((terms.until_idle ≡ true) × (hall.new.any ≡ true)) }
@@ -301,7 +307,8 @@ where
     A::Writer: 's,
     G::Place: 's,
     G::Places: 's,
-    requires { (running.items ≡ []) × (terms.threads ≤ vec_capacity running) }
+    requires back { G.takes_back gate.now }
+    requires running { (running.items ≡ []) × (terms.threads ≤ vec_capacity running) }
     ensures { Came (G.gives gate.now) (G.refuses gate.now) (G.serves gate.now) G.answered G.free G.counted A.takes A.fails A.Reader.left A.Writer.contents accept places terms.until_idle result }
 {
     let mut hall = Hall {
@@ -345,6 +352,7 @@ where
     A::Writer: 's,
     G::Place: 's,
     G::Places: 's,
+    requires back { G.takes_back gate.now }
     ensures served { IfOk result (Came (G.gives gate.now) (G.refuses gate.now) (G.serves gate.now) G.answered G.free G.counted A.takes A.fails A.Reader.left A.Writer.contents accept places terms.until_idle) }
     ensures memory { IfErr result (λ error. (error.1 ≡ accept) × (error.2 ≡ places)) }
 {
@@ -373,6 +381,7 @@ where
     T: Threads + Wait + Clock + Sync,
     A: Listen + Drop,
     G: Reusable + Sync,
+    requires back { G.takes_back gate.now }
     // What came of each connection that was taken, in their order, and of all together; and why the service ended.
     ensures served { IfOk result (Came (G.gives gate.now) (G.refuses gate.now) (G.serves gate.now) G.answered G.free G.counted A.takes A.fails A.Reader.left A.Writer.contents accept places terms.until_idle) }
     ensures memory { IfErr result (λ error. (error.1 ≡ accept) × (error.2 ≡ places)) }

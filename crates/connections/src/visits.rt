@@ -137,6 +137,7 @@ pub(crate) fn leave<T: Wait, G: Reusable, V: Promise<Visited<G::Place>>>(
     hall: &mut Hall<G::Place, V, G::Places>,
     gone: Visited<G::Place>,
 )
+    requires back { G.takes_back gate.now }
     ensures running { hall.new.running.items ≡ hall.old.running.items }
     ensures capacity { vec_capacity hall.new.running ≡ vec_capacity hall.old.running }
     ensures any { hall.new.any ≡ hall.old.any }
@@ -179,7 +180,8 @@ fn join_one<T: Threads + Wait, G: Reusable, V: Promise<Visited<G::Place>>>(
     hall: &mut Hall<G::Place, V, G::Places>,
     index: usize,
 )
-    requires { index < length hall.old.running.items }
+    requires back { G.takes_back gate.now }
+    requires index { index < length hall.old.running.items }
     ensures goes_on { GoesOn V.kept_by G.answered (book_of G.free G.counted hall.old) (book_of G.free G.counted hall.new) }
     ensures any { hall.new.any ≡ hall.old.any }
     ensures len { length hall.new.running.items + 1 ≡ length hall.old.running.items }
@@ -196,7 +198,8 @@ fn join_if_over<T: Threads + Wait, G: Reusable, V: Promise<Visited<G::Place>>>(
     hall: &mut Hall<G::Place, V, G::Places>,
     index: usize,
 ) -> usize
-    requires { index < length hall.old.running.items }
+    requires back { G.takes_back gate.now }
+    requires index { index < length hall.old.running.items }
     ensures goes_on { GoesOn V.kept_by G.answered (book_of G.free G.counted hall.old) (book_of G.free G.counted hall.new) }
     ensures any { hall.new.any ≡ hall.old.any }
     ensures passed { length hall.new.running.items + (index + 1) ≡ length hall.old.running.items + result }
@@ -215,6 +218,7 @@ pub(crate) fn join_ended<T: Threads + Wait, G: Reusable, V: Promise<Visited<G::P
     gate: &G,
     hall: &mut Hall<G::Place, V, G::Places>,
 )
+    requires back { G.takes_back gate.now }
     ensures goes_on { GoesOn V.kept_by G.answered (book_of G.free G.counted hall.old) (book_of G.free G.counted hall.new) }
     ensures any { hall.new.any ≡ hall.old.any }
     ensures capacity { vec_capacity hall.new.running ≡ vec_capacity hall.old.running }
@@ -231,6 +235,7 @@ pub(crate) fn join_all<T: Threads + Wait, G: Reusable, V: Promise<Visited<G::Pla
     gate: &G,
     hall: &mut Hall<G::Place, V, G::Places>,
 )
+    requires back { G.takes_back gate.now }
     ensures goes_on { GoesOn V.kept_by G.answered (book_of G.free G.counted hall.old) (book_of G.free G.counted hall.new) }
     ensures any { hall.new.any ≡ hall.old.any }
     ensures none { hall.new.running.items ≡ [] }

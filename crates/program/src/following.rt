@@ -1,6 +1,6 @@
 //! The history of a journal, shown further: what came to it since it was shown.
 
-ghost use Rattle.std.specs.Prelude.{◌≡◌, ◌++◌, IfOk, OnOk};
+ghost use Rattle.std.specs.Prelude.{◌≡◌, ◌++◌, Ok, IfOk, IfSome, OnOk};
 ghost use Rattle.shared.specs.Records.{names_of as names_kept};
 ghost use Rattle.shared.specs.Scripts.{IsReadAs};
 ghost use Rattle.shown.specs.Shows.{Shows};
@@ -62,11 +62,22 @@ fn text_of<D: Disk, A: Allocator + Copy>(
     }
 }
 
+// What the text has after its beginning, if it begins so.
+fn rest_of<'a>(text: &'a [u8], before: &[u8]) -> Option<&'a [u8]>
+    ensures { IfSome result (λ rest. text.now ≡ before.now ++ rest.now) }
+{
+    if text.len() < before.len() {
+        return None;
+    }
+    let (front, rest) = text.split_at(before.len());
+    if front == before { Some(rest) } else { None }
+}
+
 // Writes what the text has more than what was shown before.
 fn write_rest<W: Write>(text: &[u8], before: &[u8], output: &mut W) -> Result<(), FollowError>
     ensures { OnOk result (WritesOn before.now text.now (W.contents output.old) (W.contents output.new)) }
 {
-    let Some(rest) = text.strip_prefix(before) else {
+    let Some(rest) = rest_of(text, before) else {
         return Err(FollowError::Changed);
     };
     match put_out(rest, output) {
@@ -104,23 +115,21 @@ pub fn follow<D: Disk + Drop, A: Allocator + Copy, W: Write>(
     let text = text_of(alloc, &session, &header, options);
     drop(session);
     drop(header);
-    match text {
-        Ok(text) => shown_on(text, before, output),
-        Err(_) => {
-            drop(before);
-            Err(FollowError::Session(SessionError::Memory))
-        }
-    }
+    show_on(text, before, output)
 }
 
-// Writes what the text has more than what was shown before, and gives it back.
-fn shown_on<A: Allocator, W: Write>(
-    text: Vec<u8, A>,
+// Writes what the text has more than what was shown before, where there was memory for the text, and gives it back.
+fn show_on<A: Allocator, W: Write>(
+    text: Result<Vec<u8, A>, AllocError>,
     before: Vec<u8, A>,
     output: &mut W,
 ) -> Result<Vec<u8, A>, FollowError>
-    ensures { IfOk result (λ same. (same ≡ text) × WritesOn before.items text.items (W.contents output.old) (W.contents output.new)) }
+    ensures { IfOk result (λ whole. (text ≡ Ok whole) × WritesOn before.items whole.items (W.contents output.old) (W.contents output.new)) }
 {
+    let Ok(text) = text else {
+        drop(before);
+        return Err(FollowError::Session(SessionError::Memory));
+    };
     let written = write_rest(&text, &before, output);
     drop(before);
     match written {
