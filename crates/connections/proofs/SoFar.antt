@@ -1,5 +1,5 @@
 -- A service so far, with one connection more, and with one more that is over.
-use Rattle.std.proofs.Common.{◌≡◌, ◌⊎◌, inl, inr, ℕ, ◌+◌, ◌<◌, List, [], ◌∷◌, ◌++◌, length, refl, ap, subst, sym, ◌∙◌, append_assoc, arith, length-append, suc, true≢false}
+use Rattle.std.proofs.Common.{◌≡◌, inl, inr, ℕ, ◌+◌, ◌<◌, List, [], ◌∷◌, ◌++◌, length, refl, ap, subst, sym, ◌∙◌, arith, length-append, suc, true≢false}
 use Rattle.std.specs.Prelude.{Bool, true, false, ◌||◌, Option, Result, map, sum_by, Ok, Err, OnOk, OnErr, MatchBool}
 use Rattle.std.specs.List.{list_any}
 use Rattle.std.proofs.Math.Bool.{or_comm}
@@ -20,7 +20,7 @@ use Rattle.connections.specs.declared.visits.Visited.TheVariants as visited
 use Rattle.connections.specs.Accounts.{has_rejected, met_limit}
 use Rattle.connections.specs.Outcomes.{InTurn, IsOutcome, ending_of, places_of}
 use Rattle.connections.specs.Services.{IsClosing, IsSum, IsWithout, capped, unjudged_of}
-use Rattle.connections.specs.Visiting.{Begins, Comes, State, present, past, visits_of, outcomes_of, outcome_after, place_after, Book, IsAdded, IsState, IsVisit, IsVisited, IsSoFar, Leave, none, more, Leaves, Without, before_place, with_one, promises}
+use Rattle.connections.specs.Visiting.{Comes, State, present, past, visits_of, outcomes_of, outcome_after, place_after, Book, IsAdded, IsState, IsVisit, IsVisited, IsSoFar, Leave, none, more, Leaves, Without, before_place, promises}
 use Rattle.connections.proofs.Turns.{turn_more}
 
 or_in : (a b c : Bool) → (a || (b || c)) ≡ ((a || b) || c)

@@ -1,5 +1,5 @@
 use Rattle.std.proofs.Common.{sym, ap, subst, refl, arith, ◌∙◌}
-use Rattle.std.specs.Prelude.{◌<◌, false, length}
+use Rattle.std.specs.Prelude.{◌<◌, length}
 use Rattle.connections.specs.Visiting.{book_of, none, outcomes_of, promises, visits_of}
 use Rattle.connections.proofs.SoFar.{IsNone, all_long, book, all_past, closes, so_far_none, so_far_on}
 use Rattle.connections.proofs.services.run_in.Goals as goal

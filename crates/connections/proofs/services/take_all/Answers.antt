@@ -1,4 +1,3 @@
-use Rattle.std.proofs.Common.{◌≡◌, true, false}
 use Rattle.connections.proofs.SoFar.{by_bool}
 use Rattle.connections.proofs.services.take_all.Goals as goal
 

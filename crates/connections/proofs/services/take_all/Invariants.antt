@@ -1,4 +1,4 @@
-use Rattle.std.specs.Prelude.{◌≡◌, ◌≤◌, vec_capacity}
+use Rattle.std.specs.Prelude.{◌≡◌, vec_capacity}
 use Rattle.connections.specs.Visiting.{IsSoFar, book_of}
 use Rattle.connections.proofs.services.take_all.Given as goal
 
