@@ -386,7 +386,11 @@ where
     ensures served { IfOk result (Came (G.gives gate.now) (G.refuses gate.now) (G.serves gate.now) G.answered G.free G.counted A.takes A.fails A.Reader.left A.Writer.contents accept places terms.until_idle) }
     ensures memory { IfErr result (λ error. (error.1 ≡ accept) × (error.2 ≡ places)) }
 {
-    thread::scope(thread::scope_env(), rt, |scope| {
-        run(rt, alloc, scope, accept, gate, places, terms)
-    })
+    thread::scope(
+        thread::scope_env(),
+        rt,
+        |scope|
+            requires { G.takes_back gate.now }
+        { run(rt, alloc, scope, accept, gate, places, terms) },
+    )
 }
