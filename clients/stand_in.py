@@ -3,6 +3,7 @@
 Neither judges anything: the first sends what the test has written down, the second is the program itself.
 """
 import os
+import re
 import socket
 import subprocess
 import threading
@@ -121,12 +122,14 @@ class SeatService(Listener):
     """A service that gives seats by number: it answers `I n` by how many reports of the seat it has, and each report by `OK`.
 
     It takes connections until it is closed. With `cut`, a connection ends without a word after so many answers, the last report
-    being kept and not answered. `reports` has the lines of each seat, and `taken` seats that another connection has.
+    being kept and not answered; with `lose`, the last report isn't kept. `reports` has the lines of each seat, and `taken` seats that
+    another connection has.
     """
 
-    def __init__(self, cut=None, taken=()):
+    def __init__(self, cut=None, taken=(), lose=None):
         super().__init__()
         self.cut = cut
+        self.lose = lose
         self.taken = set(taken)
         self.reports = {}
         self.is_closed = False
@@ -150,21 +153,27 @@ class SeatService(Listener):
 
     def serve(self, link):
         own, answers = None, 0
-        for line in link.makefile("rb"):
-            words = line.decode("ascii").split()
-            if words[0] == "I" and own is None and int(words[1]) in self.taken:
+        for number, line in enumerate(link.makefile("rb")):
+            text = line.decode("ascii").rstrip("\n")
+            seat = re.fullmatch("I ([1-9][0-9]{0,2}|1000)", text)
+            if seat is not None and number == 0 and int(seat[1]) in self.taken:
                 link.sendall(b"ERR 27 taken\n")
-            elif words[0] == "I" and own is None:
-                own = self.reports.setdefault(int(words[1]), [])
-                link.sendall(b"I %s %d\n" % (words[1].encode("ascii"), len(own)))
-            elif words[0] in ("E", "R"):
+            elif seat is not None and number == 0:
+                own = self.reports.setdefault(int(seat[1]), [])
+                link.sendall(b"I %d %d\n" % (int(seat[1]), len(own)))
+            elif text[:1] in ("E", "R"):
+                if answers == self.lose:
+                    self.lose = None
+                    return
                 own = self.reports.setdefault(1001, []) if own is None else own
-                own.append(line.decode("ascii").rstrip("\n"))
+                own.append(text)
                 if answers == self.cut:
                     self.cut = None
                     return
                 answers += 1
                 link.sendall(b"OK %d\n" % sum(len(lines) for lines in self.reports.values()))
-            elif words[0] == "Q":
+            elif text == "Q":
                 link.sendall(b"BYE\n")
                 return
+            else:
+                link.sendall(b"ERR 10 command\n")

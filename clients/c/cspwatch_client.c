@@ -4,17 +4,31 @@
 #include "cspwatch_client.h"
 
 #include <errno.h>
+#include <inttypes.h>
 #include <netdb.h>
 #include <netinet/in.h>
 #include <netinet/tcp.h>
+#include <stdio.h>
 #include <stdlib.h>
 #include <string.h>
 #include <sys/socket.h>
 #include <sys/time.h>
+#include <time.h>
 #include <unistd.h>
 
+/* How long a client waits between two attempts to come back, in milliseconds: each time twice as long as before, up to the
+ * longest. */
+#define FIRST_PAUSE 10
+#define LONGEST_PAUSE 1000
+
 struct cspwatch_client {
-    int socket; /* -1 once the client is closed */
+    int socket; /* -1 once the connection is closed */
+    char *host;
+    char *port;
+    unsigned timeout;
+    unsigned patience; /* 0 where the client doesn't come back */
+    unsigned seat;     /* 0 where it hasn't said which one it is */
+    uint64_t judged;
     struct cspwatch_fault fault;
     char line[CSPWATCH_LINE_LIMIT + 1]; /* the line to send, with its LF */
     size_t length;
@@ -76,13 +90,31 @@ static int connected_to_any(const char *host, const char *port, unsigned timeout
     return link;
 }
 
+static void free_client(cspwatch_client *client) {
+    free(client->host);
+    free(client->port);
+    free(client->names);
+    free(client->input);
+    free(client);
+}
+
 enum cspwatch_result cspwatch_connect(const char *host, const char *port, unsigned timeout, cspwatch_client **client) {
+    int cause;
     cspwatch_client *made = calloc(1, sizeof *made);
     if (made == NULL)
         return CSPWATCH_OUT_OF_MEMORY;
+    made->host = strdup(host);
+    made->port = strdup(port);
+    made->timeout = timeout;
+    if (made->host == NULL || made->port == NULL) {
+        free_client(made);
+        return CSPWATCH_OUT_OF_MEMORY;
+    }
     made->socket = connected_to_any(host, port, timeout);
     if (made->socket < 0) {
-        free(made);
+        cause = errno;
+        free_client(made);
+        errno = cause;
         return CSPWATCH_NOT_CONNECTED;
     }
     *client = made;
@@ -114,11 +146,10 @@ static void begin(cspwatch_client *client, char word) {
 
 /* A server without a free seat sends its reason and closes at once, so a write that fails is no end: the reason, or the
  * end, is read after it. */
-static void send_line(cspwatch_client *client) {
+static void send_line(cspwatch_client *client, const char *line, size_t length) {
     size_t sent = 0;
-    client->line[client->length] = '\n';
-    while (sent <= client->length) {
-        ssize_t count = send(client->socket, client->line + sent, client->length + 1 - sent, MSG_NOSIGNAL);
+    while (sent < length) {
+        ssize_t count = send(client->socket, line + sent, length - sent, MSG_NOSIGNAL);
         if (count < 0 && errno == EINTR)
             continue;
         if (count < 0)
@@ -229,14 +260,27 @@ static int is_fault(cspwatch_client *client) {
     return 1;
 }
 
-/* Sends the line and reads its reply. Where that fails the client is closed: a reply that came late would be taken for
- * that to the next line. */
-static enum cspwatch_result exchange(cspwatch_client *client) {
+/* From now on each call ends by CSPWATCH_NO_REPLY. */
+static enum cspwatch_result ended(cspwatch_client *client, enum cspwatch_result result) {
+    drop(client);
+    client->patience = 0;
+    return result;
+}
+
+static enum cspwatch_result bad_reply(cspwatch_client *client) {
+    return ended(client, CSPWATCH_BAD_REPLY);
+}
+
+/* Sends the line, which has its LF, and reads its reply. Where that fails the connection is closed: a reply that came late
+ * would be taken for that to the next line. */
+static enum cspwatch_result exchange(cspwatch_client *client, const char *line, size_t length) {
     enum cspwatch_result result;
     if (client->socket < 0)
         return CSPWATCH_NO_REPLY;
-    send_line(client);
+    send_line(client, line, length);
     result = read_reply(client);
+    if (result == CSPWATCH_OUT_OF_MEMORY)
+        return ended(client, result);
     if (result != CSPWATCH_ANSWERED) {
         drop(client);
         return result;
@@ -244,17 +288,124 @@ static enum cspwatch_result exchange(cspwatch_client *client) {
     return is_fault(client) ? CSPWATCH_FAULT : CSPWATCH_ANSWERED;
 }
 
-static enum cspwatch_result bad_reply(cspwatch_client *client) {
+/* ---- seats ---- */
+
+/* Says on a new connection which seat the client is. */
+static enum cspwatch_result identify(cspwatch_client *client) {
+    char line[16];
+    int length = snprintf(line, sizeof line, "I %u\n", client->seat);
+    enum cspwatch_result result = exchange(client, line, (size_t)length);
+    uint64_t seat, judged;
+    const char *text;
+    if (result == CSPWATCH_FAULT)
+        drop(client);
+    if (result != CSPWATCH_ANSWERED)
+        return result;
+    text = after(client->input, "I ");
+    text = text == NULL ? NULL : after_number(text, &seat);
+    text = text == NULL || *text != ' ' || seat != client->seat ? NULL : after_number(text + 1, &judged);
+    if (text != reply_end(client))
+        return bad_reply(client);
+    client->judged = judged;
+    return CSPWATCH_ANSWERED;
+}
+
+static enum cspwatch_result identify_anew(cspwatch_client *client) {
     drop(client);
-    return CSPWATCH_BAD_REPLY;
+    client->filled = 0;
+    client->reply = 0;
+    client->socket = connected_to_any(client->host, client->port, client->timeout);
+    return client->socket < 0 ? CSPWATCH_NOT_CONNECTED : identify(client);
+}
+
+/* Whether the connection may be given later. One that was lost may have the seat a little longer. */
+static int is_passing(const cspwatch_client *client, enum cspwatch_result result) {
+    int code = client->fault.code;
+    if (result == CSPWATCH_FAULT)
+        return code == CSPWATCH_FAULT_SEATS || code == CSPWATCH_FAULT_READER || code == CSPWATCH_FAULT_TAKEN ||
+               code == CSPWATCH_FAULT_MEMORY;
+    return result == CSPWATCH_NO_REPLY || result == CSPWATCH_NOT_CONNECTED;
+}
+
+/* Milliseconds of a clock that only goes forward. */
+static uint64_t now(void) {
+    struct timespec time;
+    clock_gettime(CLOCK_MONOTONIC, &time);
+    return (uint64_t)time.tv_sec * 1000 + (uint64_t)time.tv_nsec / 1000000;
+}
+
+static void wait_for(unsigned milliseconds) {
+    struct timespec time;
+    time.tv_sec = (time_t)(milliseconds / 1000);
+    time.tv_nsec = (long)(milliseconds % 1000) * 1000000;
+    nanosleep(&time, NULL);
+}
+
+/* After an attempt to get the seat that came to this: makes further ones, as long as the client has patience. */
+static enum cspwatch_result come_back(cspwatch_client *client, enum cspwatch_result result) {
+    uint64_t latest = now() + client->patience;
+    unsigned pause = FIRST_PAUSE;
+    while (is_passing(client, result) && now() + pause <= latest) {
+        wait_for(pause);
+        pause = pause * 2 < LONGEST_PAUSE ? pause * 2 : LONGEST_PAUSE;
+        result = identify_anew(client);
+    }
+    if (result == CSPWATCH_ANSWERED)
+        return result;
+    return ended(client, result == CSPWATCH_NOT_CONNECTED ? CSPWATCH_NO_REPLY : result);
+}
+
+enum cspwatch_result cspwatch_identify(cspwatch_client *client, unsigned seat) {
+    enum cspwatch_result result;
+    if (seat == 0 || seat > CSPWATCH_SEATS)
+        return CSPWATCH_BAD_NAME;
+    client->seat = seat;
+    result = identify(client);
+    return result == CSPWATCH_ANSWERED ? result : come_back(client, result);
+}
+
+uint64_t cspwatch_judged(const cspwatch_client *client) {
+    return client->judged;
+}
+
+void cspwatch_set_patience(cspwatch_client *client, unsigned patience) {
+    client->patience = patience;
+}
+
+/* Sends the client's line and reads its reply. Where the connection is lost, a client with patience comes back and sends the
+ * line again, unless the history has more reports of the seat than the client knows of. */
+static enum cspwatch_result ask(cspwatch_client *client) {
+    uint64_t known = client->judged;
+    size_t length = client->length;
+    enum cspwatch_result result;
+    client->line[length] = '\n';
+    result = exchange(client, client->line, length + 1);
+    while (result == CSPWATCH_NO_REPLY && client->patience > 0 && client->seat > 0) {
+        result = come_back(client, identify_anew(client));
+        if (result != CSPWATCH_ANSWERED)
+            return result;
+        if (client->judged != known)
+            return CSPWATCH_VERDICT_LOST;
+        result = exchange(client, client->line, length + 1);
+    }
+    return result;
+}
+
+/* The same for a question, which adds nothing to the history. */
+static enum cspwatch_result ask_question(cspwatch_client *client) {
+    enum cspwatch_result result = ask(client);
+    return result == CSPWATCH_VERDICT_LOST ? ended(client, CSPWATCH_OTHER_REPORTS) : result;
 }
 
 /* ---- reports ---- */
 
 static enum cspwatch_result report(cspwatch_client *client, struct cspwatch_verdict *verdict) {
-    enum cspwatch_result result = exchange(client);
+    uint64_t known = client->judged;
+    enum cspwatch_result result = ask(client);
     const char *accepted, *place, *end;
     uint64_t number;
+    if (result == CSPWATCH_VERDICT_LOST && client->judged != known + 1)
+        return ended(client, CSPWATCH_OTHER_REPORTS);
     if (result != CSPWATCH_ANSWERED)
         return result;
     accepted = after(client->input, "OK ");
@@ -262,6 +413,7 @@ static enum cspwatch_result report(cspwatch_client *client, struct cspwatch_verd
     end = place == NULL ? NULL : after_number(place, &number);
     if (end != reply_end(client) || number == 0)
         return bad_reply(client);
+    client->judged++;
     verdict->accepted = accepted != NULL;
     verdict->place = number;
     return CSPWATCH_ANSWERED;
@@ -292,7 +444,7 @@ enum cspwatch_result cspwatch_status(cspwatch_client *client, struct cspwatch_co
     const char *text;
     size_t at;
     begin(client, 'S');
-    result = exchange(client);
+    result = ask_question(client);
     if (result != CSPWATCH_ANSWERED)
         return result;
     text = after(client->input, "S ");
@@ -346,7 +498,7 @@ enum cspwatch_result cspwatch_next(cspwatch_client *client, const char *const **
     const char *at, *end;
     size_t blanks = 0;
     begin(client, 'N');
-    result = exchange(client);
+    result = ask_question(client);
     if (result != CSPWATCH_ANSWERED)
         return result;
     end = reply_end(client);
@@ -354,10 +506,8 @@ enum cspwatch_result cspwatch_next(cspwatch_client *client, const char *const **
         blanks += *at == ' ';
     if (client->input[0] != 'N' || (end > client->input + 1 && client->input[1] != ' '))
         return bad_reply(client);
-    if (make_room(client, blanks) != 0) {
-        drop(client);
-        return CSPWATCH_OUT_OF_MEMORY;
-    }
+    if (make_room(client, blanks) != 0)
+        return ended(client, CSPWATCH_OUT_OF_MEMORY);
     if (!cut_names(client, client->input + 1, end))
         return bad_reply(client);
     *names = client->names;
@@ -374,10 +524,7 @@ struct cspwatch_fault cspwatch_last_fault(const cspwatch_client *client) {
 void cspwatch_close(cspwatch_client *client) {
     if (client == NULL)
         return;
-    begin(client, 'Q');
-    exchange(client);
+    exchange(client, "Q\n", 2);
     drop(client);
-    free(client->names);
-    free(client->input);
-    free(client);
+    free_client(client);
 }

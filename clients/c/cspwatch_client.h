@@ -23,6 +23,9 @@ extern "C" {
 /* The most bytes that a line may have before its LF. */
 #define CSPWATCH_LINE_LIMIT 4096
 
+/* The greatest number of a seat that a client may be. */
+#define CSPWATCH_SEATS 1000
+
 /* The most bytes of a fault's word that are kept. */
 #define CSPWATCH_WORD_LIMIT 31
 
@@ -32,20 +35,27 @@ enum cspwatch_result {
     CSPWATCH_ANSWERED = 0,
     /* The server answered `ERR code word` (cspwatch_last_fault has them): what was asked was not answered, and a report
      * was not judged. The connection goes on, except after CSPWATCH_FAULT_LINE, CSPWATCH_FAULT_SEATS and
-     * CSPWATCH_FAULT_READER, and where a new connection is refused. */
+     * CSPWATCH_FAULT_READER, and where a new connection or a seat is refused. */
     CSPWATCH_FAULT,
     /* No whole reply came: the connection ended or failed, or the time was over. Whether the report was judged is not
      * known. From now on each call ends like this. */
     CSPWATCH_NO_REPLY,
     /* The reply isn't one of the protocol's. From now on each call ends by CSPWATCH_NO_REPLY. */
     CSPWATCH_BAD_REPLY,
-    /* A name has an LF, or in a refusal a blank, or the line would be longer than CSPWATCH_LINE_LIMIT. Nothing was
-     * sent. */
+    /* A name has an LF, or in a refusal a blank, or the line would be longer than CSPWATCH_LINE_LIMIT, or there is no
+     * such seat. Nothing was sent. */
     CSPWATCH_BAD_NAME,
     /* Out of memory. Whether a report was judged is not known. From now on each call ends by CSPWATCH_NO_REPLY. */
     CSPWATCH_OUT_OF_MEMORY,
     /* There is no connection; errno may say why. Only cspwatch_connect ends like this. */
-    CSPWATCH_NOT_CONNECTED
+    CSPWATCH_NOT_CONNECTED,
+    /* The report was judged, and its verdict was lost with the connection; `cspwatch show` has it. Don't report it again.
+     * The client goes on. Only a client with patience ends a call like this. */
+    CSPWATCH_VERDICT_LOST,
+    /* The history has other reports of the seat than those of this client: someone else has reported as this seat, or the
+     * server has another journal. From now on each call ends by CSPWATCH_NO_REPLY. Only a client with patience ends a call
+     * like this. */
+    CSPWATCH_OTHER_REPORTS
 };
 
 /* The codes of faults. A later server may have more. CSPWATCH_FAULT_BEHIND is a code of sessions, and no server
@@ -61,6 +71,7 @@ enum {
     CSPWATCH_FAULT_TURN = 24,
     CSPWATCH_FAULT_BEHIND = 25,
     CSPWATCH_FAULT_READER = 26,
+    CSPWATCH_FAULT_TAKEN = 27,
     CSPWATCH_FAULT_JOURNAL = 30,
     CSPWATCH_FAULT_CLOSED = 31,
     CSPWATCH_FAULT_MEMORY = 40
@@ -96,6 +107,26 @@ typedef struct cspwatch_client cspwatch_client;
  * It ends by CSPWATCH_ANSWERED, CSPWATCH_NOT_CONNECTED or CSPWATCH_OUT_OF_MEMORY. A server without a free seat takes the
  * connection, and answers the first call by a fault. */
 enum cspwatch_result cspwatch_connect(const char *host, const char *port, unsigned timeout, cspwatch_client **client);
+
+/* Says which seat the client is, from 1 to CSPWATCH_SEATS, to a server that gives seats by number. It has to be the
+ * client's first call, cspwatch_set_patience apart.
+ *
+ * Where it ends by CSPWATCH_FAULT the server doesn't give the seat: CSPWATCH_FAULT_TAKEN while another connection has it,
+ * CSPWATCH_FAULT_COMMAND where seats have no numbers to ask for. The client's reports would then be those of another seat,
+ * so each further call ends by CSPWATCH_NO_REPLY. */
+enum cspwatch_result cspwatch_identify(cspwatch_client *client, unsigned seat);
+
+/* How many reports of the client's seat were judged: those of this client, and of a seat by number also earlier ones. */
+uint64_t cspwatch_judged(const cspwatch_client *client);
+
+/* From now on a client that has said which seat it is comes back: where its connection is lost it opens another one, as the
+ * same seat, and goes on. Each report is judged once: after a lost connection the server says how many reports of the seat
+ * stand in the history, so one that was lost on its way is sent again, and one that was judged isn't; its call ends by
+ * CSPWATCH_VERDICT_LOST. A question is asked again.
+ *
+ * patience -- for how many milliseconds it tries to come back, and to get its seat; 0 for never, as at first. After that
+ *             the call ends by CSPWATCH_NO_REPLY, or by CSPWATCH_FAULT, and so does each further one. */
+void cspwatch_set_patience(cspwatch_client *client, unsigned patience);
 
 /* Reports that the event happened. `_tick` is termination. */
 enum cspwatch_result cspwatch_event(cspwatch_client *client, const char *name, struct cspwatch_verdict *verdict);

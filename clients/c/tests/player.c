@@ -1,6 +1,6 @@
 /* Plays calls of the client that stand on standard input, a line each, and prints what came of each:
  *
- *     event NAME, refusal NAME NAME .., status, next
+ *     event NAME, refusal NAME NAME .., status, next, identify SEAT, patience MILLISECONDS, judged
  *
  * In a name `\n` is an LF and `\s` a blank. tests/test_client.py drives it.
  */
@@ -14,7 +14,8 @@
 #define LONGEST 10000
 
 static const char *const RESULTS[] = {"answered", "fault",         "no reply",     "bad reply",
-                                      "bad name", "out of memory", "not connected"};
+                                      "bad name", "out of memory", "not connected", "verdict lost",
+                                      "other reports"};
 
 /* Replaces `\n` and `\s` in the text. */
 static void unescape(char *text) {
@@ -93,6 +94,27 @@ static void next(cspwatch_client *client) {
     printf("\n");
 }
 
+/* Plays one line; answers 0 where there is no such call. */
+static int play(cspwatch_client *client, char *line) {
+    if (strncmp(line, "event ", 6) == 0)
+        event(client, line + 6);
+    else if (strncmp(line, "refusal", 7) == 0)
+        refusal(client, line + 7);
+    else if (strcmp(line, "status") == 0)
+        status(client);
+    else if (strcmp(line, "next") == 0)
+        next(client);
+    else if (strncmp(line, "identify ", 9) == 0)
+        print_result(client, cspwatch_identify(client, (unsigned)atoi(line + 9)));
+    else if (strncmp(line, "patience ", 9) == 0)
+        cspwatch_set_patience(client, (unsigned)atoi(line + 9));
+    else if (strcmp(line, "judged") == 0)
+        printf("judged %" PRIu64 "\n", cspwatch_judged(client));
+    else
+        return 0;
+    return 1;
+}
+
 int main(int count, char **words) {
     static char line[LONGEST];
     cspwatch_client *client = NULL;
@@ -106,15 +128,7 @@ int main(int count, char **words) {
     }
     while (fgets(line, sizeof line - 1, stdin) != NULL) {
         line[strcspn(line, "\n")] = '\0';
-        if (strncmp(line, "event ", 6) == 0)
-            event(client, line + 6);
-        else if (strncmp(line, "refusal", 7) == 0)
-            refusal(client, line + 7);
-        else if (strcmp(line, "status") == 0)
-            status(client);
-        else if (strcmp(line, "next") == 0)
-            next(client);
-        else
+        if (!play(client, line))
             return 2;
         fflush(stdout);
     }

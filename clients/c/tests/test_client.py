@@ -15,7 +15,7 @@ CLIENT = os.path.dirname(HERE)
 sys.path[:0] = [os.path.join(os.path.dirname(CLIENT), "python"), os.path.dirname(CLIENT)]
 
 from cspwatch_client import Server, Status  # noqa: E402
-from stand_in import HOLD, RESET, SECONDS, CheckServer, StandIn, has_serve, program  # noqa: E402
+from stand_in import HOLD, RESET, SECONDS, CheckServer, SeatService, StandIn, has_serve, program  # noqa: E402
 
 COMPILER = os.environ.get("CC", "cc")
 FLAGS = ["-std=c99", "-Wall", "-Wextra", "-Wpedantic", "-Wconversion", "-Wshadow", "-Werror", "-O2"]
@@ -61,11 +61,15 @@ def told(words, calls=()):
 class Plays(unittest.TestCase):
     def play(self, steps, rows, timeout=SECONDS * 1000):
         """Plays the calls of the rows against the conversation, and compares what came of each."""
-        server = StandIn(steps)
+        return self.play_all([steps], rows, timeout)
+
+    def play_all(self, conversations, rows, timeout=SECONDS * 1000):
+        """The same with a conversation for each connection. A call without an answer prints nothing."""
+        server = StandIn(*conversations)
         with server:
             host, port = server.address.split(":")
             lines, errors, status = told([PLAYER, host, port, str(timeout)], [call for call, _ in rows])
-        self.assertEqual((lines, errors, status, server.troubles), ([wanted for _, wanted in rows], "", 0, []))
+        self.assertEqual((lines, errors, status, server.troubles), ([wanted for _, wanted in rows if wanted], "", 0, []))
         return server
 
 
@@ -149,6 +153,80 @@ class Names(Plays):
         lines = ["E a b", "E ", "R ", "R  a", "R a\r"]
         rows = ["event a b", "event ", "refusal ", "refusal  a", "refusal a\r"]
         self.play([(line.encode(), b"ERR 11 event\n") for line in lines] + [BYE], [(row, "fault 11 event") for row in rows])
+
+
+class Seats(Plays):
+    PATIENT = [("patience 20000", ""), ("identify 3", "answered")]
+
+    def test_a_seat_by_number(self):
+        steps = [(b"I 3", b"I 3 7\n"), (b"E a", b"OK 12\n"), (b"E d", b"ERR 11 event\n"), (b"R", b"NO 13\n"), BYE]
+        self.play(steps, [
+            ("identify 3", "answered"),
+            ("judged", "judged 7"),
+            ("event a", "accepted 12"),
+            ("event d", "fault 11 event"),
+            ("judged", "judged 8"),
+            ("refusal", "rejected 13"),
+            ("judged", "judged 9"),
+        ])
+
+    def test_a_seat_that_is_not_given(self):
+        for code in (10, 22, 27, 31, 40):
+            steps = [(b"I 1000", b"ERR %d word\n" % code), HOLD]
+            self.play(steps, [("identify 1000", "fault %d word" % code), ("event a", "no reply"), ("judged", "judged 0")])
+
+    def test_other_replies(self):
+        for reply in (b"I 3", b"I 3 ", b"I 4 0", b"I 3 01", b"I 03 1", b"I 3 -1", b"I 3 1 ", b"i 3 1", b"OK 1", b"I 3 1\r"):
+            with self.subTest(reply=reply):
+                self.play([(b"I 3", reply + b"\n"), HOLD], [("patience 20000", ""), ("identify 3", "bad reply"), ("event a", "no reply")])
+
+    def test_numbers_that_are_no_seat(self):
+        self.play([BYE], [("identify 0", "bad name"), ("identify 1001", "bad name")])
+
+    def test_a_report_that_was_lost_on_its_way_is_sent_again(self):
+        for end in ([], [RESET]):
+            lost = [(b"I 3", b"I 3 0\n"), (b"E a", b"OK 1\n"), (b"E b", b"")] + end
+            again = [(b"I 3", b"I 3 1\n"), (b"E b", b"NO 2\n"), (b"E a", b"NO 3\n"), BYE]
+            rows = [("event a", "accepted 1"), ("event b", "rejected 2"), ("event a", "rejected 3"), ("judged", "judged 3")]
+            self.play_all([lost, again], self.PATIENT + rows)
+
+    def test_a_report_that_was_judged_is_not_sent_again(self):
+        for lost in (b"", b"OK", b"OK 5"):
+            first, again = [(b"I 3", b"I 3 4\n"), (b"R a", lost)], [(b"I 3", b"I 3 5\n"), (b"E a", b"OK 6\n"), BYE]
+            self.play_all([first, again], self.PATIENT + [("refusal a", "verdict lost"), ("event a", "accepted 6"), ("judged", "judged 6")])
+
+    def test_a_connection_that_is_lost_again(self):
+        none, some = [(b"I 3", b"I 3 0\n")], [(b"I 3", b"I 3 0\n"), (b"E a", b"OK 1\n"), BYE]
+        self.play_all([none, [], none, [(b"I 3", b"")], [(b"I 3", b"ERR 27 taken\n")], some], self.PATIENT + [("event a", "accepted 1")])
+
+    def test_a_question_is_asked_again(self):
+        lost = [(b"I 3", b"I 3 2\n"), (b"N", b"N a")]
+        again = [(b"I 3", b"I 3 2\n"), (b"N", b"N b\n"), (b"S", b"S 2 2 0 0 open\n"), BYE]
+        self.play_all([lost, again], self.PATIENT + [("next", "next b"), ("status", "2 2 0 0 open")])
+
+    def test_reports_of_someone_else(self):
+        for call, found in (("event a", 2), ("event a", 6), ("event a", 0), ("next", 5), ("status", 3)):
+            conversations = [[(b"I 3", b"I 3 4\n")], [(b"I 3", b"I 3 %d\n" % found), HOLD]]
+            self.play_all(conversations, self.PATIENT + [(call, "other reports"), (call, "no reply")])
+
+    def test_each_report_is_judged_once(self):
+        for cut, lose in ((2, None), (None, 2), (0, None), (None, 0)):
+            with SeatService(cut=cut, lose=lose) as server:
+                rows = ["patience 20000", "identify 3"] + ["event a.%d" % number for number in range(4)]
+                lines, errors, status = told([PLAYER] + server.address.split(":") + ["20000"], rows)
+                self.assertEqual((errors, status, lines.count("verdict lost")), ("", 0, int(cut is not None)))
+                self.assertEqual(server.reports, {3: ["E a.%d" % number for number in range(4)]})
+
+    def test_no_more_patience(self):
+        with StandIn([(b"I 3", b"I 3 4\n"), (b"E a", b"")]) as server:
+            host, port = server.address.split(":")
+            lines = told([PLAYER, host, port, "100"], ["patience 50", "identify 3", "event a", "event a", "judged"])[0]
+        self.assertEqual(lines, ["answered", "no reply", "no reply", "judged 4"])
+
+    def test_what_does_not_pass(self):
+        for code in (10, 31):
+            conversations = [[(b"I 3", b"I 3 4\n")], [(None, b"ERR %d word\n" % code)]]
+            self.play_all(conversations, self.PATIENT + [("event a", "fault %d word" % code), ("event a", "no reply")])
 
 
 class Ends(Plays):

@@ -10,7 +10,8 @@
 `docs/PROTOCOL.md` of the project describes the lines that are sent and the replies to them.
 """
 from .client import Client
-from .replies import BadReply, CspwatchError, Fault, FaultCode, NoReply, Status, Verdict
+from .reconnecting import ReconnectingClient
+from .replies import BadReply, CspwatchError, Fault, FaultCode, NoReply, OtherReports, Status, Verdict, VerdictLost
 from .running import Checker, Outcome, Server, StartFailed
 from .shown import BadLine
 
@@ -23,9 +24,12 @@ __all__ = [
     "Fault",
     "FaultCode",
     "NoReply",
+    "OtherReports",
     "Outcome",
+    "ReconnectingClient",
     "Server",
     "StartFailed",
     "Status",
     "Verdict",
+    "VerdictLost",
 ]

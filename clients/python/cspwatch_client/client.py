@@ -5,10 +5,13 @@ import socket
 from types import TracebackType
 from typing import BinaryIO, Callable, Iterable, Optional, Tuple, Type, TypeVar, Union
 
-from .replies import BadReply, NoReply, Status, Verdict, next_of, raise_fault, status_of, verdict_of
+from .replies import BadReply, Fault, NoReply, Status, Verdict, judged_of, next_of, raise_fault, status_of, verdict_of
 
 LINE_LIMIT = 4096
 """The most bytes that a line may have before its LF."""
+
+SEATS = 1000
+"""The greatest number of a seat that a client may be."""
 
 Address = Union[str, Tuple[str, int]]
 Answer = TypeVar("Answer")
@@ -27,18 +30,38 @@ class Client:
     As a context manager the client closes itself at the end of the block.
     """
 
-    def __init__(self, address: Address, timeout: Optional[float] = None) -> None:
+    def __init__(self, address: Address, timeout: Optional[float] = None, seat: Optional[int] = None) -> None:
         """Connects to the server.
 
         address -- `"HOST:PORT"`, or a pair of host and port.
         timeout -- how many seconds the connection, and then each write and each read, may take; None for ever.
+        seat -- the seat that the client is, from 1 to 1000, of a server that gives seats by number. `judged` then
+            counts the seat's earlier reports too.
 
         An `OSError` is raised where there is no connection. A server without a free seat takes the connection, and
-        answers the first call by a `Fault`.
+        answers the first call by a `Fault`. With a seat that call is made here: a `Fault` is raised where the server
+        doesn't give this seat (`FaultCode.TAKEN` while another connection has it, `FaultCode.COMMAND` where seats have
+        no numbers to ask for), and `NoReply` or `BadReply` as by any call.
         """
+        if seat is not None:
+            check_seat(seat)
+        self._connect(address, timeout, seat)
+
+    def _connect(self, address: Address, timeout: Optional[float], seat: Optional[int]) -> None:
         connection = socket.create_connection(split_address(address), timeout=timeout)
         connection.setsockopt(socket.IPPROTO_TCP, socket.TCP_NODELAY, 1)
         self._begin(connection.makefile("rb"), connection.makefile("wb"), connection)
+        if seat is not None:
+            self._identify(seat)
+
+    # Says as the first line which seat the client is. Where it isn't given the client is closed, as its reports would
+    # be those of another seat.
+    def _identify(self, seat: int) -> None:
+        try:
+            self._judged = self._answer(b"I %d" % seat, lambda reply: judged_of(reply, seat))
+        except Fault:
+            self._drop()
+            raise
 
     @classmethod
     def over(cls, reader: BinaryIO, writer: BinaryIO) -> Client:
@@ -52,14 +75,15 @@ class Client:
         self._writer = writer
         self._connection = connection
         self._closed = False
+        self._judged = 0
 
     def event(self, name: str) -> Verdict:
         """Reports that the event happened. `_tick` is termination."""
-        return self._answer(line_of_event(name), verdict_of)
+        return self._report(line_of_event(name))
 
     def refusal(self, names: Iterable[str] = ()) -> Verdict:
         """Reports that the system refuses all of these events now. A repeated name counts once."""
-        return self._answer(line_of_refusal(names), verdict_of)
+        return self._report(line_of_refusal(names))
 
     def status(self) -> Status:
         """How many reports of all clients were judged so far, and how.
@@ -89,6 +113,11 @@ class Client:
         """Whether the client is closed, by `close` or by a call that raised `NoReply` or `BadReply`."""
         return self._closed
 
+    @property
+    def judged(self) -> int:
+        """How many reports of the client's seat were judged: those of this client, and of a seat by number also earlier ones."""
+        return self._judged
+
     def __enter__(self) -> Client:
         return self
 
@@ -99,6 +128,11 @@ class Client:
         trace: Optional[TracebackType],
     ) -> None:
         self.close()
+
+    def _report(self, line: bytes) -> Verdict:
+        verdict = self._answer(line, verdict_of)
+        self._judged += 1
+        return verdict
 
     def _answer(self, line: bytes, read: Callable[[bytes], Answer]) -> Answer:
         reply = self._exchange(line)
@@ -155,6 +189,12 @@ def split_address(address: Address) -> Tuple[str, int]:
     if not (host and port.isascii() and port.isdigit()):
         raise ValueError("an address is HOST:PORT, not %r" % address)
     return host, int(port)
+
+
+def check_seat(seat: int) -> None:
+    """Raises a `ValueError` where no client can be this seat."""
+    if not 1 <= seat <= SEATS:
+        raise ValueError("a seat is a number from 1 to %d, not %r" % (SEATS, seat))
 
 
 def line_of_event(name: str) -> bytes:

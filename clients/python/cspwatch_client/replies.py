@@ -54,6 +54,7 @@ class FaultCode(IntEnum):
     TURN = 24
     BEHIND = 25
     READER = 26
+    TAKEN = 27
     JOURNAL = 30
     CLOSED = 31
     MEMORY = 40
@@ -67,7 +68,8 @@ class Fault(CspwatchError):
     """The server answered `ERR code word`: what was asked was not answered, and a report was not judged.
 
     After the code `JOURNAL` the report may be in the journal nevertheless; reading the journal back shows it.
-    The connection goes on, except after the codes `LINE`, `SEATS` and `READER`, and where a new connection is refused.
+    The connection goes on, except after the codes `LINE`, `SEATS` and `READER`, and where a new connection is refused;
+    after `TAKEN` the client is closed.
     """
 
     def __init__(self, code: int, word: str) -> None:
@@ -85,6 +87,34 @@ class NoReply(CspwatchError):
     """
 
 
+class VerdictLost(CspwatchError):
+    """The report was judged, and its verdict was lost with the connection. The client goes on.
+
+    The report stands in the history: don't report it again. `cspwatch show` has its verdict.
+    """
+
+    def __init__(self, seat: int, number: int) -> None:
+        super().__init__("report %d of seat %d was judged, and its verdict was lost" % (number, seat))
+        self.seat = seat
+        """The seat that reported it."""
+        self.number = number
+        """The number of the report among those of its seat, counted from 1."""
+
+
+class OtherReports(CspwatchError):
+    """The history has other reports of the seat than those of this client. The client is closed.
+
+    Someone else has reported as this seat, or the server has another journal.
+    """
+
+    def __init__(self, seat: int, known: int, found: int) -> None:
+        super().__init__("the history has %d reports of seat %d, and not the %d of this client" % (found, seat, known))
+        self.known = known
+        """How many reports of the seat the client knows of."""
+        self.found = found
+        """How many the history has."""
+
+
 class BadReply(CspwatchError):
     """The reply isn't one of the protocol's. The client is closed."""
 
@@ -97,6 +127,7 @@ class BadReply(CspwatchError):
 NUMBER = rb"(0|[1-9][0-9]{0,19})"
 VERDICT = re.compile(rb"(OK|NO) ([1-9][0-9]{0,19})")
 STATUS = re.compile(rb"S " + rb" ".join([NUMBER] * 4) + rb" (open|closed)")
+IDENTITY = re.compile(rb"I ([1-9][0-9]{0,3}) " + NUMBER)
 NEXT = re.compile(rb"N((?: [!-~]+)*)")
 FAULT = re.compile(rb"ERR (0|[1-9][0-9]{0,8}) ([!-~]+)")
 
@@ -131,3 +162,11 @@ def next_of(reply: bytes) -> Tuple[str, ...]:
     if found is None:
         raise BadReply(reply)
     return tuple(name.decode("ascii") for name in found[1].split())
+
+
+def judged_of(reply: bytes, seat: int) -> int:
+    """How many reports of the seat the reply says were judged, or `BadReply`."""
+    found = IDENTITY.fullmatch(reply)
+    if found is None or int(found[1]) != seat:
+        raise BadReply(reply)
+    return int(found[2])

@@ -2,13 +2,14 @@
 import io
 import os
 import sys
+import threading
 import unittest
 
 HERE = os.path.dirname(os.path.abspath(__file__))
 sys.path[:0] = [os.path.dirname(HERE), os.path.dirname(os.path.dirname(HERE))]
 
-from cspwatch_client import BadReply, Client, Fault, FaultCode, NoReply, Status, Verdict  # noqa: E402
-from stand_in import HOLD, RESET, SECONDS, StandIn  # noqa: E402
+from cspwatch_client import BadReply, Client, Fault, FaultCode, NoReply, OtherReports, ReconnectingClient, Status, Verdict, VerdictLost  # noqa: E402
+from stand_in import HOLD, RESET, SECONDS, SeatService, StandIn  # noqa: E402
 
 BYE = (b"Q", b"BYE\n")
 
@@ -24,6 +25,13 @@ class Talk(unittest.TestCase):
         client = Client(server.address, timeout=SECONDS)
         self.addCleanup(client.close)
         return client
+
+    def started(self, *conversations):
+        """A server that plays these conversations, of which all have to be played."""
+        server = StandIn(*conversations)
+        self.entered(server)
+        self.addCleanup(lambda: self.assertEqual(server.troubles, []))
+        return server
 
     def entered(self, manager):
         manager.__enter__()
@@ -219,6 +227,155 @@ class Ends(Talk):
         self.assertEqual(client.next(), ("b",))
         client.close()
         self.assertEqual(written.getvalue(), b"E a\nN\nQ\n")
+
+
+class Seats(Talk):
+    def test_a_seat_by_number(self):
+        server = self.started([(b"I 3", b"I 3 7\n"), (b"E a", b"OK 12\n"), (b"E d", b"ERR 11 event\n"), (b"S", b"S 12 12 0 0 open\n"), (b"R", b"NO 13\n"), BYE])
+        with Client(server.address, timeout=SECONDS, seat=3) as client:
+            self.assertEqual(client.judged, 7)
+            self.assertTrue(client.event("a"))
+            self.assertEqual(client.judged, 8)
+            with self.assertRaises(Fault):
+                client.event("d")
+            client.status()
+            self.assertEqual(client.judged, 8)
+            self.assertFalse(client.refusal())
+            self.assertEqual(client.judged, 9)
+
+    def test_a_client_without_one_counts_its_reports(self):
+        client = self.talk((b"E a", b"OK 5\n"), (b"E a", b"NO 6\n"), BYE)
+        self.assertEqual(client.judged, 0)
+        client.event("a")
+        client.event("a")
+        self.assertEqual(client.judged, 2)
+
+    def test_a_seat_that_is_not_given(self):
+        for code in (10, 22, 27, 31, 40):
+            server = self.started([(b"I 1000", b"ERR %d word\n" % code), HOLD])
+            with self.assertRaises(Fault) as caught:
+                Client(server.address, timeout=SECONDS, seat=1000)
+            self.assertEqual(caught.exception.code, code)
+        self.assertEqual(FaultCode.TAKEN, 27)
+
+    def test_other_replies(self):
+        for reply in (b"I 3", b"I 3 ", b"I 4 0", b"I 3 01", b"I 03 1", b"I 3 -1", b"I 3 1 ", b"i 3 1", b"OK 1", b"I 3 1\r"):
+            with self.subTest(reply=reply):
+                server = self.started([(b"I 3", reply + b"\n"), HOLD])
+                with self.assertRaises(BadReply):
+                    Client(server.address, timeout=SECONDS, seat=3)
+
+    def test_numbers_that_are_no_seat(self):
+        for seat in (0, 1001, -1):
+            for kind in (Client, ReconnectingClient):
+                with self.assertRaises(ValueError):
+                    kind("127.0.0.1:1", seat=seat)
+
+
+class ComingBack(Talk):
+    def client(self, server, **more):
+        client = ReconnectingClient(server.address, 3, timeout=SECONDS, **more)
+        self.addCleanup(client.close)
+        return client
+
+    def test_a_report_that_was_lost_on_its_way_is_sent_again(self):
+        for end in ([], [RESET]):
+            lost = [(b"I 3", b"I 3 0\n"), (b"E a", b"OK 1\n"), (b"E b", b"")] + end
+            server = self.started(lost, [(b"I 3", b"I 3 1\n"), (b"E b", b"NO 2\n"), (b"E a", b"NO 3\n"), BYE])
+            client = self.client(server)
+            self.assertEqual([client.event("a"), client.event("b"), client.event("a")], [Verdict(True, 1), Verdict(False, 2), Verdict(False, 3)])
+            self.assertEqual(client.judged, 3)
+            client.close()
+
+    def test_a_report_that_was_judged_is_not_sent_again(self):
+        for lost in (b"", b"OK", b"OK 5"):
+            server = self.started([(b"I 3", b"I 3 4\n"), (b"R a", lost)], [(b"I 3", b"I 3 5\n"), (b"E a", b"OK 6\n"), BYE])
+            client = self.client(server)
+            with self.assertRaises(VerdictLost) as caught:
+                client.refusal(["a"])
+            self.assertEqual((caught.exception.seat, caught.exception.number, client.closed), (3, 5, False))
+            self.assertEqual((client.event("a"), client.judged), (Verdict(True, 6), 6))
+            client.close()
+
+    def test_a_connection_that_is_lost_again(self):
+        server = self.started([(b"I 3", b"I 3 0\n")], [], [(b"I 3", b"I 3 0\n")], [(b"I 3", b"")], [(b"I 3", b"I 3 0\n"), (b"E a", b"OK 1\n"), BYE])
+        self.assertEqual(self.client(server).event("a"), Verdict(True, 1))
+
+    def test_a_question_is_asked_again(self):
+        server = self.started([(b"I 3", b"I 3 2\n"), (b"N", b"N a")], [(b"I 3", b"I 3 2\n"), (b"N", b"N\n"), (b"S", b"")], [(b"I 3", b"I 3 2\n"), (b"S", b"S 2 2 0 0 open\n"), BYE])
+        client = self.client(server)
+        self.assertEqual((client.next(), client.status()), ((), Status(2, 2, 0, 0, False)))
+
+    def test_reports_of_someone_else(self):
+        for found in (2, 6, 0):
+            server = self.started([(b"I 3", b"I 3 4\n")], [(b"I 3", b"I 3 %d\n" % found), HOLD])
+            client = self.client(server)
+            with self.assertRaises(OtherReports) as caught:
+                client.event("a")
+            self.assertEqual((caught.exception.known, caught.exception.found), (4, found))
+            with self.assertRaises(NoReply):
+                client.event("a")
+        server = self.started([(b"I 3", b"I 3 4\n")], [(b"I 3", b"I 3 5\n"), HOLD])
+        with self.assertRaises(OtherReports):
+            self.client(server).next()
+
+    def test_a_seat_that_is_taken_for_a_while(self):
+        with SeatService(taken=[3]) as server:
+            threading.Timer(0.1, server.taken.clear).start()
+            client = self.client(server)
+            self.assertTrue(client.event("a"))
+            client.close()
+            self.assertEqual(server.reports, {3: ["E a"]})
+
+    def test_each_report_is_judged_once(self):
+        for cut, lose in ((2, None), (None, 2), (0, None), (None, 0)):
+            with SeatService(cut=cut, lose=lose) as server:
+                client, lost = self.client(server), 0
+                for number in range(4):
+                    try:
+                        client.event("a.%d" % number)
+                    except VerdictLost:
+                        lost += 1
+                client.close()
+                self.assertEqual((server.reports, lost), ({3: ["E a.%d" % number for number in range(4)]}, int(cut is not None)))
+
+    def test_no_more_patience(self):
+        server = self.started([(b"I 3", b"I 3 4\n"), (b"E a", b"")])
+        client = self.client(server, patience=0)
+        server.socket.close()
+        for _ in range(2):
+            with self.assertRaises(NoReply):
+                client.event("a")
+        self.assertEqual((client.judged, client.closed), (4, True))
+        with self.assertRaises(OSError):
+            ReconnectingClient(server.address, 3, patience=0.05)
+
+    def test_what_does_not_pass(self):
+        for code in (10, 31):
+            server = self.started([(b"I 3", b"I 3 4\n")], [(None, b"ERR %d word\n" % code)])
+            client = self.client(server)
+            with self.assertRaises(Fault) as caught:
+                client.event("a")
+            self.assertEqual(caught.exception.code, code)
+            with self.assertRaises(NoReply):
+                client.event("a")
+
+    def test_faults_and_other_replies(self):
+        server = self.started([(b"I 3", b"I 3 4\n"), (b"E d", b"ERR 11 event\n"), (b"E a", b"OK 5\n"), (b"E a", b"what\n"), HOLD])
+        client = self.client(server)
+        with self.assertRaises(Fault):
+            client.event("d")
+        self.assertEqual((client.event("a"), client.judged), (Verdict(True, 5), 5))
+        with self.assertRaises(BadReply):
+            client.event("a")
+        with self.assertRaises(NoReply):
+            client.event("a")
+
+    def test_a_client_that_was_closed(self):
+        client = self.client(self.started([(b"I 3", b"I 3 0\n"), BYE]))
+        client.close()
+        with self.assertRaises(NoReply):
+            client.event("a")
 
 
 if __name__ == "__main__":

@@ -10,7 +10,7 @@ use Rattle.session.specs.Entries.{events}
 use Rattle.session.specs.Legal.{IsJudged}
 use Rattle.session.specs.Monitors.{Monitoring}
 use Rattle.wire.specs.Requests.{Asks}
-use Rattle.wire.specs.Replies.{Answers, tallied}
+use Rattle.wire.specs.Replies.{Answers, tallied, TakesNoName, identified_as}
 use Rattle.wire.specs.declared.answers.Answer.{Answer}
 use Rattle.wire.specs.declared.answers.Answer.TheVariants as answered
 use Rattle.wire.specs.declared.answers.Fault.TheVariants.{Memory}
@@ -25,13 +25,14 @@ use Rattle.attending.specs.Standing.{course_of, unattended}
 
 module _ (spec : Specified) where
   abbrev Goes : Course → Request → Course → Answer → Type 0
-  Goes = Answers (Reports spec) Statuses (Nexts (bodies_of spec.bodies))
+  Goes = Answers (Reports spec) Statuses (Nexts (bodies_of spec.bodies)) TakesNoName
 
   no_memory : (old new : Course) (request : Request) (set : Set) → Goes old request new (answered.Next set) → Goes old request new (answered.Fault Memory)
   no_memory old new (asked.Judge r) set (Ok x, reports, is) = cc
   no_memory old new (asked.Judge r) set (Err x, reports, is) = cc
   no_memory old new asked.Status set (s, told, is) = cc
   no_memory old new asked.Next set (x, nexts, is) = (x, nexts, inr refl)
+  no_memory old new (asked.Identify seat) set (result, (none, same), is) = absurd (let e : answered.Next set ≡ answered.UnknownCommand = is ∙ ap (identified_as seat) none in cc)
   no_memory old new asked.Quit set (same, is) = cc
   no_memory old new asked.UnknownCommand set (same, is) = cc
   no_memory old new asked.UnknownEvent set (same, is) = cc
@@ -57,7 +58,7 @@ pub to_some : {A : Type 0} (o : Option A) (x : A) (P : A → Type 0) → o ≡ S
 to_some {A = A} o x P is h = subst (λ (v : Option A). IfSome v P) (sym is) h
 
 -- nothing was reported yet
-pub begun_is : (h : List Entry) (f : Option Entry) (t : Tally) (l : ℕ) (w : Bool) (e : Option (List ℕ)) → h ≡ [] → f ≡ None → t ≡ record { rejected = false; misuse = false; limit = false } → l ≡ 0 → w ≡ true →
+pub begun_is : (h : List Entry) (f : Option Entry) (t : Tally) (l : ℕ) (w : Bool) (e : Option (List ℕ)) → h ≡ [] → f ≡ None → t ≡ record { begun = false; rejected = false; unjudged = 0; limit = false } → l ≡ 0 → w ≡ true →
     standing h f t l w e ≡ unattended e
 begun_is h f t l w e h0 f0 t0 l0 w0 = λ i. record { course = record { history = h0 i; closed = is_some (f0 i) }; tally = t0 i; lines = l0 i; whole = w0 i; errors = e }
 
@@ -92,12 +93,12 @@ judged_by None spec u h s j = tt
 judged_by (Some m) spec u h s j = subst (λ (x : Specified). IsJudged x h) (sym s.0) j
 
 pub moves_by : (o : Option Monitoring) (spec : Specified) (old new : Course) (request : Request) (answer : Answer) → IfSome o (λ m. (m.spec ≡ spec) × (m.trace ≡ events old.history)) →
-    Answers (Reports spec) Statuses (Nexts (bodies_of spec.bodies)) old request new answer → IfSome o (λ m. Moves m.spec m.trace request answer new.history)
+    Answers (Reports spec) Statuses (Nexts (bodies_of spec.bodies)) TakesNoName old request new answer → IfSome o (λ m. Moves m.spec m.trace request answer new.history)
 moves_by None spec old new request answer s h = tt
 moves_by (Some m) spec old new request answer s h = subst (λ (x : Specified). Moves x m.trace request answer new.history) (sym s.0) (record { old = old; new = new; stands = s.1; history_is = refl; answers = h })
 
 pub prepares_of : (manner : Manner) (spec : Specified) (h h' : List Entry) (f f' : Option Entry) (t t' : Tally) (l l' : ℕ) (w w' : Bool) (line reply said : List ℕ) (request : Request) (given : Answer) →
-    Asks spec.alphabet line request → Answers (Reports spec) Statuses (Nexts (bodies_of spec.bodies)) (course_of h f) request (course_of h' f') given →
+    Asks spec.alphabet line request → Answers (Reports spec) Statuses (Nexts (bodies_of spec.bodies)) TakesNoName (course_of h f) request (course_of h' f') given →
     reply ≡ reply_text manner spec given → t' ≡ tallied t given → (w' ≡ true → (w ≡ true) × (l' ≡ suc l)) → (w' ≡ true → ExplainsIf manner.explain spec l' h line request given said) →
     Prepares manner spec (standing h f t l w None) line (standing h' f' t' l' w' None) reply said
 prepares_of manner spec h h' f f' t t' l l' w w' line reply said request given asks answers is told counted explains = record {

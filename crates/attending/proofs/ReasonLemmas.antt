@@ -6,7 +6,7 @@ use Rattle.term.specs.Proc.{bodies_of}
 use Rattle.term.specs.Specs.{Specified}
 use Rattle.session.specs.Entry.{Entry}
 use Rattle.session.specs.Entries.{events}
-use Rattle.wire.specs.Replies.{Answers}
+use Rattle.wire.specs.Replies.{Answers, TakesNoName}
 use Rattle.wire.specs.declared.answers.Answer.{Answer}
 use Rattle.wire.specs.declared.answers.Answer.TheVariants as answered
 use Rattle.wire.specs.declared.answers.Receipt.{Receipt}
@@ -21,7 +21,7 @@ use Rattle.attending.specs.Lines.{Explains, IsReasonIf}
 
 -- the entry that a judged report adds
 pub added : (spec : Specified) (old new : Course) (report : Report) (receipt : Receipt) →
-    Answers (Reports spec) Statuses (Nexts (bodies_of spec.bodies)) old (asked.Judge report) new (answered.Judged receipt) → Adds (bodies_of spec.bodies) old report receipt new
+    Answers (Reports spec) Statuses (Nexts (bodies_of spec.bodies)) TakesNoName old (asked.Judge report) new (answered.Judged receipt) → Adds (bodies_of spec.bodies) old report receipt new
 added spec old new report receipt (Ok r, adds, is) = subst (λ (x : Receipt). Adds (bodies_of spec.bodies) old report x new) (receipt_of is) adds
   where
     receipt_in : Answer → Receipt → Receipt
@@ -34,7 +34,7 @@ added spec old new report receipt (Err f, leaves, is) = cc
 
 -- what a report that wasn't judged, or a line that reports nothing, leaves
 pub unjudged : (spec : Specified) (old new : Course) (report : Report) (answer : Answer) → ((r : Receipt) → answer ≡ answered.Judged r → ⊥) →
-    Answers (Reports spec) Statuses (Nexts (bodies_of spec.bodies)) old (asked.Judge report) new answer → new.history ≡ old.history
+    Answers (Reports spec) Statuses (Nexts (bodies_of spec.bodies)) TakesNoName old (asked.Judge report) new answer → new.history ≡ old.history
 unjudged spec old new report answer not (Ok r, adds, is) = absurd (not r is)
 unjudged spec old new report answer not (Err f, leaves, is) = leaves.same
 
@@ -44,15 +44,17 @@ unexplained spec n h line text report (answered.Judged r) not none = absurd (not
 unexplained spec n h line text report (answered.Fault f) not none = none
 unexplained spec n h line text report (answered.Status s) not none = none
 unexplained spec n h line text report (answered.Next X) not none = none
+unexplained spec n h line text report (answered.Identity i) not none = none
 unexplained spec n h line text report answered.Bye not none = none
 unexplained spec n h line text report answered.UnknownCommand not none = none
 unexplained spec n h line text report answered.UnknownEvent not none = none
 
 pub unmoved : (spec : Specified) (old new : Course) (request : Request) (answer : Answer) → ((r : Report) → request ≡ asked.Judge r → ⊥) →
-    Answers (Reports spec) Statuses (Nexts (bodies_of spec.bodies)) old request new answer → new.history ≡ old.history
+    Answers (Reports spec) Statuses (Nexts (bodies_of spec.bodies)) TakesNoName old request new answer → new.history ≡ old.history
 unmoved spec old new (asked.Judge r) answer not h = absurd (not r refl)
 unmoved spec old new asked.Status answer not (status, (same, is), told) = ap (λ (c : Course). c.history) same
 unmoved spec old new asked.Next answer not (set, (same, are), told) = ap (λ (c : Course). c.history) same
+unmoved spec old new (asked.Identify seat) answer not (result, (none, same), told) = ap (λ (c : Course). c.history) same
 unmoved spec old new asked.Quit answer not (same, told) = ap (λ (c : Course). c.history) same
 unmoved spec old new asked.UnknownCommand answer not (same, told) = ap (λ (c : Course). c.history) same
 unmoved spec old new asked.UnknownEvent answer not (same, told) = ap (λ (c : Course). c.history) same
@@ -62,6 +64,7 @@ pub silent : (spec : Specified) (n : ℕ) (h : List Entry) (line text : List ℕ
 silent spec n h line text (asked.Judge r) answer not other none = absurd (not r refl)
 silent spec n h line text asked.Status answer not other none = none
 silent spec n h line text asked.Next answer not other none = none
+silent spec n h line text (asked.Identify seat) answer not other none = none
 silent spec n h line text asked.Quit answer not other none = none
 silent spec n h line text asked.UnknownCommand answer not other none = none
 silent spec n h line text asked.UnknownEvent answer not other none = absurd (other refl)
@@ -91,11 +94,11 @@ last_verdict spec before e u judged is = subst (λ (t : List Event). IsTrue e.ve
 
 -- a report that was judged ends the history in its entry
 pub ends_in_entry : (spec : Specified) (old new : Course) (request : Request) (answer : Answer) (r : Report) (rc : Receipt) (h : List Entry) → request ≡ asked.Judge r → answer ≡ answered.Judged rc → new.history ≡ h →
-    Answers (Reports spec) Statuses (Nexts (bodies_of spec.bodies)) old request new answer → (e : Entry) × (e.report ≡ r) × (e.verdict ≡ rc.verdict) × (h ≡ old.history ++ e ∷ [])
+    Answers (Reports spec) Statuses (Nexts (bodies_of spec.bodies)) TakesNoName old request new answer → (e : Entry) × (e.report ≡ r) × (e.verdict ≡ rc.verdict) × (h ≡ old.history ++ e ∷ [])
 ends_in_entry spec old new request answer r rc h asks says is all =
     let it = added spec old new r rc
-    (subst (λ (a : Answer). Answers (Reports spec) Statuses (Nexts (bodies_of spec.bodies)) old (asked.Judge r) new a) says
-    (subst (λ (q : Request). Answers (Reports spec) Statuses (Nexts (bodies_of spec.bodies)) old q new answer) asks all)) in
+    (subst (λ (a : Answer). Answers (Reports spec) Statuses (Nexts (bodies_of spec.bodies)) TakesNoName old (asked.Judge r) new a) says
+    (subst (λ (q : Request). Answers (Reports spec) Statuses (Nexts (bodies_of spec.bodies)) TakesNoName old q new answer) asks all)) in
     (it.entry, it.report_is, it.verdict_is, sym is ∙ it.appended)
 
 pub some_entry : (h before : List Entry) (e : Entry) → h ≡ before ++ e ∷ [] → 1 ≤ length h

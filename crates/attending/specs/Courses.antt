@@ -15,7 +15,7 @@ use Rattle.session.specs.Entries.{events, summary_of}
 use Rattle.wire.specs.declared.answers.Receipt.{Receipt}
 use Rattle.wire.specs.declared.answers.Status.{Status}
 use Rattle.wire.specs.declared.answers.Fault.{Fault}
-use Rattle.wire.specs.declared.answers.Fault.TheVariants.{Depth, States, Seats, History, Turn, Behind, Reader, Journal, Closed, Memory}
+use Rattle.wire.specs.declared.answers.Fault.TheVariants.{Depth, States, Seats, History, Turn, Behind, Reader, Taken, Journal, Closed, Memory}
 
 -- The history so far, and whether a report was answered with a fault that closes the session.
 pub record Course : Type 0 where
@@ -38,7 +38,7 @@ pub record Adds (B : ℕ → Proc) (old : Course) (report : Report) (receipt : R
   pub same : new.closed ≡ old.closed
 
 -- Why a report isn't judged: 20 and 21 where judging it after the accepted events meets that limit, 23 where the history has
--- 1,000,000 entries; 22, 24, 25 and 26 never. Of 30, 31 and 40 it says nothing.
+-- 1,000,000 entries; 22, 24 to 27 never. Of 30, 31 and 40 it says nothing.
 abbrev pub IsWhy : Specified → List Entry → Report → Fault → Type 0
 IsWhy spec h report Depth = Stops spec (events h) report limit.Depth
 IsWhy spec h report States = Stops spec (events h) report limit.States
@@ -50,6 +50,7 @@ IsWhy spec h report Seats = ⊥
 IsWhy spec h report Turn = ⊥
 IsWhy spec h report Behind = ⊥
 IsWhy spec h report Reader = ⊥
+IsWhy spec h report Taken = ⊥
 
 -- the faults that close the session, or that only a closed one has: 30 and 31
 abbrev pub closes : Fault → Bool

@@ -7,7 +7,7 @@ use Rattle.term.specs.Specs.{Specified}
 use Rattle.session.specs.Entry.{Entry}
 use Rattle.shown.specs.Reasons.{IsReason}
 use Rattle.wire.specs.Requests.{Asks}
-use Rattle.wire.specs.Replies.{Answers, answer_text, tallied}
+use Rattle.wire.specs.Replies.{Answers, answer_text, tallied, TakesNoName}
 use Rattle.wire.specs.declared.answers.Answer.{Answer}
 use Rattle.wire.specs.declared.answers.Answer.TheVariants as answered
 use Rattle.wire.specs.declared.requests.Request.{Request}
@@ -66,7 +66,7 @@ pub record Attends (manner : Manner) (spec : Specified) (old : Standing) (line :
   pub request : Request
   pub answer : Answer
   pub asks : Asks spec.alphabet line request
-  pub answers : Answers (Reports spec) Statuses (Nexts (bodies_of spec.bodies)) old.course request new.course answer
+  pub answers : Answers (Reports spec) Statuses (Nexts (bodies_of spec.bodies)) TakesNoName old.course request new.course answer
   pub text_is : text ≡ reply_text manner spec answer
   pub tally_is : new.tally ≡ tallied old.tally answer
   pub writes : new.whole ≡ true → Writes manner spec old line request answer new

@@ -7,7 +7,7 @@ use Rattle.session.specs.Entry.{Entry}
 use Rattle.session.specs.Entries.{events}
 use Rattle.session.specs.Monitors.{Monitoring}
 use Rattle.wire.specs.Requests.{Asks}
-use Rattle.wire.specs.Replies.{Answers, tallied}
+use Rattle.wire.specs.Replies.{Answers, tallied, TakesNoName}
 use Rattle.wire.specs.declared.answers.Answer.{Answer}
 use Rattle.wire.specs.declared.answers.Tally.{Tally}
 use Rattle.wire.specs.declared.requests.Request.{Request}
@@ -34,14 +34,14 @@ pub record Moves (spec : Specified) (u : List Event) (request : Request) (answer
   pub new : Course
   pub stands : u ≡ events old.history
   pub history_is : new.history ≡ h
-  pub answers : Answers (Reports spec) Statuses (Nexts (bodies_of spec.bodies)) old request new answer
+  pub answers : Answers (Reports spec) Statuses (Nexts (bodies_of spec.bodies)) TakesNoName old request new answer
 
 -- the line is answered, and its reply and what is to be written on the errors are made
 pub record Prepares (manner : Manner) (spec : Specified) (old : Standing) (line : List ℕ) (new : Standing) (reply said : List ℕ) : Type 0 where
   pub request : Request
   pub answer : Answer
   pub asks : Asks spec.alphabet line request
-  pub answers : Answers (Reports spec) Statuses (Nexts (bodies_of spec.bodies)) old.course request new.course answer
+  pub answers : Answers (Reports spec) Statuses (Nexts (bodies_of spec.bodies)) TakesNoName old.course request new.course answer
   pub reply_is : reply ≡ reply_text manner spec answer
   pub tally_is : new.tally ≡ tallied old.tally answer
   pub whole : new.whole ≡ true → (old.whole ≡ true) × (new.lines ≡ suc old.lines) × ExplainsIf manner.explain spec new.lines old.course.history line request answer said

@@ -19,4 +19,4 @@ course_of h failed = record { history = h; closed = is_some failed }
 
 -- before the first line
 abbrev pub unattended : Option (List ℕ) → Standing
-unattended errors = record { course = begun; tally = record { rejected = false; misuse = false; limit = false }; lines = 0; whole = true; errors = errors }
+unattended errors = record { course = begun; tally = record { begun = false; rejected = false; unjudged = 0; limit = false }; lines = 0; whole = true; errors = errors }

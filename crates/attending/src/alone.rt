@@ -6,7 +6,7 @@ ghost use Rattle.term.specs.Proc.{bodies_of};
 ghost use Rattle.session.specs.Reports.{IsReport};
 ghost use Rattle.session.specs.Legal.{IsJudged};
 ghost use Rattle.wire.specs.Requests.{IsRequestBelow};
-ghost use Rattle.wire.specs.Replies.{Answers, IsAnswerBelow};
+ghost use Rattle.wire.specs.Replies.{Answers, IsAnswerBelow, TakesNoName};
 ghost use Rattle.attending.specs.Courses.{Reports, Statuses, Nexts, status_of};
 ghost use Rattle.attending.specs.Standing.{course_of};
 ghost use Rattle.attending.specs.Reported.{reported_as};
@@ -115,7 +115,7 @@ pub(crate) fn answer<D: Disk, A: Allocator + Copy>(
 ) -> Answer
     requires { IsRequestBelow (event_count alone.old.session.spec.alphabet) request.now }
     ensures spec { alone.new.session.spec ≡ alone.old.session.spec }
-    ensures answers { Answers (Reports alone.old.session.spec) Statuses (Nexts (bodies_of alone.old.session.spec.bodies))
+    ensures answers { Answers (Reports alone.old.session.spec) Statuses (Nexts (bodies_of alone.old.session.spec.bodies)) TakesNoName
         (course_of alone.old.session.history alone.old.session.failed) request.now (course_of alone.new.session.history alone.new.session.failed) result }
     ensures below { IsAnswerBelow (event_count alone.old.session.spec.alphabet) result }
 {
@@ -130,7 +130,7 @@ pub(crate) fn answer<D: Disk, A: Allocator + Copy>(
             Answer::Next(alone.session.next())
         }
         Request::Quit => Answer::Bye,
-        Request::UnknownCommand => Answer::UnknownCommand,
+        Request::Identify(_) | Request::UnknownCommand => Answer::UnknownCommand,
         Request::UnknownEvent => Answer::UnknownEvent,
     }
 }

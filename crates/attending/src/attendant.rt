@@ -7,7 +7,7 @@ ghost use Rattle.alphabet.specs.Channels.{event_count};
 ghost use Rattle.alphabet.specs.EventSets.{Set};
 ghost use Rattle.session.specs.Entries.{events};
 ghost use Rattle.session.specs.Legal.{IsJudged};
-ghost use Rattle.wire.specs.Replies.{Answers, IsAnswerBelow, answer_text};
+ghost use Rattle.wire.specs.Replies.{Answers, IsAnswerBelow, answer_text, TakesNoName};
 ghost use Rattle.wire.specs.declared.answers.Fault.TheVariants.{Memory as out_of_memory};
 ghost use Rattle.wire.specs.declared.answers.Answer.TheVariants.{Next as next_events, Fault as fault_answer};
 ghost use Rattle.attending.specs.Courses.{Course, Reports, Statuses, Nexts};
@@ -108,7 +108,7 @@ fn explained<A: Allocator + Copy>(
     ensures some { is_some monitor.new ≡ is_some monitor.old }
     ensures stands { result ≡ true → IfSome monitor.old (λ old. IfSome monitor.new (λ new. (new.spec ≡ old.spec) × (new.trace ≡ events history.now))) }
     ensures explains { (spec : Specified) (old : Course) (new : Course) → IfSome monitor.old (λ m. (m.spec ≡ spec) × (m.trace ≡ events old.history)) → new.history ≡ history.now
-        → Answers (Reports spec) Statuses (Nexts (bodies_of spec.bodies)) old request.now new answer.now
+        → Answers (Reports spec) Statuses (Nexts (bodies_of spec.bodies)) TakesNoName old request.now new answer.now
         → result ≡ true → ExplainsIf (is_some monitor.old) spec number old.history line.now request.now answer.now said.new.items }
 {
     match monitor {
@@ -138,7 +138,7 @@ fn note<A: Allocator + Copy>(
     ensures whole { result ≡ true → (whole ≡ true) × (lines.new ≡ suc lines.old) }
     ensures stands { result ≡ true → IfSome monitor.old (λ old. IfSome monitor.new (λ new. (new.spec ≡ old.spec) × (new.trace ≡ events history.now))) }
     ensures explains { (spec : Specified) (old : Course) (new : Course) → IfSome monitor.old (λ m. (m.spec ≡ spec) × (m.trace ≡ events old.history)) → new.history ≡ history.now
-        → Answers (Reports spec) Statuses (Nexts (bodies_of spec.bodies)) old request.now new answer.now
+        → Answers (Reports spec) Statuses (Nexts (bodies_of spec.bodies)) TakesNoName old request.now new answer.now
         → result ≡ true → ExplainsIf (is_some monitor.old) spec lines.new old.history line.now request.now answer.now said.new.items }
 {
     if !whole || !count(lines) {
@@ -213,7 +213,7 @@ pub(crate) fn attendant_of<D: Disk + Drop, A: Allocator + Copy>(
     requires ready { IsReady manner session.spec session.history monitor true }
     ensures session { IfOk result (λ a. a.alone.session ≡ session) }
     ensures ready { IfOk result (λ a. IsReady a.manner a.alone.session.spec a.alone.session.history a.monitor a.whole) }
-    ensures begins { IfOk result (λ a. (a.manner ≡ manner) × (a.tally ≡ record { rejected = false; misuse = false; limit = false }) × (a.lines ≡ 0) × (a.whole ≡ true)) }
+    ensures begins { IfOk result (λ a. (a.manner ≡ manner) × (a.tally ≡ record { begun = false; rejected = false; unjudged = 0; limit = false }) × (a.lines ≡ 0) × (a.whole ≡ true)) }
 {
     let reply = match Vec::with_capacity(alloc, ROOM) {
         Ok(reply) => reply,

@@ -77,7 +77,7 @@ fn begin<D: Disk + Drop, A: Allocator + Copy>(
     requires read { IsReadAs names script.now process.now session.spec }
     ensures session { IfOk result (λ a. a.alone.session ≡ session) }
     ensures ready { IfOk result (λ a. IsReady a.manner a.alone.session.spec a.alone.session.history a.monitor a.whole) }
-    ensures begins { IfOk result (λ a. (a.manner ≡ manner) × (a.tally ≡ record { rejected = false; misuse = false; limit = false }) × (a.lines ≡ 0) × (a.whole ≡ true)) }
+    ensures begins { IfOk result (λ a. (a.manner ≡ manner) × (a.tally ≡ record { begun = false; rejected = false; unjudged = 0; limit = false }) × (a.lines ≡ 0) × (a.whole ≡ true)) }
 {
     match monitor_of(alloc, script, process, names, manner.explain) {
         Ok(monitor) => attendant_of(alloc, session, monitor, manner),
@@ -97,7 +97,7 @@ fn hear<R: Wait, D: Disk + Drop, A: Allocator + Copy, T: Source, W: Sink, E: Wri
     writer: &mut W,
     errors: &mut E,
 ) -> Result<Attended<D, A>, AllocError>
-    requires begins { (attendant.tally ≡ record { rejected = false; misuse = false; limit = false }) × (attendant.lines ≡ 0) × (attendant.whole ≡ true) }
+    requires begins { (attendant.tally ≡ record { begun = false; rejected = false; unjudged = 0; limit = false }) × (attendant.lines ≡ 0) × (attendant.whole ≡ true) }
     requires ready { IsReady attendant.manner attendant.alone.session.spec attendant.alone.session.history attendant.monitor attendant.whole }
     requires none { (attendant.alone.session.history ≡ []) × (attendant.alone.session.failed ≡ None) }
     ensures spec { IfOk result (λ c. c.session.spec ≡ attendant.alone.session.spec) }

@@ -5,7 +5,7 @@ ghost use Rattle.term.specs.Proc.{bodies_of};
 ghost use Rattle.session.specs.Entry.{Entry as entry_type};
 ghost use Rattle.session.specs.Entries.{events};
 ghost use Rattle.session.specs.Legal.{IsJudged};
-ghost use Rattle.wire.specs.Replies.{Answers};
+ghost use Rattle.wire.specs.Replies.{Answers, TakesNoName};
 ghost use Rattle.attending.specs.Courses.{Course, Reports, Statuses, Nexts};
 ghost use Rattle.attending.specs.Lines.{Explains, IsReasonIf, ending_text};
 ghost use Rattle.attending.specs.Preparing.{Moves};
@@ -106,7 +106,7 @@ pub(crate) fn put_explanation<A: Allocator + Copy>(
     ensures spec { monitor.new.spec ≡ monitor.old.spec }
     ensures trace { OnOk result (monitor.new.trace ≡ events history.now) }
     ensures explains { (old : Course) (new : Course) → monitor.old.trace ≡ events old.history → new.history ≡ history.now
-        → Answers (Reports monitor.old.spec) Statuses (Nexts (bodies_of monitor.old.spec.bodies)) old request.now new answer.now
+        → Answers (Reports monitor.old.spec) Statuses (Nexts (bodies_of monitor.old.spec.bodies)) TakesNoName old request.now new answer.now
         → OnOk result (Explains monitor.old.spec number old.history line.now request.now answer.now text.new.items) }
 {
     match request {

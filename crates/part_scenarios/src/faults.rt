@@ -24,6 +24,7 @@ fn wire_fault(name: &str) -> wire::Fault {
         "Turn" => wire::Fault::Turn,
         "Behind" => wire::Fault::Behind,
         "Reader" => wire::Fault::Reader,
+        "Taken" => wire::Fault::Taken,
         "Journal" => wire::Fault::Journal,
         "Closed" => wire::Fault::Closed,
         _ => wire::Fault::Memory,

@@ -15,7 +15,7 @@ use script::read;
 use std::alloc::{Allocator, Global};
 use std::cell::Cell;
 use std::sync::Wait;
-use wire::{End, Fault, Plain, Tally, WireError, refuse};
+use wire::{End, Fault, Plain, WireError, refuse, unjudged};
 
 /// Room for all replies of a row.
 const ROOM: usize = 1_000_000;
@@ -82,7 +82,7 @@ pub(crate) fn came<T: Wait, B: Allocator + Clone + Drop>(
         most: ends.most,
         failures: Count::new(),
     };
-    let outcome = talk(rt, alloc, &mut reader, &mut writer, alphabet);
+    let outcome = talk(rt, alloc, &mut reader, &mut writer, alphabet, false);
     (outcome, reader.bytes.len())
 }
 
@@ -133,7 +133,7 @@ fn put_waiting<T: Wait>(
         waits: &waits,
         failures: Count::new(),
     };
-    let outcome = talk(rt, alloc, &mut reader, &mut writer, alphabet);
+    let outcome = talk(rt, alloc, &mut reader, &mut writer, alphabet, false);
     let Telling { taken, waits } = writer.into_inner();
     put(outcome, &taken, out);
     out.put(if waits.get() { " waits" } else { " flushed" });
@@ -155,7 +155,7 @@ fn put_gathering<T: Wait>(
         handed_on: Vec::new(alloc),
         failures: Count::new(),
     };
-    let outcome = talk(rt, alloc, &mut reader, &mut writer, alphabet);
+    let outcome = talk(rt, alloc, &mut reader, &mut writer, alphabet, false);
     if outcome.end != Err(WireError::Write) {
         prove!(writer.gathered.is_empty());
     }
@@ -174,20 +174,38 @@ fn put_plain<T: Wait>(
 {
     let mut reader = Plain::new(bytes);
     let mut writer = Plain::new(Vec::new(alloc));
-    let outcome = talk(rt, alloc, &mut reader, &mut writer, alphabet);
+    let outcome = talk(rt, alloc, &mut reader, &mut writer, alphabet, false);
     let refused = refuse(&mut writer, Fault::Seats).is_ok();
     put(outcome, &writer.into_inner(), out);
     out.put(if refused { " refused" } else { " no refusal" });
 }
 
-/// Appends what there was among the answers.
-fn put_tally(tally: Tally, out: &mut Output) {
+/// A judge that takes names.
+fn put_named<T: Wait>(
+    rt: &T,
+    alphabet: &Alphabet<Global>,
+    alloc: Global,
+    bytes: &[u8],
+    out: &mut Output,
+)
+    requires { event_count alphabet.now ≡ 2 }
+{
+    let mut reader = Plain::new(bytes);
+    let mut writer = Plain::new(Vec::new(alloc));
+    let outcome = talk(rt, alloc, &mut reader, &mut writer, alphabet, true);
+    put(outcome, &writer.into_inner(), out);
+    out.put(" ");
+    put_tally(outcome, out);
+}
+
+/// Appends what there was among the answers, and how many lines weren't judged.
+fn put_tally(outcome: Outcome, out: &mut Output) {
     out.put("rejected");
-    out.put_answer(tally.rejected);
-    out.put(" misuse");
-    out.put_answer(tally.misuse);
+    out.put_answer(outcome.tally.rejected);
+    out.put(" unjudged");
+    out.put_word(&unjudged(&outcome.end, &outcome.tally));
     out.put(" limit");
-    out.put_answer(tally.limit);
+    out.put_answer(outcome.tally.limit);
 }
 
 /// The number of a request for memory that is refused, and the text.
@@ -227,10 +245,11 @@ fn put_whole<T: Wait>(
         "gathering" => put_gathering(rt, alphabet, alloc, &bytes, out),
         "each_end" => put_each_end(rt, alphabet, alloc, &bytes, out),
         "plain" => put_plain(rt, alphabet, alloc, &bytes, out),
+        "named" => put_named(rt, alphabet, alloc, &bytes, out),
         _ => {
             let mut written = Vec::new(alloc);
             let (outcome, _) = came(rt, alphabet, alloc, &bytes, WHOLE, &mut written);
-            put_tally(outcome.tally, out);
+            put_tally(outcome, out);
         }
     }
 }
@@ -260,7 +279,7 @@ pub(crate) fn play<T: Wait>(rt: &T, alloc: Global, row: &str, out: &mut Output) 
     let (kind, rest) = first_word(row);
     if !matches!(
         kind,
-        "pieces" | "waiting" | "gathering" | "plain" | "tally" | "refusing" | "each_end"
+        "pieces" | "waiting" | "gathering" | "plain" | "named" | "tally" | "refusing" | "each_end"
     ) {
         return false;
     }

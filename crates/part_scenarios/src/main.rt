@@ -12,7 +12,8 @@
 //! | `waiting TEXT` | the same where the reader fails if it is asked for more before a reply was flushed |
 //! | `gathering TEXT` | the same where the writer hands on what it took when it is flushed |
 //! | `plain TEXT` | the same over a reader and a writer of the standard library, and then a refusal of the connection |
-//! | `tally TEXT` | whether among the answers there was a rejected report, a line that asked for nothing or named no event, and a fault |
+//! | `named TEXT` | the same to a judge that takes names: seat 7 is taken, and of any other there are a million reports times its number; then what `tally` tells |
+//! | `tally TEXT` | whether among the answers there was a rejected report, how many lines weren't judged, and whether there was a fault |
 //! | `refusing K TEXT` | the same where the K-th request for memory is refused; whether it was, and how many bytes weren't read |
 //! | `tokens TEXT` | a script's tokens after their lines: a name as it is, a number after `#`, a kept word after `*` |
 //! | `token_count TEXT`, `end_line TEXT` | how many tokens there are; the line of the text's end |

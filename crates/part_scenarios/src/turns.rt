@@ -10,16 +10,19 @@ use std::alloc::{Allocator, Global};
 use std::sync::Wait;
 use wire::{End, Fault, Judge, Receipt, Sink, Source, Status, Summary, Tally, WireError, serve};
 
-/// A judge of `P = a -> d.2 -> P`, which answers a fault at its tenth report.
+/// A judge of `P = a -> d.2 -> P`, which answers a fault at its tenth report. Where it takes names, seat 7 is taken, and of each other
+/// seat there are a million reports times its number.
 #[derive(Drop)]
 struct Turns {
+    takes_names: bool,
     is_second_next: bool,
     summary: Summary,
 }
 
 impl Turns {
-    fn new() -> Turns {
+    fn new(takes_names: bool) -> Turns {
         Turns {
+            takes_names,
             is_second_next: false,
             summary: Summary {
                 judged: 0,
@@ -45,6 +48,8 @@ impl Judge for Turns {
     ghost statuses = { λ _ _ _. Unit {0} };
 
     ghost nexts = { λ _ _ _. Unit {0} };
+
+    ghost identifies = { λ _ _ _ _. Unit {0} };
 
     fn report(&mut self, report: Report) -> Result<Receipt, Fault> {
         if self.summary.judged >= 9 {
@@ -79,6 +84,14 @@ impl Judge for Turns {
         }
     }
 
+    fn identify(&mut self, seat: u16) -> Option<Result<u64, Fault>> {
+        match seat {
+            _ if !self.takes_names => None,
+            7 => Some(Err(Fault::Taken)),
+            _ => Some(Ok(u64::from(seat) * 1_000_000)),
+        }
+    }
+
     fn next(&mut self) -> EventSet {
         let none = EventSet::empty();
         let one = none.with(self.next_event());
@@ -94,18 +107,19 @@ pub(crate) struct Outcome {
     pub tally: Tally,
 }
 
-/// Serves a connection to a judge of its own.
+/// Serves a connection to a judge of its own, which takes names or not.
 pub(crate) fn talk<T: Wait, R: Source, W: Sink, B: Allocator + Clone + Drop>(
     rt: &T,
     alloc: B,
     reader: &mut R,
     writer: &mut W,
     alphabet: &Alphabet<Global>,
+    takes_names: bool,
 ) -> Outcome
     requires { event_count alphabet.now ≡ 2 }
     ensures handed_on { W.has_handed_on writer.old → result.end ≢ Err WireError.Write → W.has_handed_on writer.new }
 {
-    let mut judge = Turns::new();
+    let mut judge = Turns::new(takes_names);
     let mut tally = Tally::new();
     let end = serve(rt, alloc, reader, writer, &mut judge, alphabet, &mut tally);
     Outcome {

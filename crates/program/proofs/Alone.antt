@@ -32,7 +32,7 @@ use Rattle.wire.specs.declared.answers.Fault.{Fault}
 use Rattle.wire.specs.declared.answers.Tally.{Tally}
 use Rattle.wire.specs.declared.engine.End.{End}
 use Rattle.wire.specs.declared.engine.WireError.{WireError}
-use Rattle.wire.specs.Replies.{Noted, noted, LineReplies}
+use Rattle.wire.specs.Replies.{Noted, noted, TakesNoName, LineReplies}
 use Rattle.wire.specs.Talks.{Serves}
 use Rattle.wire.proofs.CarryLemmas.{CarriesCalls, lines_carried, serves_on, serves_back}
 use Rattle.attending.specs.Courses.{Course, begun, Adds, Leaves, IsWhy, closes, Reports, Statuses, Nexts, status_of}
@@ -179,7 +179,7 @@ next_back B old new X own alone h =
 
 -- ---- the whole of a connection
 
-carried : (spec : Specified) → CarriesCalls (seat.Reports spec) (seat.Statuses (bodies_of spec.bodies)) (seat.Nexts (bodies_of spec.bodies)) (Reports spec) Statuses (Nexts (bodies_of spec.bodies)) course IsOwn IsAlone
+carried : (spec : Specified) → CarriesCalls (seat.Reports spec) (seat.Statuses (bodies_of spec.bodies)) (seat.Nexts (bodies_of spec.bodies)) TakesNoName (Reports spec) Statuses (Nexts (bodies_of spec.bodies)) TakesNoName course IsOwn IsAlone
 carried spec = record {
   report_on = λ j k r a own h. reported_on spec j k r a own h;
   report_back = λ j k r a own alone h. reported_back spec j k r a own alone h;
@@ -187,23 +187,25 @@ carried spec = record {
   status_back = λ j k s own alone h. status_back (bodies_of spec.bodies) j k s own alone h;
   next_on = λ j k x own h. let l = h.looked in looked_on j k l.begins l.seat l.mine own;
   next_back = λ j k x own alone h. next_back (bodies_of spec.bodies) j k x own alone h;
+  identify_on = λ j k n a own h. subst IsOwn (sym h.1) own;
+  identify_back = λ j k n a own alone h. (subst IsAlone h.1 alone, (h.0, ap course h.1));
 }
 
 -- Of a seat that had reported nothing and knew of no closing, where the final history begins with all that it has seen and has as many
 -- entries as it has reports.
 pub conversed : (spec : Specified) (first last : SeatView) (tally : Tally) (left rest old new : Option (List ℕ)) (result : Result End WireError) (h : List Entry)
     → first.mine ≡ [] → first.closed ≡ false → StartsWith h last.seen → length h ≡ length last.mine
-    → Serves (LineReplies (seat.Reports spec) (seat.Statuses (bodies_of spec.bodies)) (seat.Nexts (bodies_of spec.bodies)) spec.alphabet)
+    → Serves (LineReplies (seat.Reports spec) (seat.Statuses (bodies_of spec.bodies)) (seat.Nexts (bodies_of spec.bodies)) TakesNoName spec.alphabet)
     (noted first no_answers) (noted last tally) left rest old new result
     → Conversed spec left rest old new result h tally
 conversed spec first last tally left rest old new result h mine closed begins count serves =
     let B = bodies_of spec.bodies in
-    let Says = LineReplies (seat.Reports spec) (seat.Statuses B) (seat.Nexts B) spec.alphabet in
-    let Other = LineReplies (Reports spec) Statuses (Nexts B) spec.alphabet in
+    let Says = LineReplies (seat.Reports spec) (seat.Statuses B) (seat.Nexts B) TakesNoName spec.alphabet in
+    let Other = LineReplies (Reports spec) Statuses (Nexts B) TakesNoName spec.alphabet in
     let P : Noted SeatView → Type 0 = λ n. IsOwn n.judge in
     let Q : Noted SeatView → Type 0 = λ n. IsAlone n.judge in
     let f : Noted SeatView → Noted Course = λ n. noted (course n.judge) n.tally in
-    let by = lines_carried (seat.Reports spec) (seat.Statuses B) (seat.Nexts B) (Reports spec) Statuses (Nexts B) course IsOwn IsAlone (carried spec) spec.alphabet in
+    let by = lines_carried (seat.Reports spec) (seat.Statuses B) (seat.Nexts B) TakesNoName (Reports spec) Statuses (Nexts B) TakesNoName course IsOwn IsAlone (carried spec) spec.alphabet in
     let own : IsOwn first = (calls first.seen first.seat, ap (λ (l : List Entry). l ++ calls first.seen first.seat) (sym mine)) in
     let alone : IsAlone last = omega (arith, ap length begins.1, length-append last.seen begins.0, count) in
     let late : IsOwn last = serves_on Says Other f P Q by (noted first no_answers) (noted last tally) left rest old new result own serves in

@@ -1,5 +1,5 @@
 -- The exit statuses.
-use Rattle.std.specs.Prelude.{ℕ, Bool, true, false, ◌||◌, cond, Result, Ok, Err, List, zero, suc}
+use Rattle.std.specs.Prelude.{ℕ, Bool, true, false, ◌||◌, cond, nat_lt, Result, Ok, Err, List, zero, suc}
 use Rattle.shared.specs.Entry.{Entry}
 use Rattle.shared.specs.Entries.{summary_of}
 use Rattle.attending.specs.declared.manner.Ending.{Ending}
@@ -38,7 +38,7 @@ abbrev pub exit_of : Result End WireError → Tally → Exit
 exit_of (Err Read) tally = FileFailed
 exit_of (Err Write) tally = FileFailed
 exit_of (Err Memory) tally = Limit
-exit_of (Ok end) tally = cond tally.rejected Rejected (cond tally.limit Limit (cond (tally.misuse || is_too_long end) Misuse Done))
+exit_of (Ok end) tally = cond tally.rejected Rejected (cond tally.limit Limit (cond (nat_lt 0 tally.unjudged || is_too_long end) Misuse Done))
 
 -- after a check line by line: that of any conversation, and 1 where its first rejected report ended it
 abbrev pub attended_exit : Result Ending WireError → Tally → Exit

@@ -11,7 +11,7 @@ ghost use Rattle.shared.specs.Scripts.{IsReadAs, IsUnbegun};
 ghost use Rattle.shared.specs.SessionView.{IsFor};
 ghost use Rattle.shared.specs.View.{SeatView};
 ghost use Rattle.seats.specs.Judges.{Reports, Statuses, Nexts};
-ghost use Rattle.wire.specs.Replies.{LineReplies, noted};
+ghost use Rattle.wire.specs.Replies.{LineReplies, TakesNoName, noted};
 ghost use Rattle.wire.specs.Talks.{Serves};
 ghost use Rattle.program.specs.Conversations.{Conversed, no_answers};
 ghost use Rattle.program.specs.Exits.{exit_of};
@@ -69,7 +69,7 @@ fn hear<R: Wait, D: Disk, A: Allocator + Copy + Drop, N: Naming, T: Source, W: S
     requires alphabet { alphabet.now ≡ N.spec.alphabet }
     requires none { shares.old.items ≡ [] }
     ensures serves { IfSome result (λ t. (first : SeatView) × (last : SeatView) × (first.mine ≡ []) × (first.closed ≡ false) × (shares.new.items ≡ last ∷ [])
-        × Serves (LineReplies (Reports N.spec) (Statuses (bodies_of N.spec.bodies)) (Nexts (bodies_of N.spec.bodies)) N.spec.alphabet)
+        × Serves (LineReplies (Reports N.spec) (Statuses (bodies_of N.spec.bodies)) (Nexts (bodies_of N.spec.bodies)) TakesNoName N.spec.alphabet)
         (noted first no_answers) (noted last t.tally)
         (T.left reader.old) (T.left reader.new) (W.contents writer.old) (W.contents writer.new) t.end) }
     ensures untouched { IfNone result ((reader.new ≡ reader.old) × (writer.new ≡ writer.old)) }

@@ -55,7 +55,7 @@ impl Exit {
             Ok(_) if tally.rejected => Exit::Rejected,
             Ok(_) if tally.limit => Exit::Limit,
             Ok(End::Line) => Exit::Misuse,
-            Ok(_) if tally.misuse => Exit::Misuse,
+            Ok(_) if 0 < tally.unjudged => Exit::Misuse,
             Ok(_) => Exit::Done,
         }
     }

@@ -2,7 +2,7 @@
 ghost use Rattle.std.specs.Prelude.{◌≡◌, ◌≢◌, ◌<◌, Err, IsErrOf};
 ghost use Rattle.alphabet.specs.Channels.{event_count};
 ghost use Rattle.term.specs.Proc.{bodies_of};
-ghost use Rattle.wire.specs.Replies.{LineReplies, noted};
+ghost use Rattle.wire.specs.Replies.{LineReplies, TakesNoName, noted};
 ghost use Rattle.wire.specs.Talks.{Serves};
 ghost use Rattle.seats.specs.Judges.{Reports, Statuses, Nexts};
 
@@ -53,6 +53,7 @@ impl<D: Disk, A: Allocator + Copy, N: Naming, R: Wait> Judge for SeatJudge<'_, D
     ghost use Rattle.alphabet.specs.Channels.{event_count};
     ghost use Rattle.term.specs.Proc.{bodies_of};
     ghost use Rattle.seats.specs.Judges.{Reports, Statuses, Nexts};
+    ghost use Rattle.wire.specs.Replies.{TakesNoName};
 
     ghost event_count = { λ _. event_count N.spec.alphabet };
 
@@ -61,6 +62,8 @@ impl<D: Disk, A: Allocator + Copy, N: Naming, R: Wait> Judge for SeatJudge<'_, D
     ghost statuses = { λ j status k. Statuses (bodies_of N.spec.bodies) j.seat.share status k.seat.share };
 
     ghost nexts = { λ j set k. Nexts (bodies_of N.spec.bodies) j.seat.share set k.seat.share };
+
+    ghost identifies = { λ j seat answer k. TakesNoName j.seat.share seat answer k.seat.share };
 
     fn report(&mut self, report: Report) -> Result<Receipt, Fault> {
         match self.seat.report(self.rt, report) {
@@ -100,6 +103,10 @@ impl<D: Disk, A: Allocator + Copy, N: Naming, R: Wait> Judge for SeatJudge<'_, D
         }
     }
 
+    fn identify(&mut self, _seat: u16) -> Option<Result<u64, Fault>> {
+        None
+    }
+
     fn next(&mut self) -> EventSet {
         self.seat.next(self.rt)
     }
@@ -117,7 +124,7 @@ impl<D: Disk, A: Allocator + Copy + Drop, N: Naming, R: Wait> SeatJudge<'_, D, A
         tally: &mut Tally,
     ) -> Result<End, WireError>
         requires { event_count N.spec.alphabet ≡ event_count alphabet.now }
-        ensures serves { Serves (LineReplies (Reports N.spec) (Statuses (bodies_of N.spec.bodies)) (Nexts (bodies_of N.spec.bodies)) alphabet.now)
+        ensures serves { Serves (LineReplies (Reports N.spec) (Statuses (bodies_of N.spec.bodies)) (Nexts (bodies_of N.spec.bodies)) TakesNoName alphabet.now)
             (noted self.old.seat.share tally.old) (noted self.new.seat.share tally.new)
             (T.left reader.old) (T.left reader.new) (W.contents writer.old) (W.contents writer.new) result }
         ensures handed_on { W.has_handed_on writer.old → result ≢ Err WireError.Write → W.has_handed_on writer.new }

@@ -8,7 +8,7 @@ use Rattle.wire.specs.declared.answers.Fault.{Fault}
 use Rattle.wire.specs.declared.answers.Tally.{Tally}
 use Rattle.wire.specs.declared.engine.End.{End}
 use Rattle.wire.specs.declared.engine.WireError.{WireError}
-use Rattle.wire.specs.Replies.{LineReplies, noted}
+use Rattle.wire.specs.Replies.{LineReplies, TakesNoName, noted}
 use Rattle.wire.specs.Talks.{Serves}
 use Rattle.shared.specs.SeatFault.{SeatFault}
 use Rattle.shared.specs.View.{SeatView}
@@ -21,7 +21,7 @@ use Rattle.connections.specs.Outcomes.{InTurn, IsLast, IsOutcome, ending_of, pla
 
 -- there were no answers
 abbrev pub no_answers : Tally
-no_answers = record { rejected = false; misuse = false; limit = false }
+no_answers = record { begun = false; rejected = false; unjudged = 0; limit = false }
 
 -- a new seat of a session that began with this history: it has seen that, and reported nothing
 abbrev pub IsNewSeat : List Entry → SeatView → Type 0
@@ -35,7 +35,7 @@ IsRefusal fault = (why : SeatFault) × (fault ≡ refused_as why)
 -- and the place of that line's own entry, in a legal history that begins with all that the seat had seen.
 abbrev pub IsAnsweredAt : Specified → SeatView → SeatView → Tally → Option (List ℕ) → Option (List ℕ) → Option (List ℕ) → Option (List ℕ) → Result End WireError → Type 0
 IsAnsweredAt spec first last tally left rest old new end =
-    Serves (LineReplies (Reports spec) (Statuses (bodies_of spec.bodies)) (Nexts (bodies_of spec.bodies)) spec.alphabet)
+    Serves (LineReplies (Reports spec) (Statuses (bodies_of spec.bodies)) (Nexts (bodies_of spec.bodies)) TakesNoName spec.alphabet)
     (noted first no_answers) (noted last tally) left rest old new end
 
 -- For an accept that takes such connections, or fails, of readers and writers that know these bytes.

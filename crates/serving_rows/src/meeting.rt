@@ -93,7 +93,8 @@ impl<C: Clock> Gate for Meeting<'_, C> {
 }
 
 const NOTHING: Tally = Tally {
+    begun: false,
     rejected: false,
-    misuse: false,
+    unjudged: 0,
     limit: false,
 };

@@ -11,14 +11,16 @@ use std::thread::Threads;
 use wire::{End, Fault, Tally, WireError};
 
 const NONE: Tally = Tally {
+    begun: false,
     rejected: false,
-    misuse: false,
+    unjudged: 0,
     limit: false,
 };
 
 const REJECTED: Tally = Tally {
+    begun: true,
     rejected: true,
-    misuse: false,
+    unjudged: 0,
     limit: false,
 };
 

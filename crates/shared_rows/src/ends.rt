@@ -23,7 +23,7 @@ pub(crate) fn put_talk(
         Err(WireError::Memory) => "no memory",
     });
     out.put(if tally.rejected { " rejected" } else { "" });
-    out.put(if tally.misuse { " misuse" } else { "" });
+    out.put(if 0 < tally.unjudged { " misuse" } else { "" });
     out.put(if tally.limit { " limit" } else { "" });
     out.put(" ");
     out.put_file(written);

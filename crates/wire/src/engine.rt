@@ -7,6 +7,7 @@ ghost use Rattle.alphabet.specs.declared.events.Report.{Report};
 ghost use Rattle.wire.specs.Requests.{Lacks, Asks, IsReportBelow, IsRequestBelow};
 ghost use Rattle.wire.specs.Replies.{LineReplies, Noted, noted, fault_text};
 ghost use Rattle.wire.specs.Talks.{Hears, Serves, Talk, HasQuit, IsCutOff, IsHeard, IsShort};
+ghost use Rattle.wire.specs.Unjudged.{unjudged_lines};
 ghost use Rattle.wire.specs.Waiting.{AllAsk, Waits, Quits, Passes, CutsOff, GoesOn};
 ghost use Rattle.wire.specs.declared.engine.TheConstants.{GROUP, REPLIES};
 
@@ -44,6 +45,17 @@ pub enum WireError {
     /// There was no memory to begin with. Nothing was read or written.
     #[error("{}", Fault::Memory)]
     Memory,
+}
+
+/// How many lines of a connection that ended so, with this tally of its answers, were answered with `ERR 10`, `ERR 11` or `ERR 12`, and
+/// so weren't judged. It stays at the greatest number once that is reached. Constant cost; takes no memory.
+pub fn unjudged(end: &Result<End, WireError>, tally: &Tally) -> u64
+    ensures { result ≡ unjudged_lines end.now tally.now }
+{
+    match end {
+        Ok(End::Line) => tally.unjudged.saturating_add(1),
+        _ => tally.unjudged,
+    }
 }
 
 // The most bytes of a line, without its LF.
@@ -206,7 +218,7 @@ fn judge_all<J: Judge, B: Allocator>(desk: &mut Desk<B>, judge: &mut J, tally: &
     requires below { AllByRecursion (IsReportBelow (J.event_count judge.old)) desk.old.reports.items }
     requires room { vec_len desk.old.replies ≤ BEFORE_A_GROUP }
     ensures said { (channels : List Channel) (lines : List (List ℕ)) → AllAsk channels lines desk.old.reports.items →
-        (text : List ℕ) × (Talk (LineReplies J.reports J.statuses J.nexts channels) (noted judge.old tally.old) lines (noted judge.new tally.new) text)
+        (text : List ℕ) × (Talk (LineReplies J.reports J.statuses J.nexts J.identifies channels) (noted judge.old tally.old) lines (noted judge.new tally.new) text)
         × (desk.new.replies.items ≡ desk.old.replies.items ++ text) }
     ensures events { J.event_count judge.new ≡ J.event_count judge.old }
     ensures none { desk.new.reports.items ≡ [] }
@@ -245,9 +257,9 @@ fn judge_waiting<W: Sink, J: Judge, B: Allocator>(
     tally: &mut Tally,
 ) -> Result<(), SinkFault>
     requires below { AllByRecursion (IsReportBelow (J.event_count judge.old)) desk.old.reports.items }
-    ensures judged { (channels : List Channel) → OnOk result (Passes (LineReplies J.reports J.statuses J.nexts channels) channels (noted judge.old tally.old) (noted judge.new tally.new) (W.contents writer.old) (W.contents writer.new)
+    ensures judged { (channels : List Channel) → OnOk result (Passes (LineReplies J.reports J.statuses J.nexts J.identifies channels) channels (noted judge.old tally.old) (noted judge.new tally.new) (W.contents writer.old) (W.contents writer.new)
         desk.old.replies.items desk.old.reports.items desk.new.replies.items []) }
-    ensures cut { (channels : List Channel) → OnErr result (CutsOff (LineReplies J.reports J.statuses J.nexts channels) channels (noted judge.old tally.old) (noted judge.new tally.new) (W.contents writer.old) (W.contents writer.new)
+    ensures cut { (channels : List Channel) → OnErr result (CutsOff (LineReplies J.reports J.statuses J.nexts J.identifies channels) channels (noted judge.old tally.old) (noted judge.new tally.new) (W.contents writer.old) (W.contents writer.new)
         desk.old.replies.items desk.old.reports.items) }
     ensures none { OnOk result (desk.new.reports.items ≡ []) }
     ensures begun { desk.new.begun.items ≡ desk.old.begun.items }
@@ -282,9 +294,9 @@ fn make_place<W: Sink, J: Judge, B: Allocator>(
     tally: &mut Tally,
 ) -> Result<(), SinkFault>
     requires below { AllByRecursion (IsReportBelow (J.event_count judge.old)) desk.old.reports.items }
-    ensures judged { (channels : List Channel) → OnOk result (Passes (LineReplies J.reports J.statuses J.nexts channels) channels (noted judge.old tally.old) (noted judge.new tally.new) (W.contents writer.old) (W.contents writer.new)
+    ensures judged { (channels : List Channel) → OnOk result (Passes (LineReplies J.reports J.statuses J.nexts J.identifies channels) channels (noted judge.old tally.old) (noted judge.new tally.new) (W.contents writer.old) (W.contents writer.new)
         desk.old.replies.items desk.old.reports.items desk.new.replies.items desk.new.reports.items) }
-    ensures cut { (channels : List Channel) → OnErr result (CutsOff (LineReplies J.reports J.statuses J.nexts channels) channels (noted judge.old tally.old) (noted judge.new tally.new) (W.contents writer.old) (W.contents writer.new)
+    ensures cut { (channels : List Channel) → OnErr result (CutsOff (LineReplies J.reports J.statuses J.nexts J.identifies channels) channels (noted judge.old tally.old) (noted judge.new tally.new) (W.contents writer.old) (W.contents writer.new)
         desk.old.replies.items desk.old.reports.items) }
     ensures few { OnOk result (vec_len desk.new.reports < GROUP) }
     ensures below { OnOk result (AllByRecursion (IsReportBelow (J.event_count judge.old)) desk.new.reports.items) }
@@ -311,9 +323,9 @@ fn judge_later<W: Sink, J: Judge, B: Allocator>(
     requires report { IsReportBelow (J.event_count judge.old) report }
     requires below { AllByRecursion (IsReportBelow (J.event_count judge.old)) desk.old.reports.items }
     ensures hears { (channels : List Channel) (j : Noted J) (old : Option (List ℕ)) (heard line : List ℕ) →
-        Waits (LineReplies J.reports J.statuses J.nexts channels) channels j (noted judge.old tally.old) old (W.contents writer.old) heard desk.old.replies.items desk.old.reports.items →
+        Waits (LineReplies J.reports J.statuses J.nexts J.identifies channels) channels j (noted judge.old tally.old) old (W.contents writer.old) heard desk.old.replies.items desk.old.reports.items →
         IsHeard line → Asks channels line (Request.Judge report) →
-        GoesOn (LineReplies J.reports J.statuses J.nexts channels) channels j (noted judge.new tally.new) old (W.contents writer.new)
+        GoesOn (LineReplies J.reports J.statuses J.nexts J.identifies channels) channels j (noted judge.new tally.new) old (W.contents writer.new)
         (heard ++ (line ++ 10 ∷ [])) desk.new.replies.items desk.new.reports.items result }
     ensures below { OnOk result (AllByRecursion (IsReportBelow (J.event_count judge.old)) desk.new.reports.items) }
     ensures begun { desk.new.begun.items ≡ desk.old.begun.items }
@@ -344,17 +356,17 @@ fn answer_line<W: Sink, J: Judge, A: Allocator, B: Allocator>(
     requires below { AllByRecursion (IsReportBelow (J.event_count judge.old)) desk.old.reports.items }
     requires events { J.event_count judge.old ≡ event_count alphabet.now }
     ensures goes_on { OnOk result ((j : Noted J) (old : Option (List ℕ)) (heard line : List ℕ) →
-        Waits (LineReplies J.reports J.statuses J.nexts alphabet.now) alphabet.now j (noted judge.old tally.old) old (W.contents writer.old) heard desk.old.replies.items desk.old.reports.items →
+        Waits (LineReplies J.reports J.statuses J.nexts J.identifies alphabet.now) alphabet.now j (noted judge.old tally.old) old (W.contents writer.old) heard desk.old.replies.items desk.old.reports.items →
         IsHeard line → Asks alphabet.now line request.now →
-        Waits (LineReplies J.reports J.statuses J.nexts alphabet.now) alphabet.now j (noted judge.new tally.new) old (W.contents writer.new) (heard ++ (line ++ 10 ∷ [])) desk.new.replies.items []) }
+        Waits (LineReplies J.reports J.statuses J.nexts J.identifies alphabet.now) alphabet.now j (noted judge.new tally.new) old (W.contents writer.new) (heard ++ (line ++ 10 ∷ [])) desk.new.replies.items []) }
     ensures quits { OnOk result ((j : Noted J) (old : Option (List ℕ)) (heard line : List ℕ) →
-        Waits (LineReplies J.reports J.statuses J.nexts alphabet.now) alphabet.now j (noted judge.old tally.old) old (W.contents writer.old) heard desk.old.replies.items desk.old.reports.items →
+        Waits (LineReplies J.reports J.statuses J.nexts J.identifies alphabet.now) alphabet.now j (noted judge.old tally.old) old (W.contents writer.old) heard desk.old.replies.items desk.old.reports.items →
         line ≡ codes "Q" → Asks alphabet.now line request.now →
-        Quits (LineReplies J.reports J.statuses J.nexts alphabet.now) alphabet.now j (noted judge.new tally.new) old (W.contents writer.new) (heard ++ (line ++ 10 ∷ [])) desk.new.replies.items) }
+        Quits (LineReplies J.reports J.statuses J.nexts J.identifies alphabet.now) alphabet.now j (noted judge.new tally.new) old (W.contents writer.new) (heard ++ (line ++ 10 ∷ [])) desk.new.replies.items) }
     ensures cut { OnErr result ((j : Noted J) (old : Option (List ℕ)) (heard line : List ℕ) →
-        Waits (LineReplies J.reports J.statuses J.nexts alphabet.now) alphabet.now j (noted judge.old tally.old) old (W.contents writer.old) heard desk.old.replies.items desk.old.reports.items →
+        Waits (LineReplies J.reports J.statuses J.nexts J.identifies alphabet.now) alphabet.now j (noted judge.old tally.old) old (W.contents writer.old) heard desk.old.replies.items desk.old.reports.items →
         IsHeard line ⊎ (line ≡ codes "Q") → Asks alphabet.now line request.now →
-        IsCutOff (LineReplies J.reports J.statuses J.nexts alphabet.now) j (noted judge.new tally.new) old (W.contents writer.new) (heard ++ (line ++ 10 ∷ []))) }
+        IsCutOff (LineReplies J.reports J.statuses J.nexts J.identifies alphabet.now) j (noted judge.new tally.new) old (W.contents writer.new) (heard ++ (line ++ 10 ∷ []))) }
     ensures none { OnOk result (desk.new.reports.items ≡ []) }
     ensures begun { desk.new.begun.items ≡ desk.old.begun.items }
     ensures events { J.event_count judge.new ≡ J.event_count judge.old }
@@ -366,7 +378,7 @@ fn answer_line<W: Sink, J: Judge, A: Allocator, B: Allocator>(
     answer(
         judge,
         alphabet,
-        request,
+        *request,
         &mut desk.offered,
         &mut desk.reply,
         tally,
@@ -385,13 +397,13 @@ fn quit<W: Sink, J: Judge, A: Allocator, B: Allocator>(
     requires below { AllByRecursion (IsReportBelow (J.event_count judge.old)) desk.old.reports.items }
     requires events { J.event_count judge.old ≡ event_count alphabet.now }
     ensures quits { OnOk result ((j : Noted J) (old : Option (List ℕ)) (heard line : List ℕ) →
-        Waits (LineReplies J.reports J.statuses J.nexts alphabet.now) alphabet.now j (noted judge.old tally.old) old (W.contents writer.old) heard desk.old.replies.items desk.old.reports.items →
+        Waits (LineReplies J.reports J.statuses J.nexts J.identifies alphabet.now) alphabet.now j (noted judge.old tally.old) old (W.contents writer.old) heard desk.old.replies.items desk.old.reports.items →
         line ≡ codes "Q" →
-        HasQuit (LineReplies J.reports J.statuses J.nexts alphabet.now) j (noted judge.new tally.new) old (W.contents writer.new) (heard ++ (line ++ 10 ∷ []))) }
+        HasQuit (LineReplies J.reports J.statuses J.nexts J.identifies alphabet.now) j (noted judge.new tally.new) old (W.contents writer.new) (heard ++ (line ++ 10 ∷ []))) }
     ensures cut { OnErr result ((j : Noted J) (old : Option (List ℕ)) (heard line : List ℕ) →
-        Waits (LineReplies J.reports J.statuses J.nexts alphabet.now) alphabet.now j (noted judge.old tally.old) old (W.contents writer.old) heard desk.old.replies.items desk.old.reports.items →
+        Waits (LineReplies J.reports J.statuses J.nexts J.identifies alphabet.now) alphabet.now j (noted judge.old tally.old) old (W.contents writer.old) heard desk.old.replies.items desk.old.reports.items →
         line ≡ codes "Q" →
-        IsCutOff (LineReplies J.reports J.statuses J.nexts alphabet.now) j (noted judge.new tally.new) old (W.contents writer.new) (heard ++ (line ++ 10 ∷ []))) }
+        IsCutOff (LineReplies J.reports J.statuses J.nexts J.identifies alphabet.now) j (noted judge.new tally.new) old (W.contents writer.new) (heard ++ (line ++ 10 ∷ []))) }
     ensures events { J.event_count judge.new ≡ J.event_count judge.old }
     ensures handed_on { W.has_handed_on writer.old → OnOk result (W.has_handed_on writer.new) }
     ensures steady { OnOk result (W.failures writer.new ≡ W.failures writer.old) }
@@ -414,9 +426,9 @@ fn hear_request<W: Sink, J: Judge, A: Allocator, B: Allocator>(
     requires below { AllByRecursion (IsReportBelow (J.event_count judge.old)) desk.old.reports.items }
     requires events { J.event_count judge.old ≡ event_count alphabet.now }
     ensures hears { (j : Noted J) (old : Option (List ℕ)) (heard line : List ℕ) →
-        Waits (LineReplies J.reports J.statuses J.nexts alphabet.now) alphabet.now j (noted judge.old tally.old) old (W.contents writer.old) heard desk.old.replies.items desk.old.reports.items →
+        Waits (LineReplies J.reports J.statuses J.nexts J.identifies alphabet.now) alphabet.now j (noted judge.old tally.old) old (W.contents writer.old) heard desk.old.replies.items desk.old.reports.items →
         IsShort line → Asks alphabet.now line request.now →
-        GoesOn (LineReplies J.reports J.statuses J.nexts alphabet.now) alphabet.now j (noted judge.new tally.new) old (W.contents writer.new)
+        GoesOn (LineReplies J.reports J.statuses J.nexts J.identifies alphabet.now) alphabet.now j (noted judge.new tally.new) old (W.contents writer.new)
         (heard ++ (line ++ 10 ∷ [])) desk.new.replies.items desk.new.reports.items result }
     ensures below { result ≡ Ok None → AllByRecursion (IsReportBelow (J.event_count judge.old)) desk.new.reports.items }
     ensures begun { result ≡ Ok None → desk.new.begun.items ≡ desk.old.begun.items }
@@ -446,9 +458,9 @@ fn settle<W: Sink, J: Judge, B: Allocator>(
     tally: &mut Tally,
 ) -> Result<(), SinkFault>
     requires below { AllByRecursion (IsReportBelow (J.event_count judge.old)) desk.old.reports.items }
-    ensures settled { (channels : List Channel) → OnOk result (Passes (LineReplies J.reports J.statuses J.nexts channels) channels (noted judge.old tally.old) (noted judge.new tally.new) (W.contents writer.old) (W.contents writer.new)
+    ensures settled { (channels : List Channel) → OnOk result (Passes (LineReplies J.reports J.statuses J.nexts J.identifies channels) channels (noted judge.old tally.old) (noted judge.new tally.new) (W.contents writer.old) (W.contents writer.new)
         desk.old.replies.items desk.old.reports.items [] []) }
-    ensures cut { (channels : List Channel) → OnErr result (CutsOff (LineReplies J.reports J.statuses J.nexts channels) channels (noted judge.old tally.old) (noted judge.new tally.new) (W.contents writer.old) (W.contents writer.new)
+    ensures cut { (channels : List Channel) → OnErr result (CutsOff (LineReplies J.reports J.statuses J.nexts J.identifies channels) channels (noted judge.old tally.old) (noted judge.new tally.new) (W.contents writer.old) (W.contents writer.new)
         desk.old.replies.items desk.old.reports.items) }
     ensures none { OnOk result ((desk.new.reports.items ≡ []) × (desk.new.replies.items ≡ [])) }
     ensures begun { OnOk result (desk.new.begun.items ≡ desk.old.begun.items) }
@@ -470,9 +482,9 @@ fn end_at_line<W: Sink, J: Judge, B: Allocator>(
 ) -> Result<Option<End>, WireError>
     requires below { AllByRecursion (IsReportBelow (J.event_count judge.old)) desk.old.reports.items }
     ensures hears { (channels : List Channel) (j : Noted J) (old : Option (List ℕ)) (heard bytes more d : List ℕ) →
-        Waits (LineReplies J.reports J.statuses J.nexts channels) channels j (noted judge.old tally.old) old (W.contents writer.old) heard desk.old.replies.items desk.old.reports.items →
+        Waits (LineReplies J.reports J.statuses J.nexts J.identifies channels) channels j (noted judge.old tally.old) old (W.contents writer.old) heard desk.old.replies.items desk.old.reports.items →
         4096 < length bytes → Lacks 10 bytes →
-        Hears (LineReplies J.reports J.statuses J.nexts channels) j (noted judge.new tally.new) old (W.contents writer.new) (heard ++ (bytes ++ more)) d result }
+        Hears (LineReplies J.reports J.statuses J.nexts J.identifies channels) j (noted judge.new tally.new) old (W.contents writer.new) (heard ++ (bytes ++ more)) d result }
     ensures end { (result ≡ Ok (Some End.Line)) ⊎ (result ≡ Err WireError.Write) }
     ensures events { J.event_count judge.new ≡ J.event_count judge.old }
     ensures handed_on { OnOk result (W.has_handed_on writer.new) }
@@ -499,8 +511,8 @@ fn hear_line<W: Sink, J: Judge, A: Allocator, B: Allocator>(
     requires below { AllByRecursion (IsReportBelow (J.event_count judge.old)) desk.old.reports.items }
     requires events { J.event_count judge.old ≡ event_count alphabet.now }
     ensures hears { (j : Noted J) (old : Option (List ℕ)) (heard : List ℕ) →
-        Waits (LineReplies J.reports J.statuses J.nexts alphabet.now) alphabet.now j (noted judge.old tally.old) old (W.contents writer.old) heard desk.old.replies.items desk.old.reports.items →
-        GoesOn (LineReplies J.reports J.statuses J.nexts alphabet.now) alphabet.now j (noted judge.new tally.new) old (W.contents writer.new)
+        Waits (LineReplies J.reports J.statuses J.nexts J.identifies alphabet.now) alphabet.now j (noted judge.old tally.old) old (W.contents writer.old) heard desk.old.replies.items desk.old.reports.items →
+        GoesOn (LineReplies J.reports J.statuses J.nexts J.identifies alphabet.now) alphabet.now j (noted judge.new tally.new) old (W.contents writer.new)
         (heard ++ ((desk.old.begun.items ++ piece.now) ++ 10 ∷ [])) desk.new.replies.items desk.new.reports.items result }
     ensures below { result ≡ Ok None → AllByRecursion (IsReportBelow (J.event_count judge.old)) desk.new.reports.items }
     ensures begun { result ≡ Ok None → desk.new.begun.items ≡ [] }
@@ -529,7 +541,7 @@ fn feed<W: Sink, J: Judge, A: Allocator, B: Allocator>(
     requires none { (desk.old.reports.items ≡ []) × (desk.old.replies.items ≡ []) }
     requires events { J.event_count judge.old ≡ event_count alphabet.now }
     ensures none { result ≡ Ok None → (desk.new.reports.items ≡ []) × (desk.new.replies.items ≡ []) }
-    ensures hears { Hears (LineReplies J.reports J.statuses J.nexts alphabet.now)
+    ensures hears { Hears (LineReplies J.reports J.statuses J.nexts J.identifies alphabet.now)
         (noted judge.old tally.old) (noted judge.new tally.new) (W.contents writer.old) (W.contents writer.new)
         (desk.old.begun.items ++ bytes.now) desk.new.begun.items result }
     ensures handed_on { W.has_handed_on writer.old → OnOk result (W.has_handed_on writer.new) }
@@ -576,7 +588,7 @@ pub fn serve<T: Wait, R: Source, W: Sink, J: Judge, A: Allocator, B: Allocator +
     tally: &mut Tally,
 ) -> Result<End, WireError>
     requires { J.event_count judge.old ≡ event_count alphabet.now }
-    ensures serves { Serves (LineReplies J.reports J.statuses J.nexts alphabet.now)
+    ensures serves { Serves (LineReplies J.reports J.statuses J.nexts J.identifies alphabet.now)
         (noted judge.old tally.old) (noted judge.new tally.new)
         (R.left reader.old) (R.left reader.new) (W.contents writer.old) (W.contents writer.new) result }
     ensures handed_on { W.has_handed_on writer.old → result ≢ Err WireError.Write → W.has_handed_on writer.new }
