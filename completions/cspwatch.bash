@@ -16,7 +16,7 @@ _cspwatch() {
     fi
     case $previous in
         --listen)
-            COMPREPLY=($(compgen -W "127.0.0.1:" -- "$current"))
+            COMPREPLY=($(compgen -W "127.0.0.1: unix:" -- "$current"))
             return
             ;;
         --connections) return ;;
@@ -30,7 +30,7 @@ _cspwatch() {
             check) COMPREPLY=($(compgen -W "--large --explain --quiet --first --help -h" -- "$current")) ;;
             serve) COMPREPLY=($(compgen -W "--listen --connections --large --help -h" -- "$current")) ;;
             replay) COMPREPLY=($(compgen -W "--read-only --help -h" -- "$current")) ;;
-            show) COMPREPLY=($(compgen -W "--rejected --coverage --format --help -h" -- "$current")) ;;
+            show) COMPREPLY=($(compgen -W "--rejected --coverage --format --follow --help -h" -- "$current")) ;;
             *) COMPREPLY=($(compgen -W "--help -h" -- "$current")) ;;
         esac
         return

@@ -41,12 +41,13 @@ complete -c cspwatch -n "__fish_seen_subcommand_from check serve" -l large -d 'u
 complete -c cspwatch -n "__fish_seen_subcommand_from check" -l explain -d 'say why reports were rejected'
 complete -c cspwatch -n "__fish_seen_subcommand_from check" -l quiet -d 'leave out the replies to accepted reports'
 complete -c cspwatch -n "__fish_seen_subcommand_from check" -l first -d 'end after the first rejected report'
-complete -c cspwatch -n "__fish_seen_subcommand_from serve" -l listen -x -a '127.0.0.1:0' -d 'the address to listen on'
+complete -c cspwatch -n "__fish_seen_subcommand_from serve" -l listen -x -a '127.0.0.1:0 unix:' -d 'the address to listen on'
 complete -c cspwatch -n "__fish_seen_subcommand_from serve" -l connections -x -d 'how many connections are taken'
 complete -c cspwatch -n "__fish_seen_subcommand_from replay" -l read-only -d 'only read the file'
 complete -c cspwatch -n "__fish_seen_subcommand_from show" -l rejected -d 'print the rejected reports alone'
 complete -c cspwatch -n "__fish_seen_subcommand_from show" -l coverage -d 'print how often each event came and could have come'
 complete -c cspwatch -n "__fish_seen_subcommand_from show" -l format -x -a 'text json' -d 'how to print'
+complete -c cspwatch -n "__fish_seen_subcommand_from show" -l follow -d 'go on with the reports that come'
 complete -c cspwatch -n "__fish_seen_subcommand_from check serve print replay show; and test (__cspwatch_place) = 1" -F
 complete -c cspwatch -n "__fish_seen_subcommand_from check serve print; and test (__cspwatch_place) = 2" -a '(__cspwatch_processes)' -d process
 complete -c cspwatch -n "__fish_seen_subcommand_from serve; and test (__cspwatch_place) = 3" -F

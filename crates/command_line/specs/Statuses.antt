@@ -1,7 +1,7 @@
 -- The exit statuses of the commands, where more than one call of `program` or `serving` decides.
 use Rattle.program.specs.Exits.{script_exit, journal_exit}
 use Rattle.program.specs.declared.exit.Exit.{Exit}
-use Rattle.program.specs.declared.exit.Exit.TheVariants.{Done, Rejected, BadJournal, FileFailed, Limit}
+use Rattle.program.specs.declared.exit.Exit.TheVariants.{Done, Rejected, Misuse, BadJournal, FileFailed, Limit}
 use Rattle.connections.specs.declared.account.RunStatus.{RunStatus}
 use Rattle.connections.specs.declared.account.RunStatus.TheVariants as status
 use Rattle.serving.specs.declared.opening.OpenError.{OpenError}
@@ -13,6 +13,7 @@ use Rattle.program.specs.SessionError.TheVariants.{Script, Device}
 abbrev pub run_exit : RunStatus → Exit
 run_exit status.Done = Done
 run_exit status.Rejected = Rejected
+run_exit status.Misuse = Misuse
 run_exit status.Closed = BadJournal
 run_exit status.AcceptFailed = FileFailed
 run_exit status.Limit = Limit

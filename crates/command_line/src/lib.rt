@@ -8,6 +8,7 @@
 mod by_line;
 mod checking;
 mod evidence;
+mod following;
 mod forms;
 mod hints;
 mod journal_files;
@@ -19,6 +20,7 @@ mod running;
 mod scripts;
 mod server;
 mod showing;
+mod sockets;
 mod telling;
 
 pub use by_line::check_in;

@@ -5,6 +5,7 @@ ghost use Rattle.program.specs.Exits.{exit_code};
 
 use crate::by_line::{check_in, is_wanted};
 use crate::checking::check;
+use crate::following::follow;
 use crate::forms::print;
 use crate::limits::names_by;
 use crate::patient::Patient;
@@ -20,6 +21,7 @@ use std::net::{Net, TcpListener, TcpStream};
 use std::rt::Files;
 use std::sync::Wait;
 use std::thread::Threads;
+use std::time::Clock;
 use wire::Plain;
 use words::{Check, Wish, example_of, read_words};
 
@@ -69,6 +71,7 @@ fn fulfil<
         + AllocGlobal
         + Threads
         + Wait
+        + Clock
         + Sync,
     I: Read,
     O: Write,
@@ -85,7 +88,16 @@ fn fulfil<
             journal,
             read_only: true,
         } => replay_read_only(rt, journal, output, errors),
-        Wish::Show { journal, options } => show(rt, journal, *options, output, errors),
+        Wish::Show {
+            journal,
+            options,
+            follow: false,
+        } => show(rt, journal, *options, output, errors),
+        Wish::Show {
+            journal,
+            options,
+            follow: true,
+        } => follow(rt, journal, *options, output, errors),
         Wish::Serve(service) => serve(rt, service, output, errors),
     }
 }
@@ -98,6 +110,7 @@ fn fulfil_words<
         + AllocGlobal
         + Threads
         + Wait
+        + Clock
         + Sync,
     I: Read,
     O: Write,
@@ -122,6 +135,7 @@ pub fn run<
         + AllocGlobal
         + Threads
         + Wait
+        + Clock
         + Sync,
     I: Read,
     O: Write,

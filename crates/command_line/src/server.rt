@@ -6,19 +6,21 @@ use crate::forms::put_out;
 use crate::journal_files::{journal_at, keep_name, take_away};
 use crate::limits::names_by;
 use crate::scripts::{Script, tell_read, text_of};
+use crate::sockets::listener_at;
 use crate::telling::{tell_fault, tell_open};
 use disk::Disk;
 use file_disk::FileDisk;
 use program::{Exit, Session, Summary, summary_line};
-use serving::{Account, Closing, RunStatus, TcpAccept, open, serve_session};
+use serving::{Accept, Account, Closing, RunStatus, TcpAccept, UnixAccept, open, serve_session};
 use std::alloc::{AllocError, Global};
-use std::fs::File;
+use std::fmt::Display;
+use std::fs::{File, remove_file};
 use std::io::{IsTerminal, Write};
-use std::net::{Net, SocketAddr, TcpListener, TcpStream};
+use std::net::{Net, SocketAddr, SocketAddrV4, TcpListener, TcpStream};
 use std::rt::Files;
 use std::sync::Wait;
 use std::thread::Threads;
-use words::Service;
+use words::{Address, Service};
 
 // What is left of a run once its connections are over: the counts of its history, whether the journal failed in this run, and
 // what came of the connections.
@@ -36,6 +38,7 @@ fn exit_of(status: RunStatus) -> Exit
     match status {
         RunStatus::Done => Exit::Done,
         RunStatus::Rejected => Exit::Rejected,
+        RunStatus::Misuse => Exit::Misuse,
         RunStatus::Closed => Exit::BadJournal,
         RunStatus::AcceptFailed => Exit::FileFailed,
         RunStatus::Limit => Exit::Limit,
@@ -67,33 +70,68 @@ fn tell_ended<O: Write, E: Write>(
     exit_of(account.status(ended.closed))
 }
 
+// Where connections are taken.
+#[derive(Drop)]
+enum Door {
+    Tcp(TcpAccept),
+    Unix(UnixAccept),
+}
+
 // Listens at the address.
 fn listener_of<R: Net<Stream = TcpStream, Listener = TcpListener>>(
     rt: &R,
-    service: &Service<'_>,
+    address: SocketAddrV4,
 ) -> Option<(TcpListener, SocketAddr)> {
-    let listener = TcpListener::bind(rt, SocketAddr::V4(service.address)).ok()?;
+    let listener = TcpListener::bind(rt, SocketAddr::V4(address)).ok()?;
     let address = listener.local_addr().ok()?;
     Some((listener, address))
 }
 
-// Puts the journal's name on the device, listens at the address, and says where; or answers the status of the fault that was
-// reported.
+// Says where clients can connect, and whether that could be said.
+fn tell_listening<T: Display, O: Write>(address: &T, output: &mut O) -> bool {
+    writeln!(output, "listening {address}").is_ok() && output.flush().is_ok()
+}
+
+// Listens where the service is asked for, and says where; or answers the status of the fault that was reported.
+fn door_of<
+    R: Files<File = File> + Net<Stream = TcpStream, Listener = TcpListener>,
+    O: Write,
+    E: Write,
+>(rt: &R, service: &Service<'_>, output: &mut O, errors: &mut E) -> Result<Door, Exit> {
+    let (door, is_told) = match service.address {
+        Address::Tcp(address) => {
+            let Some((listener, address)) = listener_of(rt, address) else {
+                return Err(tell_fault(errors, service.listen, "cannot listen", Exit::FileFailed));
+            };
+            let is_told = tell_listening(&address, output);
+            (Door::Tcp(TcpAccept::new(listener)), is_told)
+        }
+        Address::Unix(file) => {
+            let Ok(listener) = listener_at(rt, file) else {
+                return Err(tell_fault(errors, service.listen, "cannot listen", Exit::FileFailed));
+            };
+            let is_told = tell_listening(&service.listen, output);
+            (Door::Unix(UnixAccept::new(listener)), is_told)
+        }
+    };
+    if is_told {
+        Ok(door)
+    } else {
+        Err(tell_fault(errors, "-", "cannot write", Exit::FileFailed))
+    }
+}
+
+// Puts the journal's name on the device, listens where the service is asked for, and says where; or answers the status of the fault that
+// was reported.
 fn listen_at<
     R: Files<File = File> + Net<Stream = TcpStream, Listener = TcpListener>,
     O: Write,
     E: Write,
->(rt: &R, service: &Service<'_>, output: &mut O, errors: &mut E) -> Result<TcpListener, Exit> {
+>(rt: &R, service: &Service<'_>, output: &mut O, errors: &mut E) -> Result<Door, Exit> {
     if keep_name(rt, service.journal).is_err() {
         return Err(tell_fault(errors, service.journal, "cannot write", Exit::FileFailed));
     }
-    let Some((listener, address)) = listener_of(rt, service) else {
-        return Err(tell_fault(errors, service.listen, "cannot listen", Exit::FileFailed));
-    };
-    if writeln!(output, "listening {address}").is_err() || output.flush().is_err() {
-        return Err(tell_fault(errors, "-", "cannot write", Exit::FileFailed));
-    }
-    Ok(listener)
+    door_of(rt, service, output, errors)
 }
 
 // What is left of the run that this is what came of.
@@ -105,19 +143,15 @@ fn ended_of<D: Disk>(closing: &Closing<D>) -> Ended {
     }
 }
 
-// Serves the connections of the listener at this session, and says what is left of the run.
-fn serve_to_end<
-    D: Disk + Drop + Send,
-    R: Net<Stream = TcpStream, Listener = TcpListener> + AllocGlobal + Threads + Wait + Sync,
->(
+// Serves the connections that are taken so at this session, and says what is left of the run.
+fn serve_to_end<D: Disk + Drop + Send, L: Accept + Drop, R: AllocGlobal + Threads + Wait + Sync>(
     rt: &R,
     service: &Service<'_>,
     session: Session<D, Global>,
-    listener: TcpListener,
+    accept: L,
 ) -> Result<Ended, AllocError>
     requires { session.offered ≡ [] }
 {
-    let accept = TcpAccept::new(listener);
     match serve_session(rt, rt.alloc(), session, accept, service.connections) {
         Ok(closing) => {
             let ended = ended_of(&closing);
@@ -127,6 +161,30 @@ fn serve_to_end<
         Err((AllocError, accept)) => {
             drop(accept);
             Err(AllocError)
+        }
+    }
+}
+
+// Serves the connections at the door at this session, and says what is left of the run. A socket's file is taken away.
+fn serve_through<
+    D: Disk + Drop + Send,
+    R: Files<File = File> + AllocGlobal + Threads + Wait + Sync,
+>(
+    rt: &R,
+    service: &Service<'_>,
+    session: Session<D, Global>,
+    door: Door,
+) -> Result<Ended, AllocError>
+    requires { session.offered ≡ [] }
+{
+    match door {
+        Door::Tcp(accept) => serve_to_end(rt, service, session, accept),
+        Door::Unix(accept) => {
+            let ended = serve_to_end(rt, service, session, accept);
+            if let Address::Unix(file) = service.address {
+                let _ = remove_file(rt, file);
+            }
+            ended
         }
     }
 }
@@ -153,15 +211,15 @@ fn serve_at<
 ) -> Exit
     requires { session.offered ≡ [] }
 {
-    let listener = match listen_at(rt, service, output, errors) {
-        Ok(listener) => listener,
+    let door = match listen_at(rt, service, output, errors) {
+        Ok(door) => door,
         Err(exit) => {
             take_away(rt, service.journal, is_made);
             drop(session);
             return exit;
         }
     };
-    match serve_to_end(rt, service, session, listener) {
+    match serve_through(rt, service, session, door) {
         Ok(ended) => tell_ended(rt.alloc(), service, ended, output, errors),
         Err(AllocError) => tell_fault(errors, service.spec, "40 memory", Exit::Limit),
     }

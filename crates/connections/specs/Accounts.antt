@@ -1,5 +1,5 @@
 -- What came of all connections together, and the exit status of a run.
-use Rattle.std.specs.Prelude.{◌||◌, ℕ, Bool, true, false, cond, Result, Ok, Err}
+use Rattle.std.specs.Prelude.{◌||◌, ◌==◌, ℕ, Bool, true, false, cond, Result, Ok, Err}
 use Rattle.wire.specs.declared.answers.Fault.{Fault}
 use Rattle.wire.specs.declared.answers.Fault.TheVariants as fault
 use Rattle.wire.specs.declared.engine.End.{End}
@@ -10,6 +10,7 @@ use Rattle.connections.specs.declared.account.RunStatus.{RunStatus}
 use Rattle.connections.specs.declared.account.RunStatus.TheVariants as status
 use Rattle.connections.specs.declared.outcome.Ending.{Ending}
 use Rattle.connections.specs.declared.outcome.Ending.TheVariants.{Served, Refused, NotStarted}
+use Rattle.connections.specs.declared.totals.Totals.{Totals}
 
 -- memory ran out before the first line
 abbrev pub is_out_of_memory : Result End WireError → Bool
@@ -44,6 +45,13 @@ status_of closed account =
 abbrev pub status_code : RunStatus → ℕ
 status_code status.Done = 0
 status_code status.Rejected = 1
+status_code status.Misuse = 2
 status_code status.Closed = 4
 status_code status.AcceptFailed = 5
 status_code status.Limit = 6
+
+-- How a service ends: as a run does, but that a line that wasn't judged comes before a limit.
+abbrev pub service_status : Bool → Bool → Totals → RunStatus
+service_status closed accept_failed totals =
+    cond closed status.Closed (cond accept_failed status.AcceptFailed
+    (cond totals.rejected status.Rejected (cond (totals.unjudged == 0) (cond totals.limit status.Limit status.Done) status.Misuse)))

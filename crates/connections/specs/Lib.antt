@@ -1,5 +1,7 @@
 -- To believe.
 pub mod Outcomes
 pub mod Accounts
+pub mod Services
 -- Steps of the program.
 pub mod Starting
+pub mod Visiting

@@ -26,6 +26,8 @@ pub enum RunStatus {
     Done,
     /// A report was rejected.
     Rejected,
+    /// A line wasn't judged, since it was no command, named no event, or was too long. Only of a service.
+    Misuse,
     /// The journal's device failed, and closed the session.
     Closed,
     /// A connection couldn't be taken.
@@ -42,6 +44,7 @@ impl RunStatus {
         match self {
             RunStatus::Done => 0,
             RunStatus::Rejected => 1,
+            RunStatus::Misuse => 2,
             RunStatus::Closed => 4,
             RunStatus::AcceptFailed => 5,
             RunStatus::Limit => 6,

@@ -1,6 +1,6 @@
 //! Where connections come from, and where they are served.
 
-ghost use Rattle.std.specs.Prelude.{◌≡◌, ◌≢◌, ◌<◌, ℕ, List, Option, Result, Err, IsErrOf, IfOk, IfErr, OnErr};
+ghost use Rattle.std.specs.Prelude.{◌≡◌, ◌≢◌, ◌+◌, ◌<◌, ℕ, List, Option, Result, Err, IsErrOf, IfOk, IfErr, IfSome, IfNone, OnOk, OnErr};
 ghost use Rattle.wire.specs.declared.answers.Fault.{Fault};
 ghost use Rattle.wire.specs.declared.answers.Tally.{Tally};
 ghost use Rattle.wire.specs.declared.engine.End.{End};
@@ -75,6 +75,52 @@ pub trait Gate {
         ensures handed_on { W.has_handed_on writer.old → result.end ≢ Err WireError.Write → W.has_handed_on writer.new }
         ensures reader_failed { IsErrOf result.end WireError.Read → R.failures reader.old < R.failures reader.new }
         ensures writer_failed { IsErrOf result.end WireError.Write → W.failures writer.old < W.failures writer.new };
+}
+
+/// Where connections come from without end.
+pub trait Listen: Accept {
+    /// Takes the next connection, or answers within a moment that none came. Where it can't, it stays as it is, and may be asked again.
+    fn accept_soon(&mut self) -> Result<Option<(Self::Reader, Self::Writer)>, AcceptFault>
+        ensures taken { IfOk result (λ next. IfSome next (λ connection. Self.takes self.old connection.0 connection.1 self.new)) }
+        ensures none { IfOk result (λ next. IfNone next (self.new ≡ self.old)) }
+        ensures failed { OnErr result (Self.fails self.old self.new × (self.new ≡ self.old)) };
+}
+
+/// A gate whose places are given back once their connections are over, so that they may be given again. One thread has the free places.
+pub trait Reusable: Gate {
+    /// The places that are free, and how many reports were answered at those that were given back.
+    type Places: Drop;
+
+    /// How many places are free.
+    ghost free: { Self.Places → ℕ };
+
+    /// How many reports were answered at the places that were given back.
+    ghost counted: { Self.Places → ℕ };
+
+    /// How many reports were answered at a place.
+    ghost answered: { Self.Place → ℕ };
+
+    /// It can take places back.
+    ghost takes_back: { Self → Type 0 } = { λ _. Unit {0} };
+
+    /// Gives one of the free places, or says why there is none, as `place` does.
+    fn take<T: Wait>(
+        &self,
+        rt: &T,
+        alloc: Global,
+        places: &mut Self::Places,
+    ) -> Result<Self::Place, Fault>
+        ensures given { IfOk result (λ place. Self.gives self.now place × (answered place ≡ 0)) }
+        ensures refused { IfErr result (λ fault. Self.refuses self.now fault) }
+        ensures one { OnOk result (free places.new + 1 ≡ free places.old) }
+        ensures none { OnErr result (free places.new ≡ free places.old) }
+        ensures counted { counted places.new ≡ counted places.old };
+
+    /// Takes a place back, which is free then. It may wait, as for a lock.
+    fn leave<T: Wait>(&self, rt: &T, place: Self::Place, places: &mut Self::Places)
+        requires { takes_back self.now }
+        ensures free { free places.new ≡ free places.old + 1 }
+        ensures counted { counted places.new ≡ counted places.old + answered place };
 }
 
 /// A connection that is over.

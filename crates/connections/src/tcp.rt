@@ -1,43 +1,27 @@
 //! Connections over TCP.
 
-use crate::gate::{Accept, AcceptFault, Close};
+use crate::gate::{Accept, AcceptFault, Close, Listen};
+use crate::lingering::{Socket, linger};
 use std::io;
-use std::io::{ErrorKind, Read};
+use std::io::ErrorKind;
 use std::net::{Shutdown, TcpListener, TcpStream};
+use std::os::fd::OwnedFd;
 use std::time::Duration;
 use wire::Plain;
 
-/// For how many milliseconds a connection that is over waits for each further read.
-const PATIENCE: u64 = 500;
+impl Socket for TcpStream {
+    fn end_writing(&self) -> io::Result<()> {
+        self.shutdown(Shutdown::Write)
+    }
 
-/// How many further reads are made of a connection that is over.
-const MOST_READS: u8 = 16;
-
-/// How many bytes a further read takes.
-const READ_SIZE: usize = 4096;
-
-// Reads what the peer still sends. A connection that is closed while there are bytes to read is reset, and then its peer may lose
-// replies.
-fn read_on(stream: &mut TcpStream) {
-    let mut bytes = [0; READ_SIZE];
-    for _ in 0..MOST_READS {
-        match stream.read(&mut bytes) {
-            Ok(0) | Err(_) => return,
-            Ok(_) => {}
-        }
+    fn limit_reads(&self, patience: Duration) -> io::Result<()> {
+        self.set_read_timeout(Some(patience))
     }
 }
 
 impl Close for Plain<TcpStream> {
-    // Closes the sending side, and reads what the peer still sends, until it closes its own, is silent, or was read often enough.
     fn close(self) {
-        let mut stream = self.into_inner();
-        let patience = Duration::from_millis(PATIENCE);
-        if stream.shutdown(Shutdown::Write).is_ok()
-            && stream.set_read_timeout(Some(patience)).is_ok()
-        {
-            read_on(&mut stream);
-        }
+        linger(&mut self.into_inner());
     }
 }
 
@@ -47,12 +31,32 @@ pub struct TcpAccept {
     listener: TcpListener,
 }
 
+// A connection of a listener: what its lines are read from, and what its replies are written to. `None` where the system has no
+// further handle for it, which closes it.
+fn ends_of(stream: TcpStream) -> Option<(Plain<TcpStream>, Plain<TcpStream>)> {
+    // It has the listener's limit from its beginning.
+    stream.set_read_timeout(None).ok()?;
+    let other = stream.try_clone().ok()?;
+    // Replies go out at once. Where that can't be had they go out later.
+    let _ = stream.set_nodelay(true);
+    Some((Plain::new(stream), Plain::new(other)))
+}
+
 impl TcpAccept {
     /// The connections of this listener. It is bound to its address already, and is closed when this is dropped. `accept` then
     /// waits for each connection without end, passes over one that its peer gave up before, and fails where the system does. No
     /// clause says which connections come, since nothing is known of what the system does.
     pub fn new(listener: TcpListener) -> TcpAccept {
         TcpAccept { listener }
+    }
+
+    /// The same, but an accept waits no longer than this moment.
+    pub fn within(listener: TcpListener, moment: Duration) -> io::Result<TcpAccept> {
+        // How long an accept waits is an option of the socket. The library sets it through a stream, so through a second handle of the
+        // listener that is taken for one.
+        let handle = OwnedFd::from(listener.try_clone()?);
+        TcpStream::from(handle).set_read_timeout(Some(moment))?;
+        Ok(TcpAccept { listener })
     }
 
     // The next connection. One that its peer gave up before it was taken is passed over.
@@ -82,11 +86,23 @@ impl Accept for TcpAccept {
         let Ok(stream) = self.next() else {
             return Err(AcceptFault);
         };
-        let Ok(other) = stream.try_clone() else {
-            return Err(AcceptFault);
+        match ends_of(stream) {
+            Some(ends) => Ok(ends),
+            None => Err(AcceptFault),
+        }
+    }
+}
+
+impl Listen for TcpAccept {
+    fn accept_soon(&mut self) -> Result<Option<(Plain<TcpStream>, Plain<TcpStream>)>, AcceptFault> {
+        let stream = match self.next() {
+            Ok(stream) => stream,
+            Err(fault) if fault.kind() == ErrorKind::WouldBlock => return Ok(None),
+            Err(_) => return Err(AcceptFault),
         };
-        // Replies go out at once. Where that can't be had they go out later.
-        let _ = stream.set_nodelay(true);
-        Ok((Plain::new(stream), Plain::new(other)))
+        match ends_of(stream) {
+            Some(ends) => Ok(Some(ends)),
+            None => Err(AcceptFault),
+        }
     }
 }

@@ -3,6 +3,7 @@ pub mod Exits
 pub mod Conversations
 pub mod Prints
 pub mod Showings
+pub mod Followings
 -- Of the layers below, for those above.
 pub use Rattle.attending.specs.Courses
 pub use Rattle.attending.specs.Standing

@@ -1,11 +1,12 @@
 //! What the commands do, over any reader, writer and disk. Each call's contract is the promise of its command.
 //!
 //! `check` judges the lines of a reader by what a script denotes, `replay` judges a journal's records again, `show` writes what it found
-//! of each, and `print` prints what a script denotes. An `Exit` is the program's exit status.
+//! of each and `follow` what came since, and `print` prints what a script denotes. An `Exit` is the program's exit status.
 #![tactic(auto)]
 
 mod checking;
 mod exit;
+mod following;
 mod forms;
 mod replaying;
 mod showing;
@@ -14,6 +15,7 @@ mod summaries;
 pub use attending::{Attended, Ending, Manner, attend};
 pub use checking::{Checked, check};
 pub use exit::Exit;
+pub use following::{FollowError, follow};
 pub use forms::{PrintError, print};
 pub use replaying::{Replayed, replay};
 pub use shared::{Session, SessionError, Summary};

@@ -69,8 +69,8 @@ fn add_summary<A: Allocator>(
     }
 }
 
-// Writes the text, and lets the output flush.
-fn put_out<W: Write>(text: &[u8], output: &mut W) -> Result<(), ShowError>
+/// Writes the text, and lets the output flush.
+pub(crate) fn put_out<W: Write>(text: &[u8], output: &mut W) -> Result<(), ShowError>
     ensures { OnOk result (Appends (W.contents output.old) (W.contents output.new) text.now) }
 {
     if output.write_all(text).is_ok() && output.flush().is_ok() {
@@ -82,7 +82,7 @@ fn put_out<W: Write>(text: &[u8], output: &mut W) -> Result<(), ShowError>
 
 // Writes the lines of the session's history, but for their end, for which the script is read again: the session keeps its own
 // specification.
-fn lines_of<D: Disk, A: Allocator + Copy, W: Write>(
+pub(crate) fn lines_of<D: Disk, A: Allocator + Copy, W: Write>(
     alloc: A,
     session: &Session<D, A>,
     header: &Header<A>,

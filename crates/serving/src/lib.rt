@@ -8,7 +8,7 @@ mod shared_gate;
 
 pub use connections::{
     Accept, AcceptFault, Account, Connections, Ending, Gate, Outcome, Over, RunStatus, Served,
-    TcpAccept, serve_all,
+    TcpAccept, UnixAccept, serve_all,
 };
 pub use opening::{OpenError, open};
 pub use sessions::{Closing, serve_session};

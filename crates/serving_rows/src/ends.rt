@@ -1,6 +1,7 @@
 //! Connections in memory.
 
 ghost use Rattle.std.specs.Prelude.{◌≡◌, ◌+◌, ◌∷◌, [], Some};
+ghost use Rattle.wire.specs.Ends.{inner_of};
 
 use connections::{Accept, AcceptFault, Close};
 use count::Count;
@@ -112,16 +113,24 @@ impl Accept for Listed {
         };
         let sent = *first;
         self.rest = rest;
-        let input = Input {
-            inner: Plain::new(sent.lines),
-            breaks_off: sent.breaks_off,
-            failures: Count::new(),
-        };
-        let output = Output {
-            taken: Vec::new(self.alloc),
-            is_deaf: sent.is_deaf,
-            failures: Count::new(),
-        };
-        Ok((input, output))
+        Ok(ends_of(self.alloc, sent))
     }
+}
+
+/// Where the lines of a client are read from, and where it takes its replies.
+pub(crate) fn ends_of(alloc: Global, sent: Sent) -> (Input, Output)
+    ensures input { (inner_of result.0.inner).now ≡ sent.lines.now }
+    ensures output { result.1.taken.items ≡ [] }
+{
+    let input = Input {
+        inner: Plain::new(sent.lines),
+        breaks_off: sent.breaks_off,
+        failures: Count::new(),
+    };
+    let output = Output {
+        taken: Vec::new(alloc),
+        is_deaf: sent.is_deaf,
+        failures: Count::new(),
+    };
+    (input, output)
 }

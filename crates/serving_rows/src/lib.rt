@@ -2,10 +2,14 @@
 #![tactic(auto)]
 
 #[cfg(test)]
+mod again;
+#[cfg(test)]
 mod ends;
 #[cfg(test)]
 mod gate;
 #[cfg(test)]
 mod meeting;
+#[cfg(test)]
+mod series;
 #[cfg(test)]
 mod tests;

@@ -1,13 +1,19 @@
 //! The tests.
 
+use crate::again::{Again, Stock};
 use crate::ends::{Listed, Sent};
 use crate::gate::{Stop, Turns};
 use crate::meeting::{Client, Meeting};
-use connections::{Account, Ending, Gate, Served, part, serve_all};
+use crate::series::{SILENT, Series};
+use connections::{
+    Account, Closed, Ending, Gate, Served, Terms, Totals, part, serve_all, serve_on,
+};
 use std::alloc::Global;
 use std::sync::Wait;
+use std::sync::atomic::AtomicUsize;
 use std::test::*;
 use std::thread::Threads;
+use std::time::Clock;
 use wire::{End, Fault, Tally, WireError};
 
 const NONE: Tally = Tally {
@@ -24,12 +30,13 @@ const REJECTED: Tally = Tally {
     limit: false,
 };
 
-// A client that sends nothing.
-const SILENT: Sent = Sent {
-    lines: b"",
-    breaks_off: false,
-    is_deaf: false,
+const MISUSED: Tally = Tally {
+    rejected: false,
+    misuse: true,
+    limit: false,
 };
+
+const TALLIES: [Tally; 3] = [NONE, REJECTED, MISUSED];
 
 const CLIENTS: [Sent; 5] = [SILENT; 5];
 
@@ -104,5 +111,56 @@ fn each_connection_is_reported(rt: HostRuntime) -> Result<(), Fail> {
 fn two_clients_meet(rt: HostRuntime) -> Result<(), Fail> {
     let (places, _, _) = ended(&rt, rt.alloc(), &Meeting::new(&rt), 2)?;
     assert!(rt; places.as_slice() == [Client::Met, Client::Second].as_slice());
+    Ok(())
+}
+
+// What came of so many silent clients at one place, each of which is held until there were so many asks for a connection.
+fn closed_with<T: Threads + Wait + Clock + Sync>(
+    rt: &T,
+    alloc: Global,
+    clients: usize,
+    until: usize,
+    until_idle: bool,
+) -> Result<Closed<Stock>, Fail> {
+    let asked = AtomicUsize::new(0);
+    let gate = Again::new(rt, &TALLIES, &asked, until);
+    let series = Series::new(alloc, clients, !until_idle, &asked);
+    let places = Stock { free: 1, served: 0 };
+    let terms = Terms {
+        threads: 1,
+        until_idle,
+        retries: 1,
+    };
+    match serve_on(rt, alloc, series, &gate, places, terms) {
+        Ok(closed) => Ok(closed),
+        Err(_) => Err(Fail::new("connections are served")),
+    }
+}
+
+// Five connections come one after another, and get the one place. Then no further one can be taken, also when that is tried again.
+#[test]
+fn a_place_is_given_again(rt: HostRuntime) -> Result<(), Fail> {
+    let closed = closed_with(&rt, rt.alloc(), 5, 0, false)?;
+    let totals = Totals {
+        rejected: true,
+        limit: false,
+        unjudged: 1,
+    };
+    assert!(rt; closed.totals == totals && closed.accept_failed);
+    assert!(rt; closed.places == Stock { free: 1, served: 5 });
+    Ok(())
+}
+
+// Of two connections at once the second gets no place, and the service ends once the first is over.
+#[test]
+fn one_too_many_is_refused(rt: HostRuntime) -> Result<(), Fail> {
+    let closed = closed_with(&rt, rt.alloc(), 2, 3, true)?;
+    let totals = Totals {
+        rejected: false,
+        limit: true,
+        unjudged: 0,
+    };
+    assert!(rt; closed.totals == totals && !closed.accept_failed);
+    assert!(rt; closed.places == Stock { free: 1, served: 1 });
     Ok(())
 }

@@ -1,19 +1,18 @@
 //! The command line.
 use crate::addresses::address_of;
-use crate::wish::{Check, Service, Wish};
+use crate::wish::{Address, Check, Service, Wish};
 use clap::error::ErrorKind;
 use clap::{Arg, ArgAction, ArgMatches, Command, Error};
 use connections::Connections;
 use shown::{Format, Options, Selection};
 use std::alloc::{AllocError, Global};
 use std::convert::AsStr;
-use std::net::SocketAddrV4;
 
 /// The version of the program, as `--version` prints it.
 const VERSION: &str = "0.5.1";
 
 // How a fault of the address is reported.
-const BAD_ADDRESS: &str = "ADDR is 127.x.y.z:port, in decimals without leading zeros";
+const BAD_ADDRESS: &str = "ADDR is 127.x.y.z:port, in decimals without leading zeros, or unix:PATH";
 
 // What the help of the program ends with.
 const STATUSES: &str = "\
@@ -139,7 +138,18 @@ fn show_command<'a>(alloc: Global) -> Result<Command<'a>, AllocError> {
             "coverage",
             "Print after the reports how often each event came, and could have come",
         ))?
-        .arg(format_option(alloc))
+        .arg(format_option(alloc))?
+        .arg(follow_option(alloc)?)
+}
+
+// The option to go on with a journal.
+fn follow_option<'a>(alloc: Global) -> Result<Arg<'a>, AllocError> {
+    flag(
+        alloc,
+        "follow",
+        "Go on with the reports that come, until the program is stopped",
+    )
+    .conflicts_with("coverage")
 }
 
 // The option for the address.
@@ -147,7 +157,7 @@ fn listen_option<'a>(alloc: Global) -> Arg<'a> {
     word(
         alloc,
         "ADDR",
-        "Where to listen, as 127.0.0.1:7000; port 0 for any",
+        "Where to listen, as 127.0.0.1:7000, port 0 for any; or unix:PATH",
     )
     .long("listen")
 }
@@ -201,7 +211,7 @@ fn command<'a>(alloc: Global) -> Result<Command<'a>, AllocError> {
 }
 
 // The wish to serve at this address.
-fn wish_at<'a>(matches: &ArgMatches<'a>, address: SocketAddrV4) -> Option<Wish<'a>> {
+fn wish_at<'a>(matches: &ArgMatches<'a>, address: Address<'a>) -> Option<Wish<'a>> {
     Some(Wish::Serve(Service {
         spec: matches.get_str("SPEC")?,
         process: matches.get_str("PROCESS")?,
@@ -253,6 +263,7 @@ fn wish_to_show<'a>(matches: &ArgMatches<'a>) -> Option<Wish<'a>> {
             coverage: matches.get_flag("coverage"),
             format,
         },
+        follow: matches.get_flag("follow"),
     })
 }
 

@@ -13,8 +13,13 @@ pub enum Wish<'a> {
     Print { spec: &'a str, process: &'a str },
     /// To judge the records of the journal in the file again; without a change of the file where `read_only` says so.
     Replay { journal: &'a str, read_only: bool },
-    /// To print the reports of the journal in the file, and why those that were rejected were.
-    Show { journal: &'a str, options: Options },
+    /// To print the reports of the journal in the file, and why those that were rejected were; then those that come, where `follow`
+    /// says so.
+    Show {
+        journal: &'a str,
+        options: Options,
+        follow: bool,
+    },
     /// To judge the reports of connections by the process of the script in the file `spec`, with the journal in its file.
     Serve(Service<'a>),
 }
@@ -36,6 +41,15 @@ pub struct Check<'a> {
     pub first: bool,
 }
 
+/// Where connections are taken.
+#[derive(Clone, Copy)]
+pub enum Address<'a> {
+    /// At an address of the machine itself.
+    Tcp(SocketAddrV4),
+    /// At a socket in the file system, with this name.
+    Unix(&'a str),
+}
+
 /// What is served, and where.
 #[derive(Clone, Copy)]
 pub struct Service<'a> {
@@ -48,7 +62,7 @@ pub struct Service<'a> {
     /// The address as the word has it.
     pub listen: &'a str,
     /// The address as it is read.
-    pub address: SocketAddrV4,
+    pub address: Address<'a>,
     /// Whether the limits are those for large systems.
     pub large: bool,
     /// How many connections are served.

@@ -1,0 +1,86 @@
+//! `cspwatch show --follow`: the reports of a journal, and then those that come.
+
+use crate::evidence::{Stamp, bytes_of, stamp_of};
+use crate::telling::{tell_fault, tell_journal};
+use memory_disks::MemoryDisk;
+use program::{Exit, FollowError, Options};
+use std::alloc::Global;
+use std::fs::File;
+use std::io::{IsTerminal, Write};
+use std::rt::Files;
+use std::sync::Wait;
+use std::thread::sleep;
+use std::time::{Clock, Duration};
+
+/// How many milliseconds there are between two looks at the file.
+const PAUSE: u64 = 500;
+
+// Reports why nothing further is shown, and answers the status.
+fn tell_follow<R: Files<File = File>, E: Write + IsTerminal>(
+    rt: &R,
+    errors: &mut E,
+    name: &str,
+    error: FollowError,
+) -> Exit {
+    match error {
+        FollowError::Session(error) => tell_journal(rt, errors, name, error),
+        FollowError::Output => tell_fault(errors, "-", "cannot write", Exit::FileFailed),
+        FollowError::Changed => tell_fault(
+            errors,
+            name,
+            "is another journal now",
+            Exit::BadJournal,
+        ),
+    }
+}
+
+// Looks at the file as it stands in this moment, and writes what is shown of it beyond what was shown before. The answer is all of it, or
+// the status of the fault that was reported.
+fn look<R: Files<File = File> + AllocGlobal, O: Write, E: Write + IsTerminal>(
+    rt: &R,
+    name: &str,
+    options: Options,
+    before: Vec<u8, Global>,
+    output: &mut O,
+    errors: &mut E,
+) -> Result<Vec<u8, Global>, Exit> {
+    let bytes = match bytes_of(rt, name, errors) {
+        Ok(bytes) => bytes,
+        Err(exit) => {
+            drop(before);
+            return Err(exit);
+        }
+    };
+    match program::follow(rt.alloc(), MemoryDisk::new(bytes), options, before, output) {
+        Ok(text) => Ok(text),
+        Err(error) => Err(tell_follow(rt, errors, name, error)),
+    }
+}
+
+/// Judges the records of the journal in the file again, writes what is asked for of them, and then, as records come to the file, what
+/// is asked for of those, until the program is stopped; or answers the status of the fault that was reported. The file is only read. It
+/// is looked at each half second, and judged again where it has changed since the look before, and once more after that: a server
+/// opens the gate of a record some time after it wrote its line.
+pub(crate) fn follow<
+    R: Files<File = File> + AllocGlobal + Clock + Wait,
+    O: Write,
+    E: Write + IsTerminal,
+>(rt: &R, name: &str, options: Options, output: &mut O, errors: &mut E) -> Exit {
+    let mut text = Vec::new(rt.alloc());
+    let mut seen = Stamp::none();
+    let mut has_changed = true;
+    for _ in rt.forever() {
+        let stamp = stamp_of(rt, name);
+        let is_due = has_changed || stamp != seen;
+        has_changed = stamp != seen;
+        seen = stamp;
+        if is_due {
+            text = match look(rt, name, options, text, output, errors) {
+                Ok(text) => text,
+                Err(exit) => return exit,
+            };
+        }
+        sleep(rt, Duration::from_millis(PAUSE));
+    }
+    unreachable!()
+}

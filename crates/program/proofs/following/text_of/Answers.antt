@@ -1,0 +1,12 @@
+use Rattle.std.proofs.Common.{◌≡◌, ◌++◌, sym, ap, subst, ◌∙◌}
+use Rattle.std.proofs.lemmas.Result.{IfOk-weaker}
+use Rattle.shown.specs.Shows.{Shows}
+use Rattle.program.proofs.following.text_of.Goals as goal
+
+pub returns-in-Ok : goal.returns-in-Ok
+returns-in-Ok g c =
+    let written = c.in-Ok.ensures in
+    let all : c.lines_of.new.output.items ≡ written.0 = written.2 ∙ ap (λ l. l ++ written.0) c.new-text.ensures.items in
+    IfOk-weaker c.joined.result _ _
+    (λ whole h. subst (λ t. Shows c.args.options c.args.session.now.spec c.args.session.now.history t) (sym (h ∙ ap (λ t. t ++ c.in-Ok.left.items) all)) written.1)
+    c.joined.ensures

@@ -1,0 +1,142 @@
+//! The history of a journal, shown further: what came to it since it was shown.
+
+ghost use Rattle.std.specs.Prelude.{◌≡◌, ◌++◌, Ok, IfOk, IfSome, OnOk};
+ghost use Rattle.shared.specs.Records.{names_of as names_kept};
+ghost use Rattle.shared.specs.Scripts.{IsReadAs};
+ghost use Rattle.shown.specs.Shows.{Shows};
+ghost use Rattle.program.specs.Followings.{Follows, WritesOn};
+
+use crate::replaying::{Replayed, replay};
+use crate::showing::{lines_of, put_out};
+use disk::Disk;
+use journal::Header;
+use shared::{Session, SessionError};
+use shown::Options;
+use std::alloc::{AllocError, Allocator};
+use std::io::Write;
+
+/// Why nothing further is shown of a journal.
+#[derive(Clone, Copy, Debug, PartialEq, Eq)]
+pub enum FollowError {
+    /// The journal has no session, or a request for memory was refused.
+    Session(SessionError),
+    /// The output failed.
+    Output,
+    /// What was shown before isn't the beginning of what there is to show now.
+    Changed,
+}
+
+// One text after the other.
+fn joined<A: Allocator>(text: Vec<u8, A>, left: Vec<u8, A>) -> Result<Vec<u8, A>, AllocError>
+    ensures { IfOk result (λ whole. whole.items ≡ text.items ++ left.items) }
+{
+    let mut text = text;
+    let added = text.extend_from_slice(&left);
+    drop(left);
+    match added {
+        Ok(()) => Ok(text),
+        Err(_) => {
+            drop(text);
+            Err(AllocError)
+        }
+    }
+}
+
+// The lines of the session's history.
+fn text_of<D: Disk, A: Allocator + Copy>(
+    alloc: A,
+    session: &Session<D, A>,
+    header: &Header<A>,
+    options: Options,
+) -> Result<Vec<u8, A>, AllocError>
+    requires { IsReadAs (names_kept header.now.version) header.now.script.items header.now.root.items session.now.spec }
+    ensures { IfOk result (λ text. Shows options session.now.spec session.now.history text.items) }
+{
+    let mut text = Vec::new(alloc);
+    match lines_of(alloc, session, header, options, &mut text) {
+        Ok(left) => joined(text, left),
+        Err(_) => {
+            drop(text);
+            Err(AllocError)
+        }
+    }
+}
+
+// What the text has after its beginning, if it begins so.
+fn rest_of<'a>(text: &'a [u8], before: &[u8]) -> Option<&'a [u8]>
+    ensures { IfSome result (λ rest. text.now ≡ before.now ++ rest.now) }
+{
+    if text.len() < before.len() {
+        return None;
+    }
+    let (front, rest) = text.split_at(before.len());
+    if front == before { Some(rest) } else { None }
+}
+
+// Writes what the text has more than what was shown before.
+fn write_rest<W: Write>(text: &[u8], before: &[u8], output: &mut W) -> Result<(), FollowError>
+    ensures { OnOk result (WritesOn before.now text.now (W.contents output.old) (W.contents output.new)) }
+{
+    let Some(rest) = rest_of(text, before) else {
+        return Err(FollowError::Changed);
+    };
+    match put_out(rest, output) {
+        Ok(()) => Ok(()),
+        Err(_) => Err(FollowError::Output),
+    }
+}
+
+/// Judges the records of the journal on the disk again, as `show` does, and writes the lines of its history that come after what was
+/// shown of it before; so what is written in all is what `show` would write of the journal as it is now, but for the counts. The
+/// answer is that text, for the next call. The errors are those of `replay`, that of the output, and that the journal isn't the one
+/// that was shown. Each call judges the whole history, and holds its text.
+pub fn follow<D: Disk + Drop, A: Allocator + Copy, W: Write>(
+    alloc: A,
+    disk: D,
+    options: Options,
+    before: Vec<u8, A>,
+    output: &mut W,
+) -> Result<Vec<u8, A>, FollowError>
+    ensures { IfOk result (λ text. Follows (D.state disk) options before.items text.items (W.contents output.old) (W.contents output.new)) }
+{
+    let Replayed {
+        session,
+        header,
+        line,
+        exit: _,
+    } = match replay(alloc, disk) {
+        Ok(replayed) => replayed,
+        Err(error) => {
+            drop(before);
+            return Err(FollowError::Session(error));
+        }
+    };
+    drop(line);
+    let text = text_of(alloc, &session, &header, options);
+    drop(session);
+    drop(header);
+    show_on(text, before, output)
+}
+
+// Writes what the text has more than what was shown before, where there was memory for the text, and gives it back.
+fn show_on<A: Allocator, W: Write>(
+    text: Result<Vec<u8, A>, AllocError>,
+    before: Vec<u8, A>,
+    output: &mut W,
+) -> Result<Vec<u8, A>, FollowError>
+    ensures { IfOk result (λ whole. (text ≡ Ok whole) × WritesOn before.items whole.items (W.contents output.old) (W.contents output.new)) }
+{
+    let Ok(text) = text else {
+        drop(before);
+        return Err(FollowError::Session(SessionError::Memory));
+    };
+    let written = write_rest(&text, &before, output);
+    drop(before);
+    match written {
+        Ok(()) => Ok(text),
+        Err(error) => {
+            drop(text);
+            Err(error)
+        }
+    }
+}
