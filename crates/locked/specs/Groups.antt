@@ -4,11 +4,14 @@ use Rattle.alphabet.specs.declared.events.Report.{Report}
 use Rattle.session.specs.Entry.{Entry}
 use Rattle.session.specs.View.{IsOf}
 
--- The settled entries after the opening; the whole history with what is offered; and the entry that closed the session.
+-- The settled entries after the opening; the whole history with what is offered; the entry that closed the session; the last of the names;
+-- and by its number, whether the seat of a name has a connection.
 pub record LockedView : Type 0 where
   pub settled : List Entry
   pub entries : List Entry
   pub failed : Option Entry
+  pub names : ℕ
+  pub taken : List Bool
 
 -- the entry stands at this place of the history, counted from 1
 pub record StandsAt (h : List Entry) (place : ℕ) (e : Entry) : Type 0 where

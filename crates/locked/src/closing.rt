@@ -35,6 +35,7 @@ pub fn close<D: Disk, A: Allocator + Copy, N: Naming, R: Wait>(
         rest,
         given,
         places: _,
+        names: _,
     } = locked;
     let _ = publisher.take(rt);
     (session, settled, book, rest, given)

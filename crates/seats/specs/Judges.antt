@@ -1,5 +1,5 @@
 -- What is answered to a seat, and how that moves what it knows and has done.
-use Rattle.std.specs.Prelude.{◌≡◌, ◌↔◌, ℕ, [], ◌∷◌, ◌++◌, length, IsTrue, Result, Ok, Err}
+use Rattle.std.specs.Prelude.{◌≡◌, ◌↔◌, ◌⊎◌, ℕ, [], ◌∷◌, ◌++◌, length, IsTrue, Option, Some, None, Result, Ok, Err}
 use Rattle.alphabet.specs.declared.events.Event.{Event}
 use Rattle.alphabet.specs.declared.events.Report.{Report}
 use Rattle.alphabet.specs.EventSets.{Set, member}
@@ -11,10 +11,11 @@ use Rattle.shared.specs.Legal.{Legal}
 use Rattle.shared.specs.Beginnings.{StartsWith}
 use Rattle.shared.specs.Fault.{Fault as SessionFault}
 use Rattle.shared.specs.View.{SeatView}
-use Rattle.shared.specs.Seats.{Answered, Refused}
+use Rattle.shared.specs.Seats.{Answered, Refused, Named}
 use Rattle.wire.specs.declared.answers.Receipt.{Receipt}
 use Rattle.wire.specs.declared.answers.Status.{Status}
 use Rattle.wire.specs.declared.answers.Fault.{Fault}
+use Rattle.wire.specs.declared.answers.Fault.TheVariants.{Taken, Closed}
 use Rattle.seats.specs.Faults.{reported_as}
 
 -- A receipt is of the report's own entry, which ends what the seat has then seen: a legal history that begins with what it had seen.
@@ -29,6 +30,7 @@ pub record HasLooked (B : ℕ → Proc) (old new : SeatView) : Type 0 where
   pub begins : StartsWith new.seen old.seen
   pub seat : new.seat ≡ old.seat
   pub mine : new.mine ≡ old.mine
+  pub begun : new.begun ≡ old.begun
   pub closed : new.closed ≡ old.closed
 
 -- the counts are those of what is then seen
@@ -44,3 +46,11 @@ pub record Statuses (B : ℕ → Proc) (old : SeatView) (status : Status) (new :
 pub record Nexts (B : ℕ → Proc) (old : SeatView) (set : Set) (new : SeatView) : Type 0 where
   pub looked : HasLooked B old new
   pub are : (x : Event) → IsTrue (member set x) ↔ Trace B root (events new.seen ++ x ∷ [])
+
+-- A client that says it is the seat of this name is told how many reports of the name stand there, which are then the seat's own. Where the
+-- name has a connection, or the session is closed, the seat stays; so it does where it can't take the name, and is told that this is no
+-- command.
+abbrev pub Identifies : (ℕ → Proc) → SeatView → ℕ → Option (Result ℕ Fault) → SeatView → Type 0
+Identifies B old name None new = new ≡ old
+Identifies B old name (Some (Ok count)) new = Named B old new name count
+Identifies B old name (Some (Err fault)) new = (new ≡ old) × ((fault ≡ Taken) ⊎ (fault ≡ Closed))

@@ -19,8 +19,8 @@ use disk::Disk;
 use journal::{Journal, Prepared};
 use seats::copy_of;
 use shared::{
-    Counts, Failed, Naming, Opened, Publisher, Session, Share, Shared, Source, Spine, crosses,
-    legal_crosses,
+    Counts, Failed, Names, Naming, Opened, Publisher, Session, Share, Shared, Source, Spine,
+    crosses, legal_crosses,
 };
 use std::alloc::{AllocError, Global};
 use std::marker::Brand;
@@ -104,6 +104,7 @@ fn serve_at<D: Disk + Send, N: Naming + Send + Sync, T: Threads + Wait + Sync, L
     crosses::<ledger::Share<N>>();
     crosses::<Prepared<Global>>();
     crosses::<EventSet>();
+    crosses::<Names>();
     let gate = SharedGate::new(shared, alphabet);
     let served = serve_all(rt, alloc, accept, &gate, count);
     gate.end();

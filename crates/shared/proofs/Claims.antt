@@ -72,14 +72,14 @@ later_own n k h new longer few = (own_enough n k new h longer few, own_stays n k
 pub whole_seen : (m : ℕ) (whole : List Entry) → m ≡ length whole → take m whole ≡ whole
 whole_seen m whole is = ap (λ n. take n whole) is ∙ take-length whole
 
--- a seat with this number that has seen these entries, of which the first so many of its calls are its own
-abbrev pub view_of : ℕ → List Entry → ℕ → Bool → SeatView
-view_of k h n closed = record { seat = k; seen = h; mine = take n (calls h k); closed = closed }
+-- a seat with this number that began with so many reports and has seen these entries, of which the first so many of its calls are its own
+abbrev pub view_of : ℕ → ℕ → List Entry → ℕ → Bool → SeatView
+view_of b k h n closed = record { seat = k; seen = h; mine = take n (calls h k); begun = b; closed = closed }
 
 -- what the settled entries of some reports leave of their seat
-pub record ClaimedAll (B : ℕ → Proc) (n k place : ℕ) (h whole : List Entry) (rs : List Report) (vs : List Bool) (closed : Bool) : Type 0 where
+pub record ClaimedAll (B : ℕ → Proc) (b n k place : ℕ) (h whole : List Entry) (rs : List Report) (vs : List Bool) (closed : Bool) : Type 0 where
   pub seen : List Entry
-  pub came : AllAnswered B (view_of k h n closed) rs vs place (view_of k seen (n + length rs) closed)
+  pub came : AllAnswered B (view_of b k h n closed) rs vs place (view_of b k seen (n + length rs) closed)
   pub last : (m : ℕ) → m + 1 ≡ place + length rs → 0 < length rs → seen ≡ take m whole
   pub within : (m : ℕ) → m + 1 ≡ place + length rs → 0 < length rs → m ≤ length whole
   pub none : length rs ≡ 0 → seen ≡ h
@@ -97,13 +97,13 @@ within_step : (rs : List Report) (whole : List Entry) (place m : ℕ) → place 
 within_step [] whole place m one more is = omega (arith, one, is)
 within_step (r ∷ rs) whole place m one more is = more m (omega (arith, is)) (omega arith)
 
-pub claimed_all : (B : ℕ → Proc) (n k place : ℕ) (h whole : List Entry) (rs : List Report) (vs : List Bool) (closed : Bool) → HasEntries whole place k (n + 1) rs vs → Legal B whole → StartsWith whole h
-    → length h < place → n ≤ length (calls h k) → place + length rs ≤ 1000001 → n ≤ 1000000 → ClaimedAll B n k place h whole rs vs closed
-claimed_all B n k place h whole [] [] closed has legal begins longer few bound small =
+pub claimed_all : (B : ℕ → Proc) (b n k place : ℕ) (h whole : List Entry) (rs : List Report) (vs : List Bool) (closed : Bool) → HasEntries whole place k (n + 1) rs vs → Legal B whole → StartsWith whole h
+    → length h < place → n ≤ length (calls h k) → place + length rs ≤ 1000001 → n ≤ 1000000 → ClaimedAll B b n k place h whole rs vs closed
+claimed_all B b n k place h whole [] [] closed has legal begins longer few bound small =
     let same : n + 0 ≡ n = omega arith in
     record {
       seen = h;
-      came = ap (λ i. view_of k h i closed) same;
+      came = ap (λ i. view_of b k h i closed) same;
       last = λ m is some. absurd (omega (arith, some));
       within = λ m is some. absurd (omega (arith, some));
       none = λ _. refl;
@@ -111,20 +111,20 @@ claimed_all B n k place h whole [] [] closed has legal begins longer few bound s
       enough = omega (arith, few);
       small = omega (arith, small);
     }
-claimed_all B n k place h whole [] (v ∷ vs) closed has legal begins longer few bound small = absurd has
-claimed_all B n k place h whole (r ∷ rs) [] closed has legal begins longer few bound small = absurd has
-claimed_all B n k place h whole (r ∷ rs) (v ∷ vs) closed has legal begins longer few bound small =
+claimed_all B b n k place h whole [] (v ∷ vs) closed has legal begins longer few bound small = absurd has
+claimed_all B b n k place h whole (r ∷ rs) [] closed has legal begins longer few bound small = absurd has
+claimed_all B b n k place h whole (r ∷ rs) (v ∷ vs) closed has legal begins longer few bound small =
     let one = has.0 in
     let e = one.entry in
     let a : Claimed B n k place h whole e = claimed B n k place h whole e one.stands legal begins longer one.is_of.seat_is one.is_of.number_is few (omega (arith, bound)) in
     let now : List Entry = take place whole in
-    let rest : ClaimedAll B (n + 1) k (place + 1) now whole rs vs closed =
-    claimed_all B (n + 1) k (place + 1) now whole rs vs closed has.1 legal (begins_take place whole) (omega (arith, a.stands)) a.enough (omega (arith, bound)) a.small in
+    let rest : ClaimedAll B b (n + 1) k (place + 1) now whole rs vs closed =
+    claimed_all B b (n + 1) k (place + 1) now whole rs vs closed has.1 legal (begins_take place whole) (omega (arith, a.stands)) a.enough (omega (arith, bound)) a.small in
     let count : n + 1 + length rs ≡ n + suc (length rs) = omega arith in
     record {
       seen = rest.seen;
       came = (
-        view_of k now (n + 1) closed,
+        view_of b k now (n + 1) closed,
         record {
           legal = a.legal;
           before = a.before;
@@ -135,10 +135,11 @@ claimed_all B n k place h whole (r ∷ rs) (v ∷ vs) closed has legal begins lo
           stands = a.stands;
           mine = a.mine;
           own = a.own ∙ sym a.mine;
+          begun = refl;
           seat = refl;
           closed = refl;
         },
-        subst (λ i. AllAnswered B (view_of k now (n + 1) closed) rs vs (place + 1) (view_of k rest.seen i closed)) count rest.came,
+        subst (λ i. AllAnswered B (view_of b k now (n + 1) closed) rs vs (place + 1) (view_of b k rest.seen i closed)) count rest.came,
       );
       last = λ m is some. last_step rs rest.seen whole place m rest.none rest.last is;
       within = λ m is some. within_step rs whole place m a.within rest.within is;

@@ -24,7 +24,7 @@ none_left zero (r ∷ reports) is = absurd (omega (arith, is))
 none_left (suc n) [] is = refl
 none_left (suc n) (r ∷ reports) is = none_left n reports (omega (arith, is))
 
-module _ (spec : Specified) (n k place : ℕ) (h whole : List Entry) (reports : List Report) (verdicts : List Bool) (count : ℕ) (closed : Bool)
+module _ (spec : Specified) (b n k place : ℕ) (h whole : List Entry) (reports : List Report) (verdicts : List Bool) (count : ℕ) (closed : Bool)
     (has : HasEntries whole place k (n + 1) (take count reports) (take count verdicts)) (legal : Legal (bodies_of spec.bodies) whole) (begins : StartsWith whole h)
     (longer : length h < place) (few : n ≤ length (calls h k)) (bound : place + count ≤ 1000001) (small : n ≤ 1000000) (within : count ≤ length reports) where
   abbrev B : ℕ → Proc
@@ -33,11 +33,11 @@ module _ (spec : Specified) (n k place : ℕ) (h whole : List Entry) (reports : 
   many : length (take count reports) ≡ count
   many = length-take-le count reports within
 
-  all : ClaimedAll B n k place h whole (take count reports) (take count verdicts) closed
-  all = claimed_all B n k place h whole (take count reports) (take count verdicts) closed has legal begins longer few (omega (arith, many, bound)) small
+  all : ClaimedAll B b n k place h whole (take count reports) (take count verdicts) closed
+  all = claimed_all B b n k place h whole (take count reports) (take count verdicts) closed has legal begins longer few (omega (arith, many, bound)) small
 
-  receipts : AllAnswered B (view_of k h n closed) (take count reports) (take count verdicts) place (view_of k all.seen (n + count) closed)
-  receipts = subst (λ i. AllAnswered B (view_of k h n closed) (take count reports) (take count verdicts) place (view_of k all.seen (n + i) closed)) many all.came
+  receipts : AllAnswered B (view_of b k h n closed) (take count reports) (take count verdicts) place (view_of b k all.seen (n + count) closed)
+  receipts = subst (λ i. AllAnswered B (view_of b k h n closed) (take count reports) (take count verdicts) place (view_of b k all.seen (n + i) closed)) many all.came
 
   enough : n + count ≤ length (calls all.seen k)
   enough = omega (arith, many, all.enough)
@@ -56,13 +56,13 @@ module _ (spec : Specified) (n k place : ℕ) (h whole : List Entry) (reports : 
     pub whole_enough : n + count ≤ length (calls (take m whole) k)
     whole_enough = subst (λ (l : List Entry). n + count ≤ length (calls l k)) seen_is enough
 
-    pub came_whole : CameTo spec (view_of k h n closed) reports verdicts count place None (view_of k (take m whole) (n + count) closed)
+    pub came_whole : CameTo spec (view_of b k h n closed) reports verdicts count place None (view_of b k (take m whole) (n + count) closed)
     came_whole = record {
-      mid = view_of k all.seen (n + count) closed;
+      mid = view_of b k all.seen (n + count) closed;
       receipts = receipts;
       ends =
-          subst (λ (l : List Report). Ends spec (view_of k all.seen (n + count) closed) l None (view_of k (take m whole) (n + count) closed)) (sym (none_left count reports is))
-          (ap (λ (l : List Entry). view_of k l (n + count) closed) (sym seen_is));
+          subst (λ (l : List Report). Ends spec (view_of b k all.seen (n + count) closed) l None (view_of b k (take m whole) (n + count) closed)) (sym (none_left count reports is))
+          (ap (λ (l : List Entry). view_of b k l (n + count) closed) (sym seen_is));
     }
 
   -- or the next one was refused
@@ -73,13 +73,13 @@ module _ (spec : Specified) (n k place : ℕ) (h whole : List Entry) (reports : 
     pub part_enough : n + count ≤ length (calls whole k)
     part_enough = own.0
 
-    pub came_part : CameTo spec (view_of k h n closed) reports verdicts count place (Some f) (view_of k whole (n + count) shut)
+    pub came_part : CameTo spec (view_of b k h n closed) reports verdicts count place (Some f) (view_of b k whole (n + count) shut)
     came_part =
-        let mid : SeatView = view_of k all.seen (n + count) closed in
-        let new : SeatView = view_of k whole (n + count) shut in
+        let mid : SeatView = view_of b k all.seen (n + count) closed in
+        let new : SeatView = view_of b k whole (n + count) shut in
         let length_is : length mid.mine ≡ n + count = length-take-le (n + count) (calls all.seen k) enough in
         let why : Answers spec whole k mid.mine refused.report f = answers spec whole k (n + 1 + count) mid.mine refused.report f (omega (arith, length_is)) refused.why in
-        let one : Refused spec mid new refused.report f = record { legal = legal; begins = all.begins; same = own.1; why = why; seat = refl; closed = shut_is } in
+        let one : Refused spec mid new refused.report f = record { legal = legal; begins = all.begins; same = own.1; begun = refl; why = why; seat = refl; closed = shut_is } in
         record {
           mid = mid;
           receipts = receipts;
@@ -89,17 +89,17 @@ module _ (spec : Specified) (n k place : ℕ) (h whole : List Entry) (reports : 
   -- either
   pub came_any : (fault : Option Fault) (seen : ℕ) (shut : Bool) → 0 < length reports → (fault ≡ None → count ≡ length reports) → IfSome fault (IsRefused spec whole k (n + 1) reports count)
       → IfSome fault (λ _. seen ≡ length whole) → (fault ≡ None → seen + 1 ≡ place + count) → (fault ≡ None → shut ≡ closed) → IfSome fault (λ f. shut ≡ (closes f || closed))
-      → CameTo spec (view_of k h n closed) reports verdicts count place fault (view_of k (take seen whole) (n + count) shut) × (seen ≤ length whole) × (n + count ≤ length (calls (take seen whole) k))
+      → CameTo spec (view_of b k h n closed) reports verdicts count place fault (view_of b k (take seen whole) (n + count) shut) × (seen ≤ length whole) × (n + count ≤ length (calls (take seen whole) k))
   came_any None seen shut some is refused all last same closes_too =
       let counted = is refl in
       let at = last refl in (
-        subst (λ (b : Bool). CameTo spec (view_of k h n closed) reports verdicts count place None (view_of k (take seen whole) (n + count) b)) (sym (same refl)) (came_whole seen some counted at),
+        subst (λ (t : Bool). CameTo spec (view_of b k h n closed) reports verdicts count place None (view_of b k (take seen whole) (n + count) t)) (sym (same refl)) (came_whole seen some counted at),
         whole_within seen some counted at,
         whole_enough seen some counted at,
       )
   came_any (Some f) seen shut some is refused all last same closes_too =
       let whole_is : take seen whole ≡ whole = whole_seen seen whole all in (
-        subst (λ (l : List Entry). CameTo spec (view_of k h n closed) reports verdicts count place (Some f) (view_of k l (n + count) shut)) (sym whole_is) (came_part f refused shut closes_too),
+        subst (λ (l : List Entry). CameTo spec (view_of b k h n closed) reports verdicts count place (Some f) (view_of b k l (n + count) shut)) (sym whole_is) (came_part f refused shut closes_too),
         omega (arith, all),
         subst (λ (l : List Entry). n + count ≤ length (calls l k)) (sym whole_is) (part_enough f refused shut closes_too),
       )

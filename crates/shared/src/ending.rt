@@ -2,12 +2,14 @@
 
 ghost use Rattle.std.specs.Prelude.{◌≡◌, ◌≤◌, ◌<◌, ◌+◌, ◌^◌, ◌++◌, ◌∷◌, [], suc, length, true, ℕ, List, IfSome, IsSome, MatchOption};
 ghost use Rattle.term.specs.Proc.{bodies_of};
+ghost use Rattle.locked.specs.Entry.{Entry};
 ghost use Rattle.locked.specs.Legal.{Legal};
 ghost use Rattle.locked.specs.SessionView.{IsFor};
 ghost use Rattle.locked.specs.Beginnings.{StartsWith};
 ghost use Rattle.shared.specs.Crashes.{AllLeft};
 ghost use Rattle.shared.specs.Seats.{AllWithin, AllTold, receipts, apart, all_open, is_new};
 
+use crate::places::Places;
 use crate::seat::Shared;
 use crate::share::Share;
 use disk::Disk;
@@ -50,6 +52,81 @@ impl<D: Disk, A: Allocator + Copy, N: Naming> Shared<D, A, N> {
     }
 }
 
+impl<D: Disk, A: Allocator + Copy, N: Naming> Shared<D, A, N> {
+    /// Ends a service. It gives back the session, and how many reports were answered with a receipt, to the seats that have left and to those
+    /// of these shares: `None` where a seat hasn't left and its share isn't among them.
+    ///
+    /// All seats have ended, since a seat borrows the shared session. So there is nobody to wait for, although the call may wait.
+    pub fn finish_service<R: Wait>(
+        self,
+        rt: &R,
+        shares: Vec<Share<N, A>, A>,
+        places: Places<N>,
+    ) -> (Session<D, A>, Option<u64>)
+        requires { N.all ≡ N.parts }
+        ensures session { (result.0.spec ≡ N.spec) × StartsWith result.0.history N.opening × Legal (bodies_of N.spec.bodies) result.0.history }
+        ensures kept { (script : List ℕ) × (root : List ℕ) × IsFor D.state script root result.0 }
+        ensures counted { IfSome result.1 (λ n. (length result.0.history ≡ length N.opening + n) × (n ≡ places.receipts + receipts shares.items)) }
+        ensures within { IfSome result.1 (λ n. (all : List Entry) × (result.0.history ≡ N.opening ++ all) × AllWithin N.opening all shares.items) }
+        ensures crash { IfSome result.1 (λ n. AllLeft D.state result.0 shares.items) }
+
+        // The ledger has a part for each place, one for what lies under the lock and one for the receipts of the seats that left. So where the
+        // shares and the free places have all others, they are all.
+        ensures whole { places.free + length shares.items + 2 ≡ N.all → IsSome result.1 }
+    {
+        let Shared {
+            locked,
+            judging: _,
+            turns: _,
+            crowd: _,
+            woken: _,
+        } = self;
+        let (session, settled, book, rest, given) = close(rt, locked.into_inner());
+        let _ = session.history();
+        let count = audited_with(rt, &settled, book, rest, given, shares, places);
+        (session, count)
+    }
+}
+
+// How many reports were answered with a receipt, by the whole list: `None` where the shares and the free places aren't as many as the places
+// given.
+fn audited_with<N: Naming, A: Allocator, R: Wait>(
+    rt: &R,
+    all: &Counts<N>,
+    book: Book<N>,
+    rest: ledger::Share<N>,
+    given: u64,
+    shares: Vec<Share<N, A>, A>,
+    places: Places<N>,
+) -> Option<u64>
+    requires parts { (N.all ≡ N.parts) × (rest.parts + given ≡ N.all) × (given < N.all) }
+    ensures told { IfSome result (λ n. AllWithin N.opening all.now shares.items × (n ≡ length all.now) × (n ≡ places.receipts + receipts shares.items)) }
+
+    // The ledger has one part more than that. So where the shares and the places have all others, they are all.
+    ensures whole { places.free + length shares.items + 2 ≡ N.all → IsSome result }
+{
+    let mut book = book;
+    let mut rest = rest;
+    let Places {
+        free,
+        receipts,
+        part,
+    } = places;
+    let seats = shares.as_slice();
+    let count = seats.len() as u64 + free + 1;
+    await_within(rt, all, seats);
+    if count != given {
+        rest.merge(part);
+        gather(&mut rest, shares);
+        return None;
+    }
+    let answered = await_told(rt, all, seats, receipts);
+    rest.merge(part);
+    gather(&mut rest, shares);
+    book.audit(&mut rest);
+    Some(answered)
+}
+
 // How many reports were answered with a receipt, by the whole list: `None` where the shares aren't as many as the seats given, or two
 // have one seat number.
 fn audited<N: Naming, A: Allocator, R: Wait>(
@@ -77,24 +154,25 @@ fn audited<N: Naming, A: Allocator, R: Wait>(
         gather(&mut rest, shares);
         return None;
     }
-    let answered = await_told(rt, all, seats);
+    let answered = await_told(rt, all, seats, 0);
     gather(&mut rest, shares);
     book.audit(&mut rest);
     Some(answered)
 }
 
-// Looks until as many reports were answered as the list has entries. Each entry that is settled is answered before its seat reports again
-// or ends, so the first look ends it.
+// Looks until as many reports were answered as the list has entries, to these seats and so many to those that have left. Each entry that is
+// settled is answered before its seat reports again or ends, so the first look ends it.
 fn await_told<N: Naming, A: Allocator, R: Wait>(
     rt: &R,
     all: &Counts<N>,
     shares: &[Share<N, A>],
+    left: u64,
 ) -> u64
-    ensures { (result ≡ length all.now) × (result ≡ receipts shares.now) }
+    ensures { (result ≡ length all.now) × (result ≡ left + receipts shares.now) }
 {
     let len = all.front().len();
     for _ in rt.forever() {
-        if receipts_of(shares) == Some(len) {
+        if left <= len && receipts_of(shares) == Some(len - left) {
             return len;
         }
     }

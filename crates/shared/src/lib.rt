@@ -2,16 +2,22 @@
 //!
 //! `Shared` gives seats. A `Seat` reports under the lock, and looks at a status without it. What a seat knows and has done is its
 //! `Share`, which may be moved to another thread, made a seat again, and handed to `Shared::finish`.
+//!
+//! In a service (`Shared::service`) seats come and go: `Places` has the places that are free, to which `Shared::leave` gives one back. A
+//! seat may take a name there, by which it comes back.
 #![tactic(auto)]
 
 mod ending;
+mod places;
 mod seat;
 mod share;
 mod turns;
 
 pub use locked::{
-    Board, Counts, Entry, Failed, Fault, Front, Naming, Opened, Publisher, SeatFault, SeatNumber,
-    Session, SessionError, Source, Spine, Summary, crosses, legal_crosses, names_of, read_as,
+    Board, Counts, Entry, Failed, Fault, Front, LAST_NAME, NameFault, Names, Naming, Opened,
+    Publisher, SeatFault, SeatNumber, Session, SessionError, Source, Spine, Summary, crosses,
+    legal_crosses, names_of, read_as,
 };
+pub use places::Places;
 pub use seat::{Seat, Shared};
 pub use share::{GROUP, Receipt, Round, Share, Status};

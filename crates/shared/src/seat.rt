@@ -10,7 +10,7 @@ ghost use Rattle.locked.specs.Reports.{IsReport};
 ghost use Rattle.locked.specs.Entries.{events, summary_of};
 ghost use Rattle.locked.specs.Legal.{Legal};
 ghost use Rattle.locked.specs.Beginnings.{StartsWith};
-ghost use Rattle.shared.specs.Seats.{Answered, Refused};
+ghost use Rattle.shared.specs.Seats.{Answered, Refused, Named};
 ghost use Rattle.shared.specs.Turns.{CameTo};
 ghost use Rattle.std.specs.List.{AllByRecursion};
 
@@ -18,7 +18,9 @@ use crate::share::{GROUP, Receipt, Round, Share, Status};
 use alphabet::{EventSet, Report};
 use disk::Disk;
 use left_right::Absorb;
-use locked::{Board, Fault, Locked, Naming, Opened, SeatFault, Session, Summary};
+use locked::{
+    Board, Fault, Locked, NameFault, Naming, Opened, SeatFault, SeatNumber, Session, Summary,
+};
 use std::alloc::Allocator;
 use std::sync::atomic::AtomicU64;
 use std::sync::ledger::Blank;
@@ -44,7 +46,7 @@ pub struct Seat<'a, D: Disk, A: Allocator, N: Naming>
 where
     Board<N, A>: Absorb<Summary, State = Summary>,
 {
-    shared: &'a Shared<D, A, N>,
+    pub(crate) shared: &'a Shared<D, A, N>,
     pub share: Share<N, A>,
 }
 
@@ -83,6 +85,7 @@ impl<D: Disk, A: Allocator + Copy, N: Naming> Shared<D, A, N> {
     /// The faults are asked for in this order: `Closed`, `Seats`, `Reader`. After `Reader` a seat number is used up.
     pub fn seat<R: Wait>(&self, rt: &R, _alloc: A) -> Result<Seat<'_, D, A, N>, SeatFault>
         ensures seat { IfOk result (λ s. (s.share.mine ≡ []) × (s.share.closed ≡ false) × StartsWith s.share.seen N.opening) }
+        ensures begun { IfOk result (λ s. s.share.begun ≡ 0) }
     {
         let mut locked = self.locked.lock(rt);
         let given = locked.seat();
@@ -132,11 +135,21 @@ impl<D: Disk, A: Allocator + Copy, N: Naming> Seat<'_, D, A, N> {
         self.share.turn(rt, self.shared, reports, verdicts)
     }
 
+    /// Takes a name, in a service: a number from 1 to 1,000 that no other seat with a connection has, where this one has no name and has
+    /// reported nothing. The answer is how many reports of the name stand in the history, once all that is offered is settled: these
+    /// are then the seat's own, which it goes on from. A seat that gets no name stays as it is.
+    pub fn identify<R: Wait>(&mut self, rt: &R, name: SeatNumber) -> Result<u32, NameFault>
+        ensures named { IfOk result (λ count. Named (bodies_of N.spec.bodies) self.old.share self.new.share name count) }
+        ensures unnamed { IfErr result (λ _. self.new.share ≡ self.old.share) }
+    {
+        self.share.identify(rt, self.shared, name)
+    }
+
     /// The events that may come next, tick among them, after the history as it stands, which is then what was seen.
     pub fn next<R: Wait>(&mut self, rt: &R) -> EventSet
         ensures next { (x : Event) → IsTrue (member result x) ↔ Trace (bodies_of N.spec.bodies) root (events self.new.share.seen ++ x ∷ []) }
         ensures seen { StartsWith self.new.share.seen self.old.share.seen × Legal (bodies_of N.spec.bodies) self.new.share.seen }
-        ensures same { (self.new.share.seat ≡ self.old.share.seat) × (self.new.share.mine ≡ self.old.share.mine) × (self.new.share.closed ≡ self.old.share.closed) }
+        ensures same { (self.new.share.seat ≡ self.old.share.seat) × (self.new.share.mine ≡ self.old.share.mine) × (self.new.share.closed ≡ self.old.share.closed) × (self.new.share.begun ≡ self.old.share.begun) }
         ensures closed { IsClosed N.spec }
     {
         self.share.next(rt, self.shared)
@@ -149,7 +162,7 @@ impl<D: Disk, A: Allocator + Copy, N: Naming> Seat<'_, D, A, N> {
         ensures seen { StartsWith self.new.share.seen self.old.share.seen × Legal (bodies_of N.spec.bodies) self.new.share.seen }
         ensures summary { result.summary ≡ summary_of self.new.share.seen }
         ensures closed { result.closed ≡ self.old.share.closed }
-        ensures same { (self.new.share.seat ≡ self.old.share.seat) × (self.new.share.mine ≡ self.old.share.mine) × (self.new.share.closed ≡ self.old.share.closed) }
+        ensures same { (self.new.share.seat ≡ self.old.share.seat) × (self.new.share.mine ≡ self.old.share.mine) × (self.new.share.closed ≡ self.old.share.closed) × (self.new.share.begun ≡ self.old.share.begun) }
     {
         self.share.status()
     }

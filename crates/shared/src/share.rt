@@ -12,16 +12,16 @@ ghost use Rattle.locked.specs.Legal.{Legal};
 ghost use Rattle.locked.specs.SessionView.{IsOf};
 ghost use Rattle.locked.specs.Beginnings.{StartsWith};
 ghost use Rattle.shared.specs.Faults.{closes};
-ghost use Rattle.shared.specs.Seats.{Answered, Refused, IsWithin};
+ghost use Rattle.shared.specs.Seats.{Answered, Refused, Named, IsWithin, answers_to};
 ghost use Rattle.shared.specs.Turns.{CameTo};
 ghost use Rattle.std.specs.List.{AllByRecursion};
 
 use crate::seat::Shared;
-use crate::turns::{locked_for, take_turn};
+use crate::turns::{locked_for, named_at, take_turn};
 use alphabet::{EventSet, Report};
 use core::mem::replace_with;
 use disk::Disk;
-use locked::{Counts, Failed, Fault, Looker, Naming, SeatNumber, Summary, is_of, look};
+use locked::{Counts, Failed, Fault, Looker, NameFault, Naming, SeatNumber, Summary, is_of, look};
 use std::alloc::Allocator;
 use std::marker::Model;
 use std::sync::{MutexGuard, Wait, ledger};
@@ -68,9 +68,9 @@ pub struct Status {
     pub closed: bool,
 }
 
-/// What a seat knows and has done: a settled history, how many of its entries it has seen, and how many of its own reports were answered;
-/// and its reader of the board. Contracts see the seen history, and the answered reports themselves: the first so many of the seat's
-/// entries in it.
+/// What a seat knows and has done: a settled history, how many of its entries it has seen, and how many of its own reports were answered,
+/// with those that stood there when it came; and its reader of the board. Contracts see the seen history, and the answered reports
+/// themselves: the first so many of the seat's entries in it.
 #[derive(Drop)]
 pub struct Share<N: Naming, A: Allocator> {
     number: SeatNumber,
@@ -79,6 +79,8 @@ pub struct Share<N: Naming, A: Allocator> {
     /// What closed the session, where a report of this seat was answered so.
     failed: Option<Failed>,
     answered: u32,
+    /// How many of these stood there when the seat came: none, but where it came back by its name.
+    begun: u32,
     /// How many of its reports were offered, and never settled.
     lost: u32,
     part: ledger::Share<N>,
@@ -98,17 +100,19 @@ impl<N: Naming, A: Allocator> Model for Share<N, A> {
       seat = s.number;
       seen = take s.seen (N.opening ++ s.known);
       mine = take s.answered (calls (take s.seen (N.opening ++ s.known)) s.number);
+      begun = s.begun;
       closed = is_some s.failed;
     } };
 
     ghost invariant = { λ s. (s.seen ≤ length (N.opening ++ s.known))
         × (s.answered ≤ length (calls (take s.seen (N.opening ++ s.known)) s.number))
-        × (calls N.opening s.number ≡ [])
+        × (length (calls N.opening s.number) ≤ s.begun)
         × (s.part.parts ≡ 1)
-        × (s.part.amount ≡ s.answered + s.lost)
+        × (s.part.amount + s.begun ≡ s.answered + s.lost)
         × (s.failed ≡ None → s.lost ≡ 0)
         × (s.lost ≤ GROUP)
-        × (s.answered ≤ 1000000) };
+        × (s.answered ≤ 1000000)
+        × (s.begun ≤ s.answered) };
 }
 
 // 30 for the report whose entry is the first that the disk failed on, and 31 for all others.
@@ -167,7 +171,7 @@ impl<N: Naming, A: Allocator> Share<N, A> {
     ) -> Share<N, A>
         requires fresh { calls (N.opening ++ known) number ≡ [] }
         requires part { (part.parts ≡ 1) × (part.amount ≡ 0) }
-        ensures { (result.mine ≡ []) × (result.seen ≡ N.opening ++ known) × (result.seat ≡ number) × (result.closed ≡ false) }
+        ensures { (result.mine ≡ []) × (result.begun ≡ 0) × (result.seen ≡ N.opening ++ known) × (result.seat ≡ number) × (result.closed ≡ false) }
     {
         Share {
             number,
@@ -175,6 +179,7 @@ impl<N: Naming, A: Allocator> Share<N, A> {
             known,
             failed: None,
             answered: 0,
+            begun: 0,
             lost: 0,
             part,
             looker,
@@ -184,7 +189,7 @@ impl<N: Naming, A: Allocator> Share<N, A> {
     // All of a settled list is seen, unless more was known.
     fn see(&mut self, counts: &Counts<N>)
         ensures seen { StartsWith self.new.seen self.old.seen }
-        ensures same { (self.new.seat ≡ self.old.seat) × (self.new.mine ≡ self.old.mine) × (self.new.closed ≡ self.old.closed) }
+        ensures same { (self.new.seat ≡ self.old.seat) × (self.new.mine ≡ self.old.mine) × (self.new.closed ≡ self.old.closed) × (self.new.begun ≡ self.old.begun) }
     {
         if !self.known.front().begins(counts.front()) {
             return;
@@ -198,7 +203,7 @@ impl<N: Naming, A: Allocator> Share<N, A> {
         ensures seen { StartsWith self.new.seen self.old.seen × Legal (bodies_of N.spec.bodies) self.new.seen }
         ensures summary { result.summary ≡ summary_of self.new.seen }
         ensures closed { result.closed ≡ self.old.closed }
-        ensures same { (self.new.seat ≡ self.old.seat) × (self.new.mine ≡ self.old.mine) × (self.new.closed ≡ self.old.closed) }
+        ensures same { (self.new.seat ≡ self.old.seat) × (self.new.mine ≡ self.old.mine) × (self.new.closed ≡ self.old.closed) × (self.new.begun ≡ self.old.begun) }
     {
         let _legal = self.known.front().len();
         self.seen = self.known.summary().judged;
@@ -221,7 +226,7 @@ impl<N: Naming, A: Allocator> Share<N, A> {
         ensures seen { StartsWith self.new.seen self.old.seen × Legal (bodies_of N.spec.bodies) self.new.seen }
         ensures summary { result.summary ≡ summary_of self.new.seen }
         ensures closed { result.closed ≡ self.old.closed }
-        ensures same { (self.new.seat ≡ self.old.seat) × (self.new.mine ≡ self.old.mine) × (self.new.closed ≡ self.old.closed) }
+        ensures same { (self.new.seat ≡ self.old.seat) × (self.new.mine ≡ self.old.mine) × (self.new.closed ≡ self.old.closed) × (self.new.begun ≡ self.old.begun) }
     {
         let Some(counts) = self.look() else {
             return self.known();
@@ -244,17 +249,23 @@ impl<N: Naming, A: Allocator> Share<N, A> {
         self.number
     }
 
-    /// How many of its reports were answered with a receipt.
+    /// How many of its reports were answered with a receipt since it came.
     pub(crate) fn answered(&self) -> u64
-        ensures { result ≡ length self.now.mine }
+        ensures { result ≡ answers_to self.now }
     {
-        u64::from(self.answered)
+        u64::from(self.answered - self.begun)
+    }
+
+    /// Whether the seat has no entry, and none of its reports is lost.
+    pub(crate) fn is_unused(&self) -> bool {
+        self.answered == 0 && self.lost == 0
     }
 
     /// Its part of the ledger.
     pub(crate) fn into_part(self) -> ledger::Share<N>
         ensures parts { result.parts ≡ 1 }
-        ensures amount { self.closed ≡ false → result.amount ≡ length self.mine }
+        ensures amount { self.closed ≡ false → result.amount ≡ answers_to self }
+        ensures least { answers_to self ≤ result.amount }
     {
         let Self { part, .. } = self;
         part
@@ -336,11 +347,42 @@ impl<N: Naming, A: Allocator + Copy> Share<N, A> {
         }
     }
 
+    /// Takes a name, where the seat has none and has reported nothing, and no connection has that name. The answer is how many entries of the
+    /// name stand in the settled history, which is then what was seen.
+    pub(crate) fn identify<D: Disk, R: Wait>(
+        &mut self,
+        rt: &R,
+        shared: &Shared<D, A, N>,
+        name: SeatNumber,
+    ) -> Result<u32, NameFault>
+        ensures named { IfOk result (λ count. Named (bodies_of N.spec.bodies) self.old self.new name count) }
+        ensures unnamed { IfErr result (λ _. self.new ≡ self.old) }
+    {
+        if let Some(failed) = self.failed {
+            return Err(NameFault::Closed(failed));
+        }
+        if self.answered != 0 {
+            return Err(NameFault::Nameless);
+        }
+        match named_at(rt, shared, &self.known, name, self.number) {
+            Ok((count, counts)) => {
+                let _legal = counts.front().len();
+                self.number = name;
+                self.begun = count;
+                self.answered = count;
+                self.seen = counts.summary().judged;
+                self.known = counts;
+                Ok(count)
+            }
+            Err(fault) => Err(fault),
+        }
+    }
+
     /// The events that may come next after the settled history, which is then what was seen.
     pub(crate) fn next<D: Disk, R: Wait>(&mut self, rt: &R, shared: &Shared<D, A, N>) -> EventSet
         ensures next { (x : Event) → IsTrue (member result x) ↔ Trace (bodies_of N.spec.bodies) root (events self.new.seen ++ x ∷ []) }
         ensures seen { StartsWith self.new.seen self.old.seen × Legal (bodies_of N.spec.bodies) self.new.seen }
-        ensures same { (self.new.seat ≡ self.old.seat) × (self.new.mine ≡ self.old.mine) × (self.new.closed ≡ self.old.closed) }
+        ensures same { (self.new.seat ≡ self.old.seat) × (self.new.mine ≡ self.old.mine) × (self.new.closed ≡ self.old.closed) × (self.new.begun ≡ self.old.begun) }
         ensures closed { IsClosed N.spec }
     {
         let locked = locked_for(rt, shared, &self.known);

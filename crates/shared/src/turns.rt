@@ -1,6 +1,7 @@
 //! How a seat's report is judged and settled under the lock, with those of other seats.
 
 ghost use Rattle.std.specs.Prelude.{◌≡◌, ◌≤◌, ◌<◌, ◌+◌, ◌++◌, length, take, None, IfOk, IfErr, IfSome};
+ghost use Rattle.locked.specs.Entries.{calls};
 ghost use Rattle.std.specs.List.{AllByRecursion};
 ghost use Rattle.term.specs.Proc.{bodies_of};
 ghost use Rattle.locked.specs.Reports.{IsReport};
@@ -11,7 +12,7 @@ ghost use Rattle.shared.specs.Turns.{IsRefused};
 use crate::seat::Shared;
 use alphabet::Report;
 use disk::Disk;
-use locked::{Counts, Failed, Fault, Locked, Naming, SeatNumber};
+use locked::{Counts, Failed, Fault, Locked, NameFault, Naming, SeatNumber};
 use std::alloc::Allocator;
 use std::hint::spin_loop;
 use std::sync::atomic::Ordering;
@@ -48,7 +49,7 @@ fn pause(pauses: u32) {
 
 // Takes the lock. Most reports are over sooner than a thread that sleeps is woken. Where more threads wait than there are processors,
 // the one that holds the lock may be waiting for a processor.
-fn lock<'a, D: Disk, A: Allocator + Copy, N: Naming, R: Wait>(
+pub(crate) fn lock<'a, D: Disk, A: Allocator + Copy, N: Naming, R: Wait>(
     rt: &R,
     mutex: &'a Mutex<Locked<D, A, N>>,
 ) -> MutexGuard<'a, Locked<D, A, N>> {
@@ -358,4 +359,40 @@ pub(crate) fn take_turn<D: Disk, A: Allocator + Copy, N: Naming, R: Wait>(
         }),
         Err(failed) => Err((failed, count)),
     }
+}
+
+// Gives a name to a seat that has another number so far and has reported nothing, once all that is offered is settled. The answer is how
+// many entries of the name the settled list has with the opening, and that list.
+fn name_under<D: Disk, A: Allocator + Copy, N: Naming, R: Wait>(
+    rt: &R,
+    shared: &Shared<D, A, N>,
+    locked: &mut Locked<D, A, N>,
+    name: SeatNumber,
+    former: SeatNumber,
+) -> Result<(u32, Counts<N>), NameFault>
+    ensures later { IfOk result (λ n. StartsWith n.1 locked.old.settled) }
+    ensures count { IfOk result (λ n. (n.0 ≡ length (calls (N.opening ++ n.1) name)) × (n.0 ≤ 1000000)) }
+{
+    settle(rt, shared, locked);
+    match locked.name(name, former) {
+        Ok(count) => Ok((count, locked.list())),
+        Err(fault) => Err(fault),
+    }
+}
+
+/// The same for a seat that knows this much, under the lock.
+pub(crate) fn named_at<D: Disk, A: Allocator + Copy, N: Naming, R: Wait>(
+    rt: &R,
+    shared: &Shared<D, A, N>,
+    known: &Counts<N>,
+    name: SeatNumber,
+    former: SeatNumber,
+) -> Result<(u32, Counts<N>), NameFault>
+    ensures later { IfOk result (λ n. StartsWith n.1 known.now) }
+    ensures count { IfOk result (λ n. (n.0 ≡ length (calls (N.opening ++ n.1) name)) × (n.0 ≤ 1000000)) }
+{
+    let mut locked = locked_for(rt, shared, known);
+    let named = name_under(rt, shared, &mut locked, name, former);
+    MutexGuard::unlock(locked);
+    named
 }

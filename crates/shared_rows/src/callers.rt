@@ -5,8 +5,8 @@ use alphabet::{Event, EventSet, Report};
 use disk::Disk;
 use journal::{Journal, Prepared};
 use shared::{
-    Counts, Entry, Failed, Naming, Publisher, Receipt, SeatNumber, Share, Shared, Source, Spine,
-    Summary, crosses, legal_crosses,
+    Counts, Entry, Failed, Names, Naming, Publisher, Receipt, SeatNumber, Share, Shared, Source,
+    Spine, Summary, crosses, legal_crosses,
 };
 use std::alloc::{AllocError, Global};
 use std::sync::{Wait, ledger};
@@ -143,6 +143,7 @@ pub(crate) fn run_all<D: Disk + Send, N: Naming + Send + Sync, R: Threads + Wait
     crosses::<Prepared<Global>>();
     crosses::<EventSet>();
     crosses::<Summary>();
+    crosses::<Names>();
     let each = |caller: Caller<N>| run(rt, alloc, gate, shared, caller);
     map_vec(rt, callers, &each)
 }

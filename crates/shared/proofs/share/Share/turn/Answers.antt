@@ -40,6 +40,7 @@ returns-in-Some-clause-came g c =
       legal = subst (Legal B) (ap (λ (t : SeatView). t.seen) c.self.view_is) seen;
       begins = begins_self old.seen;
       same = refl;
+      begun = refl;
       why = tt;
       seat = refl;
       closed = sym (ap (λ (t : SeatView). t.closed) c.self.view_is) ∙ ap is_some c.in-Some.is;
@@ -60,13 +61,13 @@ invariant_of-self g c =
     let shut : Bool = is_some c.closed_by-self-inside.result in
     let none : is_some s.failed ≡ false = ap is_some c.in_default.is in
     let any =
-    came_any spec s.answered s.number t.place old (o ++ t.counts) c.args.reports.now c.take_turn.new.verdicts t.count (is_some s.failed) c.in-Ok.ensures.found legal (seen_begins s.seen o s.known t.counts l.1)
+    came_any spec s.begun s.answered s.number t.place old (o ++ t.counts) c.args.reports.now c.take_turn.new.verdicts t.count (is_some s.failed) c.in-Ok.ensures.found legal (seen_begins s.seen o s.known t.counts l.1)
     longer i.1 l.2 i.7 c.in-Ok.ensures.count.0 t.fault c.seen_by-self-inside.result shut c.requires.count.0 c.in-Ok.ensures.count.1 c.in-Ok.ensures.refused c.seen_by-self-inside.ensures.all
     c.seen_by-self-inside.ensures.last (λ h. ap is_some (c.closed_by-self-inside.ensures.none h) ∙ sym none)
     (IfSome_then t.fault c.closed_by-self-inside.ensures.some (λ f h. h ∙ or_false (closes f) ∙ ap (λ b. closes f || b) (sym none))) in
-    let few = few_answered spec s.answered s.number t.place old (o ++ t.counts) c.args.reports.now c.take_turn.new.verdicts t.count (is_some s.failed) c.in-Ok.ensures.found legal (seen_begins s.seen o s.known t.counts l.1)
+    let few = few_answered spec s.begun s.answered s.number t.place old (o ++ t.counts) c.args.reports.now c.take_turn.new.verdicts t.count (is_some s.failed) c.in-Ok.ensures.found legal (seen_begins s.seen o s.known t.counts l.1)
     longer i.1 l.2 i.7 c.in-Ok.ensures.count.0 in
-    (any.1, any.2, i.2, c.take_turn.ensures.parts ∙ i.3, omega (arith, i.4, c.in-Ok.ensures.counted), (λ h. i.5 c.in_default.is), i.6, few)
+    (any.1, any.2, i.2, c.take_turn.ensures.parts ∙ i.3, omega (arith, i.4, c.in-Ok.ensures.counted), (λ h. i.5 c.in_default.is), i.6, few, omega (arith, i.8))
 
 pub returns-in-Ok-clause-came : goal.returns-in-Ok-clause-came
 returns-in-Ok-clause-came g c =
@@ -83,11 +84,11 @@ returns-in-Ok-clause-came g c =
     let shut : Bool = is_some c.closed_by-self-inside.result in
     let none : is_some s.failed ≡ false = ap is_some c.in_default.is in
     let any =
-    came_any spec s.answered s.number t.place old (o ++ t.counts) c.args.reports.now c.take_turn.new.verdicts t.count (is_some s.failed) c.in-Ok.ensures.found legal (seen_begins s.seen o s.known t.counts l.1)
+    came_any spec s.begun s.answered s.number t.place old (o ++ t.counts) c.args.reports.now c.take_turn.new.verdicts t.count (is_some s.failed) c.in-Ok.ensures.found legal (seen_begins s.seen o s.known t.counts l.1)
     longer i.1 l.2 i.7 c.in-Ok.ensures.count.0 t.fault c.seen_by-self-inside.result shut c.requires.count.0 c.in-Ok.ensures.count.1 c.in-Ok.ensures.refused c.seen_by-self-inside.ensures.all
     c.seen_by-self-inside.ensures.last (λ h. ap is_some (c.closed_by-self-inside.ensures.none h) ∙ sym none)
     (IfSome_then t.fault c.closed_by-self-inside.ensures.some (λ f h. h ∙ or_false (closes f) ∙ ap (λ b. closes f || b) (sym none))) in
-    subst (λ (v : SeatView). CameTo spec v c.args.reports.now c.take_turn.new.verdicts t.count t.place t.fault (view_of s.number (take c.seen_by-self-inside.result (o ++ t.counts)) (s.answered + t.count) shut)) c.self.view_is any.0
+    subst (λ (v : SeatView). CameTo spec v c.args.reports.now c.take_turn.new.verdicts t.count t.place t.fault (view_of s.begun s.number (take c.seen_by-self-inside.result (o ++ t.counts)) (s.answered + t.count) shut)) c.self.view_is any.0
 
 closing_why : (spec : Specified) (h : List Entry) (seat number : ℕ) (mine : List Entry) (q r : Report) (f : Fault) (x : Entry) → number ≡ suc (length mine) → q ≡ r → ((f ≡ Journal x) × IsOf x seat number q) ⊎ (f ≡ Closed x)
     → Answers spec h seat mine r f × (closes f ≡ true)
@@ -108,14 +109,15 @@ returns-in-Err-clause-came g c =
     let mine : List Entry = take s.answered (calls old s.number) in
     let many : s.answered + 1 ≡ suc (length mine) = omega (arith, length-take-le s.answered (calls old s.number) i.1) in
     let e = c.refused-in-Err.ensures in
-    let v : SeatView = record { seat = s.number; seen = old; mine = mine; closed = true } in
+    let v : SeatView = record { seat = s.number; seen = old; mine = mine; begun = s.begun; closed = true } in
     let q : Report = c.index-reports-0.result in
     subst (λ (t : SeatView). CameTo spec t c.args.reports.now c.take_turn.new.verdicts c.refused-in-Err.result.count c.refused-in-Err.result.place c.refused-in-Err.result.fault v) c.self.view_is
-    (came_none spec (view_of s.number old s.answered (is_some s.failed)) v c.args.reports.now c.take_turn.new.verdicts c.refused-in-Err.result.count c.refused-in-Err.result.place c.refused-in-Err.result.fault fault e.0 e.2 c.requires.count.0
+    (came_none spec (view_of s.begun s.number old s.answered (is_some s.failed)) v c.args.reports.now c.take_turn.new.verdicts c.refused-in-Err.result.count c.refused-in-Err.result.place c.refused-in-Err.result.fault fault e.0 e.2 c.requires.count.0
     (λ r rest is. let why = closing_why spec old s.number (s.answered + 1) mine q r fault _ many (c.index-reports-0.is ∙ ap (λ (l : List Report). get_or l 0 q) is) c.closing.ensures.others in record {
       legal = legal_front B (o ++ s.known) old (begins_take s.seen (o ++ s.known)) whole;
       begins = begins_self old;
       same = refl;
+      begun = refl;
       why = why.0;
       seat = refl;
       closed = ap (λ b. b || is_some s.failed) (sym why.1);
