@@ -1,12 +1,12 @@
 -- What came of the connections of a service, which gives its places again.
-use Rattle.std.specs.Prelude.{◌≡◌, ◌⊎◌, ℕ, ◌+◌, ◌-◌, ◌^◌, ◌<◌, min, Bool, true, false, cond, List, length, map, sum_by, Option, Result, Ok, Err}
+use Rattle.std.specs.Prelude.{◌≡◌, ◌⊎◌, ℕ, ◌+◌, ◌-◌, ◌^◌, ◌<◌, min, Bool, true, false, List, length, map, sum_by, Option, Result}
 use Rattle.std.specs.List.{list_any}
 use Rattle.wire.specs.declared.answers.Fault.{Fault}
 use Rattle.wire.specs.declared.answers.Fault.TheVariants.{Seats}
 use Rattle.wire.specs.declared.answers.Tally.{Tally}
 use Rattle.wire.specs.declared.engine.End.{End}
-use Rattle.wire.specs.declared.engine.End.TheVariants.{Quit, Input, Line}
 use Rattle.wire.specs.declared.engine.WireError.{WireError}
+use Rattle.wire.specs.Unjudged.{unjudged_lines}
 use Rattle.connections.specs.declared.outcome.Ending.{Ending}
 use Rattle.connections.specs.declared.outcome.Ending.TheVariants.{Served, Refused, NotStarted}
 use Rattle.connections.specs.declared.outcome.Outcome.{Outcome}
@@ -19,24 +19,13 @@ use Rattle.connections.specs.Accounts.{has_rejected, met_limit}
 abbrev pub IsWithout : (Fault → Type 0) → Fault → Type 0
 IsWithout refuses fault = refuses fault ⊎ (fault ≡ Seats)
 
--- the connection ended by a line that was too long
-abbrev pub was_too_long : Result End WireError → Bool
-was_too_long (Ok Line) = true
-was_too_long (Ok Quit) = false
-was_too_long (Ok Input) = false
-was_too_long (Err error) = false
-
 -- so far a count goes
 abbrev pub capped : ℕ → ℕ
 capped n = min n (2 ^ 64 - 1)
 
--- how many lines there were that were no command, or named no event
-abbrev pub misuses : Tally → ℕ
-misuses tally = cond tally.misuse 1 0
-
 -- how many lines of the connection weren't judged, since they were no command, named no event, or were too long
 abbrev pub unjudged_of : Ending → ℕ
-unjudged_of (Served end tally) = misuses tally + cond (was_too_long end) 1 0
+unjudged_of (Served end tally) = unjudged_lines end tally
 unjudged_of (Refused fault) = 0
 unjudged_of NotStarted = 0
 

@@ -1,13 +1,13 @@
 //! What came of the connections of a service together, and its exit status.
 
-ghost use Rattle.std.specs.Prelude.{◌≡◌, [], cond};
+ghost use Rattle.std.specs.Prelude.{◌≡◌, []};
 ghost use Rattle.connections.specs.Accounts.{service_status};
-ghost use Rattle.connections.specs.Services.{IsSum, capped, misuses as misuses_in, unjudged_of, was_too_long};
+ghost use Rattle.connections.specs.Services.{IsSum, unjudged_of};
 ghost use Rattle.connections.specs.Visiting.{IsAdded};
 
 use crate::account::RunStatus;
 use crate::outcome::Ending;
-use wire::{End, Tally, WireError};
+use wire::unjudged;
 
 /// What came of the connections of a service that are over, together.
 #[derive(Clone, Copy, Debug, PartialEq, Eq)]
@@ -20,30 +20,13 @@ pub struct Totals {
     pub unjudged: u64,
 }
 
-// How many lines were too long: one, where such a line ended the connection.
-fn too_long(end: &Result<End, WireError>) -> u64
-    ensures { result ≡ cond (was_too_long end.now) 1 0 }
-{
-    match end {
-        Ok(End::Line) => 1,
-        _ => 0,
-    }
-}
-
-// How many lines were no command, or named no event.
-fn misuses(tally: &Tally) -> u64
-    ensures { result ≡ misuses_in tally.now }
-{
-    if tally.misuse { 1 } else { 0 }
-}
-
 impl Ending {
-    /// How many lines were answered `ERR 10`, `11` or `12`. Constant cost: each answer was noted as it was made.
+    /// How many lines were answered `ERR 10`, `11` or `12`, as far as 64 bits go. Constant cost: each answer was noted as it was made.
     pub fn unjudged(&self) -> u64
-        ensures { result ≡ capped (unjudged_of self.now) }
+        ensures { result ≡ unjudged_of self.now }
     {
         match self {
-            Ending::Served(end, tally) => misuses(tally).saturating_add(too_long(end)),
+            Ending::Served(end, tally) => unjudged(end, tally),
             Ending::Refused(_) | Ending::NotStarted => 0,
         }
     }
