@@ -31,8 +31,9 @@ const REJECTED: Tally = Tally {
 };
 
 const MISUSED: Tally = Tally {
+    begun: true,
     rejected: false,
-    misuse: true,
+    unjudged: 1,
     limit: false,
 };
 
