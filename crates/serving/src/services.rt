@@ -236,7 +236,9 @@ pub fn serve_service<D: Disk + Drop + Send, T: Threads + Wait + Clock + Sync, L:
                 until_idle,
                 retries,
             };
-            over_places::<Brand, D, T, L>(rt, alloc, session, opened, blank, accept, alphabet, terms)
+            over_places::<Brand, D, T, L>(
+                rt, alloc, session, opened, blank, accept, alphabet, terms,
+            )
         }
         Err(AllocError) => give_up(session, accept),
     }

@@ -5,7 +5,7 @@ use Rattle.shared.proofs.Crossings.{shared_sync}
 use Rattle.shared.proofs.LockedCrossings.{session_send}
 use Rattle.serving.proofs.services.serve_at.Goals as goal
 
-pub serve_on-served-requires-sync-G : goal.serve_all-served-requires-sync-G
+pub serve_on-served-requires-sync-G : goal.serve_on-served-requires-sync-G
 serve_on-served-requires-sync-G g c κs within =
     let session = session_send (param 0 g.row.D) g.D.Disk (
       search sendable,
