@@ -50,6 +50,17 @@ pub enum Address<'a> {
     Unix(&'a str),
 }
 
+/// When a server ends.
+#[derive(Clone, Copy)]
+pub enum Until {
+    /// Once so many connections were taken and are over.
+    Over(Connections),
+    /// Once all connections are over, and there was one: a service that takes connections without end until then.
+    Idle,
+    /// By a signal: a service that takes connections without end.
+    Stopped,
+}
+
 /// What is served, and where.
 #[derive(Clone, Copy)]
 pub struct Service<'a> {
@@ -65,6 +76,6 @@ pub struct Service<'a> {
     pub address: Address<'a>,
     /// Whether the limits are those for large systems.
     pub large: bool,
-    /// How many connections are served.
-    pub connections: Connections,
+    /// When the server ends.
+    pub until: Until,
 }
