@@ -1,3 +1,4 @@
 -- To believe.
 pub mod Held
 pub mod Runs
+pub mod Services

@@ -25,7 +25,7 @@ no_answers = record { begun = false; rejected = false; unjudged = 0; limit = fal
 
 -- a new seat of a session that began with this history: it has seen that, and reported nothing
 abbrev pub IsNewSeat : List Entry → SeatView → Type 0
-IsNewSeat opening seat = (seat.mine ≡ []) × (seat.closed ≡ false) × StartsWith seat.seen opening
+IsNewSeat opening seat = (seat.mine ≡ []) × (seat.begun ≡ 0) × (seat.closed ≡ false) × StartsWith seat.seen opening
 
 -- this is why there is no seat, as it is reported to a connection
 abbrev pub IsRefusal : Fault → Type 0

@@ -1,15 +1,19 @@
-//! A session that is served over connections, each by a thread of its own at a seat of its own; and the session of a script on a
-//! journal that may be there already.
+//! A session that is served over connections, each by a thread of its own at a seat of its own: so many, or as a service without
+//! end; and the session of a script on a journal that may be there already.
 #![tactic(auto)]
 
 mod opening;
+mod service_gate;
+mod services;
 mod sessions;
 mod shared_gate;
 
 pub use connections::{
-    Accept, AcceptFault, Account, Connections, Ending, Gate, Outcome, Over, RunStatus, Served,
-    TcpAccept, UnixAccept, serve_all,
+    Accept, AcceptFault, Account, Closed, Connections, Ending, Gate, Listen, Outcome, Over,
+    Reusable, RunStatus, Served, TcpAccept, Terms, Totals, UnixAccept, serve_all, serve_on,
 };
 pub use opening::{OpenError, open};
+pub use service_gate::ServiceGate;
+pub use services::{ClosedService, serve_service};
 pub use sessions::{Closing, serve_session};
 pub use shared_gate::SharedGate;

@@ -61,11 +61,11 @@ fn room_for<D: Disk>(
     Ok(Room { alphabet, endings })
 }
 
-// Ends a session that can't be served because memory ran out.
-fn give_up<D: Disk + Drop, L>(
+/// Ends a session that can't be served because memory ran out.
+pub(crate) fn give_up<D: Disk + Drop, L, C>(
     session: Session<D, Global>,
     accept: L,
-) -> Result<Closing<D>, (AllocError, L)>
+) -> Result<C, (AllocError, L)>
     ensures memory { IfErr result (λ error. error.1 ≡ accept) }
     ensures none { IsErr result }
 {

@@ -1,0 +1,245 @@
+//! A session as a service: connections come and go, until it ends.
+
+ghost use Rattle.std.specs.Prelude.{◌≡◌, ◌+◌, ℕ, List, IfOk, IfErr, IsSome, Some, length};
+ghost use Rattle.term.specs.Proc.{bodies_of};
+ghost use Rattle.shared.specs.Legal.{Legal};
+ghost use Rattle.shared.specs.Beginnings.{StartsWith};
+ghost use Rattle.shared.specs.Seats.{answers_to};
+ghost use Rattle.shared.specs.SessionView.{IsFor};
+ghost use Rattle.shared.specs.View.{PlacesView};
+ghost use Rattle.connections.specs.Services.{Came};
+ghost use Rattle.serving.specs.Runs.{IsNewSeat, IsRefusal};
+ghost use Rattle.serving.specs.Services.{IsServedAt, Ran};
+
+use crate::service_gate::ServiceGate;
+use crate::sessions::give_up;
+use alphabet::{Alphabet, EventSet};
+use connections::{Closed, Listen, Terms, Totals, serve_on};
+use disk::Disk;
+use journal::{Journal, Prepared};
+use seats::copy_of;
+use shared::{
+    Counts, Failed, Names, Naming, Opened, Places, Publisher, Session, Shared, Source, Spine,
+    crosses, legal_crosses,
+};
+use std::alloc::{AllocError, Global};
+use std::marker::Brand;
+use std::sync::ledger::Blank;
+use std::sync::{Wait, ledger};
+use std::thread::Threads;
+use std::time::Clock;
+
+/// How many connections a service has at one time.
+const PLACES: u8 = 64;
+
+/// A service that has ended.
+#[derive(Drop)]
+pub struct ClosedService<D: Disk> {
+    /// The session.
+    pub session: Session<D, Global>,
+    /// What came of all connections together.
+    pub totals: Totals,
+    /// The service ended since no further connection could be taken.
+    pub accept_failed: bool,
+    /// How many reports were answered with `OK` or `NO`.
+    pub answered: u64,
+}
+
+// Serves connections at places of the shared session, until the service ends.
+fn serve_at<
+    D: Disk + Send,
+    N: Naming + Send + Sync,
+    T: Threads + Wait + Clock + Sync,
+    L: Listen + Drop,
+>(
+    rt: &T,
+    alloc: Global,
+    shared: &Shared<D, Global, N>,
+    accept: L,
+    alphabet: &Alphabet<Global>,
+    places: Places<N>,
+    terms: Terms,
+) -> Result<Closed<Places<N>>, (AllocError, L, Places<N>)>
+    requires alphabet { alphabet.now ≡ N.spec.alphabet }
+    requires ledger { N.all ≡ N.parts }
+    ensures served { IfOk result (Came (IsNewSeat N.opening) IsRefusal (IsServedAt N.spec) answers_to (λ (p : PlacesView). p.free) (λ (p : PlacesView). p.receipts) L.takes L.fails L.Reader.left L.Writer.contents accept places terms.until_idle) }
+    ensures memory { IfErr result (λ error. error.1 ≡ accept) }
+{
+    // The parts of what lies under the lock: the proof that the whole may go to another thread asks for each.
+    legal_crosses();
+    crosses::<Journal<D>>();
+    crosses::<Option<Failed>>();
+    crosses::<Spine<N>>();
+    crosses::<Counts<N>>();
+    crosses::<Publisher<N, Global>>();
+    crosses::<Source<N, Global>>();
+    crosses::<ledger::Book<N>>();
+    crosses::<ledger::Share<N>>();
+    crosses::<Prepared<Global>>();
+    crosses::<EventSet>();
+    crosses::<Names>();
+    let gate = ServiceGate::new(shared, alphabet);
+    let served = serve_on(rt, alloc, accept, &gate, places, terms);
+    gate.end();
+    served
+}
+
+// How many reports were answered, where that is known.
+fn known(answered: Option<u64>) -> u64
+    requires { IsSome answered }
+    ensures { answered ≡ Some result }
+{
+    match answered {
+        Some(count) => count,
+        None => unreachable!(),
+    }
+}
+
+// Gives back the session of a service whose connections are over, and whose places are all free.
+fn close<D: Disk, N: Naming, R: Wait>(
+    rt: &R,
+    alloc: Global,
+    shared: Shared<D, Global, N>,
+    closed: Closed<Places<N>>,
+) -> ClosedService<D>
+    requires ledger { N.all ≡ N.parts }
+    requires free { closed.places.free + 2 ≡ N.all }
+    ensures session { (result.session.spec ≡ N.spec) × StartsWith result.session.history N.opening × Legal (bodies_of N.spec.bodies) result.session.history }
+    ensures kept { (script : List ℕ) × (root : List ℕ) × IsFor D.state script root result.session }
+    ensures counted { (length result.session.history ≡ length N.opening + result.answered) × (result.answered ≡ closed.places.receipts) }
+    ensures same { (result.totals ≡ closed.totals) × (result.accept_failed ≡ closed.accept_failed) }
+{
+    let Closed {
+        places,
+        totals,
+        accept_failed,
+    } = closed;
+    let (session, answered) = shared.finish_service(rt, Vec::new(alloc), places);
+    ClosedService {
+        session,
+        totals,
+        accept_failed,
+        answered: known(answered),
+    }
+}
+
+// Ends a service that had no connection because memory ran out.
+fn drop_service<D: Disk + Drop, N: Naming, R: Wait>(
+    rt: &R,
+    alloc: Global,
+    shared: Shared<D, Global, N>,
+    places: Places<N>,
+)
+    requires { N.all ≡ N.parts }
+{
+    let (session, _) = shared.finish_service(rt, Vec::new(alloc), places);
+    drop(session);
+}
+
+// Serves connections at the places of a service, until it ends, and gives its session back.
+fn run<
+    N: Naming + Send + Sync,
+    D: Disk + Drop + Send,
+    T: Threads + Wait + Clock + Sync,
+    L: Listen + Drop,
+>(
+    rt: &T,
+    alloc: Global,
+    shared: Shared<D, Global, N>,
+    accept: L,
+    alphabet: Alphabet<Global>,
+    places: Places<N>,
+    terms: Terms,
+) -> Result<ClosedService<D>, (AllocError, L)>
+    requires alphabet { alphabet ≡ N.spec.alphabet }
+    requires ledger { N.all ≡ N.parts }
+    requires places { (places.free + 2 ≡ N.all) × (places.receipts ≡ 0) }
+    ensures session { IfOk result (λ c. (c.session.spec ≡ N.spec) × StartsWith c.session.history N.opening × Legal (bodies_of N.spec.bodies) c.session.history) }
+    ensures kept { IfOk result (λ c. (script : List ℕ) × (root : List ℕ) × IsFor D.state script root c.session) }
+    ensures ran { IfOk result (λ c. Ran L.takes L.fails L.Reader.left L.Writer.contents accept terms.until_idle N.spec N.opening c.session.history c.totals c.accept_failed c.answered) }
+    ensures memory { IfErr result (λ error. error.1 ≡ accept) }
+{
+    match serve_at(rt, alloc, &shared, accept, &alphabet, places, terms) {
+        Ok(closed) => Ok(close(rt, alloc, shared, closed)),
+        Err((AllocError, accept, places)) => {
+            drop_service(rt, alloc, shared, places);
+            Err((AllocError, accept))
+        }
+    }
+}
+
+// Shares the session, and serves connections. The caller picks the names.
+fn over_places<
+    N: Naming + Send + Sync,
+    D: Disk + Drop + Send,
+    T: Threads + Wait + Clock + Sync,
+    L: Listen + Drop,
+>(
+    rt: &T,
+    alloc: Global,
+    session: Session<D, Global>,
+    opened: Opened,
+    blank: Blank,
+    accept: L,
+    alphabet: Alphabet<Global>,
+    terms: Terms,
+) -> Result<ClosedService<D>, (AllocError, L)>
+    requires story { (session.spec ≡ N.spec) × (session.history ≡ N.opening) × (session.offered ≡ []) }
+    requires book { opened.seen.book ≡ N.book }
+    requires ledger { (blank.name ≡ N.name) × (blank.parts ≡ N.parts) × (N.all ≡ N.parts) × (N.all ≡ 66) }
+    requires alphabet { alphabet ≡ N.spec.alphabet }
+    ensures session { IfOk result (λ c. (c.session.spec ≡ N.spec) × StartsWith c.session.history N.opening × Legal (bodies_of N.spec.bodies) c.session.history) }
+    ensures kept { IfOk result (λ c. (script : List ℕ) × (root : List ℕ) × IsFor D.state script root c.session) }
+    ensures ran { IfOk result (λ c. Ran L.takes L.fails L.Reader.left L.Writer.contents accept terms.until_idle N.spec N.opening c.session.history c.totals c.accept_failed c.answered) }
+    ensures memory { IfErr result (λ error. error.1 ≡ accept) }
+{
+    match Shared::<D, Global, N>::service(rt, alloc, session, opened, blank, u64::from(PLACES)) {
+        Ok((shared, places)) => run(rt, alloc, shared, accept, alphabet, places, terms),
+        Err(_) => {
+            drop(alphabet);
+            Err((AllocError, accept))
+        }
+    }
+}
+
+/// Serves connections, each in a thread of its own at a seat of its own, which leaves once its connection is over, so that another may
+/// come: 64 at one time at most. A client may say by its first line which seat it is, and goes on from that seat's entries. Nothing is
+/// offered to the session before.
+///
+/// It ends where so many accepts in a row and one more have failed; or, if that is asked for, once no connection is left and there was one.
+/// It gives the session back then, with what came of the connections. Its specification is as it was, and its history is legal and begins
+/// with the one that it had. It takes no more memory with each connection that is over. The error is that memory ran out before the first
+/// connection, and comes with where connections come from; the session is gone then, and its file stays.
+pub fn serve_service<D: Disk + Drop + Send, T: Threads + Wait + Clock + Sync, L: Listen + Drop>(
+    rt: &T,
+    alloc: Global,
+    session: Session<D, Global>,
+    accept: L,
+    until_idle: bool,
+    retries: u8,
+) -> Result<ClosedService<D>, (AllocError, L)>
+    requires { session.offered ≡ [] }
+    ensures session { IfOk result (λ c. (c.session.spec ≡ session.spec) × StartsWith c.session.history session.history × Legal (bodies_of session.spec.bodies) c.session.history) }
+    ensures kept { IfOk result (λ c. (script : List ℕ) × (root : List ℕ) × IsFor D.state script root c.session) }
+
+    // What came of each connection, in the order in which they were taken, and of all together; why it ended; and how many reports were answered.
+    ensures ran { IfOk result (λ c. Ran L.takes L.fails L.Reader.left L.Writer.contents accept until_idle session.spec session.history c.session.history c.totals c.accept_failed c.answered) }
+    ensures memory { IfErr result (λ error. error.1 ≡ accept) }
+{
+    match copy_of(alloc, session.spec().alphabet()) {
+        Ok(alphabet) => {
+            let opened = Opened::new();
+            // The ledger has a part for each place, one for what lies under the lock, and one for what was answered to seats that left.
+            let blank = Blank::new(u64::from(PLACES) + 2);
+            let terms = Terms {
+                threads: PLACES,
+                until_idle,
+                retries,
+            };
+            over_places::<Brand, D, T, L>(
+                rt, alloc, session, opened, blank, accept, alphabet, terms,
+            )
+        }
+        Err(AllocError) => give_up(session, accept),
+    }
+}
