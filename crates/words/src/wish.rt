@@ -10,9 +10,15 @@ pub enum Wish<'a> {
     /// To judge the reports on standard input by the process of the script in the file `spec`.
     Check(Check<'a>),
     /// To print what the script in the file `spec` denotes for the process.
-    Print { spec: &'a str, process: &'a str },
+    Print {
+        spec: &'a str,
+        process: &'a str,
+    },
     /// To judge the records of the journal in the file again; without a change of the file where `read_only` says so.
-    Replay { journal: &'a str, read_only: bool },
+    Replay {
+        journal: &'a str,
+        read_only: bool,
+    },
     /// To print the reports of the journal in the file, and why those that were rejected were; then those that come, where `follow`
     /// says so.
     Show {
