@@ -28,7 +28,7 @@ _cspwatch() {
     if [[ $current == -* ]]; then
         case $command in
             check) COMPREPLY=($(compgen -W "--large --explain --quiet --first --help -h" -- "$current")) ;;
-            serve) COMPREPLY=($(compgen -W "--listen --connections --large --help -h" -- "$current")) ;;
+            serve) COMPREPLY=($(compgen -W "--listen --connections --until-idle --large --help -h" -- "$current")) ;;
             replay) COMPREPLY=($(compgen -W "--read-only --help -h" -- "$current")) ;;
             show) COMPREPLY=($(compgen -W "--rejected --coverage --format --follow --help -h" -- "$current")) ;;
             *) COMPREPLY=($(compgen -W "--help -h" -- "$current")) ;;

@@ -26,14 +26,16 @@ class Failure(Exception):
 
 
 class Link:
-    """A client's end of a connection."""
+    """A client's end of a connection, to a host and a port or to a socket's file."""
 
     def __init__(self, address, small=False):
-        self.socket = socket.socket()
+        at_file = isinstance(address, str)
+        self.socket = socket.socket(socket.AF_UNIX if at_file else socket.AF_INET)
         self.socket.settimeout(STEP_SECONDS)
         if small:
             self.socket.setsockopt(socket.SOL_SOCKET, socket.SO_RCVBUF, 4096)
-        self.socket.setsockopt(socket.IPPROTO_TCP, socket.TCP_NODELAY, 1)
+        if not at_file:
+            self.socket.setsockopt(socket.IPPROTO_TCP, socket.TCP_NODELAY, 1)
         self.socket.connect(address)
         self.taken = b""
 
@@ -88,9 +90,9 @@ class Link:
 class Server:
     """A run of `serve`, from its first line to its end."""
 
-    def __init__(self, process, deadline, beside):
+    def __init__(self, process, deadline, beside, folder):
         """`beside` runs another command in the same folder, and gives its output, its errors and its status."""
-        self.process, self.deadline, self.beside = process, deadline, beside
+        self.process, self.deadline, self.beside, self.folder = process, deadline, beside, folder
         self.links = {}
         self.out = b""
         self.address = None
@@ -103,7 +105,11 @@ class Server:
         if found:
             self.address = (found.group(1).decode(), int(found.group(2)))
             self.out = b"listening %s:PORT\n" % found.group(1)
-        return bool(found)
+            return True
+        at_file = re.fullmatch(rb"listening unix:(.+)\n", first)
+        if at_file:
+            self.address = os.path.join(self.folder, os.fsdecode(at_file.group(1)))
+        return bool(at_file)
 
     def step(self, who, what, *values):
         if time.monotonic() > self.deadline:
@@ -131,6 +137,9 @@ class Server:
             return
         if what == "isn't served":
             self.refused(number)
+            return
+        if what == "comes back":
+            self.come_back(number, *values)
             return
         link = self.links[number]
         if what == "send":
@@ -186,6 +195,22 @@ class Server:
                 if link.socket.recv(1):
                     raise Failure("connection %d was served" % number)
 
+    def come_back(self, number, line, wanted):
+        """A connection whose first line is this, as soon as its seat isn't taken any more."""
+        end = time.monotonic() + STEP_SECONDS
+        while time.monotonic() < end:
+            link = Link(self.address)
+            link.socket.sendall(octets(line) + b"\n")
+            reply = link.line()
+            if reply != "ERR 27 taken":
+                self.links[number] = link
+                if reply != wanted:
+                    raise Failure("connection %d read %r, wanted %r" % (number, reply, wanted))
+                return
+            link.socket.close()
+            time.sleep(0.02)
+        raise TimeoutError
+
     def end(self):
         """The output, the errors and the status, once the program has ended."""
         for link in self.links.values():
@@ -202,7 +227,10 @@ def words_of(run, program, addresses):
         return [program] + run["args"]
     given = run["serve"]
     words = [program, "serve", "p.csp", given.get("process", "P"), given.get("journal", "j")]
-    words += ["--listen", given.get("listen", "127.0.0.1:0"), "--connections", str(given.get("connections", 1))]
+    words += ["--listen", given.get("listen", "127.0.0.1:0")]
+    if "service" not in given:
+        words += ["--connections", str(given.get("connections", 1))]
+    words += ["--until-idle"] * (given.get("service") == "until idle")
     words += ["--large"] * given.get("large", False)
     return [addresses.get(word, word) for word in words]
 
@@ -249,13 +277,14 @@ def outcome(run, program, folder, deadline, addresses):
     if "file_bytes" in run:
         words = bounded(run["file_bytes"], words)
     process = subprocess.Popen(words, cwd=folder, stdin=subprocess.DEVNULL, stdout=subprocess.PIPE, stderr=subprocess.PIPE)
-    server = Server(process, deadline, lambda args: done_beside([program] + args, folder))
+    server = Server(process, deadline, lambda args: done_beside([program] + args, folder), folder)
     problems = []
     alarm = threading.Timer(max(1, deadline - time.monotonic()), process.kill)
     alarm.start()
     try:
         if "steps" in run and server.begin():
-            addresses["AGAIN"] = "%s:%d" % server.address
+            if not isinstance(server.address, str):
+                addresses["AGAIN"] = "%s:%d" % server.address
             try:
                 for step in run["steps"]:
                     server.step(*step)

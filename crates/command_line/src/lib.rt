@@ -7,6 +7,8 @@
 
 mod by_line;
 mod checking;
+mod doors;
+mod endings;
 mod evidence;
 mod following;
 mod forms;

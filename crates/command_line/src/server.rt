@@ -1,160 +1,41 @@
 //! `cspwatch serve`: the reports of connections, judged by one session with a journal.
 ghost use Rattle.std.specs.Prelude.{◌≡◌, [], IfOk};
-ghost use Rattle.command_line.specs.Statuses.{run_exit};
 
-use crate::forms::put_out;
-use crate::journal_files::{journal_at, keep_name, take_away};
+use crate::doors::{Door, close_up, listen_at};
+use crate::endings::{Ended, tell_ended};
+use crate::journal_files::{journal_at, take_away};
 use crate::limits::names_by;
 use crate::scripts::{Script, tell_read, text_of};
-use crate::sockets::listener_at;
 use crate::telling::{tell_fault, tell_open};
 use disk::Disk;
 use file_disk::FileDisk;
-use program::{Exit, Session, Summary, summary_line};
-use serving::{Accept, Account, Closing, RunStatus, TcpAccept, UnixAccept, open, serve_session};
+use program::{Exit, Session};
+use serving::{Accept, Connections, Listen, open, serve_service, serve_session};
 use std::alloc::{AllocError, Global};
-use std::fmt::Display;
-use std::fs::{File, remove_file};
+use std::fs::File;
 use std::io::{IsTerminal, Write};
-use std::net::{Net, SocketAddr, SocketAddrV4, TcpListener, TcpStream};
+use std::net::{Net, TcpListener, TcpStream};
 use std::rt::Files;
 use std::sync::Wait;
 use std::thread::Threads;
-use words::{Address, Service};
+use std::time::Clock;
+use words::{Service, Until};
 
-// What is left of a run once its connections are over: the counts of its history, whether the journal failed in this run, and
-// what came of the connections.
-#[derive(Clone, Copy)]
-struct Ended {
-    summary: Summary,
-    closed: bool,
-    account: Account,
-}
+/// How many accepts in a row may fail, with a tenth of a second between two, before a service ends.
+const RETRIES: u8 = 100;
 
-// The exit status of a run of the server.
-fn exit_of(status: RunStatus) -> Exit
-    ensures { result ≡ run_exit status }
-{
-    match status {
-        RunStatus::Done => Exit::Done,
-        RunStatus::Rejected => Exit::Rejected,
-        RunStatus::Misuse => Exit::Misuse,
-        RunStatus::Closed => Exit::BadJournal,
-        RunStatus::AcceptFailed => Exit::FileFailed,
-        RunStatus::Limit => Exit::Limit,
-    }
-}
-
-// Reports how a run ended, and answers the status.
-fn tell_ended<O: Write, E: Write>(
-    alloc: Global,
-    service: &Service<'_>,
-    ended: Ended,
-    output: &mut O,
-    errors: &mut E,
-) -> Exit {
-    let mut account = ended.account;
-    if account.accept_failed {
-        tell_fault(errors, service.listen, "cannot accept", Exit::FileFailed);
-    }
-    let is_written = match summary_line(alloc, ended.summary, ended.closed) {
-        Ok(line) => put_out(&line, output, errors),
-        Err(AllocError) => {
-            tell_fault(errors, service.spec, "40 memory", Exit::Limit);
-            account.limit = true;
-            true
-        }
-    };
-    // An output that failed counts as a listener that did.
-    account.accept_failed |= !is_written;
-    exit_of(account.status(ended.closed))
-}
-
-// Where connections are taken.
-#[derive(Drop)]
-enum Door {
-    Tcp(TcpAccept),
-    Unix(UnixAccept),
-}
-
-// Listens at the address.
-fn listener_of<R: Net<Stream = TcpStream, Listener = TcpListener>>(
+// Serves so many connections that are taken so at this session, and says what is left of the run.
+fn serve_some<D: Disk + Drop + Send, L: Accept + Drop, R: AllocGlobal + Threads + Wait + Sync>(
     rt: &R,
-    address: SocketAddrV4,
-) -> Option<(TcpListener, SocketAddr)> {
-    let listener = TcpListener::bind(rt, SocketAddr::V4(address)).ok()?;
-    let address = listener.local_addr().ok()?;
-    Some((listener, address))
-}
-
-// Says where clients can connect, and whether that could be said.
-fn tell_listening<T: Display, O: Write>(address: &T, output: &mut O) -> bool {
-    writeln!(output, "listening {address}").is_ok() && output.flush().is_ok()
-}
-
-// Listens where the service is asked for, and says where; or answers the status of the fault that was reported.
-fn door_of<
-    R: Files<File = File> + Net<Stream = TcpStream, Listener = TcpListener>,
-    O: Write,
-    E: Write,
->(rt: &R, service: &Service<'_>, output: &mut O, errors: &mut E) -> Result<Door, Exit> {
-    let (door, is_told) = match service.address {
-        Address::Tcp(address) => {
-            let Some((listener, address)) = listener_of(rt, address) else {
-                return Err(tell_fault(errors, service.listen, "cannot listen", Exit::FileFailed));
-            };
-            let is_told = tell_listening(&address, output);
-            (Door::Tcp(TcpAccept::new(listener)), is_told)
-        }
-        Address::Unix(file) => {
-            let Ok(listener) = listener_at(rt, file) else {
-                return Err(tell_fault(errors, service.listen, "cannot listen", Exit::FileFailed));
-            };
-            let is_told = tell_listening(&service.listen, output);
-            (Door::Unix(UnixAccept::new(listener)), is_told)
-        }
-    };
-    if is_told {
-        Ok(door)
-    } else {
-        Err(tell_fault(errors, "-", "cannot write", Exit::FileFailed))
-    }
-}
-
-// Puts the journal's name on the device, listens where the service is asked for, and says where; or answers the status of the fault that
-// was reported.
-fn listen_at<
-    R: Files<File = File> + Net<Stream = TcpStream, Listener = TcpListener>,
-    O: Write,
-    E: Write,
->(rt: &R, service: &Service<'_>, output: &mut O, errors: &mut E) -> Result<Door, Exit> {
-    if keep_name(rt, service.journal).is_err() {
-        return Err(tell_fault(errors, service.journal, "cannot write", Exit::FileFailed));
-    }
-    door_of(rt, service, output, errors)
-}
-
-// What is left of the run that this is what came of.
-fn ended_of<D: Disk>(closing: &Closing<D>) -> Ended {
-    Ended {
-        summary: closing.session.summary(),
-        closed: closing.session.is_closed(),
-        account: closing.account,
-    }
-}
-
-// Serves the connections that are taken so at this session, and says what is left of the run.
-fn serve_to_end<D: Disk + Drop + Send, L: Accept + Drop, R: AllocGlobal + Threads + Wait + Sync>(
-    rt: &R,
-    service: &Service<'_>,
     session: Session<D, Global>,
     accept: L,
+    connections: Connections,
 ) -> Result<Ended, AllocError>
     requires { session.offered ≡ [] }
 {
-    match serve_session(rt, rt.alloc(), session, accept, service.connections) {
+    match serve_session(rt, rt.alloc(), session, accept, connections) {
         Ok(closing) => {
-            let ended = ended_of(&closing);
+            let ended = Ended::of_run(&closing);
             drop(closing);
             Ok(ended)
         }
@@ -165,10 +46,46 @@ fn serve_to_end<D: Disk + Drop + Send, L: Accept + Drop, R: AllocGlobal + Thread
     }
 }
 
+// Serves connections that are taken so at this session, without end, or until all are over; and says what is left of the run.
+fn serve_all<
+    D: Disk + Drop + Send,
+    L: Listen + Drop,
+    R: AllocGlobal + Threads + Wait + Clock + Sync,
+>(rt: &R, session: Session<D, Global>, accept: L, until_idle: bool) -> Result<Ended, AllocError>
+    requires { session.offered ≡ [] }
+{
+    match serve_service(rt, rt.alloc(), session, accept, until_idle, RETRIES) {
+        Ok(closed) => {
+            let ended = Ended::of_service(&closed);
+            drop(closed);
+            Ok(ended)
+        }
+        Err((AllocError, accept)) => {
+            drop(accept);
+            Err(AllocError)
+        }
+    }
+}
+
+// Serves connections that are taken so at this session, until the server ends, and says what is left of the run.
+fn serve_until<
+    D: Disk + Drop + Send,
+    L: Listen + Drop,
+    R: AllocGlobal + Threads + Wait + Clock + Sync,
+>(rt: &R, session: Session<D, Global>, accept: L, until: Until) -> Result<Ended, AllocError>
+    requires { session.offered ≡ [] }
+{
+    match until {
+        Until::Over(connections) => serve_some(rt, session, accept, connections),
+        Until::Idle => serve_all(rt, session, accept, true),
+        Until::Stopped => serve_all(rt, session, accept, false),
+    }
+}
+
 // Serves the connections at the door at this session, and says what is left of the run. A socket's file is taken away.
 fn serve_through<
     D: Disk + Drop + Send,
-    R: Files<File = File> + AllocGlobal + Threads + Wait + Sync,
+    R: Files<File = File> + AllocGlobal + Threads + Wait + Clock + Sync,
 >(
     rt: &R,
     service: &Service<'_>,
@@ -177,16 +94,12 @@ fn serve_through<
 ) -> Result<Ended, AllocError>
     requires { session.offered ≡ [] }
 {
-    match door {
-        Door::Tcp(accept) => serve_to_end(rt, service, session, accept),
-        Door::Unix(accept) => {
-            let ended = serve_to_end(rt, service, session, accept);
-            if let Address::Unix(file) = service.address {
-                let _ = remove_file(rt, file);
-            }
-            ended
-        }
-    }
+    let ended = match door {
+        Door::Tcp(accept) => serve_until(rt, session, accept, service.until),
+        Door::Unix(accept) => serve_until(rt, session, accept, service.until),
+    };
+    close_up(rt, service);
+    ended
 }
 
 // Serves the connections of the address at this session, and answers the exit status. Where it doesn't come to that, it takes away the
@@ -198,6 +111,7 @@ fn serve_at<
         + AllocGlobal
         + Threads
         + Wait
+        + Clock
         + Sync,
     O: Write,
     E: Write,
@@ -257,14 +171,15 @@ fn session_at<R: Files<File = File> + AllocGlobal, E: Write + IsTerminal>(
     }
 }
 
-/// Judges the reports of so many connections by the process of the script in the file, each connection at a seat of its own of
-/// one session, whose journal is in a file of its own, and answers the exit status.
+/// Judges the reports of connections by the process of the script in the file, each connection at a seat of its own of one session, whose
+/// journal is in a file of its own, until the server ends, and answers the exit status.
 pub(crate) fn serve<
     R: Files<File = File>
         + Net<Stream = TcpStream, Listener = TcpListener>
         + AllocGlobal
         + Threads
         + Wait
+        + Clock
         + Sync,
     O: Write,
     E: Write + IsTerminal,

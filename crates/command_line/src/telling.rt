@@ -25,6 +25,14 @@ pub(crate) fn tell_fault<E: Write>(errors: &mut E, name: &str, fault: &str, exit
     exit
 }
 
+/// Reports how many lines of connections weren't judged, where there were any.
+pub(crate) fn tell_unjudged<E: Write>(errors: &mut E, count: u64) {
+    if count > 0 {
+        let lines = if count == 1 { "line was" } else { "lines were" };
+        let _ = writeln!(errors, "{count} {lines} not judged");
+    }
+}
+
 /// Reports that there is no memory for the words, and answers the exit status.
 pub fn tell_no_memory<E: Write>(errors: &mut E) -> u8
     ensures { result ≡ exit_code Limit }

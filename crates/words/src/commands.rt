@@ -1,6 +1,6 @@
 //! The command line.
 use crate::addresses::address_of;
-use crate::wish::{Address, Check, Service, Wish};
+use crate::wish::{Address, Check, Service, Until, Wish};
 use clap::error::ErrorKind;
 use clap::{Arg, ArgAction, ArgMatches, Command, Error};
 use connections::Connections;
@@ -164,9 +164,21 @@ fn listen_option<'a>(alloc: Global) -> Arg<'a> {
 
 // The option for the number of connections.
 fn connections_option<'a>(alloc: Global) -> Arg<'a> {
-    word(alloc, "N", "How many connections are served, 1 to 64")
+    Arg::new(alloc, "N")
         .long("connections")
+        .action(ArgAction::Set)
         .value_parser(clap::value_parser!(u8).range(1..=64))
+        .help("How many connections are served, 1 to 64; without this as many as come, 64 at once")
+}
+
+// The option to end a service.
+fn until_idle_option<'a>(alloc: Global) -> Result<Arg<'a>, AllocError> {
+    flag(
+        alloc,
+        "until-idle",
+        "End once the last connection has ended; without this a service ends by a signal",
+    )
+    .conflicts_with("N")
 }
 
 fn serve_command<'a>(alloc: Global) -> Result<Command<'a>, AllocError> {
@@ -180,6 +192,7 @@ fn serve_command<'a>(alloc: Global) -> Result<Command<'a>, AllocError> {
     .arg(word(alloc, "JOURNAL", "The file of the journal"))?
     .arg(listen_option(alloc))?
     .arg(connections_option(alloc))?
+    .arg(until_idle_option(alloc)?)?
     .arg(large_option(alloc))
 }
 
@@ -210,6 +223,15 @@ fn command<'a>(alloc: Global) -> Result<Command<'a>, AllocError> {
     with(command, show_command(alloc))
 }
 
+// When the server ends.
+fn until_of<'a>(matches: &ArgMatches<'a>) -> Option<Until> {
+    match matches.get_one::<u8>("N") {
+        Some(count) => Some(Until::Over(Connections::new(count)?)),
+        None if matches.get_flag("until-idle") => Some(Until::Idle),
+        None => Some(Until::Stopped),
+    }
+}
+
 // The wish to serve at this address.
 fn wish_at<'a>(matches: &ArgMatches<'a>, address: Address<'a>) -> Option<Wish<'a>> {
     Some(Wish::Serve(Service {
@@ -219,7 +241,7 @@ fn wish_at<'a>(matches: &ArgMatches<'a>, address: Address<'a>) -> Option<Wish<'a
         listen: matches.get_str("ADDR")?,
         address,
         large: matches.get_flag("large"),
-        connections: Connections::new(matches.get_one::<u8>("N")?)?,
+        until: until_of(matches)?,
     }))
 }
 

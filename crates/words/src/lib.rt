@@ -12,5 +12,5 @@ mod words;
 pub use commands::{example_of, read_words};
 pub use connections::Connections;
 pub use shown::{Format, Options, Selection};
-pub use wish::{Address, Check, Service, Wish};
+pub use wish::{Address, Check, Service, Until, Wish};
 pub use words::words_of;

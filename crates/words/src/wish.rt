@@ -10,9 +10,15 @@ pub enum Wish<'a> {
     /// To judge the reports on standard input by the process of the script in the file `spec`.
     Check(Check<'a>),
     /// To print what the script in the file `spec` denotes for the process.
-    Print { spec: &'a str, process: &'a str },
+    Print {
+        spec: &'a str,
+        process: &'a str,
+    },
     /// To judge the records of the journal in the file again; without a change of the file where `read_only` says so.
-    Replay { journal: &'a str, read_only: bool },
+    Replay {
+        journal: &'a str,
+        read_only: bool,
+    },
     /// To print the reports of the journal in the file, and why those that were rejected were; then those that come, where `follow`
     /// says so.
     Show {
@@ -50,6 +56,17 @@ pub enum Address<'a> {
     Unix(&'a str),
 }
 
+/// When a server ends.
+#[derive(Clone, Copy)]
+pub enum Until {
+    /// Once so many connections were taken and are over.
+    Over(Connections),
+    /// Once all connections are over, and there was one: a service that takes connections without end until then.
+    Idle,
+    /// By a signal: a service that takes connections without end.
+    Stopped,
+}
+
 /// What is served, and where.
 #[derive(Clone, Copy)]
 pub struct Service<'a> {
@@ -65,6 +82,6 @@ pub struct Service<'a> {
     pub address: Address<'a>,
     /// Whether the limits are those for large systems.
     pub large: bool,
-    /// How many connections are served.
-    pub connections: Connections,
+    /// When the server ends.
+    pub until: Until,
 }

@@ -1,0 +1,88 @@
+//! What came of a run of the server.
+
+ghost use Rattle.std.specs.Prelude.{◌≡◌};
+ghost use Rattle.command_line.specs.Statuses.{run_exit};
+
+use crate::forms::put_out;
+use crate::telling::{tell_fault, tell_unjudged};
+use disk::Disk;
+use program::{Exit, Summary, summary_line};
+use serving::{ClosedService, Closing, RunStatus, Totals};
+use std::alloc::{AllocError, Global};
+use std::io::Write;
+use words::Service;
+
+/// What is left of a run once its connections are over: the counts of its history, whether the journal failed in this run, what came of
+/// the connections together, and whether one couldn't be taken.
+#[derive(Clone, Copy)]
+pub(crate) struct Ended {
+    summary: Summary,
+    closed: bool,
+    totals: Totals,
+    accept_failed: bool,
+}
+
+impl Ended {
+    /// Of a run of so many connections. Lines that weren't judged are passed over.
+    pub(crate) fn of_run<D: Disk>(closing: &Closing<D>) -> Ended {
+        Ended {
+            summary: closing.session.summary(),
+            closed: closing.session.is_closed(),
+            totals: Totals {
+                rejected: closing.account.rejected,
+                limit: closing.account.limit,
+                unjudged: 0,
+            },
+            accept_failed: closing.account.accept_failed,
+        }
+    }
+
+    /// Of a service.
+    pub(crate) fn of_service<D: Disk>(closed: &ClosedService<D>) -> Ended {
+        Ended {
+            summary: closed.session.summary(),
+            closed: closed.session.is_closed(),
+            totals: closed.totals,
+            accept_failed: closed.accept_failed,
+        }
+    }
+}
+
+// The exit status of a run of the server.
+fn exit_of(status: RunStatus) -> Exit
+    ensures { result ≡ run_exit status }
+{
+    match status {
+        RunStatus::Done => Exit::Done,
+        RunStatus::Rejected => Exit::Rejected,
+        RunStatus::Misuse => Exit::Misuse,
+        RunStatus::Closed => Exit::BadJournal,
+        RunStatus::AcceptFailed => Exit::FileFailed,
+        RunStatus::Limit => Exit::Limit,
+    }
+}
+
+/// Reports how a run ended, and answers the status.
+pub(crate) fn tell_ended<O: Write, E: Write>(
+    alloc: Global,
+    service: &Service<'_>,
+    ended: Ended,
+    output: &mut O,
+    errors: &mut E,
+) -> Exit {
+    let mut totals = ended.totals;
+    if ended.accept_failed {
+        tell_fault(errors, service.listen, "cannot accept", Exit::FileFailed);
+    }
+    tell_unjudged(errors, totals.unjudged);
+    let is_written = match summary_line(alloc, ended.summary, ended.closed) {
+        Ok(line) => put_out(&line, output, errors),
+        Err(AllocError) => {
+            tell_fault(errors, service.spec, "40 memory", Exit::Limit);
+            totals.limit = true;
+            true
+        }
+    };
+    // An output that failed counts as a listener that did.
+    exit_of(totals.status(ended.closed, ended.accept_failed || !is_written))
+}
