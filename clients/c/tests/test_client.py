@@ -241,6 +241,37 @@ class Ends(Plays):
         self.assertEqual(told([PLAYER, host, "no-port", "0"]), (["not connected"], "", 0))
 
 
+@unittest.skipUnless(shutil.which("make"), "there is no make")
+class Installed(unittest.TestCase):
+    """The client as a library, built in a copy of its folder and installed below another."""
+
+    def test_a_program_is_linked_by_pkg_config(self):
+        copy, target = os.path.join(FOLDER.name, "copy"), os.path.join(FOLDER.name, "target")
+        shutil.copytree(CLIENT, copy)
+        self.run_well(["make", "-s", "-C", copy, "install", "PREFIX=/usr", "DESTDIR=" + target, "CC=" + COMPILER])
+        words = [COMPILER, "-o", os.path.join(copy, "example"), os.path.join(copy, "example.c")]
+        self.run_well(words + self.flags(target))
+        with StandIn([(b"E a", b"OK 1\n"), (b"E b", b"OK 2\n"), (b"N", b"N a\n"), BYE]) as server:
+            path = {"LD_LIBRARY_PATH": os.path.join(target, "usr", "lib")}
+            done = subprocess.run([words[2]] + server.address.split(":"), env=path, stdout=subprocess.PIPE, timeout=SECONDS)
+        self.assertEqual((done.stdout, done.returncode), (b"a: accepted, report 1\nb: accepted, report 2\nnext: a\n", 0))
+        self.run_well(["make", "-s", "-C", copy, "uninstall", "PREFIX=/usr", "DESTDIR=" + target])
+        self.assertEqual([names for _, _, names in os.walk(target) if names], [])
+
+    def flags(self, target):
+        """What pkg-config says of the installed library; where there is none, what its file has."""
+        if shutil.which("pkg-config") is None:
+            return ["-I%s/usr/include" % target, "-L%s/usr/lib" % target, "-lcspwatch_client"]
+        place = {"PKG_CONFIG_LIBDIR": os.path.join(target, "usr", "lib", "pkgconfig"), "PKG_CONFIG_SYSROOT_DIR": target, "PATH": os.environ["PATH"],
+                 "PKG_CONFIG_ALLOW_SYSTEM_CFLAGS": "1", "PKG_CONFIG_ALLOW_SYSTEM_LIBS": "1"}
+        return subprocess.run(["pkg-config", "--cflags", "--libs", "cspwatch_client"], env=place, stdout=subprocess.PIPE, check=True,
+                              timeout=SECONDS).stdout.decode().split()
+
+    def run_well(self, words):
+        done = subprocess.run(words, stdout=subprocess.PIPE, stderr=subprocess.STDOUT, timeout=120)
+        self.assertEqual((done.stdout, done.returncode), (b"", 0), words)
+
+
 @unittest.skipUnless(PROGRAM, "there is no program")
 class WithTheProgram(Plays):
     rows = [

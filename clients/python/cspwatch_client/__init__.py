@@ -9,13 +9,17 @@
 
 `docs/PROTOCOL.md` of the project describes the lines that are sent and the replies to them.
 """
+from .asynchronous import AsyncClient
 from .client import Client
 from .reconnecting import ReconnectingClient
 from .replies import BadReply, CspwatchError, Fault, FaultCode, NoReply, OtherReports, Status, Verdict, VerdictLost
 from .running import Checker, Outcome, Server, StartFailed
 from .shown import BadLine
 
+__version__ = "0.6.0.dev0"
+
 __all__ = [
+    "AsyncClient",
     "BadLine",
     "BadReply",
     "Checker",
