@@ -48,7 +48,11 @@ TWO = b"cspwatch journal 2\nroot P\nscript 24\n" + GOOD + b"\n."
 TWO_OF_MORE = b"cspwatch journal 2\nroot P\nscript 33\n" + GOOD + b"Q = STOP\n\n."
 LARGE = b"cspwatch large journal 1\nroot P\npart 1\nbefore 0\nprevious -\nscript 24\n" + GOOD + b"\n."
 
-# The same for a program that knows `--large`; in place of the script there may be all files by their names.
+LATER = COMPONENTS + b"channel go\nSTART = go -> SYSTEM\n"
+LIMIT_MET = "        a limit was met; if it was 21 states: with --large, components that rest are one state"
+
+# The same for a program that knows `--large`; in place of the script there may be all files by their names. One that is named `input`
+# is the standard input.
 ROWS_WITH_LARGE = [
     ("too many states", ["check", "p.csp", "SYSTEM"], COMPONENTS, ["p.csp: 21 states"], [MANY_SO_FAR], 6),
     ("the same when serving", SERVE_SYSTEM, COMPONENTS, ["p.csp: 21 states"], [MANY_SO_FAR], 6),
@@ -58,6 +62,11 @@ ROWS_WITH_LARGE = [
     ("the same when serving with --large", SERVE + ["1", "--large"], CHOICES, ["p.csp: 21 states"], [MANY], 6),
     ("a state that is too deep", ["check", "p.csp", "P"], GROWING, ["p.csp: 20 depth"], [DEEP], 6),
     ("a state that is too deep with --large", ["check", "--large", "p.csp", "P"], GROWING, ["p.csp: 20 depth"], [DEEP], 6),
+    ("too many states after a report", ["check", "p.csp", "START"], {"p.csp": LATER, "input": b"E go\nE a.0\n"}, [], [LIMIT_MET], 1),
+    ("the same line by line", ["check", "--quiet", "p.csp", "START"], {"p.csp": LATER, "input": b"E go\n"}, [], [LIMIT_MET], 6),
+    ("no more than that with --large", ["check", "--large", "p.csp", "P"], {"p.csp": b"channel go\n" + CHOICES.replace(b"P =", b"P = go ->"),
+     "input": b"E go\n"}, [], [], 6),
+    ("nothing where no limit was met", ["check", "p.csp", "START"], {"p.csp": LATER, "input": b"E a.0\n"}, [], [], 1),
     ("a large journal without --large", SERVE + ["1"], {"p.csp": GOOD, "j": LARGE}, ["j: 54 specification"], [OTHER], 4),
     ("a journal of version 2 with --large", SERVE + ["1", "--large"], {"p.csp": GOOD, "j": TWO}, ["j: 54 specification"], [OTHER], 4),
     ("a journal of another process", SERVE[:2] + ["Q"] + SERVE[3:] + ["1"], {"p.csp": GOOD + b"Q = STOP\n", "j": TWO_OF_MORE},
@@ -121,10 +130,16 @@ END = b"the command has ended"
 """What is written to the terminal once a command has ended. A terminal whose last writer has gone may lose what it holds."""
 
 
+def input_of(folder):
+    """The standard input of a command in the folder."""
+    return open(folder / "input" if (folder / "input").exists() else os.devnull, "rb")
+
+
 def on_terminal(command, folder):
     """What the command writes to a terminal, and its status."""
     mine, other = pty.openpty()
-    child = subprocess.Popen(command, cwd=folder, stdin=subprocess.DEVNULL, stdout=subprocess.DEVNULL, stderr=other)
+    with input_of(folder) as given:
+        child = subprocess.Popen(command, cwd=folder, stdin=given, stdout=subprocess.DEVNULL, stderr=other)
     text = b""
     ended = False
     while not text.endswith(END):
@@ -139,7 +154,8 @@ def on_terminal(command, folder):
 
 
 def elsewhere(command, folder):
-    done = subprocess.run(command, cwd=folder, stdin=subprocess.DEVNULL, capture_output=True, timeout=SECONDS)
+    with input_of(folder) as given:
+        done = subprocess.run(command, cwd=folder, stdin=given, capture_output=True, timeout=SECONDS)
     return done.stderr.decode("utf-8", "replace").splitlines(), done.returncode
 
 

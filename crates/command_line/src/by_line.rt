@@ -5,6 +5,7 @@ ghost use Rattle.program.specs.Exits.{attended_exit};
 ghost use Rattle.command_line.specs.Commands.{AttendedTo, IsRefusal};
 
 use crate::checking::tell_unopened;
+use crate::hints::show_limit_met;
 use crate::scripts::{Script, text_of};
 use crate::telling::tell_fault;
 use disk::Disk;
@@ -17,11 +18,13 @@ use std::sync::Wait;
 use term::Names;
 use wire::{Sink, Source, WireError};
 
-// How a check ended, the exit status that it asks for, and whether all that is wanted on the errors was written there.
+// How a check ended, the exit status that it asks for, whether a line was answered with a limit, and whether all that is wanted on the
+// errors was written there.
 #[derive(Clone, Copy)]
 struct Ended {
     end: Result<Ending, WireError>,
     exit: Exit,
+    limit: bool,
     whole: bool,
 }
 
@@ -32,10 +35,19 @@ pub(crate) fn is_wanted(manner: Manner) -> bool
     manner.explain || manner.quiet || manner.first
 }
 
-// Reports the fault that ended the check, if one did, and that reasons are missing, if some are.
-fn tell_end<E: Write>(errors: &mut E, name: &str, ended: Ended) -> Exit
+// Reports the fault that ended the check, if one did, and that reasons are missing, if some are; on a terminal after what helps against
+// a limit that was met.
+fn tell_end<E: Write + IsTerminal>(
+    errors: &mut E,
+    name: &str,
+    names: Names,
+    ended: Ended,
+) -> Exit
     ensures { result ≡ ended.exit }
 {
+    if ended.limit {
+        show_limit_met(errors, names);
+    }
     if !ended.whole {
         let _ = tell_fault(errors, "-", "reasons are missing", ended.exit);
     }
@@ -54,6 +66,7 @@ fn ended_of<D: Disk + Drop>(attended: Attended<D, Global>) -> Ended
     let ended = Ended {
         end: attended.end,
         exit: Exit::of_attended(attended.end, attended.tally),
+        limit: attended.tally.limit,
         whole: attended.whole,
     };
     drop(attended);
@@ -117,7 +130,7 @@ pub fn check_in<R: Files + AllocGlobal + Wait, T: Source, W: Sink, E: Write + Is
         writer,
         errors,
     ) {
-        Ok(ended) => tell_end(errors, name, ended),
+        Ok(ended) => tell_end(errors, name, names, ended),
         Err(error) => {
             let script = Script {
                 name,

@@ -3,6 +3,7 @@
 ghost use Rattle.std.specs.Prelude.{◌≡◌, ◌⊎◌, IfOk, IfErr};
 ghost use Rattle.command_line.specs.Commands.{IsRefusal, Judged};
 
+use crate::hints::show_limit_met;
 use crate::scripts::{Script, text_of};
 use crate::telling::{explain_script, tell_fault, tell_opening};
 use disk::Disk;
@@ -15,11 +16,12 @@ use std::sync::Wait;
 use term::Names;
 use wire::{End, Sink, Source, WireError};
 
-// How a conversation ended, and the exit status that it asks for.
+// How a conversation ended, the exit status that it asks for, and whether a line was answered with a limit.
 #[derive(Clone, Copy)]
 struct Talked {
     end: Result<End, WireError>,
     exit: Exit,
+    limit: bool,
 }
 
 // Reports why no session of the script opens, where it is to be explained with the line of a fault, and answers the exit status. A disk in
@@ -41,10 +43,18 @@ pub(crate) fn tell_unopened<E: Write + IsTerminal>(
     }
 }
 
-// Reports the fault that ended the conversation, if one did.
-fn tell_end<E: Write>(errors: &mut E, name: &str, talked: Talked) -> Exit
+// Reports the fault that ended the conversation, if one did; on a terminal after what helps against a limit that was met.
+fn tell_end<E: Write + IsTerminal>(
+    errors: &mut E,
+    name: &str,
+    names: Names,
+    talked: Talked,
+) -> Exit
     ensures { result ≡ talked.exit }
 {
+    if talked.limit {
+        show_limit_met(errors, names);
+    }
     match talked.end {
         Ok(_) => talked.exit,
         Err(WireError::Read) => tell_fault(errors, "-", "cannot read", talked.exit),
@@ -60,6 +70,7 @@ fn talked_of<D: Disk + Drop>(checked: Checked<D>) -> Talked
     let talked = Talked {
         end: checked.end,
         exit: checked.exit,
+        limit: checked.tally.limit,
     };
     drop(checked);
     talked
@@ -105,7 +116,7 @@ pub fn check<R: Files + AllocGlobal + Wait, T: Source, W: Sink, E: Write + IsTer
     };
     let process = process.as_bytes();
     match talk(rt, rt.alloc(), &text, process, names, reader, writer) {
-        Ok(talked) => tell_end(errors, name, talked),
+        Ok(talked) => tell_end(errors, name, names, talked),
         Err(error) => {
             let script = Script {
                 name,
