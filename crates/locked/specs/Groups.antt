@@ -4,14 +4,27 @@ use Rattle.alphabet.specs.declared.events.Report.{Report}
 use Rattle.session.specs.Entry.{Entry}
 use Rattle.session.specs.View.{IsOf}
 
--- The settled entries after the opening; the whole history with what is offered; the entry that closed the session; the last of the names;
--- and by its number, whether the seat of a name has a connection.
+-- The settled entries after the opening; the whole history with what is offered; the entry that closed the session; the last of the names,
+-- and by its number, whether the seat of a name has a connection; the numbers that were given to seats and never used; the greatest number
+-- that was given or has an entry; how many places were given, and how many there are.
 pub record LockedView : Type 0 where
   pub settled : List Entry
   pub entries : List Entry
   pub failed : Option Entry
   pub names : ℕ
   pub taken : List Bool
+  pub spare : List ℕ
+  pub number : ℕ
+  pub seats : ℕ
+  pub places : ℕ
+
+-- the same names and places, given to the same seats
+pub record HasSameSeats (old new : LockedView) : Type 0 where
+  pub names : new.names ≡ old.names
+  pub taken : new.taken ≡ old.taken
+  pub spare : new.spare ≡ old.spare
+  pub seats : new.seats ≡ old.seats
+  pub places : new.places ≡ old.places
 
 -- the entry stands at this place of the history, counted from 1
 pub record StandsAt (h : List Entry) (place : ℕ) (e : Entry) : Type 0 where

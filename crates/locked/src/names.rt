@@ -1,6 +1,6 @@
 //! The names of a service's seats.
 
-ghost use Rattle.std.specs.Prelude.{◌≡◌, ◌≤◌, ◌<◌, false, true, slice_index_or, slice_set, IfSome};
+ghost use Rattle.std.specs.Prelude.{◌≡◌, ◌≤◌, ◌<◌, ◌++◌, ◌∷◌, [], List, ℕ, length, false, true, None, slice_index_or, slice_set, IfSome};
 
 use session::SeatNumber;
 use std::marker::Model;
@@ -22,12 +22,12 @@ pub struct Names {
 }
 
 impl Model for Names {
-    ghost use Rattle.std.specs.Prelude.{◌≤◌};
-    ghost use Rattle.locked.specs.Names.{NamesView};
+    ghost use Rattle.std.specs.Prelude.{◌≤◌, take};
+    ghost use Rattle.locked.specs.Numbers.{NamesView};
 
     ghost Value = { NamesView };
 
-    ghost view = { λ n. record { last = n.last; taken = n.taken } };
+    ghost view = { λ n. record { last = n.last; taken = n.taken; spare = take n.spares n.spare } };
 
     ghost invariant = { λ n. (n.last ≤ 1000) × (n.spares ≤ 64) };
 }
@@ -37,6 +37,7 @@ impl Names {
     pub fn up_to(last: u16) -> Names
         requires { last ≤ 1000 }
         ensures last { result.last ≡ last }
+        ensures spare { result.spare ≡ [] }
     {
         Names {
             last,
@@ -67,6 +68,7 @@ impl Names {
         requires { name ≤ self.old.last }
         ensures last { self.new.last ≡ self.old.last }
         ensures taken { self.new.taken ≡ slice_set self.old.taken name true }
+        ensures spare { self.new.spare ≡ self.old.spare }
     {
         self.taken[usize::from(name.get())] = true;
     }
@@ -76,15 +78,18 @@ impl Names {
         ensures last { self.new.last ≡ self.old.last }
         ensures named { seat ≤ self.old.last → self.new.taken ≡ slice_set self.old.taken seat false }
         ensures unnamed { self.old.last < seat → self.new.taken ≡ self.old.taken }
+        ensures spare { self.new.spare ≡ self.old.spare }
     {
         if seat.get() <= self.last {
             self.taken[usize::from(seat.get())] = false;
         }
     }
 
-    /// Keeps a number that was never used. It needs room for no more of them than there are connections.
+    /// Keeps a number that was never used, where there is room for it. It needs room for no more of them than there are connections.
     pub fn keep(&mut self, seat: SeatNumber)
-        ensures { self.new ≡ self.old }
+        ensures same { self.new ≡ record self.old { spare = self.new.spare } }
+        ensures kept { length self.old.spare < 64 → self.new.spare ≡ self.old.spare ++ seat ∷ [] }
+        ensures full { 64 ≤ length self.old.spare → self.new.spare ≡ self.old.spare }
     {
         if self.spares < 64 {
             self.spare[self.spares] = seat.get();
@@ -92,10 +97,12 @@ impl Names {
         }
     }
 
-    /// A number above the names that was given before, and never used.
+    /// A number above the names that was given before, and never used. It is kept no more.
     pub fn spare(&mut self) -> Option<SeatNumber>
-        ensures same { self.new ≡ self.old }
+        ensures same { self.new ≡ record self.old { spare = self.new.spare } }
         ensures above { IfSome result (λ seat. self.old.last < seat) }
+        ensures was { IfSome result (λ seat. self.old.spare ≡ self.new.spare ++ seat ∷ []) }
+        ensures less { result ≡ None → (gone : List ℕ) × (self.old.spare ≡ self.new.spare ++ gone) }
     {
         if self.spares == 0 {
             return None;

@@ -78,7 +78,8 @@ impl<D: Disk, A: Allocator + Copy, N: Naming, R: Wait> Judge for ServiceJudge<'_
 
     fn identify(&mut self, seat: u16) -> Option<Result<u64, Fault>> {
         let name = SeatNumber::new(seat)?;
-        match self.judge.seat.identify(self.judge.rt, name) {
+        let rt = self.judge.rt;
+        match self.judge.seat.identify(rt, name) {
             Ok(count) => Some(Ok(u64::from(count))),
             Err(NameFault::Nameless) => None,
             Err(NameFault::Taken) => Some(Err(Fault::Taken)),

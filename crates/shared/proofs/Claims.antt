@@ -1,6 +1,6 @@
 -- What a settled entry leaves of its seat.
 use Rattle.std.proofs.Common.{◌≡◌, ℕ, suc, ◌+◌, ◌<◌, ◌≤◌, Bool, List, [], ◌∷◌, ◌++◌, length, take, drop, refl, sym, ap, ◌∙◌, subst, arith, append_assoc, length-append}
-use Rattle.std.proofs.lemmas.List.{append-nil, take-append-drop, length-take-le}
+use Rattle.std.proofs.lemmas.List.{take-append-drop}
 use Rattle.std.proofs.Math.Seq.{take-append_seam, take-length}
 use Rattle.alphabet.specs.declared.events.Report.{Report}
 use Rattle.term.specs.Proc.{Proc}
@@ -9,7 +9,7 @@ use Rattle.locked.specs.Entries.{calls}
 use Rattle.locked.specs.Legal.{Legal, Fits}
 use Rattle.locked.specs.Beginnings.{StartsWith}
 use Rattle.locked.specs.Groups.{StandsAt, HasEntries}
-use Rattle.locked.proofs.Beginnings.{prefix_shorter, begins_trans, begins_after, begins_self}
+use Rattle.locked.proofs.Beginnings.{prefix_shorter, begins_trans, begins_after}
 use Rattle.shared.specs.View.{SeatView}
 use Rattle.shared.specs.Turns.{AllAnswered}
 use Rattle.shared.proofs.Calls.{own_enough, own_stays, after_report}

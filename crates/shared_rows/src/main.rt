@@ -10,6 +10,8 @@
 //! | `held SHARES TASK TASK ..` | the same, where the first sync after the opening is held until a seat whose task is `look` has looked at its status; and how many reports that had |
 //! | `memory once PLACES ROOT SCRIPT # SEAT INPUT ..` | each outcome of a `talk` where one request for memory of the session, its seats and conversations is refused, each in turn, up to the one that isn't made |
 //! | `memory until ..`, `memory always ..` | the same where the request and all after it are refused: until the conversation is over; or all |
+//! | `service PLACES ROOT SCRIPT # STEP # STEP ..` | a service with so many places, on a disk in memory. Its steps: `come` (a seat comes, or why it doesn't), `K INPUT` (a conversation with the K-th seat of those that are there), `leave K`. Then how many places are free, and how many reports were answered to the seats that left; and as at the end of a `talk` |
+//! | `service_fault K PLACES ROOT SCRIPT # STEP # STEP ..` | the same on a disk whose K-th call fails |
 //! | `no_request PLACES ROOT SCRIPT # SEAT INPUT ..` | a `talk` after which every request is refused: what the status and the next events of each seat are then, the last one first, the same end as that of `talk`, and whether there was a request |
 #![tactic(auto)]
 
@@ -18,6 +20,7 @@ mod ends;
 mod held;
 mod memory;
 mod playing;
+mod services;
 mod talks;
 mod threads;
 
@@ -40,6 +43,7 @@ fn played<T: Threads + Wait + Clock + Sync>(
         out.put(&row);
     } else if !playing::play(rt, alloc, &row, &mut out)
         && !threads::play(rt, alloc, &row, &mut out)
+        && !services::play(rt, alloc, &row, &mut out)
     {
         out.put("no such kind of row");
     }

@@ -1,4 +1,4 @@
-use Rattle.std.proofs.Common.{◌≡◌, ◌+◌, ◌++◌, None, length, arith, sym, ap, ◌∙◌, length-append}
+use Rattle.std.proofs.Common.{◌≡◌, ◌++◌, None, length, arith, sym, ap, ◌∙◌, length-append}
 use Rattle.locked.specs.Groups.{LockedView}
 use Rattle.locked.proofs.closing.close.Goals as goal
 

@@ -1,4 +1,4 @@
-use Rattle.std.proofs.Common.{◌≡◌, List, ◌++◌, length, length-append, ap, arith}
+use Rattle.std.proofs.Common.{◌≡◌, ◌++◌, length, length-append, ap, arith}
 use Rattle.std.proofs.lemmas.Option.{IfSome_then}
 use Rattle.shared.proofs.Leaving.{all_left_within, kept_legal}
 use Rattle.shared.proofs.seat.Shared.finish_service.Goals as goal

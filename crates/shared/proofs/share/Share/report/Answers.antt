@@ -1,4 +1,4 @@
-use Rattle.std.proofs.Common.{◌≡◌, ◌∷◌, [], List, Bool, false, get_or, ◌∙◌, subst}
+use Rattle.std.proofs.Common.{◌∷◌, [], List, Bool, false, get_or, subst}
 use Rattle.shared.specs.Turns.{CameTo}
 use Rattle.shared.proofs.Rounds.{one_came, single}
 use Rattle.shared.proofs.share.Share.report.Goals as goal

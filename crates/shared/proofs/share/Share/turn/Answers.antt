@@ -1,5 +1,5 @@
-use Rattle.std.proofs.Common.{◌≡◌, ℕ, ◌+◌, ◌<◌, ◌≤◌, ◌++◌, ◌∷◌, [], List, Bool, true, false, Option, Some, None, length, get_or, suc, refl, inl, inr, ◌⊎◌, sym, ap, ◌∙◌, subst, arith}
-use Rattle.std.specs.Prelude.{take, is_some, IfSome, ◌||◌}
+use Rattle.std.proofs.Common.{◌≡◌, ℕ, ◌+◌, ◌<◌, ◌++◌, List, Bool, true, false, length, get_or, suc, refl, inl, inr, ◌⊎◌, sym, ap, ◌∙◌, subst, arith}
+use Rattle.std.specs.Prelude.{take, is_some, ◌||◌}
 use Rattle.std.proofs.lemmas.List.{length-take-le}
 use Rattle.alphabet.specs.declared.events.Report.{Report}
 use Rattle.term.specs.Proc.{bodies_of}
@@ -10,11 +10,9 @@ use Rattle.locked.specs.Fault.{Fault}
 use Rattle.locked.specs.Fault.TheVariants.{Journal, Closed}
 use Rattle.locked.specs.Legal.{Legal}
 use Rattle.locked.specs.SessionView.{IsOf}
-use Rattle.locked.specs.Beginnings.{StartsWith}
 use Rattle.locked.proofs.Beginnings.{begins_self}
 use Rattle.shared.specs.View.{SeatView}
 use Rattle.shared.specs.Faults.{Answers, closes}
-use Rattle.shared.specs.Seats.{Refused}
 use Rattle.shared.specs.Turns.{CameTo}
 use Rattle.shared.proofs.Claims.{begins_take, seen_begins, legal_front, view_of}
 use Rattle.shared.proofs.Rounds.{came_any, came_none, few_answered}

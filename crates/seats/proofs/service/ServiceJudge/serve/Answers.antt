@@ -1,0 +1,14 @@
+-- What is said of the judge is said of what its seat knows and has done.
+use Rattle.term.specs.Proc.{bodies_of}
+use Rattle.wire.specs.Replies.{noted}
+use Rattle.seats.specs.Judges.{Reports, Statuses, Nexts, Identifies}
+use Rattle.wire.proofs.PartLemmas.{serves_by}
+use Rattle.seats.proofs.service.ServiceJudge.serve.Goals as goal
+
+pub returns-clause-serves : goal.returns-clause-serves
+returns-clause-serves g c =
+    let B = bodies_of g.N.Naming.spec.bodies in
+    serves_by (λ j. j.judge.seat.share) (Reports g.N.Naming.spec) (Statuses B) (Nexts B) (Identifies B) c.args.alphabet.now
+    (noted c.args.self.now c.args.tally.now) (noted c.serve.new.judge c.serve.new.tally)
+    (g.T.Source.left c.args.reader.now) (g.T.Source.left c.serve.new.reader) (g.W.Sink.contents c.args.writer.now) (g.W.Sink.contents c.serve.new.writer)
+    c.serve.result c.serve.ensures.serves
