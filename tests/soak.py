@@ -117,7 +117,7 @@ class Run:
         for _ in range(100):
             self.process = subprocess.Popen(words, cwd=self.folder, stdout=subprocess.PIPE, stderr=subprocess.PIPE)
             line = self.process.stdout.readline().decode()
-            if line.startswith("listening on "):
+            if line.startswith("listening "):
                 self.address = line.split()[-1]
                 return
             said = self.process.communicate()[1].decode()
