@@ -34,6 +34,12 @@ def has_serve(path):
     return told.returncode == 0 and b"--connections" in told.stdout
 
 
+def has_services(path):
+    """Whether its command `serve` can be a service."""
+    told = subprocess.run([path, "serve", "--help"], stdout=subprocess.PIPE, stderr=subprocess.DEVNULL, timeout=SECONDS)
+    return told.returncode == 0 and b"--until-idle" in told.stdout
+
+
 class Listener:
     """A port on which a thread takes connections, one after the other."""
 

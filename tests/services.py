@@ -6,7 +6,7 @@
 First connections are made, one after the other and 64 at a time, that report ten times each and end: none is refused, and the memory
 stays as it was after the first 64. Then components that are seats by number report at random, lose their connections and come back
 (`clients/python`), while the service is killed again and again: each report is judged once, the journal has them all in the order of
-their seats, and its verdicts are those of a replay. The last line is `N passed, M failed`.
+their seats, and what `show` prints of it is what the reference does. The last line is `N passed, M failed`.
 """
 import argparse
 import contextlib
@@ -26,6 +26,7 @@ PROGRAM = os.path.join(ROOT, "crates", "cspwatch", "out", "cspwatch")
 sys.path.insert(0, os.path.join(ROOT, "clients", "python"))
 
 from cspwatch_client import ReconnectingClient, VerdictLost  # noqa: E402
+from reference import program as reference  # noqa: E402
 
 SCRIPT = "channel a, b\nP = a -> b -> P\n"
 LINES = ["E a", "R b", "E b", "S", "N", "E b", "R a", "E a", "R", "E b"]
@@ -173,6 +174,10 @@ def shown(program, folder):
     """Of each seat the verdicts of its reports in the journal, in their order; and what is wrong with their numbers."""
     done = subprocess.run([program, "show", "j"], cwd=folder, stdout=subprocess.PIPE, text=True, timeout=10 * SECONDS, check=False)
     verdicts, problems = {}, []
+    with open(os.path.join(folder, "j"), "rb") as file:
+        wanted = reference.show(file.read())
+    if (done.stdout, done.returncode) != (wanted.output.decode("latin-1"), wanted.status):
+        problems.append("`show` isn't as the reference has it")
     for place, line in enumerate(done.stdout.splitlines()[:-1], 1):
         words = line.split(" ")
         seat, number = int(words[1]), int(words[2])

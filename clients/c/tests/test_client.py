@@ -15,13 +15,14 @@ CLIENT = os.path.dirname(HERE)
 sys.path[:0] = [os.path.join(os.path.dirname(CLIENT), "python"), os.path.dirname(CLIENT)]
 
 from cspwatch_client import Server, Status  # noqa: E402
-from stand_in import HOLD, RESET, SECONDS, CheckServer, SeatService, StandIn, has_serve, program  # noqa: E402
+from stand_in import HOLD, RESET, SECONDS, CheckServer, SeatService, StandIn, has_serve, has_services, program  # noqa: E402
 
 COMPILER = os.environ.get("CC", "cc")
 FLAGS = ["-std=c99", "-Wall", "-Wextra", "-Wpedantic", "-Wconversion", "-Wshadow", "-Werror", "-O2"]
 CHECKS = ["-fsanitize=address,undefined", "-fno-sanitize-recover=all", "-g"]
 PROGRAM = program()
 SERVES = PROGRAM is not None and has_serve(PROGRAM)
+IS_SERVICE = PROGRAM is not None and has_services(PROGRAM)
 BYE = (b"Q", b"BYE\n")
 SCRIPT = "channel a, b, c\nP = a -> b -> P\n"
 FOLDER = tempfile.TemporaryDirectory(prefix="client-c-")
@@ -310,6 +311,17 @@ class WithTheProgram(Plays):
         server = Server(self.spec, "P", os.path.join(FOLDER.name, "journal"), program=PROGRAM)
         self.session(server.address)
         self.assertEqual(server.wait(SECONDS).summary, Status(5, 2, 1, 2, closed=False))
+
+    @unittest.skipUnless(IS_SERVICE, "the program is no service")
+    def test_a_component_that_comes_back(self):
+        server = Server(self.spec, "P", os.path.join(FOLDER.name, "journal of a service"), connections=None, program=PROGRAM)
+        with server.client(SECONDS):
+            for rows in ([("identify 3", "answered"), ("judged", "judged 0"), ("event a", "accepted 1"), ("refusal a", "accepted 2")],
+                         [("patience 20000", ""), ("identify 3", "answered"), ("judged", "judged 2"), ("event b", "accepted 3")]):
+                lines, errors, status = told([PLAYER] + server.address.split(":") + ["20000"], [call for call, _ in rows])
+                self.assertEqual((lines, errors, status), ([wanted for _, wanted in rows if wanted], "", 0))
+        outcome = server.wait(SECONDS)
+        self.assertEqual((outcome.exit_status, outcome.summary), (0, Status(3, 2, 1, 0, closed=False)))
 
 
 if __name__ == "__main__":

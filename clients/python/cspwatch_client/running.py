@@ -46,8 +46,10 @@ class StartFailed(CspwatchError):
 class Server:
     """A server of its own: `cspwatch serve SPEC PROCESS JOURNAL`, on a free port of this machine.
 
-    A server takes a number of connections, and ends once all of them have ended. As a context manager it is waited
-    for at the end of the block where all connections were made, and ended by force otherwise.
+    A server takes a number of connections, and ends once all of them have ended. Or it is a service, which takes
+    connections without end, gives seats by number, and ends once none is there any more. As a context manager it is
+    waited for at the end of the block where all connections were made, of a service one at least, and ended by force
+    otherwise.
     """
 
     def __init__(
@@ -55,7 +57,7 @@ class Server:
         spec: File,
         process: str,
         journal: File,
-        connections: int = 1,
+        connections: Optional[int] = 1,
         program: File = "cspwatch",
         listen: str = "127.0.0.1:0",
     ) -> None:
@@ -64,15 +66,15 @@ class Server:
         spec -- the file of the script.
         process -- the process of the script to judge by.
         journal -- the file of the journal; the server creates it where there is none.
-        connections -- how many connections the server takes, 1 to 64.
+        connections -- how many connections the server takes, 1 to 64; None for a service.
         program -- the program `cspwatch`.
         listen -- the address to listen on; port 0 is any free port.
         """
         self.connections = connections
         self._made = 0
+        extent = ["--until-idle"] if connections is None else ["--connections", str(connections)]
         self._process = started(
-            [os.fspath(program), "serve", os.fspath(spec), process, os.fspath(journal)]
-            + ["--listen", listen, "--connections", str(connections)]
+            [os.fspath(program), "serve", os.fspath(spec), process, os.fspath(journal), "--listen", listen] + extent
         )
         first = stream(self._process.stdout).readline().decode("ascii", "replace")
         found = LISTENING.fullmatch(first)
@@ -81,9 +83,9 @@ class Server:
         self.address: str = found[1]
         """Where the server listens, such as `127.0.0.1:40513`."""
 
-    def client(self, timeout: Optional[float] = None) -> Client:
-        """A client of this server, on a connection of its own."""
-        client = Client(self.address, timeout)
+    def client(self, timeout: Optional[float] = None, seat: Optional[int] = None) -> Client:
+        """A client of this server, on a connection of its own; of a service as the seat with a number, where one is given."""
+        client = Client(self.address, timeout, seat)
         self._made += 1
         return client
 
@@ -107,7 +109,7 @@ class Server:
     ) -> None:
         if self._process.returncode is not None:
             return
-        if kind is None and self._made >= self.connections:
+        if kind is None and self._made >= (self.connections or 1):
             try:
                 self.wait(END_SECONDS)
                 return

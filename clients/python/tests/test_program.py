@@ -14,11 +14,12 @@ import unittest
 HERE = os.path.dirname(os.path.abspath(__file__))
 sys.path[:0] = [os.path.dirname(HERE), os.path.dirname(os.path.dirname(HERE))]
 
-from cspwatch_client import Checker, Client, Fault, FaultCode, Server, StartFailed, Status, Verdict  # noqa: E402
-from stand_in import SECONDS, CheckServer, has_serve, program  # noqa: E402
+from cspwatch_client import Checker, Client, Fault, FaultCode, ReconnectingClient, Server, StartFailed, Status, Verdict  # noqa: E402
+from stand_in import SECONDS, CheckServer, has_serve, has_services, program  # noqa: E402
 
 PROGRAM = program()
 SERVES = PROGRAM is not None and has_serve(PROGRAM)
+IS_SERVICE = PROGRAM is not None and has_services(PROGRAM)
 
 
 class WithScript(unittest.TestCase):
@@ -177,6 +178,39 @@ class Serves(WithScript):
             self.server(process="Q")
         self.assertEqual(caught.exception.outcome.exit_status, 4)
         self.assertTrue(str(caught.exception).endswith("54 specification"))
+
+
+@unittest.skipUnless(IS_SERVICE, "there is no program, or it is no service")
+class Services(WithScript):
+    def service(self):
+        return Server(self.spec, "P", self.journal, connections=None, program=PROGRAM)
+
+    def test_a_component_that_comes_back(self):
+        with self.service() as server, server.client(SECONDS) as guard:
+            with server.client(SECONDS, seat=3) as first:
+                self.assertEqual(first.judged, 0)
+                self.assertEqual(first.event("a"), Verdict(True, 1))
+                with self.assertRaises(Fault) as caught:
+                    server.client(SECONDS, seat=3)
+                self.assertEqual(caught.exception.code, FaultCode.TAKEN)
+            with ReconnectingClient(server.address, seat=3, timeout=SECONDS) as again:
+                self.assertEqual(again.judged, 1)
+                self.assertEqual(again.event("b"), Verdict(True, 2))
+            self.assertEqual(guard.event("a"), Verdict(True, 3))
+            self.assertEqual(guard.status(), Status(3, 3, 0, 0, closed=False))
+        outcome = server.wait(SECONDS)
+        self.assertEqual((outcome.exit_status, outcome.errors), (0, ""))
+
+    def test_a_server_that_is_started_again(self):
+        server = self.service()
+        with ReconnectingClient(server.address, seat=3, timeout=SECONDS) as client:
+            self.assertEqual(client.event("a"), Verdict(True, 1))
+            server.stop()
+            server = Server(self.spec, "P", self.journal, connections=None, program=PROGRAM, listen=server.address)
+            self.assertEqual(client.event("a"), Verdict(False, 2))
+            self.assertEqual(client.judged, 2)
+        outcome = server.wait(SECONDS)
+        self.assertEqual((outcome.exit_status, outcome.summary), (1, Status(2, 1, 0, 1, closed=False)))
 
 
 @unittest.skipUnless(PROGRAM, "there is no program")
