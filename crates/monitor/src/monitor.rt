@@ -1,6 +1,6 @@
 //! Monitors and judgments.
 
-ghost use Rattle.std.specs.Prelude.{IfOk, IfErr, OnOk, ◌≡◌, ◌++◌, [], ◌∷◌, ◌↔◌, IsTrue, List, length};
+ghost use Rattle.std.specs.Prelude.{IfOk, IfErr, OnOk, ◌≡◌, ◌++◌, [], ◌∷◌, ◌↔◌, IsTrue, List};
 ghost use Rattle.alphabet.specs.declared.events.Event.{Event};
 ghost use Rattle.alphabet.specs.EventSets.{member};
 ghost use Rattle.term.specs.Meaning.{Trace};
@@ -13,17 +13,20 @@ ghost use Rattle.monitor.specs.TraceAfter.{trace_after};
 ghost use Rattle.monitor.specs.Monitors.{IsJudgment, IsOf, MeetsNone, Stops, space_of};
 
 use alphabet::{Event, EventSet, Report};
+use past::Past;
 use spaces::{AfterFault, Space, StateSet};
 use std::alloc::{AllocError, Allocator};
 use std::marker::Model;
 use std::snapshot::Snapshot;
 use term::Spec;
 
-/// A monitor: a specification and a trace of it, the events accepted so far.
+/// A monitor: a specification and a trace of it, the events accepted so far. It keeps what the root may be after the trace,
+/// and not the trace: what it takes doesn't grow with it.
 #[derive(Drop)]
 pub struct Monitor<A: Allocator> {
     space: Space<A>,
-    trace: Vec<Event, A>,
+    /// The trace, which clauses alone read.
+    trace: Past<Event>,
     /// What the root may be after the trace.
     states: StateSet,
 }
@@ -35,15 +38,9 @@ impl<A: Allocator> Model for Monitor<A> {
 
     ghost coded = { monitoring_code };
 
-    ghost use Rattle.std.specs.Prelude.{◌-◌, vec_len, vec_capacity};
     ghost use Rattle.spaces.specs.Spaces.{Belongs};
 
-    ghost view = { λ m. record {
-      spec = m.space.spec;
-      trace = m.trace.items;
-      room = vec_capacity m.trace - vec_len m.trace;
-      sets = m.space.sets;
-    } };
+    ghost view = { λ m. record { spec = m.space.spec; trace = m.trace.items; sets = m.space.sets } };
 
     ghost invariant = { λ m. Belongs m.space m.states m.trace.items };
 }
@@ -98,15 +95,15 @@ impl<A: Allocator + Copy> Monitor<A> {
         match StateSet::start(&mut space) {
             Ok(states) => Ok(Monitor {
                 space,
-                trace: Vec::new(alloc),
+                trace: Past::new(),
                 states,
             }),
             Err(fault) => Err(fault),
         }
     }
 
-    /// Judges the report after the present trace, which stays, and makes room for one event more. An event is refused
-    /// where the levels from its targets on meet a limit; a refusal meets none.
+    /// Judges the report after the present trace, which stays. An event is refused where the levels from its targets on
+    /// meet a limit; a refusal meets none.
     pub fn judge(&mut self, report: &Report) -> Result<Judged, AfterFault>
         ensures report { IfOk result (λ judged. judged.report ≡ report.now) }
 
@@ -121,10 +118,7 @@ impl<A: Allocator + Copy> Monitor<A> {
         // What was judged before the trace grows is of this monitor still.
         ensures grown { GrewFrom (space_of self.old) (space_of self.new) }
     {
-        match self.trace.reserve(1) {
-            Ok(()) => judge_by(self.states, &mut self.space, report),
-            Err(_) => Err(AfterFault::Memory),
-        }
+        judge_by(self.states, &mut self.space, report)
     }
 
     /// Takes the report over: the trace grows by an accepted event, and by nothing else. Takes no memory.
@@ -146,7 +140,7 @@ impl<A: Allocator + Copy> Monitor<A> {
         let Some(states) = next else {
             return;
         };
-        self.trace.push_reserved(event);
+        self.trace = self.trace.and(&event);
         self.states = states;
     }
 
@@ -156,7 +150,6 @@ impl<A: Allocator + Copy> Monitor<A> {
     pub fn forget(&mut self)
         ensures spec { self.new.spec ≡ self.old.spec }
         ensures trace { self.new.trace ≡ self.old.trace }
-        ensures room { self.new.room ≡ self.old.room }
     {
         if !self.space.is_large() {
             return;
@@ -183,13 +176,6 @@ impl<A: Allocator> Monitor<A> {
         ensures { (x : Event) → IsTrue (member result x) ↔ Trace (bodies_of self.now.spec.bodies) root (self.now.trace ++ x ∷ []) }
     {
         self.states.next(&self.space)
-    }
-
-    /// How many events the trace has. Takes no memory.
-    pub fn trace_len(&self) -> usize
-        ensures { result ≡ length self.now.trace }
-    {
-        self.trace.len()
     }
 
     /// The specification. Takes no memory.

@@ -19,11 +19,9 @@ use types.Run.{no_more, and_then, returns, enter}
 use types.Part.{agg}
 use types.ByLocal.{alloc_all, pass_all, free_all, look_at, get, sets}
 use denote.RattleType.{RattleType, owns}
-use denote.Param.{param, layouts}
-use denote.Param.Laws.{Laws}
+use denote.Param.{layouts}
 use denote.Shadow.{makes_shadow}
 use denote.Signature.{types_at, type_at}
-use denote.Steps.{nothing}
 use denote.Triple.Clauses.{Clauses, Ended, closing}
 use denote.Triple.Entry.{alive}
 use denote.Triple.Spec.{Meets, triple_of}

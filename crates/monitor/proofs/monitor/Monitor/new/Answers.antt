@@ -4,7 +4,7 @@ use Rattle.spaces.specs.Spaces.{Belongs}
 use Rattle.monitor.proofs.monitor.Monitor.new.Goals as goal
 
 pub invariant_of-result : goal.invariant_of-result
-invariant_of-result g c = subst (λ u. Belongs c.start.new.space c.in-Ok.states u) (sym c.new.ensures.items) c.in-Ok.ensures.belongs
+invariant_of-result g c = subst (λ u. Belongs c.start.new.space c.in-Ok.states u) (sym c.new.ensures) c.in-Ok.ensures.belongs
 
 pub returns-in-Ok-clause-within : goal.returns-in-Ok-clause-within
 returns-in-Ok-clause-within g c = subst OpeningMeetsNone c.new-space.ensures.spec c.in-Ok.ensures.within
