@@ -1,9 +1,9 @@
 -- What is judged of a report after a trace.
-use Rattle.std.proofs.Common.{◌≡◌, ℕ, Bool, Option, Some, None, is_some, IfSome, IfNone, List, [], ◌∷◌, ◌++◌, refl, sym, subst, ◌↔◌, IsTrue, IfOk, Result, Ok, Err}
+use Rattle.std.proofs.Common.{◌≡◌, ℕ, ◌<◌, Bool, Option, Some, None, is_some, IfSome, IfNone, List, [], ◌∷◌, ◌++◌, refl, sym, subst, ◌↔◌, IsTrue, IfOk, Result, Ok, Err}
 use Rattle.alphabet.specs.declared.events.Event.{Event}
 use Rattle.alphabet.specs.declared.events.Report.{Report}
 use Rattle.alphabet.specs.declared.events.Report.TheVariants as report
-use Rattle.term.specs.Proc.{bodies_of, root}
+use Rattle.term.specs.Proc.{Proc, bodies_of, root}
 use Rattle.term.specs.Meaning.{Trace}
 use Rattle.term.specs.Specs.{Specified}
 use Rattle.term.specs.Verdict.{Verdict}
@@ -38,14 +38,15 @@ pub if-ok : {A E : Type 0} (P Q : A → Type 0) (o : Result A E) → ((a : A) �
 if-ok P Q (Ok a) h p = h a p
 if-ok P Q (Err e) h p = tt
 
--- a judgment is of each monitor with this space and this trace
-pub judgment-of : (s : Spaced) (u : List Event) (r : Report) (m : Monitoring) → space_of m ≡ s → m.trace ≡ u → (j : Judgment) → IsJudgment s u r j → IsOf m j
-judgment-of s u r m e f j k =
+-- a judgment is of each monitor with this space, this trace and room for one event more
+pub judgment-of : (s : Spaced) (u : List Event) (r : Report) (m : Monitoring) → space_of m ≡ s → m.trace ≡ u → 0 < m.room → (j : Judgment) → IsJudgment s u r j → IsOf m j
+judgment-of s u r m e f h j k =
     record {
       verdict = subst (λ (w : Spaced). IsTrue j.verdict ↔ Verdict (bodies_of w.spec.bodies) m.trace j.report) (sym e)
           (subst (λ w. IsTrue j.verdict ↔ Verdict (bodies_of s.spec.bodies) w j.report) (sym f)
           (subst (λ w. IsTrue j.verdict ↔ Verdict (bodies_of s.spec.bodies) u w) (sym k.report) k.verdict));
       follows = subst (λ w. Follows w m.trace j.report j.verdict j.next) (sym e) (subst (λ w. Follows s w j.report j.verdict j.next) (sym f) k.follows);
+      room = h;
     }
 
 -- an event with states after it makes the trace longer

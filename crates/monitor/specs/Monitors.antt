@@ -1,5 +1,5 @@
 -- What a contract sees of a monitor and of a judgment.
-use Rattle.std.specs.Prelude.{◌≡◌, ℕ, Bool, Option, IfSome, is_some, List, [], ◌∷◌, ◌++◌, ◌↔◌, IsTrue, refl}
+use Rattle.std.specs.Prelude.{◌≡◌, ℕ, ◌<◌, Bool, Option, IfSome, is_some, List, [], ◌∷◌, ◌++◌, ◌↔◌, IsTrue, refl}
 use Rattle.std.specs.Coded.{Coded, code_by, coded×, coded_list, coded_option, coded_bool, coded_ℕ}
 use Rattle.alphabet.specs.declared.events.Event.{Event}
 use Rattle.alphabet.specs.declared.events.Report.{Report}
@@ -15,10 +15,12 @@ use Rattle.spaces.specs.AfterFault.TheVariants.{Memory}
 use Rattle.spaces.specs.Limits.{EventMeets, EventMeetsNone}
 use Rattle.spaces.specs.Spaces.{Spaced, Belongs}
 
--- A monitor: its specification, the events that it accepted, and the sets of states that it has found, by number.
+-- A monitor: its specification, the events that it accepted, for how many further ones it has room, and the sets of states
+-- that it has found, by number.
 pub record Monitoring : Type 0 where
   pub spec : Specified
   pub trace : List Event
+  pub room : ℕ
   pub sets : List (List Proc)
 
 -- the monitor's space
@@ -33,9 +35,9 @@ pub record Judgment : Type 0 where
 
 abbrev pub monitoring_code : Coded Monitoring
 monitoring_code =
-    code_by (Specified × (List Event × List (List Proc)))
-    (coded× specified_code (coded× (coded_list event_type.the_row.coded) (coded_list (coded_list proc_code))))
-    (λ m. (m.spec, (m.trace, m.sets))) (λ p. record { spec = p.0; trace = p.1.0; sets = p.1.1 }) (λ _. refl)
+    code_by (Specified × (List Event × (ℕ × List (List Proc))))
+    (coded× specified_code (coded× (coded_list event_type.the_row.coded) (coded× coded_ℕ (coded_list (coded_list proc_code)))))
+    (λ m. (m.spec, (m.trace, (m.room, m.sets)))) (λ p. record { spec = p.0; trace = p.1.0; room = p.1.1.0; sets = p.1.1.1 }) (λ _. refl)
 
 abbrev pub judgment_code : Coded Judgment
 judgment_code =
@@ -53,10 +55,11 @@ pub record IsJudgment (space : Spaced) (u : List Event) (r : Report) (judgment :
   pub verdict : IsTrue judgment.verdict ↔ Verdict (bodies_of space.spec.bodies) u r
   pub follows : Follows space u judgment.report judgment.verdict judgment.next
 
--- The judgment is of this monitor and its present trace.
+-- The judgment is of this monitor and its present trace, and there is room for one event more.
 pub record IsOf (monitor : Monitoring) (judgment : Judgment) : Type 0 where
   pub verdict : IsTrue judgment.verdict ↔ Verdict (bodies_of monitor.spec.bodies) monitor.trace judgment.report
   pub follows : Follows (space_of monitor) monitor.trace judgment.report judgment.verdict judgment.next
+  pub room : 0 < monitor.room
 
 -- Judging the report after the trace u meets no limit; a refusal never does.
 abbrev pub MeetsNone : Specified → List Event → Report → Type 0

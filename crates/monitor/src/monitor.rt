@@ -1,6 +1,6 @@
 //! Monitors and judgments.
 
-ghost use Rattle.std.specs.Prelude.{IfOk, IfErr, OnOk, ◌≡◌, ◌++◌, [], ◌∷◌, ◌↔◌, IsTrue, List};
+ghost use Rattle.std.specs.Prelude.{IfOk, IfErr, OnOk, ◌≡◌, ◌++◌, [], ◌∷◌, ◌↔◌, IsTrue, List, length};
 ghost use Rattle.alphabet.specs.declared.events.Event.{Event};
 ghost use Rattle.alphabet.specs.EventSets.{member};
 ghost use Rattle.term.specs.Meaning.{Trace};
@@ -27,6 +27,8 @@ pub struct Monitor<A: Allocator> {
     space: Space<A>,
     /// The trace, which clauses alone read.
     trace: Past<Event>,
+    /// How many events it has.
+    len: usize,
     /// What the root may be after the trace.
     states: StateSet,
 }
@@ -38,11 +40,17 @@ impl<A: Allocator> Model for Monitor<A> {
 
     ghost coded = { monitoring_code };
 
+    ghost use Rattle.std.specs.Prelude.{◌≡◌, ◌-◌, ◌^◌, length};
     ghost use Rattle.spaces.specs.Spaces.{Belongs};
 
-    ghost view = { λ m. record { spec = m.space.spec; trace = m.trace.items; sets = m.space.sets } };
+    ghost view = { λ m. record {
+      spec = m.space.spec;
+      trace = m.trace.items;
+      room = 2 ^ 64 - 1 - m.len;
+      sets = m.space.sets;
+    } };
 
-    ghost invariant = { λ m. Belongs m.space m.states m.trace.items };
+    ghost invariant = { λ m. Belongs m.space m.states m.trace.items × (m.len ≡ length m.trace.items) };
 }
 
 /// What a monitor found of a report, after the trace that it then had. It has no copy of the report.
@@ -96,6 +104,7 @@ impl<A: Allocator + Copy> Monitor<A> {
             Ok(states) => Ok(Monitor {
                 space,
                 trace: Past::new(),
+                len: 0,
                 states,
             }),
             Err(fault) => Err(fault),
@@ -118,6 +127,9 @@ impl<A: Allocator + Copy> Monitor<A> {
         // What was judged before the trace grows is of this monitor still.
         ensures grown { GrewFrom (space_of self.old) (space_of self.new) }
     {
+        if self.len == usize::MAX {
+            return Err(AfterFault::Memory);
+        }
         judge_by(self.states, &mut self.space, report)
     }
 
@@ -141,6 +153,7 @@ impl<A: Allocator + Copy> Monitor<A> {
             return;
         };
         self.trace = self.trace.and(&event);
+        self.len += 1;
         self.states = states;
     }
 
@@ -150,6 +163,7 @@ impl<A: Allocator + Copy> Monitor<A> {
     pub fn forget(&mut self)
         ensures spec { self.new.spec ≡ self.old.spec }
         ensures trace { self.new.trace ≡ self.old.trace }
+        ensures room { self.new.room ≡ self.old.room }
     {
         if !self.space.is_large() {
             return;
@@ -176,6 +190,13 @@ impl<A: Allocator> Monitor<A> {
         ensures { (x : Event) → IsTrue (member result x) ↔ Trace (bodies_of self.now.spec.bodies) root (self.now.trace ++ x ∷ []) }
     {
         self.states.next(&self.space)
+    }
+
+    /// How many events the trace has. Takes no memory.
+    pub fn trace_len(&self) -> usize
+        ensures { result ≡ length self.now.trace }
+    {
+        self.len
     }
 
     /// The specification. Takes no memory.

@@ -84,6 +84,7 @@ fn put_committed<'a>(
     refusing.refuse();
     out.put_answer(judged.verdict());
     monitor.commit(judged);
+    out.put_word(&monitor.trace_len());
     out.put_word(&monitor.spec().bodies());
     put_set(&monitor.next(), out);
 }
