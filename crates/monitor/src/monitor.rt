@@ -13,17 +13,22 @@ ghost use Rattle.monitor.specs.TraceAfter.{trace_after};
 ghost use Rattle.monitor.specs.Monitors.{IsJudgment, IsOf, MeetsNone, Stops, space_of};
 
 use alphabet::{Event, EventSet, Report};
+use past::Past;
 use spaces::{AfterFault, Space, StateSet};
 use std::alloc::{AllocError, Allocator};
 use std::marker::Model;
 use std::snapshot::Snapshot;
 use term::Spec;
 
-/// A monitor: a specification and a trace of it, the events accepted so far.
+/// A monitor: a specification and a trace of it, the events accepted so far. It keeps what the root may be after the trace,
+/// and not the trace: what it takes doesn't grow with it.
 #[derive(Drop)]
 pub struct Monitor<A: Allocator> {
     space: Space<A>,
-    trace: Vec<Event, A>,
+    /// The trace, which clauses alone read.
+    trace: Past<Event>,
+    /// How many events it has.
+    len: usize,
     /// What the root may be after the trace.
     states: StateSet,
 }
@@ -35,17 +40,17 @@ impl<A: Allocator> Model for Monitor<A> {
 
     ghost coded = { monitoring_code };
 
-    ghost use Rattle.std.specs.Prelude.{◌-◌, vec_len, vec_capacity};
+    ghost use Rattle.std.specs.Prelude.{◌≡◌, ◌-◌, ◌^◌, length};
     ghost use Rattle.spaces.specs.Spaces.{Belongs};
 
     ghost view = { λ m. record {
       spec = m.space.spec;
       trace = m.trace.items;
-      room = vec_capacity m.trace - vec_len m.trace;
+      room = 2 ^ 64 - 1 - m.len;
       sets = m.space.sets;
     } };
 
-    ghost invariant = { λ m. Belongs m.space m.states m.trace.items };
+    ghost invariant = { λ m. Belongs m.space m.states m.trace.items × (m.len ≡ length m.trace.items) };
 }
 
 /// What a monitor found of a report, after the trace that it then had. It has no copy of the report.
@@ -98,15 +103,16 @@ impl<A: Allocator + Copy> Monitor<A> {
         match StateSet::start(&mut space) {
             Ok(states) => Ok(Monitor {
                 space,
-                trace: Vec::new(alloc),
+                trace: Past::new(),
+                len: 0,
                 states,
             }),
             Err(fault) => Err(fault),
         }
     }
 
-    /// Judges the report after the present trace, which stays, and makes room for one event more. An event is refused
-    /// where the levels from its targets on meet a limit; a refusal meets none.
+    /// Judges the report after the present trace, which stays. An event is refused where the levels from its targets on
+    /// meet a limit; a refusal meets none.
     pub fn judge(&mut self, report: &Report) -> Result<Judged, AfterFault>
         ensures report { IfOk result (λ judged. judged.report ≡ report.now) }
 
@@ -121,10 +127,10 @@ impl<A: Allocator + Copy> Monitor<A> {
         // What was judged before the trace grows is of this monitor still.
         ensures grown { GrewFrom (space_of self.old) (space_of self.new) }
     {
-        match self.trace.reserve(1) {
-            Ok(()) => judge_by(self.states, &mut self.space, report),
-            Err(_) => Err(AfterFault::Memory),
+        if self.len == usize::MAX {
+            return Err(AfterFault::Memory);
         }
+        judge_by(self.states, &mut self.space, report)
     }
 
     /// Takes the report over: the trace grows by an accepted event, and by nothing else. Takes no memory.
@@ -146,7 +152,8 @@ impl<A: Allocator + Copy> Monitor<A> {
         let Some(states) = next else {
             return;
         };
-        self.trace.push_reserved(event);
+        self.trace = self.trace.and(&event);
+        self.len += 1;
         self.states = states;
     }
 
@@ -189,7 +196,7 @@ impl<A: Allocator> Monitor<A> {
     pub fn trace_len(&self) -> usize
         ensures { result ≡ length self.now.trace }
     {
-        self.trace.len()
+        self.len
     }
 
     /// The specification. Takes no memory.

@@ -1,4 +1,4 @@
 use Rattle.monitor.proofs.monitor.Monitor.acceptances.Goals as goal
 
 pub returns : goal.returns
-returns g c = rw (← c.self.view_is) (c.acceptances.ensures c.self.inside.trace.items c.self.invariant)
+returns g c = rw (← c.self.view_is) (c.acceptances.ensures c.self.inside.trace.items c.self.invariant.0)
