@@ -37,12 +37,7 @@ pub(crate) fn is_wanted(manner: Manner) -> bool
 
 // Reports the fault that ended the check, if one did, and that reasons are missing, if some are; on a terminal after what helps against
 // a limit that was met.
-fn tell_end<E: Write + IsTerminal>(
-    errors: &mut E,
-    name: &str,
-    names: Names,
-    ended: Ended,
-) -> Exit
+fn tell_end<E: Write + IsTerminal>(errors: &mut E, name: &str, names: Names, ended: Ended) -> Exit
     ensures { result ≡ ended.exit }
 {
     if ended.limit {

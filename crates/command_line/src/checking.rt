@@ -44,12 +44,7 @@ pub(crate) fn tell_unopened<E: Write + IsTerminal>(
 }
 
 // Reports the fault that ended the conversation, if one did; on a terminal after what helps against a limit that was met.
-fn tell_end<E: Write + IsTerminal>(
-    errors: &mut E,
-    name: &str,
-    names: Names,
-    talked: Talked,
-) -> Exit
+fn tell_end<E: Write + IsTerminal>(errors: &mut E, name: &str, names: Names, talked: Talked) -> Exit
     ensures { result ≡ talked.exit }
 {
     if talked.limit {

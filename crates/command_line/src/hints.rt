@@ -205,7 +205,9 @@ pub(crate) fn show_limit<E: Write + IsTerminal>(errors: &mut E, names: Names, er
 /// Shows, where the errors go to a terminal, what helps where a report met a limit and names are kept so, if something may.
 pub(crate) fn show_limit_met<E: Write + IsTerminal>(errors: &mut E, names: Names) {
     if names == Names::Steps && errors.is_terminal() {
-        let _ = errors.write_all(b"        a limit was met; if it was 21 states: with --large, components that rest are one state\n");
+        let _ = errors.write_all(
+            b"        a limit was met; if it was 21 states: with --large, components that rest are one state\n",
+        );
     }
 }
 
