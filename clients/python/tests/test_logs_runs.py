@@ -10,7 +10,8 @@ import unittest
 sys.path[:0] = [os.path.dirname(os.path.abspath(__file__))]
 
 from logs_folder import NEEDS, RULES, SPECIFICATION, STAND_IN, InFolder  # noqa: E402
-from stand_in import SECONDS, SeatService, StandIn, has_serve, program  # noqa: E402
+from cspwatch_client import Server  # noqa: E402
+from stand_in import SECONDS, SeatService, StandIn, has_serve, has_services, program  # noqa: E402
 
 PROGRAM = program()
 
@@ -337,6 +338,18 @@ class OverTheProgram(InFolder):
         if found[0] != 0:
             self.assertIn("gives no seats by number", found[2][0])
         self.assertEqual(server.communicate(timeout=SECONDS)[0], b"S 16 11 0 5 open\n")
+
+    @unittest.skipUnless(PROGRAM and has_services(PROGRAM), "there is no program, or it has no services")
+    def test_a_seat_of_a_service(self):
+        # The log grows, and is read from its beginning each time; the service is killed in between.
+        lines = [b"open 0\n", b"bad\n", b"close 0\n"] * 100
+        for end, earlier in ((70, 0), (70, 70), (151, 70), (300, 151)):
+            service = Server(self.path("p.csp"), "P", self.path("j"), connections=None, program=PROGRAM)
+            found = self.logs("--server", service.address, "--seat", "3", "m.toml", given=b"".join(lines[:end]))
+            service.stop()
+            self.assertEqual(found[::2], (1 if end > earlier else 0, []))
+        done = subprocess.run([PROGRAM, "replay", "j"], cwd=self.folder, stdout=subprocess.PIPE, timeout=SECONDS)
+        self.assertEqual(done.stdout, b"S 300 200 0 100 open\n")
 
 
 if __name__ == "__main__":
