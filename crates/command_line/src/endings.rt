@@ -4,12 +4,14 @@ ghost use Rattle.std.specs.Prelude.{◌≡◌};
 ghost use Rattle.command_line.specs.Statuses.{run_exit};
 
 use crate::forms::put_out;
+use crate::hints::show_limit_met;
+use crate::limits::names_by;
 use crate::telling::{tell_fault, tell_unjudged};
 use disk::Disk;
 use program::{Exit, Summary, summary_line};
 use serving::{ClosedService, Closing, RunStatus, Totals};
 use std::alloc::{AllocError, Global};
-use std::io::Write;
+use std::io::{IsTerminal, Write};
 use words::Service;
 
 /// What is left of a run once its connections are over: the counts of its history, whether the journal failed in this run, what came of
@@ -62,8 +64,8 @@ fn exit_of(status: RunStatus) -> Exit
     }
 }
 
-/// Reports how a run ended, and answers the status.
-pub(crate) fn tell_ended<O: Write, E: Write>(
+/// Reports how a run ended, and answers the status; on a terminal with what helps against a limit that was met.
+pub(crate) fn tell_ended<O: Write, E: Write + IsTerminal>(
     alloc: Global,
     service: &Service<'_>,
     ended: Ended,
@@ -75,6 +77,9 @@ pub(crate) fn tell_ended<O: Write, E: Write>(
         tell_fault(errors, service.listen, "cannot accept", Exit::FileFailed);
     }
     tell_unjudged(errors, totals.unjudged);
+    if totals.limit {
+        show_limit_met(errors, names_by(service.large));
+    }
     let is_written = match summary_line(alloc, ended.summary, ended.closed) {
         Ok(line) => put_out(&line, output, errors),
         Err(AllocError) => {

@@ -114,7 +114,7 @@ fn serve_at<
         + Clock
         + Sync,
     O: Write,
-    E: Write,
+    E: Write + IsTerminal,
 >(
     rt: &R,
     service: &Service<'_>,
