@@ -1,4 +1,4 @@
 pub mod Closings
 pub mod Crossings
 pub mod Openings
-pub mod Services
+pub mod ServiceClosings

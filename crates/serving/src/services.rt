@@ -1,6 +1,6 @@
 //! A session as a service: connections come and go, until it ends.
 
-ghost use Rattle.std.specs.Prelude.{◌≡◌, ◌+◌, ℕ, List, IfOk, IfErr, IsSome, Some, length};
+ghost use Rattle.std.specs.Prelude.{◌≡◌, ◌+◌, [], ℕ, List, IfOk, IfErr, IsSome, Some, length};
 ghost use Rattle.term.specs.Proc.{bodies_of};
 ghost use Rattle.shared.specs.Legal.{Legal};
 ghost use Rattle.shared.specs.Beginnings.{StartsWith};

@@ -56,7 +56,10 @@ serve_on-served-requires-sync-G g c κs within =
                     search sendable,
                     (
                       search sendable,
-                      tt,
+                      (
+                        record { owned = c.crosses-11.ensures.owned; leaving = λ k x w. search sendable },
+                        tt,
+                      ),
                     ),
                   ),
                 ),

@@ -58,7 +58,10 @@ map_vec-requires-sync-F g c κs within =
                     search sendable,
                     (
                       search sendable,
-                      tt,
+                      (
+                        record { owned = c.crosses-12.ensures.owned; leaving = λ k x w. search sendable },
+                        tt,
+                      ),
                     ),
                   ),
                 ),
