@@ -22,7 +22,7 @@ use Rattle.shared.specs.Fault.{Fault as SessionFault}
 use Rattle.shared.specs.Fault.TheVariants as session
 use Rattle.shared.specs.View.{SeatView}
 use Rattle.shared.specs.Faults.{Answers as Explains, closes as closing}
-use Rattle.shared.specs.Seats.{Answered, Refused, AllTold, receipts}
+use Rattle.shared.specs.Seats.{Answered, Refused, AllTold, answers_to, receipts}
 use Rattle.shared.proofs.Calls.{calls_all, calls-longer}
 use Rattle.seats.specs.Faults.{reported_as}
 use Rattle.seats.specs.Judges as seat
@@ -224,5 +224,6 @@ pub told_alone : (answer : Option ℕ) (h opening : List Entry) (ps : List SeatV
     → StartsWith h p.seen × (length h ≡ length p.mine)
 told_alone (Some n) h opening ps p is none some counted told =
     let t : AllTold h (p ∷ []) = subst (λ (l : List SeatView). AllTold h l) is told in
-    (t.0, omega (arith, counted.0, counted.1, ap length none, ap receipts is, sum_by-cons (λ (s : SeatView). length s.mine) p []))
+    let all : calls h p.seat ≡ p.mine = t.1 in
+    (t.0, omega (arith, counted.0, counted.1, ap length none, ap receipts is, sum_by-cons answers_to p [], ap length all, calls-le h p.seat))
 told_alone None h opening ps p is none some counted told = absurd (cc)
