@@ -224,6 +224,6 @@ pub told_alone : (answer : Option ℕ) (h opening : List Entry) (ps : List SeatV
     → StartsWith h p.seen × (length h ≡ length p.mine)
 told_alone (Some n) h opening ps p is none some counted told =
     let t : AllTold h (p ∷ []) = subst (λ (l : List SeatView). AllTold h l) is told in
-    let all : calls h p.seat ≡ p.mine = t.1.0 in
+    let all : calls h p.seat ≡ p.mine = t.1 in
     (t.0, omega (arith, counted.0, counted.1, ap length none, ap receipts is, sum_by-cons answers_to p [], ap length all, calls-le h p.seat))
 told_alone None h opening ps p is none some counted told = absurd (cc)
