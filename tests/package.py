@@ -47,7 +47,8 @@ printf 'PROCESS=P\nLISTEN=127.0.0.1:7000\n' > /etc/cspwatch/p.conf
 {
   systemctl start cspwatch@p && listens
   ask 'I 3\nE a\nQ\n' 3
-  stat -c %U /proc/$(systemctl show -p MainPID --value cspwatch@p)
+  user=$(stat -c %u "/proc/$(systemctl show -p MainPID --value cspwatch@p)")
+  [ "$user" -ge 61184 ] && [ "$user" -le 65519 ] && echo "a user of its own"
   systemctl kill -s KILL cspwatch@p
   sleep 1
   listens
@@ -63,14 +64,14 @@ systemctl poweroff
 WANTED = """I 3 0
 OK 1
 BYE
-cspwatch
+a user of its own
 I 3 1
 OK 2
 NO 3
 BYE
 inactive
 success
-3 judged, 2 events, 0 refusals, 1 rejected
+S 3 2 0 1 open
 """
 """What the script above says."""
 
