@@ -56,7 +56,7 @@ class Words(unittest.TestCase):
         self.assertEqual([option for option in sorted(self.options) if not has_word(text, option)], [])
         other = {"--connections", "--explain", "--large", "--rejected"}
         self.assertEqual(set(re.findall(r"(?<![\w-])--[a-z][a-z-]*", text)) - other, self.options)
-        version = re.search(r'^version = "(.*)"', text_of(PYTHON, "pyproject.toml"), re.MULTILINE)[1]
+        version = re.search(r'^__version__ = "(.*)"', text_of(PYTHON, "cspwatch_client", "__init__.py"), re.MULTILINE)[1]
         self.assertIn("cspwatch-client " + version, text)
 
     def test_completions(self):
