@@ -1,12 +1,13 @@
 //! A session as a service: connections come and go, until it ends.
 
-ghost use Rattle.std.specs.Prelude.{◌≡◌, ◌+◌, [], ℕ, List, IfOk, IfErr, IsSome, Some, length};
+ghost use Rattle.std.specs.Prelude.{◌≡◌, ◌+◌, [], ℕ, List, IfOk, IfErr, IsSome, Some, Ok, Err, length};
 ghost use Rattle.term.specs.Proc.{bodies_of};
 ghost use Rattle.shared.specs.Legal.{Legal};
 ghost use Rattle.shared.specs.Beginnings.{StartsWith};
 ghost use Rattle.shared.specs.Seats.{answers_to};
 ghost use Rattle.shared.specs.SessionView.{IsFor};
 ghost use Rattle.shared.specs.View.{PlacesView};
+ghost use Rattle.connections.specs.declared.services.Closed.{Closed as ClosedAt};
 ghost use Rattle.connections.specs.Services.{Came};
 ghost use Rattle.serving.specs.Runs.{IsNewSeat, IsRefusal};
 ghost use Rattle.serving.specs.Services.{IsServedAt, Ran};
@@ -136,6 +137,30 @@ fn drop_service<D: Disk + Drop, N: Naming, R: Wait>(
     drop(session);
 }
 
+// Gives back the session of a service whose connections are over; or ends it, where it had none because memory ran out.
+fn end<D: Disk + Drop, N: Naming, R: Wait, L>(
+    rt: &R,
+    alloc: Global,
+    shared: Shared<D, Global, N>,
+    served: Result<Closed<Places<N>>, (AllocError, L, Places<N>)>,
+) -> Result<ClosedService<D>, (AllocError, L)>
+    requires ledger { N.all ≡ N.parts }
+    requires free { IfOk served (λ closed. closed.places.free + 2 ≡ N.all) }
+    ensures session { IfOk result (λ c. (c.session.spec ≡ N.spec) × StartsWith c.session.history N.opening × Legal (bodies_of N.spec.bodies) c.session.history) }
+    ensures kept { IfOk result (λ c. (script : List ℕ) × (root : List ℕ) × IsFor D.state script root c.session) }
+    ensures ended { IfOk result (λ c. (closed : ClosedAt PlacesView) × (served ≡ Ok closed) × (c.totals ≡ closed.totals) × (c.accept_failed ≡ closed.accept_failed)
+        × (length c.session.history ≡ length N.opening + c.answered) × (c.answered ≡ closed.places.receipts)) }
+    ensures memory { IfErr result (λ error. (places : PlacesView) × (served ≡ Err (error.0, error.1, places))) }
+{
+    match served {
+        Ok(closed) => Ok(close(rt, alloc, shared, closed)),
+        Err((AllocError, accept, places)) => {
+            drop_service(rt, alloc, shared, places);
+            Err((AllocError, accept))
+        }
+    }
+}
+
 // Serves connections at the places of a service, until it ends, and gives its session back.
 fn run<
     N: Naming + Send + Sync,
@@ -147,11 +172,11 @@ fn run<
     alloc: Global,
     shared: Shared<D, Global, N>,
     accept: L,
-    alphabet: Alphabet<Global>,
+    alphabet: &Alphabet<Global>,
     places: Places<N>,
     terms: Terms,
 ) -> Result<ClosedService<D>, (AllocError, L)>
-    requires alphabet { alphabet ≡ N.spec.alphabet }
+    requires alphabet { alphabet.now ≡ N.spec.alphabet }
     requires ledger { N.all ≡ N.parts }
     requires places { (places.free + 2 ≡ N.all) × (places.receipts ≡ 0) }
     ensures session { IfOk result (λ c. (c.session.spec ≡ N.spec) × StartsWith c.session.history N.opening × Legal (bodies_of N.spec.bodies) c.session.history) }
@@ -159,13 +184,8 @@ fn run<
     ensures ran { IfOk result (λ c. Ran L.takes L.fails L.Reader.left L.Writer.contents accept terms.until_idle N.spec N.opening c.session.history c.totals c.accept_failed c.answered) }
     ensures memory { IfErr result (λ error. error.1 ≡ accept) }
 {
-    match serve_at(rt, alloc, &shared, accept, &alphabet, places, terms) {
-        Ok(closed) => Ok(close(rt, alloc, shared, closed)),
-        Err((AllocError, accept, places)) => {
-            drop_service(rt, alloc, shared, places);
-            Err((AllocError, accept))
-        }
-    }
+    let served = serve_at(rt, alloc, &shared, accept, alphabet, places, terms);
+    end(rt, alloc, shared, served)
 }
 
 // Shares the session, and serves connections. The caller picks the names.
@@ -181,13 +201,13 @@ fn over_places<
     opened: Opened,
     blank: Blank,
     accept: L,
-    alphabet: Alphabet<Global>,
+    alphabet: &Alphabet<Global>,
     terms: Terms,
 ) -> Result<ClosedService<D>, (AllocError, L)>
     requires story { (session.spec ≡ N.spec) × (session.history ≡ N.opening) × (session.offered ≡ []) }
     requires book { opened.seen.book ≡ N.book }
     requires ledger { (blank.name ≡ N.name) × (blank.parts ≡ N.parts) × (N.all ≡ N.parts) × (N.all ≡ 66) }
-    requires alphabet { alphabet ≡ N.spec.alphabet }
+    requires alphabet { alphabet.now ≡ N.spec.alphabet }
     ensures session { IfOk result (λ c. (c.session.spec ≡ N.spec) × StartsWith c.session.history N.opening × Legal (bodies_of N.spec.bodies) c.session.history) }
     ensures kept { IfOk result (λ c. (script : List ℕ) × (root : List ℕ) × IsFor D.state script root c.session) }
     ensures ran { IfOk result (λ c. Ran L.takes L.fails L.Reader.left L.Writer.contents accept terms.until_idle N.spec N.opening c.session.history c.totals c.accept_failed c.answered) }
@@ -195,10 +215,7 @@ fn over_places<
 {
     match Shared::<D, Global, N>::service(rt, alloc, session, opened, blank, u64::from(PLACES)) {
         Ok((shared, places)) => run(rt, alloc, shared, accept, alphabet, places, terms),
-        Err(_) => {
-            drop(alphabet);
-            Err((AllocError, accept))
-        }
+        Err(_) => Err((AllocError, accept)),
     }
 }
 
@@ -237,7 +254,7 @@ pub fn serve_service<D: Disk + Drop + Send, T: Threads + Wait + Clock + Sync, L:
                 retries,
             };
             over_places::<Brand, D, T, L>(
-                rt, alloc, session, opened, blank, accept, alphabet, terms,
+                rt, alloc, session, opened, blank, accept, &alphabet, terms,
             )
         }
         Err(AllocError) => give_up(session, accept),
