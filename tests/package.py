@@ -57,7 +57,7 @@ printf 'PROCESS=P\nLISTEN=127.0.0.1:7000\n' > /etc/cspwatch/p.conf
   systemctl is-active cspwatch@p
   systemctl show -p Result --value cspwatch@p
   cspwatch replay --read-only /var/lib/cspwatch/p.journal
-} > /root/said 2>&1
+} > /srv/said 2>&1
 systemctl poweroff
 """
 
@@ -79,7 +79,7 @@ STARTER = """[Unit]
 After=multi-user.target
 [Service]
 Type=idle
-ExecStart=/root/unit
+ExecStart=/srv/unit
 [Install]
 WantedBy=multi-user.target
 """
@@ -97,7 +97,7 @@ def files_below(folder):
     found = set()
     for place, folders, names in os.walk(folder):
         if place == folder:
-            folders[:] = [name for name in folders if name not in ("proc", "sys", "dev", "run", "tmp", "root")]
+            folders[:] = [name for name in folders if name not in ("proc", "sys", "dev", "run", "tmp", "srv")]
         found |= {os.path.relpath(os.path.join(place, name), folder) for name in folders + names}
     return found
 
@@ -142,14 +142,14 @@ class Tests:
         if shutil.which("systemd-nspawn") is None:
             print("left out: there is no systemd-nspawn")
             return
-        for name, text, mode in (("root/unit", UNIT, 0o755), ("etc/systemd/system/starter.service", STARTER, 0o644)):
+        for name, text, mode in (("srv/unit", UNIT, 0o755), ("etc/systemd/system/starter.service", STARTER, 0o644)):
             with open(os.path.join(self.system, name), "w", encoding="utf-8") as file:
                 file.write(text)
             os.chmod(os.path.join(self.system, name), mode)
         self.inside("systemctl", "enable", "starter.service")
         output(["systemd-nspawn", "--register=no", "--keep-unit", "--private-network", "-q", "-b", "-D", self.system])
         self.inside("systemctl", "disable", "starter.service")
-        with open(os.path.join(self.system, "root", "said"), encoding="utf-8") as file:
+        with open(os.path.join(self.system, "srv", "said"), encoding="utf-8") as file:
             said = file.read()
         self.check("the unit", said == WANTED, said)
 
