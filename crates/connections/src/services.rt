@@ -280,7 +280,7 @@ where
     G::Places: 's,
     requires back { G.takes_back gate.now }
     requires room { terms.threads ≤ vec_capacity hall.old.running }
-    ensures so_far { (first : A) (places : G.Places) → IsSoFar gate.now (G.gives gate.now) (G.refuses gate.now) G.serves G.answered G.free G.counted A.takes A.fails A.waits A.Reader.left A.Writer.contents terms first accept.old places (book_of G.free G.counted hall.old) hall.old.any 0 None
+    ensures { (first : A) (places : G.Places) → IsSoFar gate.now (G.gives gate.now) (G.refuses gate.now) G.serves G.answered G.free G.counted A.takes A.fails A.waits A.Reader.left A.Writer.contents terms first accept.old places (book_of G.free G.counted hall.old) hall.old.any 0 None
         → (failures : ℕ) × IsSoFar gate.now (G.gives gate.now) (G.refuses gate.now) G.serves G.answered G.free G.counted A.takes A.fails A.waits A.Reader.left A.Writer.contents terms first accept.new places (book_of G.free G.counted hall.new) hall.new.any failures (Some result) }
 {
     let mut failures = 0u8;

@@ -10,7 +10,7 @@ pub returns : goal.returns
 returns g c =
     let taken = c.take_all-accept_failed in
     let begun = so_far_none c.args.gate.now (g.G.Gate.gives c.args.gate.now) (g.G.Gate.refuses c.args.gate.now) g.G.Gate.serves g.G.Reusable.answered g.G.Reusable.free g.G.Reusable.counted g.A.Accept.takes g.A.Accept.fails g.A.Listen.waits g.A.Reader.Source.left g.A.Writer.Sink.contents c.args.terms c.args.accept c.args.places (book (promises c.args.running.items) c.new.result (g.G.Reusable.free c.args.places) (g.G.Reusable.counted c.args.places)) (ap promises c.requires.running.0) c.new.ensures refl refl in
-    let far = taken.ensures.so_far c.args.accept c.args.places begun in
+    let far = taken.ensures c.args.accept c.args.places begun in
     let last = so_far_on c.args.gate.now (g.G.Gate.gives c.args.gate.now) (g.G.Gate.refuses c.args.gate.now) g.G.Gate.serves g.G.Reusable.answered g.G.Reusable.free g.G.Reusable.counted g.A.Accept.takes g.A.Accept.fails g.A.Listen.waits g.A.Reader.Source.left g.A.Writer.Sink.contents c.args.terms c.args.accept taken.new.accept c.args.places (book_of g.G.Reusable.free g.G.Reusable.counted taken.new.hall) (book_of g.G.Reusable.free g.G.Reusable.counted c.join_all.new.hall) taken.new.hall.any far.0 (Some taken.result) far.1
     (c.join_all.ensures.goes_on (book_of g.G.Reusable.free g.G.Reusable.counted taken.new.hall) none) in
     let empty = ap promises c.join_all.ensures.none in
