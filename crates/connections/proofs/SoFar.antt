@@ -486,15 +486,13 @@ module _ {G P R W A L : Type 0} (gate : G) (gives : P → Type 0) (refuses : Fau
       → SoFar first now places old any failures None → (n : ℕ) × SoFar first next places new any' n ended × IfNone ended (n ≡ failures')
   so_far_looked first now next places old new any any' failures failures' look.Taken idle ended taken kept waited fault is on_taken on_nobody on_failed far =
       (0, subst (λ e. SoFar first next places new any' 0 e) (sym (on_taken refl).0) (taken refl far), subst (λ e. IfNone e (0 ≡ failures')) (sym (on_taken refl).0) (sym (on_taken refl).1))
-  so_far_looked first now next places old new any any' failures failures' look.Nobody idle ended taken kept waited fault is on_taken on_nobody on_failed far =
-      (
-        0,
-        so_far_nobody first now next places new any' failures ended (kept (λ e. search rules) far) (waited refl) (subst (λ i. EndsByIdleness terms i ended) is (on_nobody refl).0),
-        if_none ended (sym (on_nobody refl).1),
-      )
-  so_far_looked first now next places old new any any' failures failures' look.Failed idle ended taken kept waited fault is on_taken on_nobody on_failed far =
-      (
-        failures + 1,
-        so_far_failed first now next places new any' failures ended (kept (λ e. search rules) far) (fault refl) (on_failed refl).0,
-        same_where_none ended failures' (failures + 1) (on_failed refl).1,
-      )
+  so_far_looked first now next places old new any any' failures failures' look.Nobody idle ended taken kept waited fault is on_taken on_nobody on_failed far = (
+    0,
+    so_far_nobody first now next places new any' failures ended (kept (λ e. search rules) far) (waited refl) (subst (λ i. EndsByIdleness terms i ended) is (on_nobody refl).0),
+    if_none ended (sym (on_nobody refl).1),
+  )
+  so_far_looked first now next places old new any any' failures failures' look.Failed idle ended taken kept waited fault is on_taken on_nobody on_failed far = (
+    failures + 1,
+    so_far_failed first now next places new any' failures ended (kept (λ e. search rules) far) (fault refl) (on_failed refl).0,
+    same_where_none ended failures' (failures + 1) (on_failed refl).1,
+  )
