@@ -7,9 +7,8 @@ use crate::forms::put_out;
 use crate::hints::show_limit_met;
 use crate::limits::names_by;
 use crate::telling::{tell_fault, tell_unjudged};
-use disk::Disk;
 use program::{Exit, Summary, summary_line};
-use serving::{ClosedService, Closing, RunStatus, Totals};
+use serving::{ClosedService, Closing, Recorder, RunStatus, Totals};
 use std::alloc::{AllocError, Global};
 use std::io::{IsTerminal, Write};
 use words::Service;
@@ -26,7 +25,7 @@ pub(crate) struct Ended {
 
 impl Ended {
     /// Of a run of so many connections. Lines that weren't judged are passed over.
-    pub(crate) fn of_run<D: Disk>(closing: &Closing<D>) -> Ended {
+    pub(crate) fn of_run<J: Recorder>(closing: &Closing<J>) -> Ended {
         Ended {
             summary: closing.session.summary(),
             closed: closing.session.is_closed(),
@@ -40,7 +39,7 @@ impl Ended {
     }
 
     /// Of a service.
-    pub(crate) fn of_service<D: Disk>(closed: &ClosedService<D>) -> Ended {
+    pub(crate) fn of_service<J: Recorder>(closed: &ClosedService<J>) -> Ended {
         Ended {
             summary: closed.session.summary(),
             closed: closed.session.is_closed(),

@@ -7,10 +7,11 @@ use crate::journal_files::{journal_at, take_away};
 use crate::limits::names_by;
 use crate::scripts::{Script, tell_read, text_of};
 use crate::telling::{tell_fault, tell_open};
-use disk::Disk;
 use file_disk::FileDisk;
 use program::{Exit, Session};
-use serving::{Accept, Connections, Listen, open, serve_service, serve_session};
+use serving::{
+    Accept, Connections, Listen, Recorder, SessionOn, open, serve_service, serve_session,
+};
 use std::alloc::{AllocError, Global};
 use std::fs::File;
 use std::io::{IsTerminal, Write};
@@ -25,9 +26,9 @@ use words::{Service, Until};
 const RETRIES: u8 = 100;
 
 // Serves so many connections that are taken so at this session, and says what is left of the run.
-fn serve_some<D: Disk + Drop + Send, L: Accept + Drop, R: AllocGlobal + Threads + Wait + Sync>(
+fn serve_some<J: Recorder + Drop + Send, L: Accept + Drop, R: AllocGlobal + Threads + Wait + Sync>(
     rt: &R,
-    session: Session<D, Global>,
+    session: SessionOn<J, Global>,
     accept: L,
     connections: Connections,
 ) -> Result<Ended, AllocError>
@@ -48,10 +49,10 @@ fn serve_some<D: Disk + Drop + Send, L: Accept + Drop, R: AllocGlobal + Threads 
 
 // Serves connections that are taken so at this session, without end, or until all are over; and says what is left of the run.
 fn serve_all<
-    D: Disk + Drop + Send,
+    J: Recorder + Drop + Send,
     L: Listen + Drop,
     R: AllocGlobal + Threads + Wait + Clock + Sync,
->(rt: &R, session: Session<D, Global>, accept: L, until_idle: bool) -> Result<Ended, AllocError>
+>(rt: &R, session: SessionOn<J, Global>, accept: L, until_idle: bool) -> Result<Ended, AllocError>
     requires { session.offered ≡ [] }
 {
     match serve_service(rt, rt.alloc(), session, accept, until_idle, RETRIES) {
@@ -69,10 +70,10 @@ fn serve_all<
 
 // Serves connections that are taken so at this session, until the server ends, and says what is left of the run.
 fn serve_until<
-    D: Disk + Drop + Send,
+    J: Recorder + Drop + Send,
     L: Listen + Drop,
     R: AllocGlobal + Threads + Wait + Clock + Sync,
->(rt: &R, session: Session<D, Global>, accept: L, until: Until) -> Result<Ended, AllocError>
+>(rt: &R, session: SessionOn<J, Global>, accept: L, until: Until) -> Result<Ended, AllocError>
     requires { session.offered ≡ [] }
 {
     match until {
@@ -84,12 +85,12 @@ fn serve_until<
 
 // Serves the connections at the door at this session, and says what is left of the run. A socket's file is taken away.
 fn serve_through<
-    D: Disk + Drop + Send,
+    J: Recorder + Drop + Send,
     R: Files<File = File> + AllocGlobal + Threads + Wait + Clock + Sync,
 >(
     rt: &R,
     service: &Service<'_>,
-    session: Session<D, Global>,
+    session: SessionOn<J, Global>,
     door: Door,
 ) -> Result<Ended, AllocError>
     requires { session.offered ≡ [] }
@@ -105,7 +106,7 @@ fn serve_through<
 // Serves the connections of the address at this session, and answers the exit status. Where it doesn't come to that, it takes away the
 // journal that this run made.
 fn serve_at<
-    D: Disk + Drop + Send,
+    J: Recorder + Drop + Send,
     R: Files<File = File>
         + Net<Stream = TcpStream, Listener = TcpListener>
         + AllocGlobal
@@ -118,7 +119,7 @@ fn serve_at<
 >(
     rt: &R,
     service: &Service<'_>,
-    session: Session<D, Global>,
+    session: SessionOn<J, Global>,
     is_made: bool,
     output: &mut O,
     errors: &mut E,

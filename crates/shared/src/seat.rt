@@ -16,10 +16,10 @@ ghost use Rattle.std.specs.List.{AllByRecursion};
 
 use crate::share::{GROUP, Receipt, Round, Share, Status};
 use alphabet::{EventSet, Report};
-use disk::Disk;
 use left_right::Absorb;
 use locked::{
-    Board, Fault, Locked, NameFault, Naming, Opened, SeatFault, SeatNumber, Session, Summary,
+    Board, Fault, Locked, NameFault, Naming, Opened, Recorder, SeatFault, SeatNumber, SessionOn,
+    Summary,
 };
 use std::alloc::Allocator;
 use std::sync::atomic::AtomicU64;
@@ -27,11 +27,11 @@ use std::sync::ledger::Blank;
 use std::sync::{Condvar, Mutex, MutexGuard, Wait};
 
 /// A session that seats share. It isn't `Drop`: end it by `finish`.
-pub struct Shared<D: Disk, A: Allocator, N: Naming>
+pub struct Shared<J: Recorder, A: Allocator, N: Naming>
 where
     Board<N, A>: Absorb<Summary, State = Summary>,
 {
-    pub(crate) locked: Mutex<Locked<D, A, N>>,
+    pub(crate) locked: Mutex<Locked<J, A, N>>,
     // How many threads wait for the lock to judge.
     pub(crate) judging: AtomicU64,
     // How many have judged since the last settling, and how many had between the two before.
@@ -42,24 +42,24 @@ where
 }
 
 /// A seat at a shared session. It isn't `Drop`: end it by `end`. What may be dropped, and moved to a thread, is its `Share`.
-pub struct Seat<'a, D: Disk, A: Allocator, N: Naming>
+pub struct Seat<'a, J: Recorder, A: Allocator, N: Naming>
 where
     Board<N, A>: Absorb<Summary, State = Summary>,
 {
-    pub(crate) shared: &'a Shared<D, A, N>,
+    pub(crate) shared: &'a Shared<J, A, N>,
     pub share: Share<N, A>,
 }
 
-impl<D: Disk + Drop, A: Allocator + Copy, N: Naming> Shared<D, A, N> {
+impl<J: Recorder + Drop, A: Allocator + Copy, N: Naming> Shared<J, A, N> {
     /// A session that up to so many seats share, to which nothing is offered. Where memory is refused, the session is gone, and its file stays.
     pub fn new<R: Wait>(
         rt: &R,
         alloc: A,
-        session: Session<D, A>,
+        session: SessionOn<J, A>,
         opened: Opened,
         blank: Blank,
         places: u64,
-    ) -> Result<Shared<D, A, N>, Fault>
+    ) -> Result<Shared<J, A, N>, Fault>
         requires story { (session.spec ≡ N.spec) × (session.history ≡ N.opening) × (session.offered ≡ []) }
         requires book { opened.seen.book ≡ N.book }
         requires ledger { (blank.name ≡ N.name) × (blank.parts ≡ N.parts) × (N.all ≡ N.parts) }
@@ -79,11 +79,11 @@ impl<D: Disk + Drop, A: Allocator + Copy, N: Naming> Shared<D, A, N> {
     }
 }
 
-impl<D: Disk, A: Allocator + Copy, N: Naming> Shared<D, A, N> {
+impl<J: Recorder, A: Allocator + Copy, N: Naming> Shared<J, A, N> {
     /// Gives a seat, which has seen the history as it stands. A seat takes no memory of the allocator.
     ///
     /// The faults are asked for in this order: `Closed`, `Seats`, `Reader`. After `Reader` a seat number is used up.
-    pub fn seat<R: Wait>(&self, rt: &R, _alloc: A) -> Result<Seat<'_, D, A, N>, SeatFault>
+    pub fn seat<R: Wait>(&self, rt: &R, _alloc: A) -> Result<Seat<'_, J, A, N>, SeatFault>
         ensures seat { IfOk result (λ s. (s.share.mine ≡ []) × (s.share.closed ≡ false) × StartsWith s.share.seen N.opening) }
         ensures begun { IfOk result (λ s. s.share.begun ≡ 0) }
     {
@@ -98,7 +98,7 @@ impl<D: Disk, A: Allocator + Copy, N: Naming> Shared<D, A, N> {
     }
 
     /// The seat of a share again.
-    pub fn again(&self, share: Share<N, A>) -> Seat<'_, D, A, N>
+    pub fn again(&self, share: Share<N, A>) -> Seat<'_, J, A, N>
         ensures { result.share ≡ share }
     {
         Seat {
@@ -108,7 +108,7 @@ impl<D: Disk, A: Allocator + Copy, N: Naming> Shared<D, A, N> {
     }
 }
 
-impl<D: Disk, A: Allocator + Copy, N: Naming> Seat<'_, D, A, N> {
+impl<J: Recorder, A: Allocator + Copy, N: Naming> Seat<'_, J, A, N> {
     /// Reports. The receipt has the verdict and the place of the report's entry in the history.
     ///
     /// The faults: `Depth` or `States` where judging met that limit; `History` at 1,000,000 entries; `Turn` where the history has

@@ -20,8 +20,9 @@ use crate::seat::Shared;
 use crate::turns::{locked_for, named_at, take_turn};
 use alphabet::{EventSet, Report};
 use core::mem::replace_with;
-use disk::Disk;
-use locked::{Counts, Failed, Fault, Looker, NameFault, Naming, SeatNumber, Summary, is_of, look};
+use locked::{
+    Counts, Failed, Fault, Looker, NameFault, Naming, Recorder, SeatNumber, Summary, is_of, look,
+};
 use std::alloc::Allocator;
 use std::marker::Model;
 use std::sync::{MutexGuard, Wait, ledger};
@@ -275,10 +276,10 @@ impl<N: Naming, A: Allocator> Share<N, A> {
 impl<N: Naming, A: Allocator + Copy> Share<N, A> {
     /// Some reports, one after the other, in one turn under the lock: judged up to the first that is refused, and answered once their entries
     /// are settled. The first verdicts are then those of the receipts.
-    pub(crate) fn turn<D: Disk, R: Wait>(
+    pub(crate) fn turn<J: Recorder, R: Wait>(
         &mut self,
         rt: &R,
-        shared: &Shared<D, A, N>,
+        shared: &Shared<J, A, N>,
         reports: &[Report],
         verdicts: &mut [bool],
     ) -> Round
@@ -326,10 +327,10 @@ impl<N: Naming, A: Allocator + Copy> Share<N, A> {
     }
 
     /// A report: judged under the lock, and answered once it is settled.
-    pub(crate) fn report<D: Disk, R: Wait>(
+    pub(crate) fn report<J: Recorder, R: Wait>(
         &mut self,
         rt: &R,
-        shared: &Shared<D, A, N>,
+        shared: &Shared<J, A, N>,
         report: Report,
     ) -> Result<Receipt, Fault>
         requires { IsReport N.spec.alphabet report }
@@ -349,10 +350,10 @@ impl<N: Naming, A: Allocator + Copy> Share<N, A> {
 
     /// Takes a name, where the seat has none and has reported nothing, and no connection has that name. The answer is how many entries of the
     /// name stand in the settled history, which is then what was seen.
-    pub(crate) fn identify<D: Disk, R: Wait>(
+    pub(crate) fn identify<J: Recorder, R: Wait>(
         &mut self,
         rt: &R,
-        shared: &Shared<D, A, N>,
+        shared: &Shared<J, A, N>,
         name: SeatNumber,
     ) -> Result<u32, NameFault>
         ensures named { IfOk result (λ count. Named (bodies_of N.spec.bodies) self.old self.new name count) }
@@ -379,7 +380,11 @@ impl<N: Naming, A: Allocator + Copy> Share<N, A> {
     }
 
     /// The events that may come next after the settled history, which is then what was seen.
-    pub(crate) fn next<D: Disk, R: Wait>(&mut self, rt: &R, shared: &Shared<D, A, N>) -> EventSet
+    pub(crate) fn next<J: Recorder, R: Wait>(
+        &mut self,
+        rt: &R,
+        shared: &Shared<J, A, N>,
+    ) -> EventSet
         ensures next { (x : Event) → IsTrue (member result x) ↔ Trace (bodies_of N.spec.bodies) root (events self.new.seen ++ x ∷ []) }
         ensures seen { StartsWith self.new.seen self.old.seen × Legal (bodies_of N.spec.bodies) self.new.seen }
         ensures same { (self.new.seat ≡ self.old.seat) × (self.new.mine ≡ self.old.mine) × (self.new.closed ≡ self.old.closed) × (self.new.begun ≡ self.old.begun) }

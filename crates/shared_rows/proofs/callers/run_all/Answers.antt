@@ -9,7 +9,7 @@ use Rattle.shared_rows.proofs.callers.run_all.Goals as goal
 
 pub map_vec-requires-sync-F : goal.map_vec-requires-sync-F
 map_vec-requires-sync-F g c κs within =
-    let session = session_send (param 0 g.row.D) g.D.Disk (
+    let session = session_send (param 0 g.row.J) g.J.Recorder (
       search sendable,
       (
         record { owned = c.legal_crosses.ensures.legal.owned; leaving = c.legal_crosses.ensures.legal.leaving },
@@ -40,7 +40,7 @@ map_vec-requires-sync-F g c κs within =
         ),
       ),
     ) in
-    let shared = shared_sync (param 0 g.row.D) (param 1 g.row.N) g.N.Naming g.N.Ledger _ g.D.Disk (
+    let shared = shared_sync (param 0 g.row.J) (param 1 g.row.N) g.N.Naming g.N.Ledger _ g.J.Recorder (
       record { owned = session.owned; leaving = session.leaving },
       (
         record { owned = c.crosses-3.ensures.owned; leaving = λ k x w. search sendable },
