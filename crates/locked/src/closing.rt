@@ -36,6 +36,7 @@ pub fn close<D: Disk, A: Allocator + Copy, N: Naming, R: Wait>(
         given,
         places: _,
         names: _,
+        waiting: _,
     } = locked;
     let _ = publisher.take(rt);
     (session, settled, book, rest, given)
