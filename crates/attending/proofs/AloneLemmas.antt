@@ -1,5 +1,5 @@
 -- A report to a session moves the course of one who reports alone.
-use Rattle.std.proofs.Common.{◌≡◌, ◌≤◌, ℕ, ◌||◌, List, [], ◌∷◌, ◌++◌, length, Bool, true, false, Option, Some, None, refl, sym, ap, ◌∙◌, subst, arith}
+use Rattle.std.proofs.Common.{◌≡◌, ℕ, ◌||◌, List, [], ◌∷◌, ◌++◌, length, Bool, true, false, Option, Some, None, refl, sym, ap, ◌∙◌, subst, arith}
 use Rattle.std.specs.Prelude.{IsTrue, ◌↔◌, is_some}
 use Rattle.std.proofs.lemmas.List.{append-nil}
 use Rattle.alphabet.specs.declared.events.Report.{Report}
@@ -7,7 +7,7 @@ use Rattle.term.specs.Proc.{Proc, bodies_of}
 use Rattle.term.specs.Verdict.{Verdict}
 use Rattle.session.specs.Entry.{Entry}
 use Rattle.session.specs.Entries.{events, next_number}
-use Rattle.session.specs.Legal.{Fits}
+use Rattle.session.specs.Legal.{Fits, IsFull}
 use Rattle.session.specs.Monitors.{Stops}
 use Rattle.session.specs.AfterFault.TheVariants as limit
 use Rattle.session.specs.View.{IsOf, SessionView, entries}
@@ -38,26 +38,29 @@ judged old new e seat number place r none is fits appended was now stands = reco
 }
 
 pub refused : {D : Type 0} (old new : SessionView D) (seat number : ℕ) (r : Report) (fault : SessionFault) →
-    length old.history ≤ 1000000 → (old.failed ≡ None → old.offered ≡ []) → number ≡ next_number (entries old) seat → new.history ≡ old.history → ExplainsReport old new seat number 0 r fault →
+    seat ≡ 1 → (old.failed ≡ None → old.offered ≡ []) → number ≡ next_number (entries old) seat → new.history ≡ old.history → ExplainsReport old new seat number 0 r fault →
     Leaves old.spec (course_of old.history old.failed) r (reported_as fault) (course_of new.history new.failed)
-refused old new seat number r session.Depth small idle turn same (e, left, now) = record {
+refused old new seat number r session.Depth first idle turn same (e, left, now) = record {
   why = subst (λ (h : List Entry). Stops old.spec (events h) r limit.Depth) (all old (idle e.0.is_open)) e.1;
   same = same;
   closed = ap is_some now;
 }
-refused old new seat number r session.States small idle turn same (e, left, now) = record {
+refused old new seat number r session.States first idle turn same (e, left, now) = record {
   why = subst (λ (h : List Entry). Stops old.spec (events h) r limit.States) (all old (idle e.0.is_open)) e.1;
   same = same;
   closed = ap is_some now;
 }
-refused old new seat number r session.Seats small idle turn same (e, left, now) = absurd e
-refused old new seat number r session.History small idle turn same (e, left, now) = record {
-  why = omega (arith, small, subst (λ (h : List Entry). 1000000 ≤ length h) (all old (idle e.0)) e.3);
+refused old new seat number r session.Seats first idle turn same (e, left, now) = absurd e
+refused old new seat number r session.History first idle turn same (e, left, now) = record {
+  why =
+      let is = all old (idle e.0) in
+      let number_is : number ≡ next_number old.history 1 = turn ∙ ap (λ (h : List Entry). next_number h seat) is ∙ ap (next_number old.history) first in
+      subst (λ n. IsFull old.spec.names old.history n) number_is (subst (λ (h : List Entry). IsFull old.spec.names h number) is e.3);
   same = same;
   closed = ap is_some now;
 }
-refused old new seat number r session.Turn small idle turn same (e, left, now) = absurd (e.1 turn)
-refused old new seat number r session.Behind small idle turn same (e, left, now) = absurd (omega (arith, e.2))
-refused old new seat number r (session.Journal x) small idle turn same fails = record { why = tt; same = same; closed = ap is_some fails.closed }
-refused old new seat number r (session.Closed x) small idle turn same (e, left, now) = record { why = tt; same = same; closed = ap is_some (now ∙ e) }
-refused old new seat number r session.Memory small idle turn same (e, left, now) = record { why = tt; same = same; closed = ap is_some now }
+refused old new seat number r session.Turn first idle turn same (e, left, now) = absurd (e.1 turn)
+refused old new seat number r session.Behind first idle turn same (e, left, now) = absurd (omega (arith, e.2))
+refused old new seat number r (session.Journal x) first idle turn same fails = record { why = tt; same = same; closed = ap is_some fails.closed }
+refused old new seat number r (session.Closed x) first idle turn same (e, left, now) = record { why = tt; same = same; closed = ap is_some (now ∙ e) }
+refused old new seat number r session.Memory first idle turn same (e, left, now) = record { why = tt; same = same; closed = ap is_some now }

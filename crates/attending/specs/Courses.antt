@@ -11,7 +11,8 @@ use Rattle.session.specs.AfterFault.TheVariants as limit
 use Rattle.session.specs.Monitors.{Stops}
 use Rattle.session.specs.Entry.{Entry}
 use Rattle.session.specs.Summary.{Summary}
-use Rattle.session.specs.Entries.{events, summary_of}
+use Rattle.session.specs.Entries.{events, next_number, summary_of}
+use Rattle.session.specs.Legal.{IsFull}
 use Rattle.wire.specs.declared.answers.Receipt.{Receipt}
 use Rattle.wire.specs.declared.answers.Status.{Status}
 use Rattle.wire.specs.declared.answers.Fault.{Fault}
@@ -37,12 +38,12 @@ pub record Adds (B : ℕ → Proc) (old : Course) (report : Report) (receipt : R
   pub place : receipt.place ≡ length new.history
   pub same : new.closed ≡ old.closed
 
--- Why a report isn't judged: 20 and 21 where judging it after the accepted events meets that limit, 23 where the history has
--- 1,000,000 entries; 22, 24 to 27 never. Of 30, 31 and 40 it says nothing.
+-- Why a report isn't judged: 20 and 21 where judging it after the accepted events meets that limit, 23 where the history is full for the
+-- first seat's next report; 22, 24 to 27 never. Of 30, 31 and 40 it says nothing.
 abbrev pub IsWhy : Specified → List Entry → Report → Fault → Type 0
 IsWhy spec h report Depth = Stops spec (events h) report limit.Depth
 IsWhy spec h report States = Stops spec (events h) report limit.States
-IsWhy spec h report History = length h ≡ 1000000
+IsWhy spec h report History = IsFull spec.names h (next_number h 1)
 IsWhy spec h report Journal = Unit {0}
 IsWhy spec h report Closed = Unit {0}
 IsWhy spec h report Memory = Unit {0}
