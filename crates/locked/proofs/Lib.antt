@@ -5,4 +5,5 @@ pub mod Crossings
 pub use Rattle.session.proofs.Beginnings
 pub use Rattle.session.proofs.Histories
 pub use Rattle.session.proofs.Keeping
+pub use Rattle.session.proofs.Rests
 pub use Rattle.session.proofs.ScriptLemmas

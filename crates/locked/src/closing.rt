@@ -35,6 +35,7 @@ pub fn close<J: Recorder, A: Allocator + Copy, N: Naming, R: Wait>(
         given,
         places: _,
         names: _,
+        waiting: _,
     } = locked;
     let _ = publisher.take(rt);
     (session, settled, book, rest, given)

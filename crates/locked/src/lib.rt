@@ -9,6 +9,7 @@ mod closing;
 mod fault;
 mod locked;
 mod names;
+mod waiting;
 
 pub use alphabet::{EventSet, Report};
 pub use board::{Board, Counts, Front, Looker, Naming, Opened, Publisher, Source, Spine, look};
@@ -20,3 +21,4 @@ pub use session::{
     Entry, Failed, Fault, Recorder, SeatNumber, Session, SessionError, SessionOn, Summary, crosses,
     legal_crosses, names_of, read_as,
 };
+pub use waiting::Waiting;

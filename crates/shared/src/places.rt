@@ -25,7 +25,7 @@ pub struct Places<N: Naming> {
 }
 
 impl<N: Naming> Model for Places<N> {
-    ghost use Rattle.std.specs.Prelude.{◌≡◌, ◌≤◌, ◌<◌, ◌+◌};
+    ghost use Rattle.std.specs.Prelude.{◌≡◌, ◌≤◌, ◌<◌, ◌+◌, ◌^◌};
     ghost use Rattle.shared.specs.View.{PlacesView};
 
     ghost Value = { PlacesView };
@@ -34,7 +34,7 @@ impl<N: Naming> Model for Places<N> {
 
     ghost invariant = { λ p. (p.part.parts ≡ p.free + 1)
         × (p.receipts ≤ p.part.amount)
-        × (p.receipts ≤ 1000000)
+        × (p.receipts ≤ 2 ^ 62)
         × (p.free < N.all)
         × (N.all ≤ 66) };
 }

@@ -1,6 +1,6 @@
 //! A shared session, and the seats at it.
 
-ghost use Rattle.std.specs.Prelude.{◌≡◌, ◌↔◌, ◌≤◌, ◌<◌, ◌+◌, ◌++◌, ◌∷◌, [], length, false, None, IsTrue, IfOk, IfErr, IfSome};
+ghost use Rattle.std.specs.Prelude.{◌≡◌, ◌↔◌, ◌≤◌, ◌<◌, ◌+◌, ◌^◌, ◌++◌, ◌∷◌, [], length, suc, false, None, IsTrue, IfOk, IfErr, IfSome};
 ghost use Rattle.alphabet.specs.declared.events.Event.{Event};
 ghost use Rattle.alphabet.specs.EventSets.{member};
 ghost use Rattle.term.specs.Meaning.{Trace};
@@ -8,7 +8,7 @@ ghost use Rattle.term.specs.Proc.{bodies_of, root};
 ghost use Rattle.term.specs.Specs.{IsClosed};
 ghost use Rattle.locked.specs.Reports.{IsReport};
 ghost use Rattle.locked.specs.Entries.{events, summary_of};
-ghost use Rattle.locked.specs.Legal.{Legal};
+ghost use Rattle.locked.specs.Legal.{Legal, limit_of};
 ghost use Rattle.locked.specs.Beginnings.{StartsWith};
 ghost use Rattle.shared.specs.Seats.{Answered, Refused, Named};
 ghost use Rattle.shared.specs.Turns.{CameTo};
@@ -111,7 +111,8 @@ impl<J: Recorder, A: Allocator + Copy, N: Naming> Shared<J, A, N> {
 impl<J: Recorder, A: Allocator + Copy, N: Naming> Seat<'_, J, A, N> {
     /// Reports. The receipt has the verdict and the place of the report's entry in the history.
     ///
-    /// The faults: `Depth` or `States` where judging met that limit; `History` at 1,000,000 entries; `Turn` where the history has
+    /// The faults: `Depth` or `States` where judging met that limit; `History` at 1,000,000 entries, or where names are kept as their bodies at 2^62, or at
+    /// 4,294,967,294 of this seat; `Turn` where the history has
     /// other calls of this seat than its own; `Journal` where the disk failed, which closes the session; `Closed` from then on;
     /// `Memory`.
     pub fn report<R: Wait>(&mut self, rt: &R, report: Report) -> Result<Receipt, Fault>
@@ -127,7 +128,8 @@ impl<J: Recorder, A: Allocator + Copy, N: Naming> Seat<'_, J, A, N> {
     pub fn turn<R: Wait>(&mut self, rt: &R, reports: &[Report], verdicts: &mut [bool]) -> Round
         requires reports { AllByRecursion (IsReport N.spec.alphabet) reports.now }
         requires count { (0 < length reports.now) × (length reports.now ≤ GROUP) × (length reports.now ≤ length verdicts.old) }
-        ensures count { (result.count ≤ length reports.now) × (result.place + result.count ≤ 1000001) }
+        ensures count { (result.count ≤ length reports.now) × (result.place + result.count ≤ 2 ^ 62 + 1) }
+        ensures limit { result.place + result.count ≤ suc (limit_of N.spec.names) }
         ensures left { IfSome result.fault (λ _. result.count < length reports.now) }
         ensures came { CameTo N.spec self.old.share reports.now verdicts.new result.count result.place result.fault self.new.share }
         ensures room { length verdicts.new ≡ length verdicts.old }

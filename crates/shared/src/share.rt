@@ -1,6 +1,6 @@
 //! What a seat knows and has done.
 
-ghost use Rattle.std.specs.Prelude.{◌≡◌, ◌↔◌, ◌≤◌, ◌<◌, ◌+◌, ◌++◌, ◌∷◌, [], length, true, false, ℕ, IsTrue, None, Some, IfOk, IfErr, IfSome, is_some, ◌⊎◌};
+ghost use Rattle.std.specs.Prelude.{◌≡◌, ◌↔◌, ◌≤◌, ◌<◌, ◌+◌, ◌^◌, ◌++◌, ◌∷◌, [], length, suc, true, false, ℕ, IsTrue, None, Some, IfOk, IfErr, IfSome, is_some, ◌⊎◌};
 ghost use Rattle.alphabet.specs.declared.events.Event.{Event};
 ghost use Rattle.alphabet.specs.EventSets.{member};
 ghost use Rattle.term.specs.Meaning.{Trace};
@@ -8,7 +8,7 @@ ghost use Rattle.term.specs.Proc.{bodies_of, root};
 ghost use Rattle.locked.specs.Reports.{IsReport};
 ghost use Rattle.term.specs.Specs.{IsClosed};
 ghost use Rattle.locked.specs.Entries.{calls, events, summary_of};
-ghost use Rattle.locked.specs.Legal.{Legal};
+ghost use Rattle.locked.specs.Legal.{Legal, limit_of};
 ghost use Rattle.locked.specs.SessionView.{IsOf};
 ghost use Rattle.locked.specs.Beginnings.{StartsWith};
 ghost use Rattle.shared.specs.Faults.{closes};
@@ -112,7 +112,7 @@ impl<N: Naming, A: Allocator> Model for Share<N, A> {
         × (s.part.amount + s.begun ≡ s.answered + s.lost)
         × (s.failed ≡ None → s.lost ≡ 0)
         × (s.lost ≤ GROUP)
-        × (s.answered ≤ 1000000)
+        × (s.answered ≤ 4294967294)
         × (s.begun ≤ s.answered) };
 }
 
@@ -152,7 +152,7 @@ fn closed_by(fault: Option<Fault>) -> Option<Failed>
 // How many entries of the settled list are seen: all where a report was refused after it, or those up to the last of so many from this place
 // on.
 fn seen_by<N: Naming>(counts: &Counts<N>, place: u64, count: u32, fault: Option<Fault>) -> u64
-    requires { (0 < place) × (place + count ≤ 1000001) }
+    requires { (0 < place) × (place + count ≤ 2 ^ 62 + 1) }
     ensures all { IfSome fault (λ _. result ≡ length (N.opening ++ counts.now)) }
     ensures last { fault ≡ None → result + 1 ≡ place + count }
 {
@@ -285,7 +285,8 @@ impl<N: Naming, A: Allocator + Copy> Share<N, A> {
     ) -> Round
         requires reports { AllByRecursion (IsReport N.spec.alphabet) reports.now }
         requires count { (0 < length reports.now) × (length reports.now ≤ GROUP) × (length reports.now ≤ length verdicts.old) }
-        ensures count { (result.count ≤ length reports.now) × (result.place + result.count ≤ 1000001) }
+        ensures count { (result.count ≤ length reports.now) × (result.place + result.count ≤ 2 ^ 62 + 1) }
+        ensures limit { result.place + result.count ≤ suc (limit_of N.spec.names) }
         ensures left { IfSome result.fault (λ _. result.count < length reports.now) }
         ensures came { CameTo N.spec self.old reports.now verdicts.new result.count result.place result.fault self.new }
         ensures room { length verdicts.new ≡ length verdicts.old }

@@ -1,12 +1,13 @@
 //! How a seat's report is judged and settled under the lock, with those of other seats.
 
-ghost use Rattle.std.specs.Prelude.{◌≡◌, ◌≤◌, ◌<◌, ◌+◌, ◌++◌, length, take, None, IfOk, IfErr, IfSome};
+ghost use Rattle.std.specs.Prelude.{◌≡◌, ◌≤◌, ◌<◌, ◌+◌, ◌^◌, ◌++◌, length, suc, take, None, IfOk, IfErr, IfSome};
 ghost use Rattle.locked.specs.Entries.{calls};
 ghost use Rattle.std.specs.List.{AllByRecursion};
 ghost use Rattle.term.specs.Proc.{bodies_of};
 ghost use Rattle.locked.specs.Reports.{IsReport};
 ghost use Rattle.locked.specs.Beginnings.{StartsWith};
 ghost use Rattle.locked.specs.Groups.{HasEntries};
+ghost use Rattle.locked.specs.Legal.{limit_of};
 ghost use Rattle.shared.specs.Turns.{IsRefused};
 
 use crate::seat::Shared;
@@ -193,7 +194,8 @@ fn await_len<'a, J: Recorder, A: Allocator + Copy, N: Naming, R: Wait>(
     unreachable!()
 }
 
-// Waits until the entries of these reports of the seat are settled, from this place on. `Err` where the session was closed before.
+// Waits until the entries of these reports of the seat are settled, from this place on; where too many seats wait, it settles them itself.
+// `Err` where the session was closed before.
 fn await_settled<'a, J: Recorder, A: Allocator + Copy, N: Naming, R: Wait>(
     rt: &R,
     shared: &'a Shared<J, A, N>,
@@ -205,7 +207,7 @@ fn await_settled<'a, J: Recorder, A: Allocator + Copy, N: Naming, R: Wait>(
     reports: &[Report],
     verdicts: &mut [bool],
 ) -> Result<Counts<N>, Failed>
-    requires place { (0 < place) × (place ≤ 1000001) }
+    requires place { (0 < place) × (place ≤ 2 ^ 62 + 1) }
     requires number { number + length reports.now ≤ 4294967295 }
     requires room { length reports.now ≤ length verdicts.old }
     ensures found { IfOk result (λ c. HasEntries (N.opening ++ c) place seat number reports.now (take (length reports.now) verdicts.new)) }
@@ -214,15 +216,22 @@ fn await_settled<'a, J: Recorder, A: Allocator + Copy, N: Naming, R: Wait>(
 {
     let len = place - 1 + reports.len() as u64;
     let mut locked = locked;
+    let Some(waits) = locked.wait(place) else {
+        return settled_at_once(
+            rt, shared, locked, known, place, seat, number, reports, verdicts,
+        );
+    };
     for _ in rt.forever() {
         locked = await_len(rt, shared, locked, len);
         if let Some(counts) = locked.found(place, seat, number, reports, verdicts) {
             if known.front().begins(counts.front()) {
+                locked.end_wait(waits);
                 MutexGuard::unlock(locked);
                 return Ok(counts);
             }
         }
         if let Some(failed) = locked.failed() {
+            locked.end_wait(waits);
             MutexGuard::unlock(locked);
             return Err(failed);
         }
@@ -243,7 +252,7 @@ fn settled_at_once<'a, J: Recorder, A: Allocator + Copy, N: Naming, R: Wait>(
     reports: &[Report],
     verdicts: &mut [bool],
 ) -> Result<Counts<N>, Failed>
-    requires place { (0 < place) × (place ≤ 1000001) }
+    requires place { (0 < place) × (place ≤ 2 ^ 62 + 1) }
     requires number { number + length reports.now ≤ 4294967295 }
     requires room { length reports.now ≤ length verdicts.old }
     ensures found { IfOk result (λ c. HasEntries (N.opening ++ c) place seat number reports.now (take (length reports.now) verdicts.new)) }
@@ -278,13 +287,15 @@ fn offer_all<J: Recorder, A: Allocator + Copy, N: Naming>(
 ) -> (u32, Option<Fault>)
     requires part { 0 < part.old.parts }
     requires reports { AllByRecursion (IsReport N.spec.alphabet) reports.now }
-    requires number { number + length reports.now ≤ 4294967295 }
-    requires small { length locked.old.entries ≤ 1000000 }
+    requires limit { length locked.old.entries ≤ limit_of N.spec.names }
+    requires small { length locked.old.entries ≤ 2 ^ 62 }
     ensures count { result.0 ≤ length reports.now }
     ensures counted { part.new.amount ≡ part.old.amount + result.0 }
     ensures parts { part.new.parts ≡ part.old.parts }
     ensures entries { length locked.new.entries ≡ length locked.old.entries + result.0 }
-    ensures small { length locked.new.entries ≤ 1000000 }
+    ensures limit { length locked.new.entries ≤ limit_of N.spec.names }
+    ensures small { length locked.new.entries ≤ 2 ^ 62 }
+    ensures numbers { number + result.0 ≤ 4294967295 }
     ensures settled { locked.new.settled ≡ locked.old.settled }
     ensures all { result.1 ≡ None → result.0 ≡ length reports.now }
     ensures refused { IfSome result.1 (IsRefused N.spec locked.new.entries seat number reports.now result.0) }
@@ -326,11 +337,12 @@ pub(crate) fn take_turn<J: Recorder, A: Allocator + Copy, N: Naming, R: Wait>(
 ) -> Result<Turn<N>, (Failed, u32)>
     requires part { 0 < part.old.parts }
     requires reports { AllByRecursion (IsReport N.spec.alphabet) reports.now }
-    requires number { number + length reports.now ≤ 4294967295 }
     requires room { length reports.now ≤ length verdicts.old }
     ensures found { IfOk result (λ t. HasEntries (N.opening ++ t.counts) t.place seat number (take t.count reports.now) (take t.count verdicts.new)) }
     ensures count { IfOk result (λ t. (t.count ≤ length reports.now) × (t.fault ≡ None → t.count ≡ length reports.now)) }
-    ensures later { IfOk result (λ t. (length (N.opening ++ known.now) < t.place) × StartsWith t.counts known.now × (t.place + t.count ≤ 1000001)) }
+    ensures later { IfOk result (λ t. (length (N.opening ++ known.now) < t.place) × StartsWith t.counts known.now × (t.place + t.count ≤ 2 ^ 62 + 1)) }
+    ensures limit { IfOk result (λ t. t.place + t.count ≤ suc (limit_of N.spec.names)) }
+    ensures numbers { IfOk result (λ t. number + t.count ≤ 4294967295) }
     ensures counted { IfOk result (λ t. part.new.amount ≡ part.old.amount + t.count) }
     ensures refused { IfOk result (λ t. IfSome t.fault (IsRefused N.spec (N.opening ++ t.counts) seat number reports.now t.count)) }
     ensures lost { IfErr result (λ f. (part.new.amount ≡ part.old.amount + f.1) × (f.1 ≤ length reports.now)) }
@@ -370,7 +382,7 @@ fn name_under<J: Recorder, A: Allocator + Copy, N: Naming, R: Wait>(
     former: SeatNumber,
 ) -> Result<(u32, Counts<N>), NameFault>
     ensures later { IfOk result (λ n. StartsWith n.1 locked.old.settled) }
-    ensures count { IfOk result (λ n. (n.0 ≡ length (calls (N.opening ++ n.1) name)) × (n.0 ≤ 1000000)) }
+    ensures count { IfOk result (λ n. (n.0 ≡ length (calls (N.opening ++ n.1) name)) × (n.0 < 4294967295)) }
 {
     settle(rt, shared, locked);
     match locked.name(name, former) {
@@ -388,7 +400,7 @@ pub(crate) fn named_at<J: Recorder, A: Allocator + Copy, N: Naming, R: Wait>(
     former: SeatNumber,
 ) -> Result<(u32, Counts<N>), NameFault>
     ensures later { IfOk result (λ n. StartsWith n.1 known.now) }
-    ensures count { IfOk result (λ n. (n.0 ≡ length (calls (N.opening ++ n.1) name)) × (n.0 ≤ 1000000)) }
+    ensures count { IfOk result (λ n. (n.0 ≡ length (calls (N.opening ++ n.1) name)) × (n.0 < 4294967295)) }
 {
     let mut locked = locked_for(rt, shared, known);
     let named = name_under(rt, shared, &mut locked, name, former);
