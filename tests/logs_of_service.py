@@ -25,6 +25,7 @@ ROOT = os.path.dirname(HERE)
 PROGRAM = os.path.join(ROOT, "crates", "cspwatch", "out", "cspwatch")
 
 SCRIPT = "channel a, b\nP = a -> b -> P\n"
+ACCEPTING = "channel a\nP = a -> P\n"
 SECONDS = 60
 TIME = r"20[0-9]{2}-[01][0-9]-[0-3][0-9]T[0-2][0-9]:[0-5][0-9]:[0-5][0-9]\.[0-9]{3}Z"
 REJECTIONS = 4000
@@ -36,9 +37,9 @@ AT_ONCE = 64
 class Run:
     """A run of the server in a folder, with a log of this name."""
 
-    def __init__(self, program, folder, log, words=("--until-idle",)):
+    def __init__(self, program, folder, log, words=("--until-idle",), script=SCRIPT):
         with open(os.path.join(folder, "p.csp"), "w", encoding="utf-8") as file:
-            file.write(SCRIPT)
+            file.write(script)
         self.errors = os.path.join(folder, "errors")
         log = ["--log", log] if log else []
         with open(self.errors, "wb") as errors:
@@ -207,7 +208,7 @@ def send_ahead(port, lines):
 
 def seconds_with(options, log):
     with tempfile.TemporaryDirectory() as folder:
-        run = Run(options.program, folder, log)
+        run = Run(options.program, folder, log, script=ACCEPTING)
         clients = [threading.Thread(target=send_ahead, args=(run.port, options.lines)) for _ in range(AT_ONCE)]
         begun = time.monotonic()
         for client in clients:
