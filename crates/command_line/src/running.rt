@@ -72,6 +72,7 @@ fn fulfil<
         + Threads
         + Wait
         + Clock
+        + Eprint
         + Sync,
     I: Read,
     O: Write,
@@ -111,6 +112,7 @@ fn fulfil_words<
         + Threads
         + Wait
         + Clock
+        + Eprint
         + Sync,
     I: Read,
     O: Write,
@@ -137,6 +139,7 @@ pub fn run<
         + Threads
         + Wait
         + Clock
+        + Eprint
         + Sync,
     I: Read,
     O: Write,

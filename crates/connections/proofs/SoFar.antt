@@ -1,6 +1,6 @@
 -- A service so far, with one connection more, and with one more that is over.
-use Rattle.std.proofs.Common.{◌≡◌, inl, inr, ℕ, ◌+◌, ◌<◌, List, [], ◌∷◌, ◌++◌, length, refl, ap, subst, sym, ◌∙◌, arith, length-append, suc, true≢false}
-use Rattle.std.specs.Prelude.{Bool, true, false, ◌||◌, Option, Result, map, sum_by, Ok, Err, OnOk, OnErr, MatchBool}
+use Rattle.std.proofs.Common.{◌≡◌, ◌≢◌, ◌⊎◌, inl, inr, ℕ, ◌+◌, ◌<◌, ◌≤◌, List, [], ◌∷◌, ◌++◌, length, refl, ap, subst, sym, ◌∙◌, arith, length-append, rules, suc}
+use Rattle.std.specs.Prelude.{Bool, true, false, ◌||◌, ◌&&◌, ◌==◌, min, Option, None, Some, Result, map, sum_by, Ok, Err, OnOk, OnErr, IfNone}
 use Rattle.std.specs.List.{list_any}
 use Rattle.std.proofs.Math.Bool.{or_comm}
 use Rattle.std.proofs.lemmas.List.{append-nil}
@@ -10,18 +10,22 @@ use Rattle.wire.specs.declared.answers.Tally.{Tally}
 use Rattle.wire.specs.declared.engine.End.{End}
 use Rattle.wire.specs.declared.engine.WireError.{WireError}
 use Rattle.connections.specs.declared.outcome.Ending.{Ending}
+use Rattle.connections.specs.declared.outcome.Ending.TheVariants as ending
 use Rattle.connections.specs.declared.outcome.Outcome.{Outcome}
 use Rattle.connections.specs.declared.outcome.Outcome.TheVariants.{Over, Refused, NotStarted}
+use Rattle.connections.specs.declared.services.Look.{Look}
+use Rattle.connections.specs.declared.services.Look.TheVariants as look
+use Rattle.connections.specs.declared.services.Terms.{Terms}
 use Rattle.connections.specs.declared.totals.Totals.{Totals}
 use Rattle.connections.specs.declared.visits.Running.{Running}
 use Rattle.connections.specs.declared.visits.Visit.{Visit}
 use Rattle.connections.specs.declared.visits.Visited.{Visited}
 use Rattle.connections.specs.declared.visits.Visited.TheVariants as visited
 use Rattle.connections.specs.Accounts.{has_rejected, met_limit}
-use Rattle.connections.specs.Outcomes.{InTurn, IsOutcome, ending_of, places_of}
-use Rattle.connections.specs.Services.{IsClosing, IsSum, IsWithout, capped, unjudged_of}
-use Rattle.connections.specs.Visiting.{Comes, State, present, past, visits_of, outcomes_of, outcome_after, place_after, Book, IsAdded, IsState, IsVisit, IsVisited, IsSoFar, Leave, none, more, Leaves, Without, before_place, promises}
-use Rattle.connections.proofs.Turns.{turn_more}
+use Rattle.wire.specs.declared.answers.Fault.TheVariants.{Seats}
+use Rattle.connections.specs.Outcomes.{IsOutcome, ending_of, places_of}
+use Rattle.connections.specs.Services.{EndsByFailure, EndsByIdleness, Goes, IsLook, IsStep, IsSum, IsWithout, Standing, Step, took, freed, nobody, failed, beginning, capped, refusal_of, steps_by, taken_of, unjudged_of}
+use Rattle.connections.specs.Visiting.{Comes, State, present, past, visits_of, outcomes_of, outcome_after, place_after, refusal_in, standing, Book, IsAdded, IsState, IsVisit, IsVisited, IsAt, IsRefused, IsSoFar, Leave, none, more, Leaves, Without, before_place, promises}
 
 or_in : (a b c : Bool) → (a || (b || c)) ≡ ((a || b) || c)
 or_in true b c = refl
@@ -93,8 +97,38 @@ abbrev pub IsNone : {V : Type 0} → List V → Type 0
 IsNone [] = Unit {0}
 IsNone (v ∷ vs) = ⊥
 
-some_last : {X : Type 0} (xs : List X) (x : X) → 0 < length (xs ++ x ∷ [])
-some_last xs x = omega (arith, length-append xs (x ∷ []))
+-- one step more
+pub goes_more : {S T : Type 0} (is : S → T → S → Type 0) (a b d : S) (ts : List T) (t : T) → Goes is a ts b → is b t d → Goes is a (ts ++ t ∷ []) d
+goes_more is a b d [] t h one = (d, subst (λ s. is s t d) h one, refl)
+goes_more is a b d (x ∷ xs) t h one = (h.0, h.1, goes_more is h.0 b d xs t h.2 one)
+
+steps_last : {O Q : Type 0} (f : O → Q) (ss : List (Step O)) (s : Step O) → steps_by f (ss ++ s ∷ []) ≡ steps_by f ss ++ steps_by f (s ∷ [])
+steps_last f [] s = refl
+steps_last f (took one ∷ ss) s = ap (λ l. took (f one) ∷ l) (steps_last f ss s)
+steps_last f (freed ∷ ss) s = ap (λ l. freed ∷ l) (steps_last f ss s)
+steps_last f (nobody ∷ ss) s = ap (λ l. nobody ∷ l) (steps_last f ss s)
+steps_last f (failed ∷ ss) s = ap (λ l. failed ∷ l) (steps_last f ss s)
+
+taken_last : {O : Type 0} (ss : List (Step O)) (s : Step O) → taken_of (ss ++ s ∷ []) ≡ taken_of ss ++ taken_of (s ∷ [])
+taken_last [] s = refl
+taken_last (took one ∷ ss) s = ap (λ l. one ∷ l) (taken_last ss s)
+taken_last (freed ∷ ss) s = taken_last ss s
+taken_last (nobody ∷ ss) s = taken_last ss s
+taken_last (failed ∷ ss) s = taken_last ss s
+
+-- one step more, by which a service stands otherwise
+stands_more : {O : Type 0} (f : O → Option Fault) (refuses : Fault → Type 0) (terms : Terms) (room : ℕ) (begun old new : Standing) (ss : List (Step O)) (s : Step O) (x : Step (Option Fault))
+    → Goes (IsStep refuses terms room) begun (steps_by f ss) old → steps_by f (s ∷ []) ≡ x ∷ [] → IsStep refuses terms room old x new → Goes (IsStep refuses terms room) begun (steps_by f (ss ++ s ∷ [])) new
+stands_more f refuses terms room begun old new ss s x h is one =
+    subst (λ l. Goes (IsStep refuses terms room) begun l new) (sym (steps_last f ss s ∙ ap (λ l. steps_by f ss ++ l) is)) (goes_more (IsStep refuses terms room) begun old new (steps_by f ss) x h one)
+
+pub promises_long : {P V : Type 0} (xs : List (Running P V)) → length (promises xs) ≡ length xs
+promises_long [] = refl
+promises_long (x ∷ xs) = ap suc (promises_long xs)
+
+pub none_after : {P : Type 0} (gone : Visited P) → refusal_of (outcome_after gone) ≡ None
+none_after (visited.Over over) = refl
+none_after (visited.CalledOff place) = refl
 
 module _ {G P R W : Type 0} where
   visits_last : (ss : List (State G P R W)) (s : State G P R W) → visits_of (ss ++ s ∷ []) ≡ visits_of ss ++ visits_of (s ∷ [])
@@ -110,21 +144,27 @@ module _ {G P R W : Type 0} where
 module _ {G P R W A L : Type 0} (gate : G) (gives : P → Type 0) (refuses : Fault → Type 0)
     (serves : G → P → P → Tally → Option (List ℕ) → Option (List ℕ) → Option (List ℕ) → Option (List ℕ) → Result End WireError → Type 0)
     (answered : P → ℕ) (free counted : L → ℕ)
-    (takes : A → R → W → A → Type 0) (left : R → Option (List ℕ)) (contents : W → Option (List ℕ)) where
+    (takes : A → R → W → A → Type 0) (fails waits : A → A → Type 0) (left : R → Option (List ℕ)) (contents : W → Option (List ℕ)) (terms : Terms) where
   abbrev Is : R → W → State G P R W → Type 0
-  Is = IsState gate gives refuses serves answered free counted takes left contents
+  Is = IsState gate gives refuses serves answered free counted takes fails waits left contents terms
 
   abbrev Was : R → W → Outcome P → Type 0
   Was r w o = IsOutcome gives (IsWithout refuses) (serves gate) (left r) (contents w) o
 
   abbrev Meets : R → W → Visit G P R W → Type 0
-  Meets = IsVisit gate gives refuses serves answered free counted takes left contents
+  Meets = IsVisit gate gives refuses serves answered free counted takes fails waits left contents terms
 
   abbrev Kept : Visit G P R W → Visited P → Type 0
   Kept = IsVisited serves left contents
 
-  abbrev SoFar : A → A → L → Book (Visit G P R W) → Bool → Type 0
-  SoFar = IsSoFar gate gives refuses serves answered free counted takes left contents
+  abbrev Looked : A → Step (State G P R W) → A → Type 0
+  Looked = IsLook takes fails waits Is
+
+  abbrev SoFar : A → A → L → Book (Visit G P R W) → Bool → ℕ → Option Bool → Type 0
+  SoFar = IsSoFar gate gives refuses serves answered free counted takes fails waits left contents terms
+
+  abbrev At : A → A → L → Book (Visit G P R W) → Standing → Type 0
+  At = IsAt gate gives refuses serves answered free counted takes fails waits left contents terms
 
   abbrev ComesAt : P → R → W → Visited P → Type 0
   ComesAt place r w gone = Comes serves gate place (left r) (contents w) gone
@@ -147,173 +187,312 @@ module _ {G P R W A L : Type 0} (gate : G) (gives : P → Type 0) (refuses : Fau
       (subst (λ x. Comes serves gate x (left v.reader.value) (contents v.writer.value) gone) is.3.1
       (subst (λ x. Comes serves x v.place.value (left v.reader.value) (contents v.writer.value) gone) is.3.0 kept)))
 
-  -- states in which this one is over that was there
-  record Changed (first now : A) (states : List (State G P R W)) (visits : List (Visit G P R W)) (gone : Visited P) : Type 0 where
-    new : List (State G P R W)
-    turns : InTurn takes Is first new now
-    there : visits_of new ≡ visits
-    tests : (f : Ending → Bool) → list_any f (map ending_of (outcomes_of new)) ≡ (list_any f (map ending_of (outcomes_of states)) || f (ending_of (outcome_after gone)))
-    counts : (f : Ending → ℕ) → sum_by f (map ending_of (outcomes_of new)) ≡ sum_by f (map ending_of (outcomes_of states)) + f (ending_of (outcome_after gone))
-    long : length new ≡ length states
-    fewer : length (visits_of new) + 1 ≡ length (visits_of states)
-    worth_more : sum_by answered (places_of (outcomes_of new)) ≡ sum_by answered (places_of (outcomes_of states)) + answered (place_after gone)
+  -- steps in which this one is over that was there
+  record Changed (first now : A) (states : List (Step (State G P R W))) (visits : List (Visit G P R W)) (gone : Visited P) : Type 0 where
+    new : List (Step (State G P R W))
+    looks : Goes Looked first new now
+    there : visits_of (taken_of new) ≡ visits
+    tests : (f : Ending → Bool) → list_any f (map ending_of (outcomes_of (taken_of new))) ≡ (list_any f (map ending_of (outcomes_of (taken_of states))) || f (ending_of (outcome_after gone)))
+    counts : (f : Ending → ℕ) → sum_by f (map ending_of (outcomes_of (taken_of new))) ≡ sum_by f (map ending_of (outcomes_of (taken_of states))) + f (ending_of (outcome_after gone))
+    same : steps_by refusal_in new ≡ steps_by refusal_in states
+    fewer : length (visits_of (taken_of new)) + 1 ≡ length (visits_of (taken_of states))
+    worth_more : sum_by answered (places_of (outcomes_of (taken_of new))) ≡ sum_by answered (places_of (outcomes_of (taken_of states))) + answered (place_after gone)
 
-  change : (first now : A) (states : List (State G P R W)) (v : Visit G P R W) (visits : List (Visit G P R W)) (gone : Visited P)
-      → InTurn takes Is first states now → Without v (visits_of states) visits → Kept v gone → Changed first now states visits gone
-  change first now [] v visits gone turns out kept = absurd out
-  change first now (past o ∷ ss) v visits gone turns out kept =
-      let rest = change turns.2 now ss v visits gone turns.5 out kept in
-      let before = places_more answered (outcomes_of rest.new) o in
-      let after = places_more answered (outcomes_of ss) o in
+  -- the same after a step in which no connection was taken
+  changed_after : (first mid now : A) (s : Step (State G P R W)) (ss : List (Step (State G P R W))) (visits : List (Visit G P R W)) (gone : Visited P)
+      → taken_of (s ∷ ss) ≡ taken_of ss → ((l : List (Step (State G P R W))) → taken_of (s ∷ l) ≡ taken_of l)
+      → ((l k : List (Step (State G P R W))) → steps_by refusal_in l ≡ steps_by refusal_in k → steps_by refusal_in (s ∷ l) ≡ steps_by refusal_in (s ∷ k))
+      → Looked first s mid → Changed mid now ss visits gone → Changed first now (s ∷ ss) visits gone
+  changed_after first mid now s ss visits gone idle idles longer look rest = record {
+    new = s ∷ rest.new;
+    looks = (mid, look, rest.looks);
+    there = ap visits_of (idles rest.new) ∙ rest.there;
+    tests = λ f. ap (λ os. list_any f (map ending_of (outcomes_of os))) (idles rest.new) ∙ (rest.tests f ∙ ap (λ os. list_any f (map ending_of (outcomes_of os)) || f (ending_of (outcome_after gone))) (sym idle));
+    counts = λ f. ap (λ os. sum_by f (map ending_of (outcomes_of os))) (idles rest.new) ∙ (rest.counts f ∙ ap (λ os. sum_by f (map ending_of (outcomes_of os)) + f (ending_of (outcome_after gone))) (sym idle));
+    same = longer rest.new ss rest.same;
+    fewer = ap (λ os. length (visits_of os) + 1) (idles rest.new) ∙ (rest.fewer ∙ ap (λ os. length (visits_of os)) (sym idle));
+    worth_more = ap (λ os. sum_by answered (places_of (outcomes_of os))) (idles rest.new) ∙ (rest.worth_more ∙ ap (λ os. sum_by answered (places_of (outcomes_of os)) + answered (place_after gone)) (sym idle));
+  }
+
+  change : (first now : A) (states : List (Step (State G P R W))) (v : Visit G P R W) (visits : List (Visit G P R W)) (gone : Visited P)
+      → Goes Looked first states now → Without v (visits_of (taken_of states)) visits → Kept v gone → Changed first now states visits gone
+  change first now [] v visits gone looks out kept = absurd out
+  change first now (freed ∷ ss) v visits gone looks out kept =
+      changed_after first looks.0 now freed ss visits gone refl (λ l. refl) (λ l k e. ap (λ x. freed ∷ x) e) looks.1 (change looks.0 now ss v visits gone looks.2 out kept)
+  change first now (nobody ∷ ss) v visits gone looks out kept =
+      changed_after first looks.0 now nobody ss visits gone refl (λ l. refl) (λ l k e. ap (λ x. nobody ∷ x) e) looks.1 (change looks.0 now ss v visits gone looks.2 out kept)
+  change first now (failed ∷ ss) v visits gone looks out kept =
+      changed_after first looks.0 now failed ss visits gone refl (λ l. refl) (λ l k e. ap (λ x. failed ∷ x) e) looks.1 (change looks.0 now ss v visits gone looks.2 out kept)
+  change first now (took (past o) ∷ ss) v visits gone looks out kept =
+      let rest = change looks.0 now ss v visits gone looks.2 out kept in
+      let before = places_more answered (outcomes_of (taken_of rest.new)) o in
+      let after = places_more answered (outcomes_of (taken_of ss)) o in
       let sums = rest.worth_more in
       record {
-        new = past o ∷ rest.new;
-        turns = (turns.0, turns.1, turns.2, turns.3, turns.4, rest.turns);
+        new = took (past o) ∷ rest.new;
+        looks = (looks.0, looks.1, rest.looks);
         there = rest.there;
-        tests = λ f. ap (λ b. f (ending_of o) || b) (rest.tests f) ∙ or_in (f (ending_of o)) (list_any f (map ending_of (outcomes_of ss))) (f (ending_of (outcome_after gone)));
+        tests = λ f. ap (λ b. f (ending_of o) || b) (rest.tests f) ∙ or_in (f (ending_of o)) (list_any f (map ending_of (outcomes_of (taken_of ss)))) (f (ending_of (outcome_after gone)));
         counts = λ f.
             let count = rest.counts f in
-            let all = sum_by-append f (ending_of o ∷ []) (map ending_of (outcomes_of rest.new)) in
-            let some = sum_by-append f (ending_of o ∷ []) (map ending_of (outcomes_of ss)) in
+            let all = sum_by-append f (ending_of o ∷ []) (map ending_of (outcomes_of (taken_of rest.new))) in
+            let some = sum_by-append f (ending_of o ∷ []) (map ending_of (outcomes_of (taken_of ss))) in
             omega (arith, count, all, some);
-        long = ap suc rest.long;
+        same = ap (λ l. took (refusal_of o) ∷ l) rest.same;
         fewer = rest.fewer;
         worth_more = omega (arith, before, after, sums);
       }
-  change first now (present u ∷ ss) v visits gone turns (inl here) kept =
+  change first now (took (present u) ∷ ss) v visits gone looks (inl here) kept =
       let kept' : Kept u gone = subst (λ x. Kept x gone) (sym here.0) kept in
-      let more = places_more answered (outcomes_of ss) (outcome_after gone) in
-      let is : Meets turns.0 turns.1 u = turns.4 in
-      let comes = promised turns.0 turns.1 u gone is kept' in
-      let one = worth turns.0 turns.1 is.0 gone is.2 comes in
+      let more = places_more answered (outcomes_of (taken_of ss)) (outcome_after gone) in
+      let is : Meets looks.1.0 looks.1.1 u = looks.1.3 in
+      let comes = promised looks.1.0 looks.1.1 u gone is kept' in
+      let one = worth looks.1.0 looks.1.1 is.0 gone is.2 comes in
       record {
-        new = past (outcome_after gone) ∷ ss;
-        turns = (turns.0, turns.1, turns.2, turns.3, came turns.0 turns.1 is.0 gone is.1 comes, turns.5);
+        new = took (past (outcome_after gone)) ∷ ss;
+        looks = (looks.0, (looks.1.0, looks.1.1, looks.1.2, came looks.1.0 looks.1.1 is.0 gone is.1 comes), looks.2);
         there = sym here.1;
-        tests = λ f. or_comm (f (ending_of (outcome_after gone))) (list_any f (map ending_of (outcomes_of ss)));
+        tests = λ f. or_comm (f (ending_of (outcome_after gone))) (list_any f (map ending_of (outcomes_of (taken_of ss))));
         counts = λ f.
-            let all = sum_by-append f (ending_of (outcome_after gone) ∷ []) (map ending_of (outcomes_of ss)) in
+            let all = sum_by-append f (ending_of (outcome_after gone) ∷ []) (map ending_of (outcomes_of (taken_of ss))) in
             omega (arith, all);
-        long = refl;
+        same = ap (λ r. took r ∷ steps_by refusal_in ss) (none_after gone);
         fewer = omega arith;
         worth_more = omega (arith, more, one);
       }
-  change first now (present u ∷ ss) v visits gone turns (inr later) kept =
-      let rest = change turns.2 now ss v later.0 gone turns.5 later.2 kept in
+  change first now (took (present u) ∷ ss) v visits gone looks (inr later) kept =
+      let rest = change looks.0 now ss v later.0 gone looks.2 later.2 kept in
       let fewer = rest.fewer in
       record {
-        new = present u ∷ rest.new;
-        turns = (turns.0, turns.1, turns.2, turns.3, turns.4, rest.turns);
+        new = took (present u) ∷ rest.new;
+        looks = (looks.0, looks.1, rest.looks);
         there = ap (λ vs. u ∷ vs) rest.there ∙ sym later.1;
         tests = rest.tests;
         counts = rest.counts;
-        long = ap suc rest.long;
+        same = ap (λ l. took None ∷ l) rest.same;
         fewer = omega (arith, fewer);
         worth_more = rest.worth_more;
       }
 
-  pub so_far_left : (first now : A) (places : L) (old new : Book (Visit G P R W)) (any : Bool) → SoFar first now places old any → Leaves Kept answered old new → SoFar first now places new any
-  so_far_left first now places old new any far leaves =
-      let out : Without leaves.visit (visits_of far.states) new.visits = subst (λ vs. Without leaves.visit vs new.visits) (sym far.there) leaves.out in
-      let changed = change first now far.states leaves.visit new.visits leaves.gone far.turns out leaves.kept_by in
+  pub so_far_left : (first now : A) (places : L) (old new : Book (Visit G P R W)) (any : Bool) (failures : ℕ) (ended : Option Bool)
+      → SoFar first now places old any failures ended → Leaves Kept answered old new → SoFar first now places new any failures ended
+  so_far_left first now places old new any failures ended far leaves =
+      let out : Without leaves.visit (visits_of (taken_of far.states)) new.visits = subst (λ vs. Without leaves.visit vs new.visits) (sym far.there) leaves.out in
+      let changed = change first now far.states leaves.visit new.visits leaves.gone far.looks out leaves.kept_by in
       let fewer = changed.fewer in let free_is = leaves.free_is in let free_are = far.free_are in
       let counted_is = leaves.counted_is in let counted_are = far.counted_are in let sums = changed.worth_more in
-      record {
-        states = changed.new;
-        turns = changed.turns;
-        there = changed.there;
-        sum = sum_more (map ending_of (outcomes_of far.states)) (map ending_of (outcomes_of changed.new)) (ending_of (outcome_after leaves.gone)) old.totals new.totals changed.tests changed.counts far.sum leaves.added;
-        some = λ is. subst (λ n. 0 < n) (sym changed.long) (far.some is);
-        free_are = omega (arith, fewer, free_is, free_are);
-        counted_are = omega (arith, counted_is, counted_are, sums);
-      }
-
-  pub so_far_on : (first now : A) (places : L) (old new : Book (Visit G P R W)) (any : Bool) → SoFar first now places old any → Leave Kept answered old new → SoFar first now places new any
-  so_far_on first now places old _ any far none = far
-  so_far_on first now places old _ any far (more mid new before last) = so_far_left first now places mid new any (so_far_on first now places old mid any far before) last
-
-  pub so_far_flag : (first now : A) (places : L) (book : Book (Visit G P R W)) (any any' : Bool) → SoFar first now places book any → any' ≡ any → SoFar first now places book any'
-  so_far_flag first now places book any any' far same = subst (λ b. SoFar first now places book b) (sym same) far
-
-  -- the same, after an accept that took none
-  pub so_far_still : (first now now' : A) (places : L) (old new : Book (Visit G P R W)) (any any' : Bool) → SoFar first now places old any → now' ≡ now → any' ≡ any
-      → Leave Kept answered old new → SoFar first now' places new any'
-  so_far_still first now now' places old new any any' far here same leave =
-      subst (λ n. SoFar first n places new any') (sym here) (subst (λ b. SoFar first now places new b) (sym same) (so_far_on first now places old new any far leave))
-
-  -- one connection more, of which this came at once
-  pub so_far_past : (first now next : A) (places : L) (old new : Book (Visit G P R W)) (any : Bool) (r : R) (w : W) (o : Outcome P)
-      → SoFar first now places old any → takes now r w next → Was r w o → new.visits ≡ old.visits → IsAdded old.totals (ending_of o) new.totals
-      → new.free ≡ old.free → new.counted ≡ old.counted + sum_by answered (places_of (o ∷ [])) → SoFar first next places new true
-  so_far_past first now next places old new any r w o far taken was visits added free_is counted_is =
-      let states = far.states ++ past o ∷ [] in
-      let gone : outcomes_of states ≡ outcomes_of far.states ++ o ∷ [] = outcomes_last far.states (past o) in
-      let there : visits_of states ≡ visits_of far.states = visits_last far.states (past o) ∙ append-nil (visits_of far.states) in
-      let long = ap length there in let free_are = far.free_are in
-      let counted_are = far.counted_are in let last = places_last answered (outcomes_of far.states) o in
-      let sums : sum_by answered (places_of (outcomes_of states)) ≡ sum_by answered (places_of (outcomes_of far.states ++ o ∷ [])) = ap (λ os. sum_by answered (places_of os)) gone in
+      let states = changed.new ++ freed ∷ [] in
+      let same : taken_of states ≡ taken_of changed.new = taken_last changed.new freed ∙ append-nil (taken_of changed.new) in
+      let one = ap length changed.there in let all = ap length far.there in
+      let less : length new.visits + 1 ≡ length old.visits = omega (arith, one, all, fewer) in
       record {
         states = states;
-        turns = turn_more takes Is first now next far.states (past o) far.turns (r, w, taken, was);
+        looks = goes_more Looked first now now changed.new freed changed.looks refl;
+        stands = stands_more refusal_in refuses terms (free places) beginning (standing old any failures ended) (standing new any failures ended) changed.new freed freed
+            (subst (λ l. Goes (IsStep refuses terms (free places)) beginning l (standing old any failures ended)) (sym changed.same) far.stands) refl (less, refl);
+        there = ap visits_of same ∙ changed.there;
+        sum = subst (λ os. IsSum (map ending_of (outcomes_of os)) new.totals) (sym same)
+            (sum_more (map ending_of (outcomes_of (taken_of far.states))) (map ending_of (outcomes_of (taken_of changed.new))) (ending_of (outcome_after leaves.gone)) old.totals new.totals changed.tests changed.counts far.sum leaves.added);
+        free_are = let long = ap (λ os. length (visits_of os)) same in omega (arith, fewer, free_is, free_are, long);
+        counted_are = let sums' = ap (λ os. sum_by answered (places_of (outcomes_of os))) same in omega (arith, counted_is, counted_are, sums, sums');
+      }
+
+  pub so_far_on : (first now : A) (places : L) (old new : Book (Visit G P R W)) (any : Bool) (failures : ℕ) (ended : Option Bool)
+      → SoFar first now places old any failures ended → Leave Kept answered old new → SoFar first now places new any failures ended
+  so_far_on first now places old _ any failures ended far none = far
+  so_far_on first now places old _ any failures ended far (more mid new before last) =
+      so_far_left first now places mid new any failures ended (so_far_on first now places old mid any failures ended far before) last
+
+  -- the same, where the flag is called otherwise
+  pub so_far_flag : (first now : A) (places : L) (book : Book (Visit G P R W)) (any any' : Bool) (failures : ℕ) (ended : Option Bool)
+      → SoFar first now places book any failures ended → any' ≡ any → SoFar first now places book any' failures ended
+  so_far_flag first now places book any any' failures ended far same = subst (λ b. SoFar first now places book b failures ended) (sym same) far
+
+  -- a step in which no connection is taken
+  so_far_step : (first now next : A) (places : L) (book : Book (Visit G P R W)) (old new : Standing)
+      (s : Step (State G P R W)) (x : Step (Option Fault)) → steps_by refusal_in (s ∷ []) ≡ x ∷ [] → taken_of (s ∷ []) ≡ [] → Looked now s next
+      → IsStep refuses terms (free places) old x new → At first now places book old → At first next places book new
+  so_far_step first now next places book old new s x is idle look step far =
+      let states = far.states ++ s ∷ [] in
+      let same : taken_of states ≡ taken_of far.states = taken_last far.states s ∙ (ap (λ l. taken_of far.states ++ l) idle ∙ append-nil (taken_of far.states)) in
+      let free_are = far.free_are in let counted_are = far.counted_are in
+      record {
+        states = states;
+        looks = goes_more Looked first now next far.states s far.looks look;
+        stands = stands_more refusal_in refuses terms (free places) beginning old new far.states s x far.stands is step;
+        there = ap visits_of same ∙ far.there;
+        sum = subst (λ os. IsSum (map ending_of (outcomes_of os)) book.totals) (sym same) far.sum;
+        free_are = let long = ap (λ os. length (visits_of os)) same in omega (arith, free_are, long);
+        counted_are = let sums = ap (λ os. sum_by answered (places_of (outcomes_of os))) same in omega (arith, counted_are, sums);
+      }
+
+  -- none came
+  pub so_far_nobody : (first now next : A) (places : L) (book : Book (Visit G P R W)) (any : Bool) (failures : ℕ) (ended : Option Bool)
+      → SoFar first now places book any failures None → waits now next → EndsByIdleness terms (any && (length book.visits == 0)) ended → SoFar first next places book any 0 ended
+  so_far_nobody first now next places book any failures ended far waited ends =
+      so_far_step first now next places book (standing book any failures None) (standing book any 0 ended) nobody nobody refl refl waited (refl, ends, refl) far
+
+  -- an accept failed
+  pub so_far_failed : (first now next : A) (places : L) (book : Book (Visit G P R W)) (any : Bool) (failures : ℕ) (ended : Option Bool)
+      → SoFar first now places book any failures None → fails now next → EndsByFailure terms failures ended → SoFar first next places book any (failures + 1) ended
+  so_far_failed first now next places book any failures ended far fault ends =
+      so_far_step first now next places book (standing book any failures None) (standing book any (failures + 1) ended) failed failed refl refl fault (refl, ends, refl) far
+
+  -- one connection more, of which this came at once
+  so_far_past : (first now next : A) (places : L) (old new : Book (Visit G P R W)) (stand stand' : Standing) (r : R) (w : W) (o : Outcome P)
+      → At first now places old stand → takes now r w next → Was r w o → new.visits ≡ old.visits → IsAdded old.totals (ending_of o) new.totals
+      → new.free ≡ old.free → new.counted ≡ old.counted + sum_by answered (places_of (o ∷ [])) → IsStep refuses terms (free places) stand (took (refusal_of o)) stand'
+      → At first next places new stand'
+  so_far_past first now next places old new stand stand' r w o far taken was visits added free_is counted_is step =
+      let states = far.states ++ took (past o) ∷ [] in
+      let more : taken_of states ≡ taken_of far.states ++ past o ∷ [] = taken_last far.states (took (past o)) in
+      let gone : outcomes_of (taken_of states) ≡ outcomes_of (taken_of far.states) ++ o ∷ [] = ap outcomes_of more ∙ outcomes_last (taken_of far.states) (past o) in
+      let there : visits_of (taken_of states) ≡ visits_of (taken_of far.states) = ap visits_of more ∙ (visits_last (taken_of far.states) (past o) ∙ append-nil (visits_of (taken_of far.states))) in
+      let long = ap length there in let free_are = far.free_are in
+      let counted_are = far.counted_are in let last = places_last answered (outcomes_of (taken_of far.states)) o in
+      let sums : sum_by answered (places_of (outcomes_of (taken_of states))) ≡ sum_by answered (places_of (outcomes_of (taken_of far.states) ++ o ∷ [])) = ap (λ os. sum_by answered (places_of os)) gone in
+      record {
+        states = states;
+        looks = goes_more Looked first now next far.states (took (past o)) far.looks (r, w, taken, was);
+        stands = stands_more refusal_in refuses terms (free places) beginning stand stand' far.states (took (past o)) (took (refusal_of o)) far.stands refl step;
         there = there ∙ (far.there ∙ sym visits);
-        sum = sum_more (map ending_of (outcomes_of far.states)) (map ending_of (outcomes_of states)) (ending_of o) old.totals new.totals
-            (λ f. ap (λ os. list_any f (map ending_of os)) gone ∙ any_last f (outcomes_of far.states) o)
-            (λ f. ap (λ os. sum_by f (map ending_of os)) gone ∙ count_more f (outcomes_of far.states) o) far.sum added;
-        some = λ is. some_last far.states (past o);
+        sum = sum_more (map ending_of (outcomes_of (taken_of far.states))) (map ending_of (outcomes_of (taken_of states))) (ending_of o) old.totals new.totals
+            (λ f. ap (λ os. list_any f (map ending_of os)) gone ∙ any_last f (outcomes_of (taken_of far.states)) o)
+            (λ f. ap (λ os. sum_by f (map ending_of os)) gone ∙ count_more f (outcomes_of (taken_of far.states)) o) far.sum added;
         free_are = omega (arith, long, free_are, free_is);
         counted_are = omega (arith, counted_is, counted_are, last, sums);
       }
 
+  -- where no place is free, as many are there as there are places; so many may be there else
+  pub full_here : (first now : A) (places : L) (book : Book (Visit G P R W)) (stand : Standing) → At first now places book stand
+      → (terms.threads ≤ length book.visits) ⊎ (book.free ≡ 0) → min (free places) terms.threads ≤ length book.visits
+  full_here first now places at stand far (inl all) = omega (arith, all)
+  full_here first now places at stand far (inr full) = let free_are = far.free_are in let long = ap length far.there in omega (arith, full, free_are, long)
+
+  without_for : (at : Book (Visit G P R W)) (fault : Fault) → IsRefused refuses terms.threads at fault → IsWithout refuses fault
+  without_for at fault (inl refused) = inl refused
+  without_for at fault (inr full) = inr full.0
+
+  full_for : (first now : A) (places : L) (at : Book (Visit G P R W)) (stand : Standing) (fault : Fault) → At first now places at stand → IsRefused refuses terms.threads at fault
+      → refuses fault ⊎ ((fault ≡ Seats) × (min (free places) terms.threads ≤ length at.visits))
+  full_for first now places at stand fault far (inl refused) = inl refused
+  full_for first now places at stand fault far (inr full) = inr (full.0, full_here first now places at stand far full.1)
+
+  -- one more that is refused
+  pub so_far_refused : (first now next : A) (places : L) (old new : Book (Visit G P R W)) (any : Bool) (failures : ℕ) (r : R) (w : W) (fault : Fault)
+      → SoFar first now places old any failures None → takes now r w next → IsRefused refuses terms.threads old fault → new.visits ≡ old.visits → IsAdded old.totals (ending.Refused fault) new.totals
+      → new.free ≡ old.free → new.counted ≡ old.counted → SoFar first next places new true 0 None
+  so_far_refused first now next places old new any failures r w fault far taken why visits added free_is counted_is =
+      let long = ap length visits in
+      so_far_past first now next places old new (standing old any failures None) (standing new true 0 None) r w (Refused fault) far taken (without_for old fault why) visits added free_is (omega (arith, counted_is))
+      (refl, full_for first now places old (standing old any failures None) fault far why, ap (λ n. record { there = n; any = true; failures = 0; ended = None }) long)
+
+  -- one more that got a place, and none was there of it any more at once
+  pub so_far_called_off : (first now next : A) (places : L) (old new : Book (Visit G P R W)) (any : Bool) (failures : ℕ) (r : R) (w : W) (o : Outcome P)
+      → SoFar first now places old any failures None → takes now r w next → Was r w o → refusal_of o ≡ None → length old.visits < terms.threads → new.visits ≡ old.visits
+      → IsAdded old.totals (ending_of o) new.totals → new.free ≡ old.free → new.counted ≡ old.counted + sum_by answered (places_of (o ∷ [])) → SoFar first next places new true 0 None
+  so_far_called_off first now next places old new any failures r w o far taken was placed few visits added free_is counted_is =
+      let long = ap length visits in
+      let mid : Standing = record { there = length old.visits + 1; any = true; failures = 0; ended = None } in
+      so_far_step first next next places new mid (standing new true 0 None) freed freed refl refl refl (omega (arith, long), refl)
+      (so_far_past first now next places old new (standing old any failures None) mid r w o far taken was visits added free_is counted_is
+      (subst (λ x. IsStep refuses terms (free places) (standing old any failures None) (took x) mid) (sym placed) (refl, few, refl)))
+
   -- one more, whose thread runs at a place that was free
-  pub so_far_present : (first now next : A) (places : L) (old new : Book (Visit G P R W)) (any : Bool) (r : R) (w : W) (v : Visit G P R W)
-      → SoFar first now places old any → takes now r w next → Meets r w v → new.visits ≡ old.visits ++ v ∷ [] → new.totals ≡ old.totals
-      → new.free + 1 ≡ old.free → new.counted ≡ old.counted → SoFar first next places new true
-  so_far_present first now next places old new any r w v far taken meets visits totals free_is counted_is =
-      let states = far.states ++ present v ∷ [] in
-      let gone : outcomes_of states ≡ outcomes_of far.states = outcomes_last far.states (present v) ∙ append-nil (outcomes_of far.states) in
-      let there : visits_of states ≡ visits_of far.states ++ v ∷ [] = visits_last far.states (present v) in
-      let long = ap length there ∙ length-append (visits_of far.states) (v ∷ []) in
+  pub so_far_present : (first now next : A) (places : L) (old new : Book (Visit G P R W)) (any : Bool) (failures : ℕ) (r : R) (w : W) (v : Visit G P R W)
+      → SoFar first now places old any failures None → takes now r w next → Meets r w v → length old.visits < terms.threads → new.visits ≡ old.visits ++ v ∷ [] → new.totals ≡ old.totals
+      → new.free + 1 ≡ old.free → new.counted ≡ old.counted → SoFar first next places new true 0 None
+  so_far_present first now next places old new any failures r w v far taken meets few visits totals free_is counted_is =
+      let states = far.states ++ took (present v) ∷ [] in
+      let more : taken_of states ≡ taken_of far.states ++ present v ∷ [] = taken_last far.states (took (present v)) in
+      let gone : outcomes_of (taken_of states) ≡ outcomes_of (taken_of far.states) = ap outcomes_of more ∙ (outcomes_last (taken_of far.states) (present v) ∙ append-nil (outcomes_of (taken_of far.states))) in
+      let there : visits_of (taken_of states) ≡ visits_of (taken_of far.states) ++ v ∷ [] = ap visits_of more ∙ visits_last (taken_of far.states) (present v) in
+      let long = ap length there ∙ length-append (visits_of (taken_of far.states)) (v ∷ []) in
+      let longer = ap length visits ∙ length-append old.visits (v ∷ []) in
       let free_are = far.free_are in let counted_are = far.counted_are in
-      let sums : sum_by answered (places_of (outcomes_of states)) ≡ sum_by answered (places_of (outcomes_of far.states)) = ap (λ os. sum_by answered (places_of os)) gone in
+      let sums : sum_by answered (places_of (outcomes_of (taken_of states))) ≡ sum_by answered (places_of (outcomes_of (taken_of far.states))) = ap (λ os. sum_by answered (places_of os)) gone in
       record {
         states = states;
-        turns = turn_more takes Is first now next far.states (present v) far.turns (r, w, taken, meets);
+        looks = goes_more Looked first now next far.states (took (present v)) far.looks (r, w, taken, meets);
+        stands = stands_more refusal_in refuses terms (free places) beginning (standing old any failures None) (standing new true 0 None) far.states (took (present v)) (took None) far.stands refl
+            (refl, few, ap (λ n. record { there = n; any = true; failures = 0; ended = None }) longer);
         there = there ∙ (ap (λ vs. vs ++ v ∷ []) far.there ∙ sym visits);
-        sum = subst (λ os. IsSum (map ending_of os) new.totals) (sym gone) (subst (λ t. IsSum (map ending_of (outcomes_of far.states)) t) (sym totals) far.sum);
-        some = λ is. some_last far.states (present v);
+        sum = subst (λ os. IsSum (map ending_of os) new.totals) (sym gone) (subst (λ t. IsSum (map ending_of (outcomes_of (taken_of far.states))) t) (sym totals) far.sum);
         free_are = omega (arith, long, free_are, free_is);
         counted_are = omega (arith, counted_is, counted_are, sums);
       }
 
   -- nothing was taken yet
   pub so_far_none : (first : A) (places : L) (book : Book (Visit G P R W)) → book.visits ≡ [] → IsSum [] book.totals → book.free ≡ free places → book.counted ≡ counted places
-      → SoFar first first places book false
+      → SoFar first first places book false 0 None
   so_far_none first places book visits sum free_is counted_is = record {
     states = [];
-    turns = refl;
+    looks = refl;
+    stands = ap (λ vs. record { there = length vs; any = false; failures = 0; ended = None }) visits;
     there = sym visits;
     sum = sum;
-    some = λ is. absurd (true≢false (sym is));
     free_are = omega (arith, free_is);
     counted_are = omega (arith, counted_is);
   }
 
   -- where none is there, of each something came
-  pub all_past : (first now : A) (states : List (State G P R W)) → InTurn takes Is first states now → IsNone (visits_of states) → InTurn takes Was first (outcomes_of states) now
-  all_past first now [] turns nobody = turns
-  all_past first now (present v ∷ ss) turns nobody = absurd nobody
-  all_past first now (past o ∷ ss) turns nobody = (turns.0, turns.1, turns.2, turns.3, turns.4, all_past turns.2 now ss turns.5 nobody)
+  abbrev pub pasts : List (Step (State G P R W)) → List (Step (Outcome P))
+  pasts [] = []
+  pasts (took (present v) ∷ ss) = pasts ss
+  pasts (took (past o) ∷ ss) = took o ∷ pasts ss
+  pasts (freed ∷ ss) = freed ∷ pasts ss
+  pasts (nobody ∷ ss) = nobody ∷ pasts ss
+  pasts (failed ∷ ss) = failed ∷ pasts ss
 
-  pub all_long : (states : List (State G P R W)) → IsNone (visits_of states) → length (outcomes_of states) ≡ length states
-  all_long [] nobody = refl
-  all_long (present v ∷ ss) nobody = absurd nobody
-  all_long (past o ∷ ss) nobody = ap suc (all_long ss nobody)
+  pub all_looks : (first now : A) (ss : List (Step (State G P R W))) → Goes Looked first ss now → IsNone (visits_of (taken_of ss)) → Goes (IsLook takes fails waits Was) first (pasts ss) now
+  all_looks first now [] looks empty = looks
+  all_looks first now (took (present v) ∷ ss) looks empty = absurd empty
+  all_looks first now (took (past o) ∷ ss) looks empty = (looks.0, looks.1, all_looks looks.0 now ss looks.2 empty)
+  all_looks first now (freed ∷ ss) looks empty = (looks.0, looks.1, all_looks looks.0 now ss looks.2 empty)
+  all_looks first now (nobody ∷ ss) looks empty = (looks.0, looks.1, all_looks looks.0 now ss looks.2 empty)
+  all_looks first now (failed ∷ ss) looks empty = (looks.0, looks.1, all_looks looks.0 now ss looks.2 empty)
 
-pub by_bool : {X Y : Type 0} (b : Bool) → (b ≡ true → X) → (b ≡ false → Y) → MatchBool b X Y
-by_bool true x y = x refl
-by_bool false x y = y refl
+  pub all_stands : (ss : List (Step (State G P R W))) → IsNone (visits_of (taken_of ss)) → steps_by refusal_of (pasts ss) ≡ steps_by refusal_in ss
+  all_stands [] empty = refl
+  all_stands (took (present v) ∷ ss) empty = absurd empty
+  all_stands (took (past o) ∷ ss) empty = ap (λ l. took (refusal_of o) ∷ l) (all_stands ss empty)
+  all_stands (freed ∷ ss) empty = ap (λ l. freed ∷ l) (all_stands ss empty)
+  all_stands (nobody ∷ ss) empty = ap (λ l. nobody ∷ l) (all_stands ss empty)
+  all_stands (failed ∷ ss) empty = ap (λ l. failed ∷ l) (all_stands ss empty)
 
-pub closes : {A : Type 0} (fails : A → A → Type 0) (last : A) (until any : Bool) (n : ℕ) (b : Bool) → MatchBool b (fails last last) ((until ≡ true) × (any ≡ true))
-    → (any ≡ true → 0 < n) → IsClosing fails last until n b
-closes fails last until any n true ends some = ends
-closes fails last until any n false ends some = (ends.0, some ends.1)
+  pub all_past : (ss : List (Step (State G P R W))) → IsNone (visits_of (taken_of ss)) → taken_of (pasts ss) ≡ outcomes_of (taken_of ss)
+  all_past [] empty = refl
+  all_past (took (present v) ∷ ss) empty = absurd empty
+  all_past (took (past o) ∷ ss) empty = ap (λ l. o ∷ l) (all_past ss empty)
+  all_past (freed ∷ ss) empty = all_past ss empty
+  all_past (nobody ∷ ss) empty = all_past ss empty
+  all_past (failed ∷ ss) empty = all_past ss empty
+
+  if_none : {X : Type 0} (ended : Option Bool) → X → IfNone ended X
+  if_none None x = x
+  if_none (Some b) x = tt
+
+  same_where_none : (ended : Option Bool) (n m : ℕ) → IfNone ended (n ≡ m) → IfNone ended (m ≡ n)
+  same_where_none None n m same = sym same
+  same_where_none (Some b) n m same = tt
+
+  -- after a look: whether the service goes on, or has ended
+  pub so_far_looked : (first now next : A) (places : L) (old new : Book (Visit G P R W)) (any any' : Bool) (failures failures' : ℕ) (seen : Look) (idle : Bool) (ended : Option Bool)
+      → (seen ≡ look.Taken → SoFar first now places old any failures None → SoFar first next places new any' 0 None)
+      → (seen ≢ look.Taken → SoFar first now places old any failures None → SoFar first now places new any' failures None)
+      → (seen ≡ look.Nobody → waits now next) → (seen ≡ look.Failed → fails now next) → idle ≡ (any' && (length new.visits == 0))
+      → (seen ≡ look.Taken → (ended ≡ None) × (failures' ≡ 0)) → (seen ≡ look.Nobody → EndsByIdleness terms idle ended × (failures' ≡ 0))
+      → (seen ≡ look.Failed → EndsByFailure terms failures ended × IfNone ended (failures' ≡ failures + 1))
+      → SoFar first now places old any failures None → (n : ℕ) × SoFar first next places new any' n ended × IfNone ended (n ≡ failures')
+  so_far_looked first now next places old new any any' failures failures' look.Taken idle ended taken kept waited fault is on_taken on_nobody on_failed far =
+      (0, subst (λ e. SoFar first next places new any' 0 e) (sym (on_taken refl).0) (taken refl far), subst (λ e. IfNone e (0 ≡ failures')) (sym (on_taken refl).0) (sym (on_taken refl).1))
+  so_far_looked first now next places old new any any' failures failures' look.Nobody idle ended taken kept waited fault is on_taken on_nobody on_failed far = (
+    0,
+    so_far_nobody first now next places new any' failures ended (kept (λ e. search rules) far) (waited refl) (subst (λ i. EndsByIdleness terms i ended) is (on_nobody refl).0),
+    if_none ended (sym (on_nobody refl).1),
+  )
+  so_far_looked first now next places old new any any' failures failures' look.Failed idle ended taken kept waited fault is on_taken on_nobody on_failed far = (
+    failures + 1,
+    so_far_failed first now next places new any' failures ended (kept (λ e. search rules) far) (fault refl) (on_failed refl).0,
+    same_where_none ended failures' (failures + 1) (on_failed refl).1,
+  )

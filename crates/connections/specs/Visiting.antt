@@ -1,6 +1,7 @@
 -- The connections of a service while it runs.
-use Rattle.std.specs.Prelude.{◌≡◌, ◌⊎◌, ◌||◌, ℕ, ◌+◌, ◌<◌, Bool, true, List, [], ◌∷◌, length, map, sum_by, Option, Result, Ok, Err}
+use Rattle.std.specs.Prelude.{◌≡◌, ◌⊎◌, ◌||◌, ◌≤◌, ℕ, ◌+◌, Bool, List, [], ◌∷◌, length, map, sum_by, Option, None, Result, Ok, Err}
 use Rattle.wire.specs.declared.answers.Fault.{Fault}
+use Rattle.wire.specs.declared.answers.Fault.TheVariants.{Seats}
 use Rattle.wire.specs.declared.answers.Tally.{Tally}
 use Rattle.wire.specs.declared.engine.End.{End}
 use Rattle.wire.specs.declared.engine.WireError.{WireError}
@@ -8,15 +9,16 @@ use Rattle.connections.specs.declared.gate.Over.{Over}
 use Rattle.connections.specs.declared.outcome.Ending.{Ending}
 use Rattle.connections.specs.declared.outcome.Outcome.{Outcome}
 use Rattle.connections.specs.declared.outcome.Outcome.TheVariants as outcome
+use Rattle.connections.specs.declared.services.Terms.{Terms}
 use Rattle.connections.specs.declared.totals.Totals.{Totals}
 use Rattle.connections.specs.declared.visits.Hall.{Hall}
 use Rattle.connections.specs.declared.visits.Running.{Running}
 use Rattle.connections.specs.declared.visits.Visit.{Visit}
 use Rattle.connections.specs.declared.visits.Visited.{Visited}
 use Rattle.connections.specs.declared.visits.Visited.TheVariants as visited
-use Rattle.connections.specs.Outcomes.{InTurn, IsOutcome, ending_of, places_of}
+use Rattle.connections.specs.Outcomes.{IsOutcome, ending_of, places_of}
 use Rattle.connections.specs.Accounts.{has_rejected, met_limit}
-use Rattle.connections.specs.Services.{IsSum, IsWithout, capped, unjudged_of}
+use Rattle.connections.specs.Services.{Goes, IsLook, IsStep, IsSum, IsWithout, Standing, Step, beginning, capped, refusal_of, steps_by, taken_of, unjudged_of}
 
 -- A connection that was taken: its thread runs, or it is over.
 pub data State (G P R W : Type 0) : Type 0 where
@@ -34,6 +36,11 @@ abbrev pub outcomes_of : {G P R W : Type 0} → List (State G P R W) → List (O
 outcomes_of [] = []
 outcomes_of (present visit ∷ states) = outcomes_of states
 outcomes_of (past came ∷ states) = came ∷ outcomes_of states
+
+-- the fault for which one got no place, if it got none
+abbrev pub refusal_in : {G P R W : Type 0} → State G P R W → Option Fault
+refusal_in (present visit) = None
+refusal_in (past came) = refusal_of came
 
 -- What comes of a connection at a place of a gate, whose reader and writer know these bytes: it is served; or it was called off, and the
 -- place is as it was.
@@ -117,10 +124,18 @@ abbrev pub before_place : {V P X : Type 0} → Result P X → Book V → Book V
 before_place (Ok place) book = with_one book
 before_place (Err fault) book = book
 
+-- Why there is no place: the gate refuses one for this fault; or it is 22, and as many threads run as may, or no place is free.
+abbrev pub IsRefused : {V : Type 0} → (Fault → Type 0) → ℕ → Book V → Fault → Type 0
+IsRefused refuses threads book fault = refuses fault ⊎ ((fault ≡ Seats) × ((threads ≤ length book.visits) ⊎ (book.free ≡ 0)))
+
+-- how the service stands
+abbrev pub standing : {V : Type 0} → Book V → Bool → ℕ → Option Bool → Standing
+standing book any failures ended = record { there = length book.visits; any = any; failures = failures; ended = ended }
+
 module _ {G P R W A L : Type 0} (gate : G) (gives : P → Type 0) (refuses : Fault → Type 0)
     (serves : G → P → P → Tally → Option (List ℕ) → Option (List ℕ) → Option (List ℕ) → Option (List ℕ) → Result End WireError → Type 0)
     (answered : P → ℕ) (free counted : L → ℕ)
-    (takes : A → R → W → A → Type 0) (left : R → Option (List ℕ)) (contents : W → Option (List ℕ)) where
+    (takes : A → R → W → A → Type 0) (fails waits : A → A → Type 0) (left : R → Option (List ℕ)) (contents : W → Option (List ℕ)) (terms : Terms) where
   -- a thread serves a connection with this reader and writer, at a place that the gate gave
   abbrev pub IsVisit : R → W → Visit G P R W → Type 0
   IsVisit reader writer visit = (place : P) × gives place × (answered place ≡ 0) × Begins gate place reader writer visit
@@ -130,13 +145,16 @@ module _ {G P R W A L : Type 0} (gate : G) (gives : P → Type 0) (refuses : Fau
   IsState reader writer (present visit) = IsVisit reader writer visit
   IsState reader writer (past came) = IsOutcome gives (IsWithout refuses) (serves gate) (left reader) (contents writer) came
 
-  -- The service so far, since it began to take connections with these places: those that it took, of which these are there, and what came
-  -- of the others.
-  pub record IsSoFar (first now : A) (places : L) (book : Book (Visit G P R W)) (any : Bool) : Type 0 where
-    pub states : List (State G P R W)
-    pub turns : InTurn takes IsState first states now
-    pub there : visits_of states ≡ book.visits
-    pub sum : IsSum (map ending_of (outcomes_of states)) book.totals
-    pub some : any ≡ true → 0 < length states
-    pub free_are : book.free + length (visits_of states) ≡ free places
-    pub counted_are : book.counted ≡ counted places + sum_by answered (places_of (outcomes_of states))
+  -- The service so far, since it began to take connections with these places: its steps, with those that it took, of which these are there, and
+  -- what came of the others; and how it stands.
+  pub record IsAt (first now : A) (places : L) (book : Book (Visit G P R W)) (stand : Standing) : Type 0 where
+    pub states : List (Step (State G P R W))
+    pub looks : Goes (IsLook takes fails waits IsState) first states now
+    pub stands : Goes (IsStep refuses terms (free places)) beginning (steps_by refusal_in states) stand
+    pub there : visits_of (taken_of states) ≡ book.visits
+    pub sum : IsSum (map ending_of (outcomes_of (taken_of states))) book.totals
+    pub free_are : book.free + length (visits_of (taken_of states)) ≡ free places
+    pub counted_are : book.counted ≡ counted places + sum_by answered (places_of (outcomes_of (taken_of states)))
+
+  abbrev pub IsSoFar : A → A → L → Book (Visit G P R W) → Bool → ℕ → Option Bool → Type 0
+  IsSoFar first now places book any failures ended = IsAt first now places book (standing book any failures ended)

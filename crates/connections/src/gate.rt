@@ -1,7 +1,8 @@
 //! Where connections come from, and where they are served.
 
-ghost use Rattle.std.specs.Prelude.{◌≡◌, ◌≢◌, ◌+◌, ◌<◌, ℕ, List, Option, Result, Err, IsErrOf, IfOk, IfErr, IfSome, IfNone, OnOk, OnErr};
+ghost use Rattle.std.specs.Prelude.{◌≡◌, ◌≢◌, ◌⊎◌, ◌+◌, ◌<◌, ℕ, List, Option, Result, Err, IsErrOf, IfOk, IfErr, IfSome, IfNone, OnOk, OnErr};
 ghost use Rattle.wire.specs.declared.answers.Fault.{Fault};
+ghost use Rattle.wire.specs.declared.answers.Fault.TheVariants.{Seats};
 ghost use Rattle.wire.specs.declared.answers.Tally.{Tally};
 ghost use Rattle.wire.specs.declared.engine.End.{End};
 ghost use Rattle.wire.specs.declared.engine.WireError.{WireError};
@@ -79,11 +80,14 @@ pub trait Gate {
 
 /// Where connections come from without end.
 pub trait Listen: Accept {
-    /// Takes the next connection, or answers within a moment that none came. Where it can't, it stays as it is, and may be asked again.
+    /// None came within a moment: what it was before, and what it is then.
+    ghost waits: { Self → Self → Type 0 } = { λ old new. new ≡ old };
+
+    /// Takes the next connection, or answers within a moment that none came. Where it can't, it may be asked again.
     fn accept_soon(&mut self) -> Result<Option<(Self::Reader, Self::Writer)>, AcceptFault>
         ensures taken { IfOk result (λ next. IfSome next (λ connection. Self.takes self.old connection.0 connection.1 self.new)) }
-        ensures none { IfOk result (λ next. IfNone next (self.new ≡ self.old)) }
-        ensures failed { OnErr result (Self.fails self.old self.new × (self.new ≡ self.old)) };
+        ensures none { IfOk result (λ next. IfNone next (waits self.old self.new)) }
+        ensures failed { OnErr result (Self.fails self.old self.new) };
 }
 
 /// A gate whose places are given back once their connections are over, so that they may be given again. One thread has the free places.
@@ -103,7 +107,7 @@ pub trait Reusable: Gate {
     /// It can take places back.
     ghost takes_back: { Self → Type 0 } = { λ _. Unit {0} };
 
-    /// Gives one of the free places, or says why there is none, as `place` does.
+    /// Gives one of the free places, or says why there is none, as `place` does; where all were given, by the fault 22.
     fn take<T: Wait>(
         &self,
         rt: &T,
@@ -111,7 +115,7 @@ pub trait Reusable: Gate {
         places: &mut Self::Places,
     ) -> Result<Self::Place, Fault>
         ensures given { IfOk result (λ place. Self.gives self.now place × (answered place ≡ 0)) }
-        ensures refused { IfErr result (λ fault. Self.refuses self.now fault) }
+        ensures refused { IfErr result (λ fault. Self.refuses self.now fault ⊎ ((fault ≡ Seats) × (free places.old ≡ 0))) }
         ensures one { OnOk result (free places.new + 1 ≡ free places.old) }
         ensures none { OnErr result (free places.new ≡ free places.old) }
         ensures counted { counted places.new ≡ counted places.old };

@@ -1,8 +1,8 @@
 //! Connections without end, each served by a thread of its own, at a place that is given back once it is over.
 
-ghost use Rattle.std.specs.Prelude.{◌≡◌, ◌<◌, ◌≤◌, Bool, true, false, [], length, vec_capacity, IfOk, IfErr, IfSome, MatchBool};
-ghost use Rattle.connections.specs.Services.{Came, IsWithout};
-ghost use Rattle.connections.specs.Visiting.{GoesOn, IsSoFar, before_place, book_of, with_one};
+ghost use Rattle.std.specs.Prelude.{◌≡◌, ◌≢◌, ◌&&◌, ◌==◌, ◌+◌, ◌<◌, ◌≤◌, ℕ, Bool, true, None, Some, [], length, vec_capacity, IfOk, IfErr, IfNone};
+ghost use Rattle.connections.specs.Services.{Came, EndsByFailure, EndsByIdleness};
+ghost use Rattle.connections.specs.Visiting.{GoesOn, IsRefused, IsSoFar, before_place, book_of, with_one};
 
 use crate::gate::{AcceptFault, Listen, Reusable};
 use crate::outcome::Ending;
@@ -15,7 +15,7 @@ use std::thread::{Promise, Scope, Threads, sleep};
 use std::time::{Clock, Duration};
 use wire::{Fault, refuse};
 
-/// How often a place is asked for at most, where all are taken.
+/// How often a place is asked for again at most, where all are taken.
 const ASKS: u8 = 20;
 
 /// For how many milliseconds a service waits before it asks for a place again.
@@ -64,7 +64,7 @@ fn ask<T: Threads + Wait, G: Reusable, V: Promise<Visited<G::Place>>>(
 ) -> Result<G::Place, Fault>
     requires back { G.takes_back gate.now }
     ensures given { IfOk result (λ place. G.gives gate.now place × (G.answered place ≡ 0) × (length hall.new.running.items < threads)) }
-    ensures refused { IfErr result (IsWithout (G.refuses gate.now)) }
+    ensures refused { IfErr result (IsRefused (G.refuses gate.now) threads (book_of G.free G.counted hall.new)) }
     ensures goes_on { GoesOn V.kept_by G.answered (book_of G.free G.counted hall.old) (before_place result (book_of G.free G.counted hall.new)) }
     ensures any { hall.new.any ≡ hall.old.any }
     ensures capacity { vec_capacity hall.new.running ≡ vec_capacity hall.old.running }
@@ -86,7 +86,7 @@ fn place_for<T: Threads + Wait + Clock, G: Reusable, V: Promise<Visited<G::Place
 ) -> Result<G::Place, Fault>
     requires back { G.takes_back gate.now }
     ensures given { IfOk result (λ place. G.gives gate.now place × (G.answered place ≡ 0) × (length hall.new.running.items < threads)) }
-    ensures refused { IfErr result (IsWithout (G.refuses gate.now)) }
+    ensures refused { IfErr result (IsRefused (G.refuses gate.now) threads (book_of G.free G.counted hall.new)) }
     ensures goes_on { GoesOn V.kept_by G.answered (book_of G.free G.counted hall.old) (before_place result (book_of G.free G.counted hall.new)) }
     ensures any { hall.new.any ≡ hall.old.any }
     ensures capacity { vec_capacity hall.new.running ≡ vec_capacity hall.old.running }
@@ -97,7 +97,7 @@ fn place_for<T: Threads + Wait + Clock, G: Reusable, V: Promise<Visited<G::Place
             answer => return answer,
         }
     }
-    Err(Fault::Seats)
+    ask(rt, alloc, gate, hall, threads)
 }
 
 // Serves a connection that was taken, at a place that was given, in a thread of its own.
@@ -121,8 +121,9 @@ where
     requires back { G.takes_back gate.now }
     requires given { G.gives gate.now place × (G.answered place ≡ 0) }
     requires room { length hall.old.running.items < vec_capacity hall.old.running }
-    ensures so_far { (first now next : A) (places : G.Places) (any : Bool) → IsSoFar gate.now (G.gives gate.now) (G.refuses gate.now) G.serves G.answered G.free G.counted A.takes A.Reader.left A.Writer.contents first now places (with_one (book_of G.free G.counted hall.old)) any
-        → A.takes now reader writer next → IsSoFar gate.now (G.gives gate.now) (G.refuses gate.now) G.serves G.answered G.free G.counted A.takes A.Reader.left A.Writer.contents first next places (book_of G.free G.counted hall.new) true }
+    ensures so_far { (first now next : A) (places : G.Places) (terms : Terms) (any : Bool) (failures : ℕ) → length hall.old.running.items < terms.threads
+        → IsSoFar gate.now (G.gives gate.now) (G.refuses gate.now) G.serves G.answered G.free G.counted A.takes A.fails A.waits A.Reader.left A.Writer.contents terms first now places (with_one (book_of G.free G.counted hall.old)) any failures None → A.takes now reader writer next
+        → IsSoFar gate.now (G.gives gate.now) (G.refuses gate.now) G.serves G.answered G.free G.counted A.takes A.fails A.waits A.Reader.left A.Writer.contents terms first next places (book_of G.free G.counted hall.new) true 0 None }
     ensures any { hall.new.any ≡ hall.old.any }
     ensures capacity { vec_capacity hall.new.running ≡ vec_capacity hall.old.running }
 {
@@ -139,7 +140,7 @@ fn admit<'s, E, T, A, G>(
     scope: &Scope<'s, E>,
     gate: &'s G,
     hall: &mut Hall<G::Place, Visit<G, G::Place, A::Reader, A::Writer>, G::Places>,
-    threads: u8,
+    terms: Terms,
     reader: A::Reader,
     mut writer: A::Writer,
 )
@@ -152,13 +153,13 @@ where
     G::Place: 's,
     G::Places: 's,
     requires back { G.takes_back gate.now }
-    requires room { threads ≤ vec_capacity hall.old.running }
-    ensures so_far { (first now next : A) (places : G.Places) → IsSoFar gate.now (G.gives gate.now) (G.refuses gate.now) G.serves G.answered G.free G.counted A.takes A.Reader.left A.Writer.contents first now places (book_of G.free G.counted hall.old) hall.old.any
-        → A.takes now reader writer next → IsSoFar gate.now (G.gives gate.now) (G.refuses gate.now) G.serves G.answered G.free G.counted A.takes A.Reader.left A.Writer.contents first next places (book_of G.free G.counted hall.new) hall.new.any }
+    requires room { terms.threads ≤ vec_capacity hall.old.running }
+    ensures so_far { (first now next : A) (places : G.Places) (failures : ℕ) → IsSoFar gate.now (G.gives gate.now) (G.refuses gate.now) G.serves G.answered G.free G.counted A.takes A.fails A.waits A.Reader.left A.Writer.contents terms first now places (book_of G.free G.counted hall.old) hall.old.any failures None
+        → A.takes now reader writer next → IsSoFar gate.now (G.gives gate.now) (G.refuses gate.now) G.serves G.answered G.free G.counted A.takes A.fails A.waits A.Reader.left A.Writer.contents terms first next places (book_of G.free G.counted hall.new) hall.new.any 0 None }
     ensures capacity { vec_capacity hall.new.running ≡ vec_capacity hall.old.running }
 {
     hall.any = true;
-    match place_for(rt, alloc, gate, hall, threads) {
+    match place_for(rt, alloc, gate, hall, terms.threads) {
         Ok(place) => {
             serve_at::<E, T, A, G>(rt, alloc, scope, gate, hall, place, reader, writer);
         }
@@ -177,7 +178,7 @@ fn take_next<'s, E, T, A, G>(
     accept: &mut A,
     gate: &'s G,
     hall: &mut Hall<G::Place, Visit<G, G::Place, A::Reader, A::Writer>, G::Places>,
-    threads: u8,
+    terms: Terms,
 ) -> Look
 where
     T: Threads + Wait + Clock + Sync,
@@ -188,16 +189,21 @@ where
     G::Place: 's,
     G::Places: 's,
     requires back { G.takes_back gate.now }
-    requires room { threads ≤ vec_capacity hall.old.running }
-    ensures so_far { (first : A) (places : G.Places) → IsSoFar gate.now (G.gives gate.now) (G.refuses gate.now) G.serves G.answered G.free G.counted A.takes A.Reader.left A.Writer.contents first accept.old places (book_of G.free G.counted hall.old) hall.old.any
-        → IsSoFar gate.now (G.gives gate.now) (G.refuses gate.now) G.serves G.answered G.free G.counted A.takes A.Reader.left A.Writer.contents first accept.new places (book_of G.free G.counted hall.new) hall.new.any }
-    ensures failed { result ≡ Look.Failed → A.fails accept.new accept.new }
+    requires room { terms.threads ≤ vec_capacity hall.old.running }
+    ensures taken { result ≡ Look.Taken → (first : A) (places : G.Places) (failures : ℕ)
+        → IsSoFar gate.now (G.gives gate.now) (G.refuses gate.now) G.serves G.answered G.free G.counted A.takes A.fails A.waits A.Reader.left A.Writer.contents terms first accept.old places (book_of G.free G.counted hall.old) hall.old.any failures None
+        → IsSoFar gate.now (G.gives gate.now) (G.refuses gate.now) G.serves G.answered G.free G.counted A.takes A.fails A.waits A.Reader.left A.Writer.contents terms first accept.new places (book_of G.free G.counted hall.new) hall.new.any 0 None }
+    ensures none { result ≢ Look.Taken → (first : A) (places : G.Places) (failures : ℕ)
+        → IsSoFar gate.now (G.gives gate.now) (G.refuses gate.now) G.serves G.answered G.free G.counted A.takes A.fails A.waits A.Reader.left A.Writer.contents terms first accept.old places (book_of G.free G.counted hall.old) hall.old.any failures None
+        → IsSoFar gate.now (G.gives gate.now) (G.refuses gate.now) G.serves G.answered G.free G.counted A.takes A.fails A.waits A.Reader.left A.Writer.contents terms first accept.old places (book_of G.free G.counted hall.new) hall.new.any failures None }
+    ensures nobody { result ≡ Look.Nobody → A.waits accept.old accept.new }
+    ensures failed { result ≡ Look.Failed → A.fails accept.old accept.new }
     ensures capacity { vec_capacity hall.new.running ≡ vec_capacity hall.old.running }
 {
     match accept.accept_soon() {
         Ok(Some(connection)) => {
             let (reader, writer) = connection;
-            admit::<E, T, A, G>(rt, alloc, scope, gate, hall, threads, reader, writer);
+            admit::<E, T, A, G>(rt, alloc, scope, gate, hall, terms, reader, writer);
             Look::Taken
         }
         Ok(None) => {
@@ -213,14 +219,15 @@ where
 
 // Whether no connection is there, and there was one.
 fn is_idle<P: Drop, V: Promise<Visited<P>>, L>(hall: &Hall<P, V, L>) -> bool
-    ensures { result ≡ true → hall.now.any ≡ true }
+    ensures { result ≡ (hall.now.any && (length hall.now.running.items == 0)) }
 {
     hall.any && hall.running.is_empty()
 }
 
 // After an accept that failed: whether the service ends. It counts the failures in a row.
 fn after_failure(terms: Terms, failures: &mut u8) -> Option<bool>
-    ensures { IfSome result (λ accept_failed. accept_failed ≡ true) }
+    ensures ends { EndsByFailure terms failures.old result }
+    ensures counted { IfNone result (failures.new ≡ failures.old + 1) }
 {
     if *failures >= terms.retries {
         return Some(true);
@@ -231,8 +238,9 @@ fn after_failure(terms: Terms, failures: &mut u8) -> Option<bool>
 
 // After such a look: whether an accept failed, where the service ends; or that it goes on.
 fn closing(look: Look, terms: Terms, idle: bool, failures: &mut u8) -> Option<bool>
-    ensures failed { IfSome result (λ accept_failed. accept_failed ≡ true → look ≡ Look.Failed) }
-    ensures idle { IfSome result (λ accept_failed. accept_failed ≡ false → (terms.until_idle ≡ true) × (idle ≡ true)) }
+    ensures taken { look ≡ Look.Taken → (result ≡ None) × (failures.new ≡ 0) }
+    ensures nobody { look ≡ Look.Nobody → EndsByIdleness terms idle result × (failures.new ≡ 0) }
+    ensures failed { look ≡ Look.Failed → EndsByFailure terms failures.old result × IfNone result (failures.new ≡ failures.old + 1) }
 {
     if look == Look::Failed {
         return after_failure(terms, failures);
@@ -272,13 +280,12 @@ where
     G::Places: 's,
     requires back { G.takes_back gate.now }
     requires room { terms.threads ≤ vec_capacity hall.old.running }
-    ensures so_far { (first : A) (places : G.Places) → IsSoFar gate.now (G.gives gate.now) (G.refuses gate.now) G.serves G.answered G.free G.counted A.takes A.Reader.left A.Writer.contents first accept.old places (book_of G.free G.counted hall.old) hall.old.any
-        → IsSoFar gate.now (G.gives gate.now) (G.refuses gate.now) G.serves G.answered G.free G.counted A.takes A.Reader.left A.Writer.contents first accept.new places (book_of G.free G.counted hall.new) hall.new.any }
-    ensures ends { MatchBool result (A.fails accept.new accept.new) ((terms.until_idle ≡ true) × (hall.new.any ≡ true)) }
+    ensures { (first : A) (places : G.Places) → IsSoFar gate.now (G.gives gate.now) (G.refuses gate.now) G.serves G.answered G.free G.counted A.takes A.fails A.waits A.Reader.left A.Writer.contents terms first accept.old places (book_of G.free G.counted hall.old) hall.old.any 0 None
+        → (failures : ℕ) × IsSoFar gate.now (G.gives gate.now) (G.refuses gate.now) G.serves G.answered G.free G.counted A.takes A.fails A.waits A.Reader.left A.Writer.contents terms first accept.new places (book_of G.free G.counted hall.new) hall.new.any failures (Some result) }
 {
     let mut failures = 0u8;
     for _turn in rt.forever() {
-        let look = take_next(rt, alloc, scope, accept, gate, hall, terms.threads);
+        let look = take_next(rt, alloc, scope, accept, gate, hall, terms);
         let idle = is_idle(hall);
         if let Some(accept_failed) = closing(look, terms, idle, &mut failures) {
             return accept_failed;
@@ -309,7 +316,7 @@ where
     G::Places: 's,
     requires back { G.takes_back gate.now }
     requires running { (running.items ≡ []) × (terms.threads ≤ vec_capacity running) }
-    ensures { Came (G.gives gate.now) (G.refuses gate.now) (G.serves gate.now) G.answered G.free G.counted A.takes A.fails A.Reader.left A.Writer.contents accept places terms.until_idle result }
+    ensures { Came (G.gives gate.now) (G.refuses gate.now) (G.serves gate.now) G.answered G.free G.counted A.takes A.fails A.waits A.Reader.left A.Writer.contents accept places terms result }
 {
     let mut hall = Hall {
         running,
@@ -353,7 +360,7 @@ where
     G::Place: 's,
     G::Places: 's,
     requires back { G.takes_back gate.now }
-    ensures served { IfOk result (Came (G.gives gate.now) (G.refuses gate.now) (G.serves gate.now) G.answered G.free G.counted A.takes A.fails A.Reader.left A.Writer.contents accept places terms.until_idle) }
+    ensures served { IfOk result (Came (G.gives gate.now) (G.refuses gate.now) (G.serves gate.now) G.answered G.free G.counted A.takes A.fails A.waits A.Reader.left A.Writer.contents accept places terms) }
     ensures memory { IfErr result (λ error. (error.1 ≡ accept) × (error.2 ≡ places)) }
 {
     match Vec::with_capacity(alloc, usize::from(terms.threads)) {
@@ -383,7 +390,7 @@ where
     G: Reusable + Sync,
     requires back { G.takes_back gate.now }
     // What came of each connection that was taken, in their order, and of all together; and why the service ended.
-    ensures served { IfOk result (Came (G.gives gate.now) (G.refuses gate.now) (G.serves gate.now) G.answered G.free G.counted A.takes A.fails A.Reader.left A.Writer.contents accept places terms.until_idle) }
+    ensures served { IfOk result (Came (G.gives gate.now) (G.refuses gate.now) (G.serves gate.now) G.answered G.free G.counted A.takes A.fails A.waits A.Reader.left A.Writer.contents accept places terms) }
     ensures memory { IfErr result (λ error. (error.1 ≡ accept) × (error.2 ≡ places)) }
 {
     thread::scope(

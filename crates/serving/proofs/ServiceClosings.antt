@@ -1,31 +1,34 @@
 -- How a service went that has ended.
-use Rattle.std.proofs.Common.{◌≡◌, ◌+◌, ℕ, Bool, List, length, arith, Option}
+use Rattle.std.proofs.Common.{◌≡◌, ◌+◌, ℕ, List, length, arith, Option}
 use Rattle.term.specs.Specs.{Specified}
 use Rattle.shared.specs.Entry.{Entry}
 use Rattle.shared.specs.View.{PlacesView}
 use Rattle.shared.specs.Seats.{answers_to}
 use Rattle.connections.specs.declared.services.Closed.{Closed}
+use Rattle.connections.specs.declared.services.Terms.{Terms}
 use Rattle.connections.specs.Services.{Came}
 use Rattle.serving.specs.Runs.{IsNewSeat, IsRefusal}
 use Rattle.serving.specs.Services.{IsServedAt, Ran}
 
-module _ {L R W : Type 0} (takes : L → R → W → L → Type 0) (fails : L → L → Type 0) (left : R → Option (List ℕ)) (contents : W → Option (List ℕ)) where
-  abbrev pub CameOf : L → PlacesView → Bool → Specified → List Entry → Closed PlacesView → Type 0
-  CameOf accept places until_idle spec opening closed =
-      Came (IsNewSeat opening) IsRefusal (IsServedAt spec) answers_to (λ (p : PlacesView). p.free) (λ (p : PlacesView). p.receipts) takes fails left contents accept places until_idle closed
+module _ {L R W : Type 0} (takes : L → R → W → L → Type 0) (fails waits : L → L → Type 0) (left : R → Option (List ℕ)) (contents : W → Option (List ℕ)) where
+  abbrev pub CameOf : L → PlacesView → Terms → Specified → List Entry → Closed PlacesView → Type 0
+  CameOf accept places terms spec opening closed =
+      Came (IsNewSeat opening) IsRefusal (IsServedAt spec) answers_to (λ (p : PlacesView). p.free) (λ (p : PlacesView). p.receipts) takes fails waits left contents accept places terms closed
 
-  pub ran_of : (accept : L) (places : PlacesView) (until_idle : Bool) (spec : Specified) (opening history : List Entry) (closed : Closed PlacesView) (answered : ℕ)
-      → CameOf accept places until_idle spec opening closed → places.receipts ≡ 0
+  pub ran_of : (accept : L) (places : PlacesView) (terms : Terms) (spec : Specified) (opening history : List Entry) (closed : Closed PlacesView) (answered : ℕ)
+      → CameOf accept places terms spec opening closed → places.receipts ≡ 0
       → length history ≡ length opening + answered → answered ≡ closed.places.receipts
-      → Ran takes fails left contents accept until_idle spec opening history closed.totals closed.accept_failed answered
-  ran_of accept places until_idle spec opening history closed answered came none counted count =
+      → Ran takes fails waits left contents accept terms places.free spec opening history closed.totals closed.accept_failed answered
+  ran_of accept places terms spec opening history closed answered came none counted count =
       let counted_are = came.counted_are in
       record {
-        outcomes = came.outcomes;
+        steps = came.steps;
         last = came.last;
-        turns = came.turns;
+        failures = came.failures;
+        any = came.any;
+        looks = came.looks;
+        stands = came.stands;
         sum = came.sum;
-        closing = came.closing;
         counted = counted;
         receipts_are = omega (arith, none, count, counted_are);
       }
