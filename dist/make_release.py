@@ -5,8 +5,9 @@
     dist/make_release.py --compare [--program FILE]    says whether the program is the released one, byte for byte
 
 Without --program the program is crates/cspwatch/out/cspwatch, which `rt` builds; with --build it is built first. A release is
-made from a state that is committed. A program that differs from the released one passes where a source of it has changed
-since. The last line of a comparison is `N passed, M failed`.
+made from a state that is committed, whose version is a released one: between releases VERSION ends in -dev. A program that
+differs from the released one passes where a source of it has changed since and its version ends in -dev. The last line of
+a comparison is `N passed, M failed`.
 """
 import argparse
 import hashlib
@@ -24,6 +25,9 @@ RELEASE = os.path.join(HERE, "RELEASE")
 SUMS = os.path.join(HERE, "SHA256SUMS")
 COPY = os.path.join(HERE, "cspwatch")
 BUILD = [(["rt", "ci"], ROOT)]
+
+UNRELEASED = "-dev"
+"""What a version ends in between two releases."""
 
 C_LIBRARY = re.compile(r"(linux-vdso|linux-gate|libc|libm|libpthread|libdl|ld-linux[\w-]*)\.so(\.\d+)*")
 """What a program that needs the C library alone is linked to."""
@@ -44,8 +48,8 @@ def digest(path):
 
 
 def version_of(program):
-    """The number that `--version` prints."""
-    found = re.fullmatch(r"\S+ (\d+\.\d+\.\d+)", output([program, "--version"]))
+    """The version that `--version` prints: a number, and `-dev` after it between two releases."""
+    found = re.fullmatch(r"\S+ (\d+\.\d+\.\d+(?:-dev)?)", output([program, "--version"]))
     if found is None:
         raise Refused("%s --version prints no version" % program)
     return found[1]
@@ -83,6 +87,8 @@ def commit():
 def facts_of(program):
     """What a release says of the program, in order."""
     version = version_of(program)
+    if version.endswith(UNRELEASED):
+        raise Refused("%s is no version of a release: take %s off VERSION" % (version, UNRELEASED))
     libraries = needs(program)
     more = [name for name in libraries if C_LIBRARY.fullmatch(name) is None]
     if more:
@@ -164,10 +170,13 @@ def compare(program):
         return True
     if here is None:
         print("%s: there is no such program" % program)
-    elif sources() != release["sources"]:
+    elif sources() != release["sources"] and version_of(program).endswith(UNRELEASED):
         print("the built program is another than that of release %s: its sources have changed since" % release["version"])
         print("1 passed, 0 failed")
         return True
+    elif sources() != release["sources"]:
+        print("the built program says that it is version %s, which is released, and its sources have changed since: VERSION has to end in %s"
+              % (version_of(program), UNRELEASED))
     elif kit() != release["kit"]:
         print("the built program is another than that of release %s, which was built by another kit: %s" % (release["version"], release["kit"]))
         print("1 passed, 0 failed")

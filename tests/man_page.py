@@ -120,6 +120,8 @@ def helped(program):
 
 
 def test_page_is_of_this_version(program):
+    if not large.is_known(program):
+        pytest.skip("the page is of what comes after this release")
     assert has_word(page_text(PAGE).splitlines()[0], version_of(program))
 
 
