@@ -1,5 +1,6 @@
 pub mod Faults
 pub mod Stretches
+pub mod Waits
 pub mod Crossings
 -- Of the layers below, for those above.
 pub use Rattle.session.proofs.Beginnings

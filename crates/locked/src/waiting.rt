@@ -31,13 +31,13 @@ impl Waiting {
         ensures none { result ≡ None → self.new ≡ self.old }
         ensures full { result ≡ None → (k : ℕ) → k < 64 → slice_index_or self.old k 0 ≢ 0 }
     {
-        for number in 0..64 {
-            if self.places[number] == 0 {
+        match free(&self.places) {
+            Some(number) => {
                 self.places[number] = place;
-                return Some(number);
+                Some(number)
             }
+            None => None,
         }
-        None
     }
 
     /// Waits by this number no more.
@@ -53,12 +53,36 @@ impl Waiting {
         ensures least { result ≡ first_place place self.now }
         ensures small { result ≤ place }
     {
-        let mut first = place;
-        for waited in &self.places {
-            if *waited != 0 {
-                first = first.min(*waited);
+        least(place, &self.places)
+    }
+}
+
+/// The first number that is in no use.
+fn free(places: &[u64]) -> Option<usize>
+    ensures number { IfSome result (λ k. (k < length places.now) × (slice_index_or places.now k 0 ≡ 0)) }
+    ensures full { result ≡ None → (k : ℕ) → k < length places.now → slice_index_or places.now k 0 ≢ 0 }
+{
+    for number in 0..places.len() {
+        if places[number] == 0 {
+            return Some(number);
+        }
+    }
+    None
+}
+
+/// The least of this place and those that aren't 0.
+fn least(place: u64, places: &[u64]) -> u64
+    ensures least { result ≡ first_place place places.now }
+    ensures small { result ≤ place }
+{
+    match places {
+        [] => place,
+        [waited, others @ ..] => {
+            if *waited == 0 {
+                least(place, others)
+            } else {
+                least(place.min(*waited), others)
             }
         }
-        first
     }
 }
