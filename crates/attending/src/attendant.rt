@@ -275,6 +275,7 @@ impl<D: Disk, A: Allocator + Copy> Attendant<D, A> {
         );
         self.tally = self.tally.after(&answer);
         self.said.clear();
+        let _ = self.alone.session.history();
         self.whole = note(
             &mut self.said,
             &mut self.monitor,

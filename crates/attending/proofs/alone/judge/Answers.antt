@@ -9,8 +9,8 @@ pub returns-in-Ok-clause-reports : goal.returns-in-Ok-clause-reports
 returns-in-Ok-clause-reports g c =
     let s = c.args.alone.now.session in
     let n = c.report.new.self in
-    judged s n c.in-Ok.entry c.args.alone.now.seat c.next_number-number.result c.len-in-Ok.result c.args.report.now
-    (c.args.alone.now.idle c.in-Ok.ensures.taken.is_open) c.in-Ok.ensures.entry c.in-Ok.ensures.fits c.in-Ok.ensures.appended c.in-Ok.ensures.taken.is_open c.in-Ok.ensures.is_open c.len-in-Ok.ensures.len
+    judged s n c.in-Ok.entry c.args.alone.now.seat c.next_number-number.result c.len.result c.args.report.now
+    (c.args.alone.now.idle c.in-Ok.ensures.taken.is_open) c.in-Ok.ensures.entry c.in-Ok.ensures.fits c.in-Ok.ensures.appended c.in-Ok.ensures.taken.is_open c.in-Ok.ensures.is_open c.len.ensures.len
 
 pub returns-in-Err-clause-reports : goal.returns-in-Err-clause-reports
 returns-in-Err-clause-reports g c =

@@ -1,8 +1,11 @@
-use Rattle.std.proofs.Common.{◌≡◌, ◌⊎◌, inl, inr, ◌∙◌, ◌&&◌, ap, cond, subst, sym, refl, [], List, ℕ, true, Bool}
+use Rattle.std.proofs.Common.{◌≡◌, ◌⊎◌, inl, inr, ◌∙◌, ◌&&◌, ap, cond, subst, sym, refl, [], List, ℕ, true, Bool, Option, None, Some}
 use Rattle.std.specs.Prelude.{IfSome}
 use Rattle.alphabet.specs.Channels.{Channel}
 use Rattle.term.specs.Specs.{Specified}
 use Rattle.session.specs.Entry.{Entry}
+use Rattle.session.specs.Legal.{IsJudged}
+use Rattle.session.specs.Monitors.{Monitoring}
+use Rattle.alphabet.specs.declared.events.Event.{Event}
 use Rattle.session.specs.Entries.{events}
 use Rattle.wire.specs.Requests.{Asks}
 use Rattle.wire.specs.Replies.{answer_text}
@@ -28,6 +31,18 @@ note-self-requires-clause-answers g c w =
     let given = c.put_reply-answer.result in
     let goes = given_as spec old new request c.answer-answer.result given c.put_reply-answer.ensures.same c.answer-answer.ensures.answers in
     moves_by s.monitor spec old new request given (ready_some s.monitor spec (events s.alone.session.history) (c.requires.ready.stands w)) goes
+
+judged_by : (o : Option Monitoring) (spec : Specified) (u : List Event) (h : List Entry) → IfSome o (λ m. (m.spec ≡ spec) × (m.trace ≡ u)) → IsJudged spec h → IfSome o (λ m. IsJudged m.spec h)
+judged_by None spec u h some judged = tt
+judged_by (Some m) spec u h some judged = subst (λ (s : Specified). IsJudged s h) (sym some.0) judged
+
+pub note-self-requires-clause-judged : goal.note-self-requires-clause-judged
+note-self-requires-clause-judged g c w =
+    let s = c.args.self.now in
+    let spec = s.alone.session.spec in
+    let n = c.answer-answer.new.alone.session in
+    judged_by s.monitor spec (events s.alone.session.history) n.history (ready_some s.monitor spec (events s.alone.session.history) (c.requires.ready.stands w))
+    (subst (λ (x : Specified). IsJudged x n.history) c.answer-answer.ensures.spec c.history.ensures.judged)
 
 last_kept : (answer given : Answer) (gone : ℕ) (h : List Entry) → (given ≡ answer) ⊎ ((set : Set) × (answer ≡ answered.Next set) × (given ≡ answered.Fault faults.Memory)) → HasLast answer gone h → HasLast given gone h
 last_kept answer given gone h (inl is) has = subst (λ (a : Answer). HasLast a gone h) (sym is) has
