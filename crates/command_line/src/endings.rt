@@ -8,7 +8,7 @@ use crate::hints::show_limit_met;
 use crate::limits::names_by;
 use crate::telling::{tell_fault, tell_unjudged};
 use program::{Exit, Summary, summary_line};
-use serving::{ClosedService, Closing, Ending, Recorder, RunStatus, Totals};
+use serving::{ClosedService, Closing, Recorder, RunStatus, Totals};
 use std::alloc::{AllocError, Global};
 use std::io::{IsTerminal, Write};
 use words::Service;
@@ -23,30 +23,16 @@ pub(crate) struct Ended {
     accept_failed: bool,
 }
 
-// How many lines weren't judged.
-fn unjudged_of(endings: &[Ending]) -> u64 {
-    let mut count = 0u64;
-    for ending in endings {
-        count = count.saturating_add(ending.unjudged());
-    }
-    count
-}
-
 impl Ended {
-    /// Of a run of so many connections. Lines that weren't judged are passed over, if they aren't to be counted.
-    pub(crate) fn of_run<J: Recorder>(closing: &Closing<J>, counts: bool) -> Ended {
-        let unjudged = if counts {
-            unjudged_of(closing.endings.as_slice())
-        } else {
-            0
-        };
+    /// Of a run of so many connections. Lines that weren't judged are passed over.
+    pub(crate) fn of_run<J: Recorder>(closing: &Closing<J>) -> Ended {
         Ended {
             summary: closing.session.summary(),
             closed: closing.session.is_closed(),
             totals: Totals {
                 rejected: closing.account.rejected,
                 limit: closing.account.limit,
-                unjudged,
+                unjudged: 0,
             },
             accept_failed: closing.account.accept_failed,
         }

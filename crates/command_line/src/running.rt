@@ -72,7 +72,6 @@ fn fulfil<
         + Threads
         + Wait
         + Clock
-        + Eprint
         + Sync,
     I: Read,
     O: Write,
@@ -112,7 +111,6 @@ fn fulfil_words<
         + Threads
         + Wait
         + Clock
-        + Eprint
         + Sync,
     I: Read,
     O: Write,
@@ -139,7 +137,6 @@ pub fn run<
         + Threads
         + Wait
         + Clock
-        + Eprint
         + Sync,
     I: Read,
     O: Write,

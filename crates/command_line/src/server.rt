@@ -1,16 +1,12 @@
 //! `cspwatch serve`: the reports of connections, judged by one session with a journal.
 ghost use Rattle.std.specs.Prelude.{◌≡◌, [], IfOk};
 
-use crate::doors::{Door, Entrance, close_up, listen_at};
+use crate::doors::{Door, close_up, listen_at};
 use crate::endings::{Ended, tell_ended};
 use crate::journal_files::{journal_at, take_away};
 use crate::limits::names_by;
-use crate::log_files::Log;
-use crate::log_talks::{keep_log, listening_line};
-use crate::logged::{LoggedAccept, Peer};
 use crate::scripts::{Script, tell_read, text_of};
 use crate::telling::{tell_fault, tell_open};
-use crossbeam_channel::bounded;
 use file_disk::FileDisk;
 use program::{Exit, Session};
 use serving::{
@@ -19,10 +15,9 @@ use serving::{
 use std::alloc::{AllocError, Global};
 use std::fs::File;
 use std::io::{IsTerminal, Write};
-use std::net::{Net, SocketAddr, TcpListener, TcpStream};
+use std::net::{Net, TcpListener, TcpStream};
 use std::rt::Files;
 use std::sync::Wait;
-use std::thread;
 use std::thread::Threads;
 use std::time::Clock;
 use words::{Service, Until};
@@ -30,23 +25,18 @@ use words::{Service, Until};
 /// How many accepts in a row may fail, with a tenth of a second between two, before a service ends.
 const RETRIES: u8 = 100;
 
-/// How many notes for the log may wait to be written.
-const NOTES: usize = 4096;
-
-// Serves so many connections that are taken so at this session, and says what is left of the run, with the lines that weren't judged if these
-// are to be counted.
+// Serves so many connections that are taken so at this session, and says what is left of the run.
 fn serve_some<J: Recorder + Drop + Send, L: Accept + Drop, R: AllocGlobal + Threads + Wait + Sync>(
     rt: &R,
     session: SessionOn<J, Global>,
     accept: L,
     connections: Connections,
-    counts: bool,
 ) -> Result<Ended, AllocError>
     requires { session.offered ≡ [] }
 {
     match serve_session(rt, rt.alloc(), session, accept, connections) {
         Ok(closing) => {
-            let ended = Ended::of_run(&closing, counts);
+            let ended = Ended::of_run(&closing);
             drop(closing);
             Ok(ended)
         }
@@ -83,165 +73,34 @@ fn serve_until<
     J: Recorder + Drop + Send,
     L: Listen + Drop,
     R: AllocGlobal + Threads + Wait + Clock + Sync,
->(
-    rt: &R,
-    session: SessionOn<J, Global>,
-    accept: L,
-    until: Until,
-    counts: bool,
-) -> Result<Ended, AllocError>
+>(rt: &R, session: SessionOn<J, Global>, accept: L, until: Until) -> Result<Ended, AllocError>
     requires { session.offered ≡ [] }
 {
     match until {
-        Until::Over(connections) => serve_some(rt, session, accept, connections, counts),
+        Until::Over(connections) => serve_some(rt, session, accept, connections),
         Until::Idle => serve_all(rt, session, accept, true),
         Until::Stopped => serve_all(rt, session, accept, false),
-    }
-}
-
-// Serves connections that are taken so at this session, and writes a log in a thread of its own.
-fn serve_logged<
-    J: Recorder + Drop + Send,
-    L: Listen + Drop,
-    R: AllocGlobal + Threads + Wait + Clock + Eprint + Sync,
->(
-    rt: &R,
-    session: SessionOn<J, Global>,
-    accept: L,
-    until: Until,
-    log: Log<'_>,
-) -> Result<Ended, AllocError>
-where
-    L::Reader: Peer,
-    requires { session.offered ≡ [] }
-{
-    let alloc = rt.alloc();
-    let (sender, notes) = match bounded(alloc, NOTES) {
-        Ok(ends) => ends,
-        Err(AllocError) => {
-            drop(session);
-            return Err(AllocError);
-        }
-    };
-    let accept = LoggedAccept::new(rt, alloc, accept, sender);
-    thread::scope(
-        thread::scope_env(),
-        rt,
-        move |scope|
-            requires { session.offered ≡ [] }
-        {
-            if scope
-                .spawn(move || keep_log(rt, alloc, log, notes))
-                .is_err()
-            {
-                drop(session);
-                drop(accept);
-                return Err(AllocError);
-            }
-            serve_until(rt, session, accept, until, true)
-        },
-    )
-}
-
-// Serves connections that are taken so at this session, with a log where one is asked for.
-fn serve_with<
-    J: Recorder + Drop + Send,
-    L: Listen + Drop,
-    R: AllocGlobal + Threads + Wait + Clock + Eprint + Sync,
->(
-    rt: &R,
-    session: SessionOn<J, Global>,
-    accept: L,
-    until: Until,
-    log: Option<Log<'_>>,
-) -> Result<Ended, AllocError>
-where
-    L::Reader: Peer,
-    requires { session.offered ≡ [] }
-{
-    match log {
-        Some(log) => serve_logged(rt, session, accept, until, log),
-        None => serve_until(rt, session, accept, until, false),
     }
 }
 
 // Serves the connections at the door at this session, and says what is left of the run. A socket's file is taken away.
 fn serve_through<
     J: Recorder + Drop + Send,
-    R: Files<File = File> + AllocGlobal + Threads + Wait + Clock + Eprint + Sync,
+    R: Files<File = File> + AllocGlobal + Threads + Wait + Clock + Sync,
 >(
     rt: &R,
     service: &Service<'_>,
     session: SessionOn<J, Global>,
     door: Door,
-    log: Option<Log<'_>>,
 ) -> Result<Ended, AllocError>
     requires { session.offered ≡ [] }
 {
     let ended = match door {
-        Door::Tcp(accept) => serve_with(rt, session, accept, service.until, log),
-        Door::Unix(accept) => serve_with(rt, session, accept, service.until, log),
+        Door::Tcp(accept) => serve_until(rt, session, accept, service.until),
+        Door::Unix(accept) => serve_until(rt, session, accept, service.until),
     };
     close_up(rt, service);
     ended
-}
-
-// The log that is asked for, if one is, or the status of the fault that was reported.
-fn log_of<'a, R: Files<File = File>, E: Write>(
-    rt: &R,
-    service: &Service<'a>,
-    errors: &mut E,
-) -> Result<Option<Log<'a>>, Exit> {
-    let Some(name) = service.log else {
-        return Ok(None);
-    };
-    match Log::at(rt, name) {
-        Ok(log) => Ok(Some(log)),
-        Err(_) => Err(tell_fault(errors, name, "cannot write", Exit::FileFailed)),
-    }
-}
-
-// Where clients can connect, as the log begins.
-fn begin_log<R: Clock + AllocGlobal + Eprint>(
-    rt: &R,
-    log: &mut Option<Log<'_>>,
-    service: &Service<'_>,
-    address: Option<SocketAddr>,
-) {
-    let Some(log) = log else {
-        return;
-    };
-    let alloc = rt.alloc();
-    let line = match address {
-        Some(address) => match format!(in alloc; "{address}") {
-            Ok(text) => listening_line(rt, alloc, text.as_str()),
-            Err(AllocError) => Err(AllocError),
-        },
-        None => listening_line(rt, alloc, service.listen),
-    };
-    log.write(rt, line);
-}
-
-// Opens the log, and listens; or answers the status of the fault that was reported.
-fn enter<
-    'a,
-    R: Files<File = File> + Net<Stream = TcpStream, Listener = TcpListener>,
-    O: Write,
-    E: Write,
->(
-    rt: &R,
-    service: &Service<'a>,
-    output: &mut O,
-    errors: &mut E,
-) -> Result<(Entrance, Option<Log<'a>>), Exit> {
-    let log = log_of(rt, service, errors)?;
-    match listen_at(rt, service, output, errors) {
-        Ok(entrance) => Ok((entrance, log)),
-        Err(exit) => {
-            drop(log);
-            Err(exit)
-        }
-    }
 }
 
 // Serves the connections of the address at this session, and answers the exit status. Where it doesn't come to that, it takes away the
@@ -254,7 +113,6 @@ fn serve_at<
         + Threads
         + Wait
         + Clock
-        + Eprint
         + Sync,
     O: Write,
     E: Write + IsTerminal,
@@ -268,16 +126,15 @@ fn serve_at<
 ) -> Exit
     requires { session.offered ≡ [] }
 {
-    let (Entrance { door, address }, mut log) = match enter(rt, service, output, errors) {
-        Ok(entered) => entered,
+    let door = match listen_at(rt, service, output, errors) {
+        Ok(door) => door,
         Err(exit) => {
             take_away(rt, service.journal, is_made);
             drop(session);
             return exit;
         }
     };
-    begin_log(rt, &mut log, service, address);
-    match serve_through(rt, service, session, door, log) {
+    match serve_through(rt, service, session, door) {
         Ok(ended) => tell_ended(rt.alloc(), service, ended, output, errors),
         Err(AllocError) => tell_fault(errors, service.spec, "40 memory", Exit::Limit),
     }
@@ -324,7 +181,6 @@ pub(crate) fn serve<
         + Threads
         + Wait
         + Clock
-        + Eprint
         + Sync,
     O: Write,
     E: Write + IsTerminal,

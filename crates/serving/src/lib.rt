@@ -9,7 +9,7 @@ mod sessions;
 mod shared_gate;
 
 pub use connections::{
-    Accept, AcceptFault, Account, Close, Closed, Connections, Ending, Gate, Listen, Outcome, Over,
+    Accept, AcceptFault, Account, Closed, Connections, Ending, Gate, Listen, Outcome, Over,
     Reusable, RunStatus, Served, TcpAccept, Terms, Totals, UnixAccept, serve_all, serve_on,
 };
 pub use opening::{OpenError, open};
