@@ -20,7 +20,7 @@ use journal::Prepared;
 use seats::copy_of;
 use shared::{
     Counts, Failed, Names, Naming, Opened, Places, Publisher, Recorder, SessionOn, Shared, Source,
-    Spine, crosses, legal_crosses,
+    Spine, Waiting, crosses, legal_crosses,
 };
 use std::alloc::{AllocError, Global};
 use std::marker::Brand;
@@ -78,6 +78,7 @@ fn serve_at<
     crosses::<Prepared<Global>>();
     crosses::<EventSet>();
     crosses::<Names>();
+    crosses::<Waiting>();
     let gate = ServiceGate::new(shared, alphabet);
     let served = serve_on(rt, alloc, accept, &gate, places, terms);
     gate.end();

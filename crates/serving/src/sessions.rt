@@ -19,7 +19,7 @@ use journal::Prepared;
 use seats::copy_of;
 use shared::{
     Counts, Failed, Names, Naming, Opened, Publisher, Recorder, SessionOn, Share, Shared, Source,
-    Spine, crosses, legal_crosses,
+    Spine, Waiting, crosses, legal_crosses,
 };
 use std::alloc::{AllocError, Global};
 use std::marker::Brand;
@@ -109,6 +109,7 @@ fn serve_at<
     crosses::<Prepared<Global>>();
     crosses::<EventSet>();
     crosses::<Names>();
+    crosses::<Waiting>();
     let gate = SharedGate::new(shared, alphabet);
     let served = serve_all(rt, alloc, accept, &gate, count);
     gate.end();

@@ -5,7 +5,7 @@ use alphabet::{Event, EventSet, Report};
 use journal::Prepared;
 use shared::{
     Counts, Entry, Failed, Names, Naming, Publisher, Receipt, Recorder, SeatNumber, Share, Shared,
-    Source, Spine, Summary, crosses, legal_crosses,
+    Source, Spine, Summary, Waiting, crosses, legal_crosses,
 };
 use std::alloc::{AllocError, Global};
 use std::sync::{Wait, ledger};
@@ -147,6 +147,7 @@ pub(crate) fn run_all<
     crosses::<EventSet>();
     crosses::<Summary>();
     crosses::<Names>();
+    crosses::<Waiting>();
     let each = |caller: Caller<N>| run(rt, alloc, gate, shared, caller);
     map_vec(rt, callers, &each)
 }

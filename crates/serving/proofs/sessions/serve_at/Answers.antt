@@ -1,5 +1,7 @@
 use denote.Param.{param}
 use denote.Param.Send.{sendable}
+use denote.Param.SendFields.{as_row_send}
+use denote.Struct.Field.{row_field}
 use Rattle.serving.proofs.Crossings.{alphabet_sync}
 use Rattle.shared.proofs.Crossings.{shared_sync}
 use Rattle.shared.proofs.LockedCrossings.{session_send}
@@ -21,7 +23,7 @@ serve_all-served-requires-sync-G g c κs within =
             (
               record { owned = c.crosses-10.ensures.owned; leaving = λ k x w. search sendable },
               (
-                record { owned = c.crosses.ensures.owned; leaving = λ k x w. search sendable },
+                as_row_send (row_field (param 0 g.row.J)) (record { owned = c.crosses.ensures.owned; leaving = c.crosses.ensures.leaving }),
                 (
                   search sendable,
                   (
@@ -61,7 +63,10 @@ serve_all-served-requires-sync-G g c κs within =
                       search sendable,
                       (
                         record { owned = c.crosses-11.ensures.owned; leaving = λ k x w. search sendable },
-                        tt,
+                        (
+                          record { owned = c.crosses-12.ensures.owned; leaving = λ k x w. search sendable },
+                          tt,
+                        ),
                       ),
                     ),
                   ),
