@@ -17,7 +17,6 @@ pub use closing::close;
 pub use fault::{NameFault, SeatFault};
 pub use locked::{Locked, is_of};
 pub use names::{LAST_NAME, Names};
-pub use waiting::Waiting;
 pub use session::{
     Entry, Failed, Fault, Recorder, SeatNumber, Session, SessionError, SessionOn, Summary, crosses,
     legal_crosses, names_of, read_as,
