@@ -327,7 +327,8 @@ fn wish_in<'a>(alloc: Global, matches: &ArgMatches<'a>) -> Result<Option<Wish<'a
 // The process of the wish, if it has one.
 fn process_of<'a>(wish: &Wish<'a>) -> Option<&'a str> {
     match wish {
-        Wish::Check { process, .. } | Wish::Print { process, .. } => Some(process),
+        Wish::Check(check) => Some(check.process),
+        Wish::Print { process, .. } => Some(process),
         Wish::Serve(service) => Some(service.process),
         Wish::Replay { .. } | Wish::Show { .. } => None,
     }
