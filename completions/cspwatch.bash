@@ -20,6 +20,11 @@ _cspwatch() {
             return
             ;;
         --connections) return ;;
+        --log)
+            compopt -o filenames 2>/dev/null
+            mapfile -t COMPREPLY < <(compgen -f -- "$current")
+            return
+            ;;
         --format)
             COMPREPLY=($(compgen -W "text json" -- "$current"))
             return
@@ -28,7 +33,7 @@ _cspwatch() {
     if [[ $current == -* ]]; then
         case $command in
             check) COMPREPLY=($(compgen -W "--large --explain --quiet --first --help -h" -- "$current")) ;;
-            serve) COMPREPLY=($(compgen -W "--listen --connections --until-idle --large --help -h" -- "$current")) ;;
+            serve) COMPREPLY=($(compgen -W "--listen --connections --until-idle --log --large --help -h" -- "$current")) ;;
             replay) COMPREPLY=($(compgen -W "--read-only --help -h" -- "$current")) ;;
             show) COMPREPLY=($(compgen -W "--rejected --coverage --format --follow --help -h" -- "$current")) ;;
             *) COMPREPLY=($(compgen -W "--help -h" -- "$current")) ;;
@@ -60,7 +65,7 @@ _cspwatch_words() {
     for ((index = 1; index < COMP_CWORD; index++)); do
         word=${COMP_WORDS[index]}
         case $word in
-            --listen | --connections | --format)
+            --listen | --connections | --log | --format)
                 index=$((index + 1))
                 [[ ${COMP_WORDS[index + 1]} != : ]] || index=$((index + 2))
                 ;;

@@ -44,6 +44,7 @@ complete -c cspwatch -n "__fish_seen_subcommand_from check" -l first -d 'end aft
 complete -c cspwatch -n "__fish_seen_subcommand_from serve" -l listen -x -a '127.0.0.1:0 unix:' -d 'the address to listen on'
 complete -c cspwatch -n "__fish_seen_subcommand_from serve" -l connections -x -d 'how many connections are taken'
 complete -c cspwatch -n "__fish_seen_subcommand_from serve" -l until-idle -d 'end once the last connection has ended'
+complete -c cspwatch -n "__fish_seen_subcommand_from serve" -l log -r -F -d 'what happens, one JSON object a line'
 complete -c cspwatch -n "__fish_seen_subcommand_from replay" -l read-only -d 'only read the file'
 complete -c cspwatch -n "__fish_seen_subcommand_from show" -l rejected -d 'print the rejected reports alone'
 complete -c cspwatch -n "__fish_seen_subcommand_from show" -l coverage -d 'print how often each event came and could have come'

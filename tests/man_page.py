@@ -20,7 +20,7 @@ PAGE = os.path.join(ROOT, "man", "cspwatch.1")
 COMPLETIONS = os.path.join(ROOT, "completions")
 SECONDS = 60
 
-UNRELEASED = {"--large", "--read-only", "--explain", "--quiet", "--first", "--follow", "--until-idle"}
+UNRELEASED = {"--large", "--read-only", "--explain", "--quiet", "--first", "--follow", "--until-idle", "--log"}
 """Options that came after the last release."""
 
 SCRIPT = "channel a\nP = a -> Q'\nQ' = STOP\n"
@@ -32,7 +32,7 @@ LINES = [
     (["check", "p.csp", ""], {"P", "Q'"}),
     (["serve", "--listen", "127.0.0.1:4070", "p.csp", ""], {"P", "Q'"}),
     (["serve", "p.csp", "P", ""], {"p.csp"}),
-    (["serve", "p.csp", "P", "j", "--"], {"--listen", "--connections", "--until-idle", "--large"}),
+    (["serve", "p.csp", "P", "j", "--"], {"--listen", "--connections", "--until-idle", "--log", "--large"}),
     (["check", "--l"], {"--large"}),
     (["check", "--"], {"--large", "--explain", "--quiet", "--first"}),
     (["check", "--large", "p.csp", ""], {"P", "Q'"}),

@@ -34,8 +34,8 @@ LINES = ["E a", "R b", "E b", "S", "N", "E b", "R a", "E a", "R", "E b"]
 
 AT_ONCE = 64
 SECONDS = 60
-MORE_MEMORY = 2048
-"""By so many KiB the memory may grow after the first connections."""
+MORE_MEMORY = 4096
+"""By so many KiB the memory may grow after the first connections, which rarely are 64 at once."""
 
 PATIENCE = 30.0
 """For so many seconds a component tries to come back."""

@@ -49,7 +49,7 @@ TWO_OF_MORE = b"cspwatch journal 2\nroot P\nscript 33\n" + GOOD + b"Q = STOP\n\n
 LARGE = b"cspwatch large journal 1\nroot P\npart 1\nbefore 0\nprevious -\nscript 24\n" + GOOD + b"\n."
 
 LATER = COMPONENTS + b"channel go\nSTART = go -> SYSTEM\n"
-LIMIT_MET = "        a limit was met; if it was 21 states: with --large, components that rest are one state"
+LIMIT_MET = "        a limit was met; --large helps against 21 states (components that rest are one state) and 23 history (it has no end)"
 
 # The same for a program that knows `--large`; in place of the script there may be all files by their names. One that is named `input`
 # is the standard input.

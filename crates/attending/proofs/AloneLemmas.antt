@@ -1,5 +1,6 @@
 -- A report to a session moves the course of one who reports alone.
-use Rattle.std.proofs.Common.{◌≡◌, ◌≤◌, ℕ, ◌||◌, List, [], ◌∷◌, ◌++◌, length, Bool, true, false, Option, Some, None, refl, sym, ap, ◌∙◌, subst, arith}
+use Rattle.std.proofs.Common.{◌≡◌, ◌≤◌, inl, inr, ℕ, suc, ◌||◌, List, [], ◌∷◌, ◌++◌, length, Bool, true, false, Option, Some, None, refl, sym, ap, ◌∙◌, subst, arith}
+use Rattle.session.proofs.Histories.{calls-le}
 use Rattle.std.specs.Prelude.{IsTrue, ◌↔◌, is_some}
 use Rattle.std.proofs.lemmas.List.{append-nil}
 use Rattle.alphabet.specs.declared.events.Report.{Report}
@@ -7,7 +8,7 @@ use Rattle.term.specs.Proc.{Proc, bodies_of}
 use Rattle.term.specs.Verdict.{Verdict}
 use Rattle.session.specs.Entry.{Entry}
 use Rattle.session.specs.Entries.{events, next_number}
-use Rattle.session.specs.Legal.{Fits}
+use Rattle.session.specs.Legal.{Fits, IsFull}
 use Rattle.session.specs.Monitors.{Stops}
 use Rattle.session.specs.AfterFault.TheVariants as limit
 use Rattle.session.specs.View.{IsOf, SessionView, entries}
@@ -15,7 +16,9 @@ use Rattle.session.specs.Faults.{Explains, ExplainsReport}
 use Rattle.session.specs.declared.fault.Fault.{Fault as SessionFault}
 use Rattle.session.specs.declared.fault.Fault.TheVariants as session
 use Rattle.wire.specs.declared.answers.Receipt.{Receipt}
-use Rattle.attending.specs.Courses.{Adds, Leaves}
+use Rattle.attending.specs.Courses.{Adds, IsLong, Leaves}
+use Rattle.term.specs.declared.names.Names.{Names}
+use Rattle.term.specs.declared.names.Names.TheVariants.{Steps, Bodies}
 use Rattle.attending.specs.Reported.{reported_as}
 use Rattle.attending.specs.Standing.{course_of}
 
@@ -37,27 +40,36 @@ judged old new e seat number place r none is fits appended was now stands = reco
   same = ap is_some now ∙ sym (ap is_some was);
 }
 
+-- a history that is full for a seat's next report is long
+pub long_of : (names : Names) (h : List Entry) (number : ℕ) → IsFull names h number → number ≤ suc (length h) → IsLong names h
+long_of Steps h number full le = full
+long_of Bodies h number (inl full) le = omega (arith, full)
+long_of Bodies h number (inr full) le = omega (arith, full, le)
+
 pub refused : {D : Type 0} (old new : SessionView D) (seat number : ℕ) (r : Report) (fault : SessionFault) →
-    length old.history ≤ 1000000 → (old.failed ≡ None → old.offered ≡ []) → number ≡ next_number (entries old) seat → new.history ≡ old.history → ExplainsReport old new seat number 0 r fault →
+    (old.failed ≡ None → old.offered ≡ []) → number ≡ next_number (entries old) seat → new.history ≡ old.history → ExplainsReport old new seat number 0 r fault →
     Leaves old.spec (course_of old.history old.failed) r (reported_as fault) (course_of new.history new.failed)
-refused old new seat number r session.Depth small idle turn same (e, left, now) = record {
+refused old new seat number r session.Depth idle turn same (e, left, now) = record {
   why = subst (λ (h : List Entry). Stops old.spec (events h) r limit.Depth) (all old (idle e.0.is_open)) e.1;
   same = same;
   closed = ap is_some now;
 }
-refused old new seat number r session.States small idle turn same (e, left, now) = record {
+refused old new seat number r session.States idle turn same (e, left, now) = record {
   why = subst (λ (h : List Entry). Stops old.spec (events h) r limit.States) (all old (idle e.0.is_open)) e.1;
   same = same;
   closed = ap is_some now;
 }
-refused old new seat number r session.Seats small idle turn same (e, left, now) = absurd e
-refused old new seat number r session.History small idle turn same (e, left, now) = record {
-  why = omega (arith, small, subst (λ (h : List Entry). 1000000 ≤ length h) (all old (idle e.0)) e.3);
+refused old new seat number r session.Seats idle turn same (e, left, now) = absurd e
+refused old new seat number r session.History idle turn same (e, left, now) = record {
+  why =
+      let is = all old (idle e.0) in
+      let number_is : number ≡ next_number old.history seat = turn ∙ ap (λ (h : List Entry). next_number h seat) is in
+      long_of old.spec.names old.history number (subst (λ (h : List Entry). IsFull old.spec.names h number) is e.3) (omega (arith, number_is, calls-le old.history seat));
   same = same;
   closed = ap is_some now;
 }
-refused old new seat number r session.Turn small idle turn same (e, left, now) = absurd (e.1 turn)
-refused old new seat number r session.Behind small idle turn same (e, left, now) = absurd (omega (arith, e.2))
-refused old new seat number r (session.Journal x) small idle turn same fails = record { why = tt; same = same; closed = ap is_some fails.closed }
-refused old new seat number r (session.Closed x) small idle turn same (e, left, now) = record { why = tt; same = same; closed = ap is_some (now ∙ e) }
-refused old new seat number r session.Memory small idle turn same (e, left, now) = record { why = tt; same = same; closed = ap is_some now }
+refused old new seat number r session.Turn idle turn same (e, left, now) = absurd (e.1 turn)
+refused old new seat number r session.Behind idle turn same (e, left, now) = absurd (omega (arith, e.2))
+refused old new seat number r (session.Journal x) idle turn same fails = record { why = tt; same = same; closed = ap is_some fails.closed }
+refused old new seat number r (session.Closed x) idle turn same (e, left, now) = record { why = tt; same = same; closed = ap is_some (now ∙ e) }
+refused old new seat number r session.Memory idle turn same (e, left, now) = record { why = tt; same = same; closed = ap is_some now }

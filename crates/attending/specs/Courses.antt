@@ -1,10 +1,12 @@
 -- What the definition answers to one who reports alone.
-use Rattle.std.specs.Prelude.{◌≡◌, ◌↔◌, ℕ, ◌||◌, List, [], ◌∷◌, ◌++◌, length, Bool, true, false, IsTrue, Result, Ok, Err}
+use Rattle.std.specs.Prelude.{◌≡◌, ◌≤◌, ◌↔◌, ℕ, ◌||◌, List, [], ◌∷◌, ◌++◌, length, Bool, true, false, IsTrue, Result, Ok, Err}
 use Rattle.alphabet.specs.declared.events.Event.{Event}
 use Rattle.alphabet.specs.declared.events.Report.{Report}
 use Rattle.alphabet.specs.EventSets.{Set, member}
 use Rattle.term.specs.Proc.{Proc, bodies_of, root}
 use Rattle.term.specs.Specs.{Specified}
+use Rattle.term.specs.declared.names.Names.{Names}
+use Rattle.term.specs.declared.names.Names.TheVariants.{Steps, Bodies}
 use Rattle.term.specs.Meaning.{Trace}
 use Rattle.term.specs.Verdict.{Verdict}
 use Rattle.session.specs.AfterFault.TheVariants as limit
@@ -37,12 +39,17 @@ pub record Adds (B : ℕ → Proc) (old : Course) (report : Report) (receipt : R
   pub place : receipt.place ≡ length new.history
   pub same : new.closed ≡ old.closed
 
--- Why a report isn't judged: 20 and 21 where judging it after the accepted events meets that limit, 23 where the history has
--- 1,000,000 entries; 22, 24 to 27 never. Of 30, 31 and 40 it says nothing.
+-- the history of one who reports alone has as many entries as it takes, or where names are kept as their bodies, as there are numbers at least
+abbrev pub IsLong : Names → List Entry → Type 0
+IsLong Steps h = length h ≡ 1000000
+IsLong Bodies h = 4294967294 ≤ length h
+
+-- Why a report isn't judged: 20 and 21 where judging it after the accepted events meets that limit, 23 where the history is as long as it may
+-- be; 22, 24 to 27 never. Of 30, 31 and 40 it says nothing.
 abbrev pub IsWhy : Specified → List Entry → Report → Fault → Type 0
 IsWhy spec h report Depth = Stops spec (events h) report limit.Depth
 IsWhy spec h report States = Stops spec (events h) report limit.States
-IsWhy spec h report History = length h ≡ 1000000
+IsWhy spec h report History = IsLong spec.names h
 IsWhy spec h report Journal = Unit {0}
 IsWhy spec h report Closed = Unit {0}
 IsWhy spec h report Memory = Unit {0}

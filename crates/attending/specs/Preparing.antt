@@ -1,5 +1,5 @@
 -- What is made of a line before anything is written.
-use Rattle.std.specs.Prelude.{◌≡◌, ℕ, suc, List, Bool, true, false, Option, Some, None, Result, Ok, Err, is_some}
+use Rattle.std.specs.Prelude.{◌≡◌, ◌<◌, ℕ, suc, List, length, Bool, true, false, Option, Some, None, Result, Ok, Err, is_some}
 use Rattle.alphabet.specs.declared.events.Event.{Event}
 use Rattle.term.specs.Proc.{bodies_of}
 use Rattle.term.specs.Specs.{Specified}
@@ -9,6 +9,7 @@ use Rattle.session.specs.Monitors.{Monitoring}
 use Rattle.wire.specs.Requests.{Asks}
 use Rattle.wire.specs.Replies.{Answers, tallied, TakesNoName}
 use Rattle.wire.specs.declared.answers.Answer.{Answer}
+use Rattle.wire.specs.declared.answers.Answer.TheVariants.{Judged}
 use Rattle.wire.specs.declared.answers.Tally.{Tally}
 use Rattle.wire.specs.declared.requests.Request.{Request}
 use Rattle.attending.specs.Courses.{Course, Reports, Statuses, Nexts}
@@ -27,6 +28,11 @@ standing h failed tally lines whole errors = record { course = course_of h faile
 pub record IsReady (manner : Manner) (spec : Specified) (h : List Entry) (monitor : Option Monitoring) (whole : Bool) : Type 0 where
   pub wanted : is_some monitor ≡ manner.explain
   pub stands : whole ≡ true → (m : Monitoring) → monitor ≡ Some m → (m.spec ≡ spec) × (m.trace ≡ events h)
+
+-- where a report was judged, the last entry of the history, of which so many were let go, wasn't
+abbrev pub HasLast : Answer → ℕ → List Entry → Type 0
+HasLast (Judged receipt) gone h = gone < length h
+HasLast answer gone h = Unit {0}
 
 -- a line that asks for this and is answered so moves what stands after these events to this history
 pub record Moves (spec : Specified) (u : List Event) (request : Request) (answer : Answer) (h : List Entry) : Type 0 where

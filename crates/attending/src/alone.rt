@@ -1,6 +1,6 @@
 //! One who reports alone to a session.
 
-ghost use Rattle.std.specs.Prelude.{◌≡◌, [], None, false, IfOk};
+ghost use Rattle.std.specs.Prelude.{◌≡◌, ◌<◌, [], length, None, OnOk};
 ghost use Rattle.alphabet.specs.Channels.{event_count};
 ghost use Rattle.term.specs.Proc.{bodies_of};
 ghost use Rattle.session.specs.Reports.{IsReport};
@@ -9,6 +9,7 @@ ghost use Rattle.wire.specs.Requests.{IsRequestBelow};
 ghost use Rattle.wire.specs.Replies.{Answers, IsAnswerBelow, TakesNoName};
 ghost use Rattle.attending.specs.Courses.{Reports, Statuses, Nexts, status_of};
 ghost use Rattle.attending.specs.Standing.{course_of};
+ghost use Rattle.attending.specs.Preparing.{HasLast};
 ghost use Rattle.attending.specs.Reported.{reported_as};
 
 use alphabet::Report;
@@ -80,13 +81,14 @@ fn judge<D: Disk, A: Allocator + Copy>(
     ensures spec { alone.new.session.spec ≡ alone.old.session.spec }
     ensures reports { Reports alone.old.session.spec (course_of alone.old.session.history alone.old.session.failed) report.now result
         (course_of alone.new.session.history alone.new.session.failed) }
+    ensures last { OnOk result (alone.new.session.gone < length alone.new.session.history) }
 {
     let number = alone.session.next_number(alone.seat);
     let _ = alone.session.history();
     match alone.session.report(alone.seat, number, 0, report) {
         Ok(entry) => Ok(Receipt {
             verdict: entry.verdict,
-            place: alone.session.history().len() as u64,
+            place: alone.session.len() as u64,
         }),
         Err(fault) => Err(reported(fault)),
     }
@@ -118,6 +120,7 @@ pub(crate) fn answer<D: Disk, A: Allocator + Copy>(
     ensures answers { Answers (Reports alone.old.session.spec) Statuses (Nexts (bodies_of alone.old.session.spec.bodies)) TakesNoName
         (course_of alone.old.session.history alone.old.session.failed) request.now (course_of alone.new.session.history alone.new.session.failed) result }
     ensures below { IsAnswerBelow (event_count alone.old.session.spec.alphabet) result }
+    ensures last { HasLast result alone.new.session.gone alone.new.session.history }
 {
     match request {
         Request::Judge(report) => match judge(alone, report) {

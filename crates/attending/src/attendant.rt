@@ -12,7 +12,7 @@ ghost use Rattle.wire.specs.declared.answers.Fault.TheVariants.{Memory as out_of
 ghost use Rattle.wire.specs.declared.answers.Answer.TheVariants.{Next as next_events, Fault as fault_answer};
 ghost use Rattle.attending.specs.Courses.{Course, Reports, Statuses, Nexts};
 ghost use Rattle.attending.specs.Lines.{ExplainsIf, is_acceptance};
-ghost use Rattle.attending.specs.Preparing.{IsReady, Moves, Prepares, standing};
+ghost use Rattle.attending.specs.Preparing.{HasLast, IsReady, Moves, Prepares, standing};
 
 use crate::alone::{Alone, alone_at, answer};
 use crate::attending::Attended;
@@ -20,9 +20,10 @@ use crate::manner::{Ending, Manner};
 use crate::reasons::put_explanation;
 use alphabet::Alphabet;
 use disk::Disk;
-use session::{Entry, Session};
+use session::Session;
 use shown::Monitor;
 use std::alloc::{AllocError, Allocator};
+use term::Names;
 use wire::{Answer, Fault, Request, Tally, WireError, put_answer, read_request};
 
 /// The reply to a line has room in so many bytes, but for that to `N`.
@@ -90,9 +91,9 @@ fn count(lines: &mut u64) -> bool
     }
 }
 
-/// Makes what is to be written on the errors for a line, if reasons are wanted. The result is whether there was memory for it. The history
-/// is that after the line.
-fn explained<A: Allocator + Copy>(
+/// Makes what is to be written on the errors for a line, if reasons are wanted. The result is whether there was memory for it. The
+/// session is that after the line.
+fn explained<D: Disk, A: Allocator + Copy>(
     said: &mut Vec<u8, A>,
     monitor: &mut Option<Monitor<A>>,
     alloc: A,
@@ -100,27 +101,28 @@ fn explained<A: Allocator + Copy>(
     line: &[u8],
     request: &Request,
     answer: &Answer,
-    history: &[Entry],
+    session: &Session<D, A>,
 ) -> bool
     requires none { said.old.items ≡ [] }
-    requires judged { IfSome monitor.old (λ m. IsJudged m.spec history.now) }
-    requires answers { IfSome monitor.old (λ m. Moves m.spec m.trace request.now answer.now history.now) }
+    requires judged { IfSome monitor.old (λ m. IsJudged m.spec session.now.history) }
+    requires answers { IfSome monitor.old (λ m. Moves m.spec m.trace request.now answer.now session.now.history) }
+    requires last { HasLast answer.now session.now.gone session.now.history }
     ensures some { is_some monitor.new ≡ is_some monitor.old }
-    ensures stands { result ≡ true → IfSome monitor.old (λ old. IfSome monitor.new (λ new. (new.spec ≡ old.spec) × (new.trace ≡ events history.now))) }
-    ensures explains { (spec : Specified) (old : Course) (new : Course) → IfSome monitor.old (λ m. (m.spec ≡ spec) × (m.trace ≡ events old.history)) → new.history ≡ history.now
+    ensures stands { result ≡ true → IfSome monitor.old (λ old. IfSome monitor.new (λ new. (new.spec ≡ old.spec) × (new.trace ≡ events session.now.history))) }
+    ensures explains { (spec : Specified) (old : Course) (new : Course) → IfSome monitor.old (λ m. (m.spec ≡ spec) × (m.trace ≡ events old.history)) → new.history ≡ session.now.history
         → Answers (Reports spec) Statuses (Nexts (bodies_of spec.bodies)) TakesNoName old request.now new answer.now
         → result ≡ true → ExplainsIf (is_some monitor.old) spec number old.history line.now request.now answer.now said.new.items }
 {
     match monitor {
         None => true,
         Some(monitor) => put_explanation(
-            said, monitor, alloc, number, line, request, answer, history,
+            said, monitor, alloc, number, line, request, answer, session,
         ).is_ok(),
     }
 }
 
 /// Counts the line, and makes what is to be written on the errors for it. The result is whether all was made, also before.
-fn note<A: Allocator + Copy>(
+fn note<D: Disk, A: Allocator + Copy>(
     said: &mut Vec<u8, A>,
     monitor: &mut Option<Monitor<A>>,
     alloc: A,
@@ -129,22 +131,36 @@ fn note<A: Allocator + Copy>(
     line: &[u8],
     request: &Request,
     answer: &Answer,
-    history: &[Entry],
+    session: &Session<D, A>,
 ) -> bool
     requires none { said.old.items ≡ [] }
-    requires judged { whole ≡ true → IfSome monitor.old (λ m. IsJudged m.spec history.now) }
-    requires answers { whole ≡ true → IfSome monitor.old (λ m. Moves m.spec m.trace request.now answer.now history.now) }
+    requires judged { whole ≡ true → IfSome monitor.old (λ m. IsJudged m.spec session.now.history) }
+    requires answers { whole ≡ true → IfSome monitor.old (λ m. Moves m.spec m.trace request.now answer.now session.now.history) }
+    requires last { HasLast answer.now session.now.gone session.now.history }
     ensures some { is_some monitor.new ≡ is_some monitor.old }
     ensures whole { result ≡ true → (whole ≡ true) × (lines.new ≡ suc lines.old) }
-    ensures stands { result ≡ true → IfSome monitor.old (λ old. IfSome monitor.new (λ new. (new.spec ≡ old.spec) × (new.trace ≡ events history.now))) }
-    ensures explains { (spec : Specified) (old : Course) (new : Course) → IfSome monitor.old (λ m. (m.spec ≡ spec) × (m.trace ≡ events old.history)) → new.history ≡ history.now
+    ensures stands { result ≡ true → IfSome monitor.old (λ old. IfSome monitor.new (λ new. (new.spec ≡ old.spec) × (new.trace ≡ events session.now.history))) }
+    ensures explains { (spec : Specified) (old : Course) (new : Course) → IfSome monitor.old (λ m. (m.spec ≡ spec) × (m.trace ≡ events old.history)) → new.history ≡ session.now.history
         → Answers (Reports spec) Statuses (Nexts (bodies_of spec.bodies)) TakesNoName old request.now new answer.now
         → result ≡ true → ExplainsIf (is_some monitor.old) spec lines.new old.history line.now request.now answer.now said.new.items }
 {
     if !whole || !count(lines) {
         return false;
     }
-    explained(said, monitor, alloc, *lines, line, request, answer, history)
+    explained(said, monitor, alloc, *lines, line, request, answer, session)
+}
+
+/// Lets the entries go where the session keeps names as their bodies: nobody asks for them any more.
+fn let_go<D: Disk, A: Allocator>(alone: &mut Alone<D, A>)
+    ensures spec { alone.new.session.spec ≡ alone.old.session.spec }
+    ensures history { alone.new.session.history ≡ alone.old.session.history }
+    ensures failed { alone.new.session.failed ≡ alone.old.session.failed }
+{
+    let names = alone.session.spec().names();
+    if names == Names::Bodies {
+        let all = alone.session.len();
+        alone.session.let_go(all);
+    }
 }
 
 /// Leaves the reply out, if it is to an accepted report and such replies are left out.
@@ -239,7 +255,7 @@ pub(crate) fn attendant_of<D: Disk + Drop, A: Allocator + Copy>(
 
 impl<D: Disk, A: Allocator + Copy> Attendant<D, A> {
     /// Answers the line, and makes its reply and what is to be written on the errors. The result is whether it is a Q.
-    pub(crate) fn prepare(&mut self, line: &[u8]) -> bool
+    fn answer_line(&mut self, line: &[u8]) -> bool
         requires ready { IsReady self.old.manner self.old.alone.session.spec self.old.alone.session.history self.old.monitor self.old.whole }
         ensures ready { IsReady self.new.manner self.new.alone.session.spec self.new.alone.session.history self.new.monitor self.new.whole }
         ensures prepares { Prepares self.old.manner self.old.alone.session.spec
@@ -259,6 +275,7 @@ impl<D: Disk, A: Allocator + Copy> Attendant<D, A> {
         );
         self.tally = self.tally.after(&answer);
         self.said.clear();
+        let _ = self.alone.session.history();
         self.whole = note(
             &mut self.said,
             &mut self.monitor,
@@ -268,9 +285,26 @@ impl<D: Disk, A: Allocator + Copy> Attendant<D, A> {
             line,
             &request,
             &answer,
-            self.alone.session.history(),
+            &self.alone.session,
         );
         leave_out(&mut self.reply, self.manner.quiet, accepts(&answer));
         matches!(request, Request::Quit)
+    }
+
+    /// Answers the line, and makes its reply and what is to be written on the errors. The result is whether it is a Q. Where names are kept as
+    /// their bodies, no entry is kept after it.
+    pub(crate) fn prepare(&mut self, line: &[u8]) -> bool
+        requires ready { IsReady self.old.manner self.old.alone.session.spec self.old.alone.session.history self.old.monitor self.old.whole }
+        ensures ready { IsReady self.new.manner self.new.alone.session.spec self.new.alone.session.history self.new.monitor self.new.whole }
+        ensures prepares { Prepares self.old.manner self.old.alone.session.spec
+            (standing self.old.alone.session.history self.old.alone.session.failed self.old.tally self.old.lines self.old.whole None) line.now
+            (standing self.new.alone.session.history self.new.alone.session.failed self.new.tally self.new.lines self.new.whole None) self.new.reply.items self.new.said.items }
+        ensures quit { result ≡ true → (line.now ≡ codes "Q") × (self.new.tally ≡ self.old.tally) }
+        ensures other { result ≡ false → line.now ≢ codes "Q" }
+        ensures same { (self.new.manner ≡ self.old.manner) × (self.new.alone.session.spec ≡ self.old.alone.session.spec) }
+    {
+        let quit = self.answer_line(line);
+        let_go(&mut self.alone);
+        quit
     }
 }

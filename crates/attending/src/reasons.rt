@@ -1,6 +1,6 @@
 //! What is written on the errors for a line.
 
-ghost use Rattle.std.specs.Prelude.{◌≡◌, ◌++◌, [], ◌∷◌, not, List, OnOk, decimal};
+ghost use Rattle.std.specs.Prelude.{◌≡◌, ◌<◌, ◌++◌, [], ◌∷◌, not, length, List, OnOk, decimal};
 ghost use Rattle.term.specs.Proc.{bodies_of};
 ghost use Rattle.session.specs.Entry.{Entry as entry_type};
 ghost use Rattle.session.specs.Entries.{events};
@@ -8,10 +8,11 @@ ghost use Rattle.session.specs.Legal.{IsJudged};
 ghost use Rattle.wire.specs.Replies.{Answers, TakesNoName};
 ghost use Rattle.attending.specs.Courses.{Course, Reports, Statuses, Nexts};
 ghost use Rattle.attending.specs.Lines.{Explains, IsReasonIf, ending_text};
-ghost use Rattle.attending.specs.Preparing.{Moves};
+ghost use Rattle.attending.specs.Preparing.{HasLast, Moves};
 
+use disk::Disk;
 use itoa::Buffer;
-use session::Entry;
+use session::{Entry, Session};
 use shown::{Monitor, follow, put_reason};
 use std::alloc::{AllocError, Allocator};
 use wire::{Answer, Request};
@@ -89,8 +90,18 @@ fn put_judged<A: Allocator + Copy>(
     follow(monitor, entry)
 }
 
-/// Makes what is written for the line with this number, and goes on by what it reported. The history is that after the line.
-pub(crate) fn put_explanation<A: Allocator + Copy>(
+/// The last entry of the history, which wasn't let go.
+fn last_entry<D: Disk, A: Allocator>(session: &Session<D, A>) -> Entry
+    requires { session.now.gone < length session.now.history }
+    ensures { (before : List entry_type) (e : entry_type) → session.now.history ≡ before ++ e ∷ [] → result ≡ e }
+{
+    let history = session.history();
+    let last = history.len() - 1;
+    history[last]
+}
+
+/// Makes what is written for the line with this number, and goes on by what it reported. The session is that after the line.
+pub(crate) fn put_explanation<D: Disk, A: Allocator + Copy>(
     text: &mut Vec<u8, A>,
     monitor: &mut Monitor<A>,
     alloc: A,
@@ -98,22 +109,22 @@ pub(crate) fn put_explanation<A: Allocator + Copy>(
     line: &[u8],
     request: &Request,
     answer: &Answer,
-    history: &[Entry],
+    session: &Session<D, A>,
 ) -> Result<(), AllocError>
     requires none { text.old.items ≡ [] }
-    requires judged { IsJudged monitor.old.spec history.now }
-    requires answers { Moves monitor.old.spec monitor.old.trace request.now answer.now history.now }
+    requires judged { IsJudged monitor.old.spec session.now.history }
+    requires answers { Moves monitor.old.spec monitor.old.trace request.now answer.now session.now.history }
+    requires last { HasLast answer.now session.now.gone session.now.history }
     ensures spec { monitor.new.spec ≡ monitor.old.spec }
-    ensures trace { OnOk result (monitor.new.trace ≡ events history.now) }
-    ensures explains { (old : Course) (new : Course) → monitor.old.trace ≡ events old.history → new.history ≡ history.now
+    ensures trace { OnOk result (monitor.new.trace ≡ events session.now.history) }
+    ensures explains { (old : Course) (new : Course) → monitor.old.trace ≡ events old.history → new.history ≡ session.now.history
         → Answers (Reports monitor.old.spec) Statuses (Nexts (bodies_of monitor.old.spec.bodies)) TakesNoName old request.now new answer.now
         → OnOk result (Explains monitor.old.spec number old.history line.now request.now answer.now text.new.items) }
 {
     match request {
         Request::Judge(_) => match answer {
             Answer::Judged(receipt) => {
-                let last = history.len() - 1;
-                let entry = history[last];
+                let entry = last_entry(session);
                 put_judged(text, monitor, alloc, number, &entry, receipt.place)
             }
             _ => Ok(()),

@@ -1,4 +1,5 @@
 -- To believe.
 pub mod Commands
+pub mod Crossings
 -- Steps of the program.
 pub mod Statuses

@@ -9,7 +9,7 @@ use crate::hints::show_limit_met;
 use crate::scripts::{Script, text_of};
 use crate::telling::tell_fault;
 use disk::Disk;
-use memory_disks::MemoryDisk;
+use file_disk::NoFile;
 use program::{Attended, Ending, Exit, Manner, SessionError, attend};
 use std::alloc::Global;
 use std::io::{IsTerminal, Write};
@@ -84,7 +84,7 @@ fn talk<R: Wait, T: Source, W: Sink, E: Write>(
         (E.contents errors.old) t.exit) }
     ensures untouched { IfErr result (λ _. (reader.new ≡ reader.old) × (writer.new ≡ writer.old)) }
 {
-    let disk = MemoryDisk::new(Vec::new(alloc));
+    let disk = NoFile::new();
     match attend(
         rt, alloc, disk, script, process, names, manner, reader, writer, errors,
     ) {

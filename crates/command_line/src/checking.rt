@@ -7,7 +7,7 @@ use crate::hints::show_limit_met;
 use crate::scripts::{Script, text_of};
 use crate::telling::{explain_script, tell_fault, tell_opening};
 use disk::Disk;
-use memory_disks::MemoryDisk;
+use file_disk::NoFile;
 use program::{Checked, Exit, SessionError};
 use std::alloc::Global;
 use std::io::{IsTerminal, Write};
@@ -84,7 +84,7 @@ fn talk<R: Wait, T: Source, W: Sink>(
     ensures judged { IfOk result (λ t. Judged process.now (T.left reader.old) (T.left reader.new) (W.contents writer.old) (W.contents writer.new) t.exit) }
     ensures untouched { IfErr result (λ _. (reader.new ≡ reader.old) × (writer.new ≡ writer.old)) }
 {
-    let disk = MemoryDisk::new(Vec::new(alloc));
+    let disk = NoFile::new();
     match program::check(rt, alloc, disk, script, process, names, reader, writer) {
         Ok(checked) => Ok(talked_of(checked)),
         Err(error) => Err(error),

@@ -58,20 +58,31 @@ fn tell_listening<T: Display, O: Write>(address: &T, output: &mut O) -> bool {
     writeln!(output, "listening {address}").is_ok() && output.flush().is_ok()
 }
 
+/// A door, and the address of it that clients can connect to, where that isn't the word that was asked for.
+#[derive(Drop)]
+pub(crate) struct Entrance {
+    pub(crate) door: Door,
+    pub(crate) address: Option<SocketAddr>,
+}
+
 // Listens where the service is asked for, and says where, and whether that could be said.
 fn opened<R: Files<File = File> + Net<Stream = TcpStream, Listener = TcpListener>, O: Write>(
     rt: &R,
     service: &Service<'_>,
     output: &mut O,
-) -> io::Result<(Door, bool)> {
+) -> io::Result<(Entrance, bool)> {
     match service.address {
         Address::Tcp(address) => {
             let (door, address) = tcp_door(rt, address, service.until)?;
-            Ok((door, tell_listening(&address, output)))
+            let is_told = tell_listening(&address, output);
+            let address = Some(address);
+            Ok((Entrance { door, address }, is_told))
         }
         Address::Unix(file) => {
             let door = unix_door(rt, file, service.until)?;
-            Ok((door, tell_listening(&service.listen, output)))
+            let is_told = tell_listening(&service.listen, output);
+            let address = None;
+            Ok((Entrance { door, address }, is_told))
         }
     }
 }
@@ -89,17 +100,17 @@ pub(crate) fn listen_at<
     R: Files<File = File> + Net<Stream = TcpStream, Listener = TcpListener>,
     O: Write,
     E: Write,
->(rt: &R, service: &Service<'_>, output: &mut O, errors: &mut E) -> Result<Door, Exit> {
+>(rt: &R, service: &Service<'_>, output: &mut O, errors: &mut E) -> Result<Entrance, Exit> {
     if keep_name(rt, service.journal).is_err() {
         return Err(tell_fault(errors, service.journal, "cannot write", Exit::FileFailed));
     }
-    let Ok((door, is_told)) = opened(rt, service, output) else {
+    let Ok((entrance, is_told)) = opened(rt, service, output) else {
         return Err(tell_fault(errors, service.listen, "cannot listen", Exit::FileFailed));
     };
     if is_told {
-        return Ok(door);
+        return Ok(entrance);
     }
-    drop(door);
+    drop(entrance);
     close_up(rt, service);
     Err(tell_fault(errors, "-", "cannot write", Exit::FileFailed))
 }

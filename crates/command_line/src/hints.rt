@@ -206,7 +206,7 @@ pub(crate) fn show_limit<E: Write + IsTerminal>(errors: &mut E, names: Names, er
 pub(crate) fn show_limit_met<E: Write + IsTerminal>(errors: &mut E, names: Names) {
     if names == Names::Steps && errors.is_terminal() {
         let _ = errors.write_all(
-            b"        a limit was met; if it was 21 states: with --large, components that rest are one state\n",
+            b"        a limit was met; --large helps against 21 states (components that rest are one state) and 23 history (it has no end)\n",
         );
     }
 }

@@ -10,7 +10,7 @@ ghost use Rattle.command_line.specs.Commands.{Counted};
 
 use crate::evidence::{bytes_of, tell_after};
 use crate::forms::write;
-use crate::journal_files::journal_there;
+use crate::journal_files::{hold_streams, journal_there};
 use crate::telling::tell_journal;
 use disk::Disk;
 use file_disk::FileDisk;
@@ -38,6 +38,21 @@ fn line_of<D: Disk + Drop>(alloc: Global, disk: D) -> Result<(Vec<u8>, Exit, D),
 /// Judges the records of the journal in the file again, writes their summary, and answers the exit status. What stands past
 /// the first closed gate is cut off.
 pub fn replay<R: Files<File = File> + AllocGlobal, O: Write, E: Write + IsTerminal>(
+    rt: &R,
+    name: &str,
+    output: &mut O,
+    errors: &mut E,
+) -> Exit
+    ensures { (result ≡ Done) ⊎ (result ≡ Rejected) → Counted (O.contents output.old) (O.contents output.new) result }
+{
+    let held = hold_streams(rt);
+    let exit = replay_held(rt, name, output, errors);
+    drop(held);
+    exit
+}
+
+// The same, while standard streams that are closed are held.
+fn replay_held<R: Files<File = File> + AllocGlobal, O: Write, E: Write + IsTerminal>(
     rt: &R,
     name: &str,
     output: &mut O,

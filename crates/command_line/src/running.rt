@@ -72,7 +72,11 @@ fn fulfil<
         + Threads
         + Wait
         + Clock
-        + Sync,
+        + Eprint
+        + Copy
+        + Send
+        + Sync
+        + 'static,
     I: Read,
     O: Write,
     E: Write + IsTerminal,
@@ -111,7 +115,11 @@ fn fulfil_words<
         + Threads
         + Wait
         + Clock
-        + Sync,
+        + Eprint
+        + Copy
+        + Send
+        + Sync
+        + 'static,
     I: Read,
     O: Write,
     E: Write + IsTerminal,
@@ -124,11 +132,11 @@ fn fulfil_words<
 }
 
 /// Runs the program on its words, the first of which is its name, and answers its exit status: 0 where all is done,
-/// 1 where a report was rejected, 2 for bad use (in `check` and in a service also a line that is no command, names no event or is too
-/// long),
+/// 1 where a report was rejected, 2 for bad use (in `check`, in a service and with a log also a line that is no command, names no event or
+/// is too long),
 /// 3 for a script that is refused, 4 for a journal that gives no session, 5 where a file, the input or the output failed, 6
 /// where memory runs out, at a limit of the states or with a full history. Of several it is in `check` the first of 5, 1, 6, 2,
-/// 0, in `serve` the first of 4 (the journal failed in this run), 5, 1, 2 (of a service), 6, 0.
+/// 0, in `serve` the first of 4 (the journal failed in this run), 5, 1, 2 (of a service, and with a log), 6, 0.
 pub fn run<
     S: AsStr,
     R: Files<File = File>
@@ -137,7 +145,11 @@ pub fn run<
         + Threads
         + Wait
         + Clock
-        + Sync,
+        + Eprint
+        + Copy
+        + Send
+        + Sync
+        + 'static,
     I: Read,
     O: Write,
     E: Write + IsTerminal,

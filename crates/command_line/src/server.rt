@@ -1,20 +1,27 @@
 //! `cspwatch serve`: the reports of connections, judged by one session with a journal.
 ghost use Rattle.std.specs.Prelude.{◌≡◌, [], IfOk};
+ghost use Rattle.std.specs.Thread.{IsSend};
+ghost use Rattle.command_line.specs.Crossings.{JournalCrosses};
 
-use crate::doors::{Door, close_up, listen_at};
+use crate::doors::{Door, Entrance, close_up, listen_at};
 use crate::endings::{Ended, tell_ended};
-use crate::journal_files::{journal_at, take_away};
+use crate::journal_files::{hold_streams, journal_at, take_away};
 use crate::limits::names_by;
+use crate::log_files::Log;
+use crate::logged::{Known, LoggedAccept};
+use crate::logging::{log_of, start};
 use crate::scripts::{Script, tell_read, text_of};
 use crate::telling::{tell_fault, tell_open};
-use disk::Disk;
 use file_disk::FileDisk;
+use journal::Journal;
 use program::{Exit, Session};
-use serving::{Accept, Connections, Listen, open, serve_service, serve_session};
+use serving::{
+    Accept, Connections, Listen, Recorder, SessionOn, open, serve_service, serve_session,
+};
 use std::alloc::{AllocError, Global};
 use std::fs::File;
 use std::io::{IsTerminal, Write};
-use std::net::{Net, TcpListener, TcpStream};
+use std::net::{Net, SocketAddr, TcpListener, TcpStream};
 use std::rt::Files;
 use std::sync::Wait;
 use std::thread::Threads;
@@ -24,18 +31,20 @@ use words::{Service, Until};
 /// How many accepts in a row may fail, with a tenth of a second between two, before a service ends.
 const RETRIES: u8 = 100;
 
-// Serves so many connections that are taken so at this session, and says what is left of the run.
-fn serve_some<D: Disk + Drop + Send, L: Accept + Drop, R: AllocGlobal + Threads + Wait + Sync>(
+// Serves so many connections that are taken so at this session, and says what is left of the run, with the lines that weren't judged if these
+// are to be counted.
+fn serve_some<J: Recorder + Drop + Send, L: Accept + Drop, R: AllocGlobal + Threads + Wait + Sync>(
     rt: &R,
-    session: Session<D, Global>,
+    session: SessionOn<J, Global>,
     accept: L,
     connections: Connections,
+    counts: bool,
 ) -> Result<Ended, AllocError>
     requires { session.offered ≡ [] }
 {
     match serve_session(rt, rt.alloc(), session, accept, connections) {
         Ok(closing) => {
-            let ended = Ended::of_run(&closing);
+            let ended = Ended::of_run(&closing, counts);
             drop(closing);
             Ok(ended)
         }
@@ -48,10 +57,10 @@ fn serve_some<D: Disk + Drop + Send, L: Accept + Drop, R: AllocGlobal + Threads 
 
 // Serves connections that are taken so at this session, without end, or until all are over; and says what is left of the run.
 fn serve_all<
-    D: Disk + Drop + Send,
+    J: Recorder + Drop + Send,
     L: Listen + Drop,
     R: AllocGlobal + Threads + Wait + Clock + Sync,
->(rt: &R, session: Session<D, Global>, accept: L, until_idle: bool) -> Result<Ended, AllocError>
+>(rt: &R, session: SessionOn<J, Global>, accept: L, until_idle: bool) -> Result<Ended, AllocError>
     requires { session.offered ≡ [] }
 {
     match serve_service(rt, rt.alloc(), session, accept, until_idle, RETRIES) {
@@ -69,71 +78,166 @@ fn serve_all<
 
 // Serves connections that are taken so at this session, until the server ends, and says what is left of the run.
 fn serve_until<
-    D: Disk + Drop + Send,
+    J: Recorder + Drop + Send,
     L: Listen + Drop,
     R: AllocGlobal + Threads + Wait + Clock + Sync,
->(rt: &R, session: Session<D, Global>, accept: L, until: Until) -> Result<Ended, AllocError>
+>(
+    rt: &R,
+    session: SessionOn<J, Global>,
+    accept: L,
+    until: Until,
+    counts: bool,
+) -> Result<Ended, AllocError>
     requires { session.offered ≡ [] }
 {
     match until {
-        Until::Over(connections) => serve_some(rt, session, accept, connections),
+        Until::Over(connections) => serve_some(rt, session, accept, connections, counts),
         Until::Idle => serve_all(rt, session, accept, true),
         Until::Stopped => serve_all(rt, session, accept, false),
     }
 }
 
-// Serves the connections at the door at this session, and says what is left of the run. A socket's file is taken away.
-fn serve_through<
-    D: Disk + Drop + Send,
-    R: Files<File = File> + AllocGlobal + Threads + Wait + Clock + Sync,
+// Serves connections that are taken so at this session, and writes a log in a thread of its own.
+fn serve_logged<
+    J: Recorder + Drop + Send,
+    L: Known + Drop,
+    R: AllocGlobal + Threads + Wait + Clock + Eprint + Copy + Send + Sync + 'static,
 >(
     rt: &R,
     service: &Service<'_>,
-    session: Session<D, Global>,
-    door: Door,
+    session: SessionOn<J, Global>,
+    accept: L,
+    address: Option<SocketAddr>,
+    log: Log,
 ) -> Result<Ended, AllocError>
     requires { session.offered ≡ [] }
 {
+    let (sender, keeper) = match start(rt, service, address, log) {
+        Ok(started) => started,
+        Err(AllocError) => {
+            drop(session);
+            drop(accept);
+            return Err(AllocError);
+        }
+    };
+    let accept = LoggedAccept::new(rt, rt.alloc(), accept, sender);
+    let ended = serve_until(rt, session, accept, service.until, true);
+    let is_free = keeper.finish(rt);
+    match ended {
+        Ok(ended) => Ok(ended.heard_if(is_free)),
+        Err(AllocError) => Err(AllocError),
+    }
+}
+
+// Serves connections that are taken so at this session, with a log where one is asked for.
+fn serve_with<
+    J: Recorder + Drop + Send,
+    L: Known + Drop,
+    R: AllocGlobal + Threads + Wait + Clock + Eprint + Copy + Send + Sync + 'static,
+>(
+    rt: &R,
+    service: &Service<'_>,
+    session: SessionOn<J, Global>,
+    accept: L,
+    address: Option<SocketAddr>,
+    log: Option<Log>,
+) -> Result<Ended, AllocError>
+    requires { session.offered ≡ [] }
+{
+    match log {
+        Some(log) => serve_logged(rt, service, session, accept, address, log),
+        None => serve_until(rt, session, accept, service.until, false),
+    }
+}
+
+// Serves the connections at the door at this session, and says what is left of the run. A socket's file is taken away.
+fn serve_through<
+    J: Recorder + Drop + Send,
+    R: Files<File = File>
+        + AllocGlobal
+        + Threads
+        + Wait
+        + Clock
+        + Eprint
+        + Copy
+        + Send
+        + Sync
+        + 'static,
+>(
+    rt: &R,
+    service: &Service<'_>,
+    session: SessionOn<J, Global>,
+    entrance: Entrance,
+    log: Option<Log>,
+) -> Result<Ended, AllocError>
+    requires { session.offered ≡ [] }
+{
+    let Entrance { door, address } = entrance;
     let ended = match door {
-        Door::Tcp(accept) => serve_until(rt, session, accept, service.until),
-        Door::Unix(accept) => serve_until(rt, session, accept, service.until),
+        Door::Tcp(accept) => serve_with(rt, service, session, accept, address, log),
+        Door::Unix(accept) => serve_with(rt, service, session, accept, address, log),
     };
     close_up(rt, service);
     ended
 }
 
+// Opens the log, and listens; or answers the status of the fault that was reported.
+fn enter<
+    R: Files<File = File> + Net<Stream = TcpStream, Listener = TcpListener> + AllocGlobal,
+    O: Write,
+    E: Write,
+>(
+    rt: &R,
+    service: &Service<'_>,
+    output: &mut O,
+    errors: &mut E,
+) -> Result<(Entrance, Option<Log>), Exit> {
+    let log = log_of(rt, service, errors)?;
+    match listen_at(rt, service, output, errors) {
+        Ok(entrance) => Ok((entrance, log)),
+        Err(exit) => {
+            drop(log);
+            Err(exit)
+        }
+    }
+}
+
 // Serves the connections of the address at this session, and answers the exit status. Where it doesn't come to that, it takes away the
 // journal that this run made.
 fn serve_at<
-    D: Disk + Drop + Send,
+    J: Recorder + Drop + Send,
     R: Files<File = File>
         + Net<Stream = TcpStream, Listener = TcpListener>
         + AllocGlobal
         + Threads
         + Wait
         + Clock
-        + Sync,
+        + Eprint
+        + Copy
+        + Send
+        + Sync
+        + 'static,
     O: Write,
     E: Write + IsTerminal,
 >(
     rt: &R,
     service: &Service<'_>,
-    session: Session<D, Global>,
+    session: SessionOn<J, Global>,
     is_made: bool,
     output: &mut O,
     errors: &mut E,
 ) -> Exit
     requires { session.offered ≡ [] }
 {
-    let door = match listen_at(rt, service, output, errors) {
-        Ok(door) => door,
+    let (entrance, log) = match enter(rt, service, output, errors) {
+        Ok(entered) => entered,
         Err(exit) => {
             take_away(rt, service.journal, is_made);
             drop(session);
             return exit;
         }
     };
-    match serve_through(rt, service, session, door) {
+    match serve_through(rt, service, session, entrance, log) {
         Ok(ended) => tell_ended(rt.alloc(), service, ended, output, errors),
         Err(AllocError) => tell_fault(errors, service.spec, "40 memory", Exit::Limit),
     }
@@ -180,7 +284,33 @@ pub(crate) fn serve<
         + Threads
         + Wait
         + Clock
-        + Sync,
+        + Eprint
+        + Copy
+        + Send
+        + Sync
+        + 'static,
+    O: Write,
+    E: Write + IsTerminal,
+>(rt: &R, service: &Service<'_>, output: &mut O, errors: &mut E) -> Exit {
+    let held = hold_streams(rt);
+    let exit = serve_held(rt, service, output, errors);
+    drop(held);
+    exit
+}
+
+// The same, while standard streams that are closed are held.
+fn serve_held<
+    R: Files<File = File>
+        + Net<Stream = TcpStream, Listener = TcpListener>
+        + AllocGlobal
+        + Threads
+        + Wait
+        + Clock
+        + Eprint
+        + Copy
+        + Send
+        + Sync
+        + 'static,
     O: Write,
     E: Write + IsTerminal,
 >(rt: &R, service: &Service<'_>, output: &mut O, errors: &mut E) -> Exit {
@@ -188,10 +318,23 @@ pub(crate) fn serve<
         Ok(script) => script,
         Err(exit) => return exit,
     };
+    journal_crosses();
     match session_at(rt, service, &script, errors) {
         Ok((session, is_made)) => serve_at(rt, service, session, is_made, output, errors),
         Err(exit) => exit,
     }
+}
+
+// That a type may go to another thread.
+fn crosses<T: Send>()
+    ensures { IsSend T.row }
+{}
+
+// That a journal in a file may.
+fn journal_crosses()
+    ensures journal { JournalCrosses }
+{
+    crosses::<Journal<FileDisk<File>>>();
 }
 
 // The text of a script that denotes a specification for the process, or the status of the fault that was reported.

@@ -1,4 +1,4 @@
-//! A disk that holds one file: what its reads give, and what a crash may leave of it.
+//! A disk that holds one file, and a folder that holds files in order: what reads give, and what a crash may leave.
 //!
 //! Nothing here says what a real device does. An `impl` says by two flags of its ghost state what it claims: that
 //! reads give the bytes that were written, and which files a crash may leave. A clause on the bytes stands under the
@@ -8,6 +8,10 @@
 ghost use Rattle.std.specs.Prelude.{◌≡◌, ◌≤◌, ◌+◌, ◌^◌, length, take, drop, IsTrue, IfOk, OnOk, OnErr};
 ghost use Rattle.disk.specs.State.{DiskState};
 ghost use Rattle.disk.specs.Calls.{overwritten, Torn, CutShort, Follows, AddsNone, IsDurable, Elapses, Continues, HasCause};
+
+mod folder;
+
+pub use folder::Folder;
 
 /// The device failed. What a failed write or cut has done to the file is left open.
 #[derive(Clone, Copy, Debug, PartialEq, Eq)]

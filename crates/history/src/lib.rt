@@ -2,6 +2,8 @@
 //!
 //! `History` is a list of entries that counts those of each seat as it grows. `LegalHistory` holds one beside a monitor: each
 //! entry has the verdict of the specification after the accepted events before it, and is its seat's next.
+//!
+//! The first entries can be let go: contracts still speak of all, and what is asked at each report is answered of all.
 #![tactic(auto)]
 
 mod crossing;
@@ -12,7 +14,7 @@ mod seat;
 
 pub use crossing::legal_crosses;
 pub use entry::{Entry, Summary};
-pub use history::{HISTORY_LIMIT, History};
+pub use history::{HISTORY_LIMIT, History, LARGE_HISTORY_LIMIT};
 pub use legal::{Candidate, LegalHistory};
 pub use monitor::{AfterFault, Monitor, crosses};
 pub use seat::SeatNumber;

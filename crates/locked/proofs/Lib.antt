@@ -1,8 +1,10 @@
 pub mod Faults
 pub mod Stretches
+pub mod Waits
 pub mod Crossings
 -- Of the layers below, for those above.
 pub use Rattle.session.proofs.Beginnings
 pub use Rattle.session.proofs.Histories
 pub use Rattle.session.proofs.Keeping
+pub use Rattle.session.proofs.Rests
 pub use Rattle.session.proofs.ScriptLemmas

@@ -4,12 +4,15 @@ use Rattle.alphabet.specs.declared.events.Report.{Report}
 use Rattle.session.specs.Entry.{Entry}
 use Rattle.session.specs.View.{IsOf}
 
--- The settled entries after the opening; the whole history with what is offered; the entry that closed the session; the last of the names,
+-- The settled entries after the opening; the whole history with what is offered, and how many of these, the first ones, were let go; for
+-- which places seats wait; the entry that closed the session; the last of the names,
 -- and by its number, whether the seat of a name has a connection; the numbers that were given to seats and never used; the greatest number
 -- that was given or has an entry; how many places were given, and how many there are.
 pub record LockedView : Type 0 where
   pub settled : List Entry
   pub entries : List Entry
+  pub gone : ℕ
+  pub waiting : List ℕ
   pub failed : Option Entry
   pub names : ℕ
   pub taken : List Bool

@@ -5,19 +5,18 @@ ghost use Rattle.session.specs.Beginnings.{StartsWith};
 
 use crate::locked::Locked;
 use board::{Board, Counts, Naming};
-use disk::Disk;
 use left_right::Absorb;
-use session::{Entry, Session, Summary};
+use session::{Entry, Recorder, SessionOn, Summary};
 use std::alloc::Allocator;
 use std::sync::Wait;
 use std::sync::ledger::{Book, Share};
 
 /// Settles what is offered and ends the board, and gives what is left: the session, the list of its entries after the opening, the book
 /// of all that were offered to it, what is left of the ledger, and how many seats were given. It waits for readers that look at the board in this moment.
-pub fn close<D: Disk, A: Allocator + Copy, N: Naming, R: Wait>(
+pub fn close<J: Recorder, A: Allocator + Copy, N: Naming, R: Wait>(
     rt: &R,
-    locked: Locked<D, A, N>,
-) -> (Session<D, A>, Counts<N>, Book<N>, Share<N>, u64)
+    locked: Locked<J, A, N>,
+) -> (SessionOn<J, A>, Counts<N>, Book<N>, Share<N>, u64)
     ensures session { (result.0.spec ≡ N.spec) × (result.0.history ≡ N.opening ++ result.1) }
     ensures settled { StartsWith result.1 locked.settled }
     ensures book { result.0.failed ≡ None → result.2.total ≡ length result.1 }
@@ -36,6 +35,7 @@ pub fn close<D: Disk, A: Allocator + Copy, N: Naming, R: Wait>(
         given,
         places: _,
         names: _,
+        waiting: _,
     } = locked;
     let _ = publisher.take(rt);
     (session, settled, book, rest, given)

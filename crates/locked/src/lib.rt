@@ -9,15 +9,16 @@ mod closing;
 mod fault;
 mod locked;
 mod names;
+mod waiting;
 
 pub use alphabet::{EventSet, Report};
 pub use board::{Board, Counts, Front, Looker, Naming, Opened, Publisher, Source, Spine, look};
 pub use closing::close;
-pub use disk::Disk;
 pub use fault::{NameFault, SeatFault};
 pub use locked::{Locked, is_of};
 pub use names::{LAST_NAME, Names};
 pub use session::{
-    Entry, Failed, Fault, SeatNumber, Session, SessionError, Summary, crosses, legal_crosses,
-    names_of, read_as,
+    Entry, Failed, Fault, Recorder, SeatNumber, Session, SessionError, SessionOn, Summary, crosses,
+    legal_crosses, names_of, read_as,
 };
+pub use waiting::Waiting;

@@ -3,7 +3,7 @@
 -- A seat's own reports begin its calls in what it has seen, from the first line on: so they are no more than that. At the end it has seen
 -- no more than its own reports, and each line adds no more to these than to what it has seen: so it never had. What it has seen is
 -- its own reports at each moment, and no line finds an entry of another there.
-use Rattle.std.proofs.Common.{◌≡◌, ◌≤◌, ℕ, ◌+◌, ◌||◌, List, [], ◌∷◌, ◌++◌, length, length-append, Bool, false, Option, Some, None, Result, Ok, Err, refl, sym, ap, ◌∙◌, subst, arith}
+use Rattle.std.proofs.Common.{◌≡◌, ◌≤◌, ℕ, suc, ◌+◌, ◌||◌, List, [], ◌∷◌, ◌++◌, length, length-append, Bool, false, Option, Some, None, Result, Ok, Err, refl, sym, ap, ◌∙◌, subst, arith}
 use Rattle.std.specs.Prelude.{IsTrue, ◌↔◌, IsSome, IfSome}
 use Rattle.std.proofs.lemmas.List.Sums.{sum_by-cons}
 use Rattle.alphabet.specs.declared.events.Event.{Event}
@@ -17,6 +17,7 @@ use Rattle.shared.specs.Entry.{Entry}
 use Rattle.shared.specs.Entries.{calls, events}
 use Rattle.shared.specs.Beginnings.{StartsWith}
 use Rattle.shared.proofs.Beginnings.{begins_self}
+use Rattle.attending.proofs.AloneLemmas.{long_of}
 use Rattle.shared.proofs.Histories.{calls-le}
 use Rattle.shared.specs.Fault.{Fault as SessionFault}
 use Rattle.shared.specs.Fault.TheVariants as session
@@ -128,7 +129,7 @@ why_as : (spec : Specified) (h : List Entry) (k : ℕ) (mine : List Entry) (r : 
 why_as spec h k mine r session.Depth all e = e
 why_as spec h k mine r session.States all e = e
 why_as spec h k mine r session.Seats all e = e
-why_as spec h k mine r session.History all e = e
+why_as spec h k mine r session.History all e = long_of spec.names h (suc (length mine)) e (omega (arith, ap length all, calls-le h k))
 why_as spec h k mine r session.Turn all e = e all
 why_as spec h k mine r session.Behind all e = e
 why_as spec h k mine r (session.Journal x) all e = tt

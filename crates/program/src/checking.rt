@@ -19,8 +19,9 @@ ghost use Rattle.program.specs.Exits.{exit_of};
 use crate::exit::Exit;
 use alphabet::Alphabet;
 use disk::Disk;
+use journal::Journal;
 use seats::{SeatJudge, copy_of};
-use shared::{Naming, Opened, Session, SessionError, Share, Shared};
+use shared::{Naming, Opened, Recorder, Session, SessionError, Share, Shared};
 use std::alloc::{Allocator, Global};
 use std::marker::Brand;
 use std::sync::Wait;
@@ -57,10 +58,10 @@ fn has_room<N: Naming, A: Allocator>(shares: &mut Vec<Share<N, A>, A>) -> bool
 }
 
 // Answers the lines of the reader from a seat, whose share comes to the shares. `None` where there is no memory for that.
-fn hear<R: Wait, D: Disk, A: Allocator + Copy + Drop, N: Naming, T: Source, W: Sink>(
+fn hear<R: Wait, J: Recorder, A: Allocator + Copy + Drop, N: Naming, T: Source, W: Sink>(
     rt: &R,
     alloc: A,
-    shared: &Shared<D, A, N>,
+    shared: &Shared<J, A, N>,
     alphabet: &Alphabet<A>,
     reader: &mut T,
     writer: &mut W,
@@ -116,7 +117,7 @@ fn hear_alone<R: Wait, D: Disk + Drop, A: Allocator + Copy + Drop, N: Naming, T:
     ensures reader_failed { IfOk result (λ c. IsErrOf c.end WireError.Read → T.failures reader.old < T.failures reader.new) }
     ensures writer_failed { IfOk result (λ c. IsErrOf c.end WireError.Write → W.failures writer.old < W.failures writer.new) }
 {
-    let Ok(shared) = Shared::<D, A, N>::new(rt, alloc, session, opened, blank, 1) else {
+    let Ok(shared) = Shared::<Journal<D>, A, N>::new(rt, alloc, session, opened, blank, 1) else {
         return Err(SessionError::Memory);
     };
     let mut shares = Vec::new(alloc);

@@ -92,6 +92,11 @@ pub(crate) fn lines_of<D: Disk, A: Allocator + Copy, W: Write>(
     requires { IsReadAs (names_kept header.now.version) header.now.script.items header.now.root.items session.now.spec }
     ensures { IfOk result (λ left. Writes options session.now.spec session.now.history (W.contents output.old) (W.contents output.new) left.items) }
 {
+    // Entries that were let go can't be shown.
+    let gone = session.gone();
+    if gone > 0 {
+        return Err(ShowError::Memory);
+    }
     match read_as(
         alloc,
         &header.script,

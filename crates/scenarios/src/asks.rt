@@ -14,6 +14,7 @@
 
 ghost use Rattle.std.specs.Prelude.{◌≡◌, IfSome};
 ghost use Rattle.journal.specs.Reports.{AreEvents, IsReport};
+ghost use Rattle.journal.specs.Recorder.{on_disk};
 ghost use Rattle.session.specs.View.{IsReadyFor};
 
 use crate::memory::Memory;
@@ -110,7 +111,7 @@ fn write_ready<D: Disk, A: Allocator + Copy>(
     memory: Memory,
     out: &mut Output,
 )
-    requires { IsReadyFor session.old ready }
+    requires { IsReadyFor (on_disk D.state) session.old ready }
 {
     memory.begin_quiet();
     let (entry, length) = (ready.entry(), session.history().len());

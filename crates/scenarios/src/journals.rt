@@ -1,7 +1,7 @@
 //! Journals by themselves, without a session, and the numbers of seats.
 
-ghost use Rattle.std.specs.Prelude.{◌≡◌, All};
-ghost use Rattle.journal.specs.Format.{IsFormed, IsRecordable};
+ghost use Rattle.std.specs.Prelude.{◌≡◌};
+ghost use Rattle.journal.specs.Format.{IsFormed};
 
 use disk::Disk;
 use journal::{Header, Journal, Kind, Record, prepare_record};
@@ -45,9 +45,7 @@ fn put_all<D: Disk>(
     journal: &mut Journal<D>,
     records: &[Record<Global>],
     out: &mut Output,
-)
-    requires { All IsRecordable records.now }
-{
+) {
     for record in records {
         match prepare_record(alloc, record) {
             Ok(line) if journal.put(&line).is_ok() => {}
@@ -58,7 +56,7 @@ fn put_all<D: Disk>(
 
 /// Appends what was read, and the file of a new journal of the same.
 fn put_copy(alloc: Global, header: &Header<Global>, records: &[Record<Global>], out: &mut Output)
-    requires { IsFormed header.now.script.items header.now.root.items records.now }
+    requires { IsFormed header.now.version header.now.script.items header.now.root.items records.now }
 {
     let disk = MemoryDisk::new(Vec::new(alloc));
     put_read(header, records, out);

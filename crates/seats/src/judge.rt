@@ -8,23 +8,22 @@ ghost use Rattle.seats.specs.Judges.{Reports, Statuses, Nexts};
 
 use crate::faults::reported;
 use alphabet::{Alphabet, EventSet, Report};
-use disk::Disk;
 use left_right::Absorb;
-use shared::{Board, Naming, Seat, Share, Summary};
+use shared::{Board, Naming, Recorder, Seat, Share, Summary};
 use std::alloc::Allocator;
 use std::sync::Wait;
 use wire::{End, Fault, Judge, Receipt, Sink, Source, Status, Tally, WireError};
 
 /// A seat, and the right to wait for the lock. It isn't `Drop`: end it by `end`.
-pub struct SeatJudge<'a, D: Disk, A: Allocator, N: Naming, R: Wait>
+pub struct SeatJudge<'a, J: Recorder, A: Allocator, N: Naming, R: Wait>
 where
     Board<N, A>: Absorb<Summary, State = Summary>,
 {
-    pub seat: Seat<'a, D, A, N>,
+    pub seat: Seat<'a, J, A, N>,
     pub(crate) rt: &'a R,
 }
 
-impl<'a, D: Disk, A: Allocator + Copy, N: Naming, R: Wait> SeatJudge<'a, D, A, N, R> {
+impl<'a, J: Recorder, A: Allocator + Copy, N: Naming, R: Wait> SeatJudge<'a, J, A, N, R> {
     /// The judge of this seat. With it `wire::serve` answers the lines of a connection from a seat of a shared session. `rt` is the
     /// right to wait for the session's lock: a report and `next` wait for it, a status doesn't. Nothing is reported here, and the
     /// seat has seen what it had seen. Constant cost; takes no memory.
@@ -34,7 +33,7 @@ impl<'a, D: Disk, A: Allocator + Copy, N: Naming, R: Wait> SeatJudge<'a, D, A, N
     /// let end = judge.serve(alloc, &mut reader, &mut writer, &alphabet, &mut tally);
     /// let share = judge.end();
     /// ```
-    pub fn new(rt: &'a R, seat: Seat<'a, D, A, N>) -> SeatJudge<'a, D, A, N, R>
+    pub fn new(rt: &'a R, seat: Seat<'a, J, A, N>) -> SeatJudge<'a, J, A, N, R>
         ensures { result.seat.share ≡ seat.entry.share }
     {
         SeatJudge { seat, rt }
@@ -49,7 +48,7 @@ impl<'a, D: Disk, A: Allocator + Copy, N: Naming, R: Wait> SeatJudge<'a, D, A, N
     }
 }
 
-impl<D: Disk, A: Allocator + Copy, N: Naming, R: Wait> Judge for SeatJudge<'_, D, A, N, R> {
+impl<J: Recorder, A: Allocator + Copy, N: Naming, R: Wait> Judge for SeatJudge<'_, J, A, N, R> {
     ghost use Rattle.alphabet.specs.Channels.{event_count};
     ghost use Rattle.term.specs.Proc.{bodies_of};
     ghost use Rattle.seats.specs.Judges.{Reports, Statuses, Nexts};
@@ -112,7 +111,7 @@ impl<D: Disk, A: Allocator + Copy, N: Naming, R: Wait> Judge for SeatJudge<'_, D
     }
 }
 
-impl<D: Disk, A: Allocator + Copy + Drop, N: Naming, R: Wait> SeatJudge<'_, D, A, N, R> {
+impl<J: Recorder, A: Allocator + Copy + Drop, N: Naming, R: Wait> SeatJudge<'_, J, A, N, R> {
     /// Answers the lines of the reader by lines to the writer, as `wire::serve` does, each report as the next one of this seat.
     /// The alphabet's events are those of the session's specification.
     pub fn serve<T: Source, W: Sink, B: Allocator>(

@@ -8,24 +8,23 @@ ghost use Rattle.seats.specs.Judges.{Reports, Statuses, Nexts, Identifies};
 
 use crate::judge::SeatJudge;
 use alphabet::{Alphabet, EventSet, Report};
-use disk::Disk;
 use left_right::Absorb;
-use shared::{Board, NameFault, Naming, Seat, SeatNumber, Share, Summary};
+use shared::{Board, NameFault, Naming, Recorder, Seat, SeatNumber, Share, Summary};
 use std::alloc::Allocator;
 use std::sync::Wait;
 use wire::{End, Fault, Judge, Receipt, Sink, Source, Status, Tally, WireError};
 
 /// A seat of a service, where a client may say by its first line (`I n`) that it is the seat n. It isn't `Drop`: end it by `end`.
-pub struct ServiceJudge<'a, D: Disk, A: Allocator, N: Naming, R: Wait>
+pub struct ServiceJudge<'a, J: Recorder, A: Allocator, N: Naming, R: Wait>
 where
     Board<N, A>: Absorb<Summary, State = Summary>,
 {
-    pub judge: SeatJudge<'a, D, A, N, R>,
+    pub judge: SeatJudge<'a, J, A, N, R>,
 }
 
-impl<'a, D: Disk, A: Allocator + Copy, N: Naming, R: Wait> ServiceJudge<'a, D, A, N, R> {
+impl<'a, J: Recorder, A: Allocator + Copy, N: Naming, R: Wait> ServiceJudge<'a, J, A, N, R> {
     /// The judge of this seat, as `SeatJudge::new` makes one.
-    pub fn new(rt: &'a R, seat: Seat<'a, D, A, N>) -> ServiceJudge<'a, D, A, N, R>
+    pub fn new(rt: &'a R, seat: Seat<'a, J, A, N>) -> ServiceJudge<'a, J, A, N, R>
         ensures { result.judge.seat.share ≡ seat.entry.share }
     {
         ServiceJudge {
@@ -42,7 +41,7 @@ impl<'a, D: Disk, A: Allocator + Copy, N: Naming, R: Wait> ServiceJudge<'a, D, A
     }
 }
 
-impl<D: Disk, A: Allocator + Copy, N: Naming, R: Wait> Judge for ServiceJudge<'_, D, A, N, R> {
+impl<J: Recorder, A: Allocator + Copy, N: Naming, R: Wait> Judge for ServiceJudge<'_, J, A, N, R> {
     ghost use Rattle.alphabet.specs.Channels.{event_count};
     ghost use Rattle.term.specs.Proc.{bodies_of};
     ghost use Rattle.seats.specs.Judges.{Reports, Statuses, Nexts, Identifies};
@@ -92,7 +91,7 @@ impl<D: Disk, A: Allocator + Copy, N: Naming, R: Wait> Judge for ServiceJudge<'_
     }
 }
 
-impl<D: Disk, A: Allocator + Copy + Drop, N: Naming, R: Wait> ServiceJudge<'_, D, A, N, R> {
+impl<J: Recorder, A: Allocator + Copy + Drop, N: Naming, R: Wait> ServiceJudge<'_, J, A, N, R> {
     /// Answers the lines of the reader by lines to the writer, as `wire::serve` does, each report as the next one of this seat.
     /// The alphabet's events are those of the session's specification.
     pub fn serve<T: Source, W: Sink, B: Allocator>(

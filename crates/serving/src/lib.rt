@@ -16,4 +16,5 @@ pub use opening::{OpenError, open};
 pub use service_gate::ServiceGate;
 pub use services::{ClosedService, serve_service};
 pub use sessions::{Closing, serve_session};
+pub use shared::{Recorder, SessionOn};
 pub use shared_gate::SharedGate;

@@ -4,33 +4,32 @@ ghost use Rattle.std.specs.Prelude.{◌≡◌};
 
 use alphabet::Alphabet;
 use connections::{Gate, Over, Reusable};
-use disk::Disk;
 use left_right::Absorb;
 use seats::{ServiceJudge, refusal_of};
-use shared::{Board, Naming, Places, SeatFault, Share, Shared, Summary};
+use shared::{Board, Naming, Places, Recorder, SeatFault, Share, Shared, Summary};
 use std::alloc::Global;
 use std::sync::Wait;
 use wire::{Fault, Sink, Source, Tally};
 
 /// A service at which connections are served, each at a seat of its own, which leaves once its connection is over. Its places are the
 /// seats' shares. It isn't `Drop`: end it by `end`.
-pub struct ServiceGate<'a, D: Disk, N: Naming>
+pub struct ServiceGate<'a, J: Recorder, N: Naming>
 where
     Board<N, Global>: Absorb<Summary, State = Summary>,
 {
-    shared: &'a Shared<D, Global, N>,
+    shared: &'a Shared<J, Global, N>,
     alphabet: &'a Alphabet<Global>,
     ghost same: { alphabet.now ≡ N.spec.alphabet },
 }
 
-impl<'a, D: Disk, N: Naming> ServiceGate<'a, D, N> {
+impl<'a, J: Recorder, N: Naming> ServiceGate<'a, J, N> {
     /// The gate to this service. The alphabet is that of its specification; it may be a copy (`seats::copy_of`), which all threads read
     /// without the session's lock. By it `connections::serve_on` serves the session, with the places that `Shared::service` made.
     /// Constant cost; takes no memory.
     pub fn new(
-        shared: &'a Shared<D, Global, N>,
+        shared: &'a Shared<J, Global, N>,
         alphabet: &'a Alphabet<Global>,
-    ) -> ServiceGate<'a, D, N>
+    ) -> ServiceGate<'a, J, N>
         requires { alphabet.now ≡ N.spec.alphabet }
     {
         ServiceGate { shared, alphabet }
@@ -45,7 +44,7 @@ impl<'a, D: Disk, N: Naming> ServiceGate<'a, D, N> {
     }
 }
 
-impl<D: Disk, N: Naming + Send + Sync> Gate for ServiceGate<'_, D, N> {
+impl<J: Recorder, N: Naming + Send + Sync> Gate for ServiceGate<'_, J, N> {
     type Place = Share<N, Global>;
 
     ghost use Rattle.serving.specs.Runs.{IsNewSeat, IsRefusal};
@@ -81,7 +80,7 @@ impl<D: Disk, N: Naming + Send + Sync> Gate for ServiceGate<'_, D, N> {
     }
 }
 
-impl<D: Disk, N: Naming + Send + Sync> Reusable for ServiceGate<'_, D, N> {
+impl<J: Recorder, N: Naming + Send + Sync> Reusable for ServiceGate<'_, J, N> {
     type Places = Places<N>;
 
     ghost use Rattle.std.specs.Prelude.{◌≡◌};

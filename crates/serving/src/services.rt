@@ -5,7 +5,7 @@ ghost use Rattle.term.specs.Proc.{bodies_of};
 ghost use Rattle.shared.specs.Legal.{Legal};
 ghost use Rattle.shared.specs.Beginnings.{StartsWith};
 ghost use Rattle.shared.specs.Seats.{answers_to};
-ghost use Rattle.shared.specs.SessionView.{IsFor};
+ghost use Rattle.shared.specs.SessionView.{IsRecorded};
 ghost use Rattle.shared.specs.View.{PlacesView};
 ghost use Rattle.connections.specs.declared.services.Closed.{Closed as ClosedAt};
 ghost use Rattle.connections.specs.Services.{Came};
@@ -16,12 +16,11 @@ use crate::service_gate::ServiceGate;
 use crate::sessions::give_up;
 use alphabet::{Alphabet, EventSet};
 use connections::{Closed, Listen, Terms, Totals, serve_on};
-use disk::Disk;
-use journal::{Journal, Prepared};
+use journal::Prepared;
 use seats::copy_of;
 use shared::{
-    Counts, Failed, Names, Naming, Opened, Places, Publisher, Session, Shared, Source, Spine,
-    crosses, legal_crosses,
+    Counts, Failed, Names, Naming, Opened, Places, Publisher, Recorder, SessionOn, Shared, Source,
+    Spine, Waiting, crosses, legal_crosses,
 };
 use std::alloc::{AllocError, Global};
 use std::marker::Brand;
@@ -35,9 +34,9 @@ const PLACES: u8 = 64;
 
 /// A service that has ended.
 #[derive(Drop)]
-pub struct ClosedService<D: Disk> {
+pub struct ClosedService<J: Recorder> {
     /// The session.
-    pub session: Session<D, Global>,
+    pub session: SessionOn<J, Global>,
     /// What came of all connections together.
     pub totals: Totals,
     /// The service ended since no further connection could be taken.
@@ -48,14 +47,14 @@ pub struct ClosedService<D: Disk> {
 
 // Serves connections at places of the shared session, until the service ends.
 fn serve_at<
-    D: Disk + Send,
+    J: Recorder + Send,
     N: Naming + Send + Sync,
     T: Threads + Wait + Clock + Sync,
     L: Listen + Drop,
 >(
     rt: &T,
     alloc: Global,
-    shared: &Shared<D, Global, N>,
+    shared: &Shared<J, Global, N>,
     accept: L,
     alphabet: &Alphabet<Global>,
     places: Places<N>,
@@ -68,7 +67,7 @@ fn serve_at<
 {
     // The parts of what lies under the lock: the proof that the whole may go to another thread asks for each.
     legal_crosses();
-    crosses::<Journal<D>>();
+    crosses::<J>();
     crosses::<Option<Failed>>();
     crosses::<Spine<N>>();
     crosses::<Counts<N>>();
@@ -79,6 +78,7 @@ fn serve_at<
     crosses::<Prepared<Global>>();
     crosses::<EventSet>();
     crosses::<Names>();
+    crosses::<Waiting>();
     let gate = ServiceGate::new(shared, alphabet);
     let served = serve_on(rt, alloc, accept, &gate, places, terms);
     gate.end();
@@ -97,16 +97,16 @@ fn known(answered: Option<u64>) -> u64
 }
 
 // Gives back the session of a service whose connections are over, and whose places are all free.
-fn close<D: Disk, N: Naming, R: Wait>(
+fn close<J: Recorder, N: Naming, R: Wait>(
     rt: &R,
     alloc: Global,
-    shared: Shared<D, Global, N>,
+    shared: Shared<J, Global, N>,
     closed: Closed<Places<N>>,
-) -> ClosedService<D>
+) -> ClosedService<J>
     requires ledger { N.all ≡ N.parts }
     requires free { closed.places.free + 2 ≡ N.all }
     ensures session { (result.session.spec ≡ N.spec) × StartsWith result.session.history N.opening × Legal (bodies_of N.spec.bodies) result.session.history }
-    ensures kept { (script : List ℕ) × (root : List ℕ) × IsFor D.state script root result.session }
+    ensures kept { (script : List ℕ) × (root : List ℕ) × IsRecorded J.recording script root result.session }
     ensures counted { (length result.session.history ≡ length N.opening + result.answered) × (result.answered ≡ closed.places.receipts) }
     ensures same { (result.totals ≡ closed.totals) × (result.accept_failed ≡ closed.accept_failed) }
 {
@@ -125,10 +125,10 @@ fn close<D: Disk, N: Naming, R: Wait>(
 }
 
 // Ends a service that had no connection because memory ran out.
-fn drop_service<D: Disk + Drop, N: Naming, R: Wait>(
+fn drop_service<J: Recorder + Drop, N: Naming, R: Wait>(
     rt: &R,
     alloc: Global,
-    shared: Shared<D, Global, N>,
+    shared: Shared<J, Global, N>,
     places: Places<N>,
 )
     requires { N.all ≡ N.parts }
@@ -138,16 +138,16 @@ fn drop_service<D: Disk + Drop, N: Naming, R: Wait>(
 }
 
 // Gives back the session of a service whose connections are over; or ends it, where it had none because memory ran out.
-fn end<D: Disk + Drop, N: Naming, R: Wait, L>(
+fn end<J: Recorder + Drop, N: Naming, R: Wait, L>(
     rt: &R,
     alloc: Global,
-    shared: Shared<D, Global, N>,
+    shared: Shared<J, Global, N>,
     served: Result<Closed<Places<N>>, (AllocError, L, Places<N>)>,
-) -> Result<ClosedService<D>, (AllocError, L)>
+) -> Result<ClosedService<J>, (AllocError, L)>
     requires ledger { N.all ≡ N.parts }
     requires free { IfOk served (λ closed. closed.places.free + 2 ≡ N.all) }
     ensures session { IfOk result (λ c. (c.session.spec ≡ N.spec) × StartsWith c.session.history N.opening × Legal (bodies_of N.spec.bodies) c.session.history) }
-    ensures kept { IfOk result (λ c. (script : List ℕ) × (root : List ℕ) × IsFor D.state script root c.session) }
+    ensures kept { IfOk result (λ c. (script : List ℕ) × (root : List ℕ) × IsRecorded J.recording script root c.session) }
     ensures ended { IfOk result (λ c. (closed : ClosedAt PlacesView) × (served ≡ Ok closed) × (c.totals ≡ closed.totals) × (c.accept_failed ≡ closed.accept_failed)
         × (length c.session.history ≡ length N.opening + c.answered) × (c.answered ≡ closed.places.receipts)) }
     ensures memory { IfErr result (λ error. (places : PlacesView) × (served ≡ Err (error.0, error.1, places))) }
@@ -164,23 +164,23 @@ fn end<D: Disk + Drop, N: Naming, R: Wait, L>(
 // Serves connections at the places of a service, until it ends, and gives its session back.
 fn run<
     N: Naming + Send + Sync,
-    D: Disk + Drop + Send,
+    J: Recorder + Drop + Send,
     T: Threads + Wait + Clock + Sync,
     L: Listen + Drop,
 >(
     rt: &T,
     alloc: Global,
-    shared: Shared<D, Global, N>,
+    shared: Shared<J, Global, N>,
     accept: L,
     alphabet: &Alphabet<Global>,
     places: Places<N>,
     terms: Terms,
-) -> Result<ClosedService<D>, (AllocError, L)>
+) -> Result<ClosedService<J>, (AllocError, L)>
     requires alphabet { alphabet.now ≡ N.spec.alphabet }
     requires ledger { N.all ≡ N.parts }
     requires places { (places.free + 2 ≡ N.all) × (places.receipts ≡ 0) }
     ensures session { IfOk result (λ c. (c.session.spec ≡ N.spec) × StartsWith c.session.history N.opening × Legal (bodies_of N.spec.bodies) c.session.history) }
-    ensures kept { IfOk result (λ c. (script : List ℕ) × (root : List ℕ) × IsFor D.state script root c.session) }
+    ensures kept { IfOk result (λ c. (script : List ℕ) × (root : List ℕ) × IsRecorded J.recording script root c.session) }
     ensures ran { IfOk result (λ c. Ran L.takes L.fails L.waits L.Reader.left L.Writer.contents accept terms places.free N.spec N.opening c.session.history c.totals c.accept_failed c.answered) }
     ensures memory { IfErr result (λ error. error.1 ≡ accept) }
 {
@@ -191,29 +191,29 @@ fn run<
 // Shares the session, and serves connections. The caller picks the names.
 fn over_places<
     N: Naming + Send + Sync,
-    D: Disk + Drop + Send,
+    J: Recorder + Drop + Send,
     T: Threads + Wait + Clock + Sync,
     L: Listen + Drop,
 >(
     rt: &T,
     alloc: Global,
-    session: Session<D, Global>,
+    session: SessionOn<J, Global>,
     opened: Opened,
     blank: Blank,
     accept: L,
     alphabet: &Alphabet<Global>,
     terms: Terms,
-) -> Result<ClosedService<D>, (AllocError, L)>
+) -> Result<ClosedService<J>, (AllocError, L)>
     requires story { (session.spec ≡ N.spec) × (session.history ≡ N.opening) × (session.offered ≡ []) }
     requires book { opened.seen.book ≡ N.book }
     requires ledger { (blank.name ≡ N.name) × (blank.parts ≡ N.parts) × (N.all ≡ N.parts) × (N.all ≡ 66) }
     requires alphabet { alphabet.now ≡ N.spec.alphabet }
     ensures session { IfOk result (λ c. (c.session.spec ≡ N.spec) × StartsWith c.session.history N.opening × Legal (bodies_of N.spec.bodies) c.session.history) }
-    ensures kept { IfOk result (λ c. (script : List ℕ) × (root : List ℕ) × IsFor D.state script root c.session) }
+    ensures kept { IfOk result (λ c. (script : List ℕ) × (root : List ℕ) × IsRecorded J.recording script root c.session) }
     ensures ran { IfOk result (λ c. Ran L.takes L.fails L.waits L.Reader.left L.Writer.contents accept terms 64 N.spec N.opening c.session.history c.totals c.accept_failed c.answered) }
     ensures memory { IfErr result (λ error. error.1 ≡ accept) }
 {
-    match Shared::<D, Global, N>::service(rt, alloc, session, opened, blank, u64::from(PLACES)) {
+    match Shared::<J, Global, N>::service(rt, alloc, session, opened, blank, u64::from(PLACES)) {
         Ok((shared, places)) => run(rt, alloc, shared, accept, alphabet, places, terms),
         Err(_) => Err((AllocError, accept)),
     }
@@ -227,17 +227,17 @@ fn over_places<
 /// It gives the session back then, with what came of the connections. Its specification is as it was, and its history is legal and begins
 /// with the one that it had. It takes no more memory with each connection that is over. The error is that memory ran out before the first
 /// connection, and comes with where connections come from; the session is gone then, and its file stays.
-pub fn serve_service<D: Disk + Drop + Send, T: Threads + Wait + Clock + Sync, L: Listen + Drop>(
+pub fn serve_service<J: Recorder + Drop + Send, T: Threads + Wait + Clock + Sync, L: Listen + Drop>(
     rt: &T,
     alloc: Global,
-    session: Session<D, Global>,
+    session: SessionOn<J, Global>,
     accept: L,
     until_idle: bool,
     retries: u8,
-) -> Result<ClosedService<D>, (AllocError, L)>
+) -> Result<ClosedService<J>, (AllocError, L)>
     requires { session.offered ≡ [] }
     ensures session { IfOk result (λ c. (c.session.spec ≡ session.spec) × StartsWith c.session.history session.history × Legal (bodies_of session.spec.bodies) c.session.history) }
-    ensures kept { IfOk result (λ c. (script : List ℕ) × (root : List ℕ) × IsFor D.state script root c.session) }
+    ensures kept { IfOk result (λ c. (script : List ℕ) × (root : List ℕ) × IsRecorded J.recording script root c.session) }
 
     // What came of each connection, in the order in which they were taken, and of all together; when one was refused by 22; why and when it ended;
     // and how many reports were answered.
@@ -254,7 +254,7 @@ pub fn serve_service<D: Disk + Drop + Send, T: Threads + Wait + Clock + Sync, L:
                 until_idle,
                 retries,
             };
-            over_places::<Brand, D, T, L>(
+            over_places::<Brand, J, T, L>(
                 rt, alloc, session, opened, blank, accept, &alphabet, terms,
             )
         }

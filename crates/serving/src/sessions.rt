@@ -5,7 +5,7 @@ ghost use Rattle.std.specs.List.{list_any};
 ghost use Rattle.term.specs.Proc.{bodies_of};
 ghost use Rattle.shared.specs.Legal.{Legal};
 ghost use Rattle.shared.specs.Beginnings.{StartsWith};
-ghost use Rattle.shared.specs.SessionView.{IsFor};
+ghost use Rattle.shared.specs.SessionView.{IsRecorded};
 ghost use Rattle.shared.specs.View.{SeatView};
 ghost use Rattle.connections.specs.declared.outcome.Outcome.{Outcome};
 ghost use Rattle.connections.specs.Accounts.{has_rejected, met_limit};
@@ -15,12 +15,11 @@ ghost use Rattle.serving.specs.Runs.{CameTo, Went};
 use crate::shared_gate::SharedGate;
 use alphabet::{Alphabet, EventSet};
 use connections::{Accept, Account, Connections, Ending, part, serve_all};
-use disk::Disk;
-use journal::{Journal, Prepared};
+use journal::Prepared;
 use seats::copy_of;
 use shared::{
-    Counts, Failed, Names, Naming, Opened, Publisher, Session, Share, Shared, Source, Spine,
-    crosses, legal_crosses,
+    Counts, Failed, Names, Naming, Opened, Publisher, Recorder, SessionOn, Share, Shared, Source,
+    Spine, Waiting, crosses, legal_crosses,
 };
 use std::alloc::{AllocError, Global};
 use std::marker::Brand;
@@ -30,9 +29,9 @@ use std::thread::Threads;
 
 /// A session whose connections are over.
 #[derive(Drop)]
-pub struct Closing<D: Disk> {
+pub struct Closing<J: Recorder> {
     /// The session.
-    pub session: Session<D, Global>,
+    pub session: SessionOn<J, Global>,
     /// How each connection ended, in the order in which they were taken.
     pub endings: Vec<Ending, Global>,
     /// What came of all connections together.
@@ -48,9 +47,9 @@ struct Room {
     endings: Vec<Ending, Global>,
 }
 
-fn room_for<D: Disk>(
+fn room_for<J: Recorder>(
     alloc: Global,
-    session: &Session<D, Global>,
+    session: &SessionOn<J, Global>,
     count: u8,
 ) -> Result<Room, AllocError>
     ensures alphabet { IfOk result (λ room. room.alphabet ≡ session.now.spec.alphabet) }
@@ -62,8 +61,8 @@ fn room_for<D: Disk>(
 }
 
 /// Ends a session that can't be served because memory ran out.
-pub(crate) fn give_up<D: Disk + Drop, L, C>(
-    session: Session<D, Global>,
+pub(crate) fn give_up<J: Recorder + Drop, L, C>(
+    session: SessionOn<J, Global>,
     accept: L,
 ) -> Result<C, (AllocError, L)>
     ensures memory { IfErr result (λ error. error.1 ≡ accept) }
@@ -74,10 +73,15 @@ pub(crate) fn give_up<D: Disk + Drop, L, C>(
 }
 
 // Serves the connections at seats of the shared session. Their shares come to the shares, and how each ended to the endings.
-fn serve_at<D: Disk + Send, N: Naming + Send + Sync, T: Threads + Wait + Sync, L: Accept + Drop>(
+fn serve_at<
+    J: Recorder + Send,
+    N: Naming + Send + Sync,
+    T: Threads + Wait + Sync,
+    L: Accept + Drop,
+>(
     rt: &T,
     alloc: Global,
-    shared: &Shared<D, Global, N>,
+    shared: &Shared<J, Global, N>,
     accept: L,
     alphabet: &Alphabet<Global>,
     count: u8,
@@ -94,7 +98,7 @@ fn serve_at<D: Disk + Send, N: Naming + Send + Sync, T: Threads + Wait + Sync, L
 {
     // The parts of what lies under the lock: the proof that the whole may go to another thread asks for each.
     legal_crosses();
-    crosses::<Journal<D>>();
+    crosses::<J>();
     crosses::<Option<Failed>>();
     crosses::<Spine<N>>();
     crosses::<Counts<N>>();
@@ -105,6 +109,7 @@ fn serve_at<D: Disk + Send, N: Naming + Send + Sync, T: Threads + Wait + Sync, L
     crosses::<Prepared<Global>>();
     crosses::<EventSet>();
     crosses::<Names>();
+    crosses::<Waiting>();
     let gate = SharedGate::new(shared, alphabet);
     let served = serve_all(rt, alloc, accept, &gate, count);
     gate.end();
@@ -119,10 +124,15 @@ fn serve_at<D: Disk + Send, N: Naming + Send + Sync, T: Threads + Wait + Sync, L
 }
 
 // The same, once there is room for the shares.
-fn serve_in<D: Disk + Send, N: Naming + Send + Sync, T: Threads + Wait + Sync, L: Accept + Drop>(
+fn serve_in<
+    J: Recorder + Send,
+    N: Naming + Send + Sync,
+    T: Threads + Wait + Sync,
+    L: Accept + Drop,
+>(
     rt: &T,
     alloc: Global,
-    shared: &Shared<D, Global, N>,
+    shared: &Shared<J, Global, N>,
     accept: L,
     alphabet: &Alphabet<Global>,
     count: u8,
@@ -144,12 +154,12 @@ fn serve_in<D: Disk + Send, N: Naming + Send + Sync, T: Threads + Wait + Sync, L
 }
 
 // What is answered of a session whose connections are over, or that had none because memory ran out.
-fn close<D: Disk + Drop, L>(
-    session: Session<D, Global>,
+fn close<J: Recorder + Drop, L>(
+    session: SessionOn<J, Global>,
     answered: Option<u64>,
     endings: Vec<Ending, Global>,
     served: Result<bool, (AllocError, L)>,
-) -> Result<Closing<D>, (AllocError, L)>
+) -> Result<Closing<J>, (AllocError, L)>
     ensures closed { IfOk result (λ c. (c.session ≡ session) × (c.answered ≡ answered) × (c.endings ≡ endings) × (served ≡ Ok c.account.accept_failed)) }
     ensures account { IfOk result (λ c. (c.account.rejected ≡ list_any has_rejected c.endings.items) × (c.account.limit ≡ list_any met_limit c.endings.items)) }
     ensures memory { IfErr result (λ error. served ≡ Err error) }
@@ -174,19 +184,19 @@ fn close<D: Disk + Drop, L>(
 // Shares the session, and serves its connections. The caller picks the names.
 fn over_seats<
     N: Naming + Send + Sync,
-    D: Disk + Drop + Send,
+    J: Recorder + Drop + Send,
     T: Threads + Wait + Sync,
     L: Accept + Drop,
 >(
     rt: &T,
     alloc: Global,
-    session: Session<D, Global>,
+    session: SessionOn<J, Global>,
     opened: Opened,
     blank: Blank,
     accept: L,
     room: Room,
     count: u8,
-) -> Result<Closing<D>, (AllocError, L)>
+) -> Result<Closing<J>, (AllocError, L)>
     requires count { (1 ≤ count) × (count ≤ 64) }
     requires story { (session.spec ≡ N.spec) × (session.history ≡ N.opening) × (session.offered ≡ []) }
     requires book { opened.seen.book ≡ N.book }
@@ -194,7 +204,7 @@ fn over_seats<
     requires alphabet { room.alphabet ≡ N.spec.alphabet }
     requires endings { (room.endings.items ≡ []) × (count ≤ vec_capacity room.endings) }
     ensures session { IfOk result (λ c. (c.session.spec ≡ N.spec) × StartsWith c.session.history N.opening × Legal (bodies_of N.spec.bodies) c.session.history) }
-    ensures kept { IfOk result (λ c. (script : List ℕ) × (root : List ℕ) × IsFor D.state script root c.session) }
+    ensures kept { IfOk result (λ c. (script : List ℕ) × (root : List ℕ) × IsRecorded J.recording script root c.session) }
     ensures went { IfOk result (λ c. Went L.takes L.fails L.Reader.left L.Writer.contents accept count N.spec N.opening c.session.history c.endings.items c.account.accept_failed c.answered) }
     ensures account { IfOk result (λ c. (c.account.rejected ≡ list_any has_rejected c.endings.items) × (c.account.limit ≡ list_any met_limit c.endings.items)) }
     ensures memory { IfErr result (λ error. error.1 ≡ accept) }
@@ -203,7 +213,7 @@ fn over_seats<
         alphabet,
         mut endings,
     } = room;
-    let Ok(shared) = Shared::<D, Global, N>::new(
+    let Ok(shared) = Shared::<J, Global, N>::new(
         rt,
         alloc,
         session,
@@ -233,16 +243,16 @@ fn over_seats<
 /// how each connection ended. Nothing is offered to the session before. Its specification is as it was, and its history is legal and
 /// begins with the one that it had. The error is that memory ran out before the first connection, and comes with where connections come
 /// from; the session is gone then, and its file stays.
-pub fn serve_session<D: Disk + Drop + Send, T: Threads + Wait + Sync, L: Accept + Drop>(
+pub fn serve_session<J: Recorder + Drop + Send, T: Threads + Wait + Sync, L: Accept + Drop>(
     rt: &T,
     alloc: Global,
-    session: Session<D, Global>,
+    session: SessionOn<J, Global>,
     accept: L,
     connections: Connections,
-) -> Result<Closing<D>, (AllocError, L)>
+) -> Result<Closing<J>, (AllocError, L)>
     requires { session.offered ≡ [] }
     ensures session { IfOk result (λ c. (c.session.spec ≡ session.spec) × StartsWith c.session.history session.history × Legal (bodies_of session.spec.bodies) c.session.history) }
-    ensures kept { IfOk result (λ c. (script : List ℕ) × (root : List ℕ) × IsFor D.state script root c.session) }
+    ensures kept { IfOk result (λ c. (script : List ℕ) × (root : List ℕ) × IsRecorded J.recording script root c.session) }
 
     // What came of each connection, in the order in which they were taken.
     ensures went { IfOk result (λ c. Went L.takes L.fails L.Reader.left L.Writer.contents accept connections session.spec session.history c.session.history c.endings.items c.account.accept_failed c.answered) }
@@ -255,7 +265,7 @@ pub fn serve_session<D: Disk + Drop + Send, T: Threads + Wait + Sync, L: Accept 
             let opened = Opened::new();
             // The ledger has a part for each seat, and one for what lies under the lock.
             let blank = Blank::new(u64::from(count) + 1);
-            over_seats::<Brand, D, T, L>(rt, alloc, session, opened, blank, accept, room, count)
+            over_seats::<Brand, J, T, L>(rt, alloc, session, opened, blank, accept, room, count)
         }
         Err(AllocError) => give_up(session, accept),
     }

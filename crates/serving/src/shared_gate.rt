@@ -4,34 +4,33 @@ ghost use Rattle.std.specs.Prelude.{◌≡◌};
 
 use alphabet::Alphabet;
 use connections::{Gate, Over};
-use disk::Disk;
 use left_right::Absorb;
 use seats::{SeatJudge, refusal_of};
-use shared::{Board, Naming, Share, Shared, Summary};
+use shared::{Board, Naming, Recorder, Share, Shared, Summary};
 use std::alloc::Global;
 use std::sync::Wait;
 use wire::{Fault, Sink, Source, Tally};
 
 /// A shared session at which connections are served, each at a seat of its own. Its places are the seats' shares. It isn't `Drop`:
 /// end it by `end`.
-pub struct SharedGate<'a, D: Disk, N: Naming>
+pub struct SharedGate<'a, J: Recorder, N: Naming>
 where
     Board<N, Global>: Absorb<Summary, State = Summary>,
 {
-    shared: &'a Shared<D, Global, N>,
+    shared: &'a Shared<J, Global, N>,
     alphabet: &'a Alphabet<Global>,
     ghost same: { alphabet.now ≡ N.spec.alphabet },
 }
 
-impl<'a, D: Disk, N: Naming> SharedGate<'a, D, N> {
+impl<'a, J: Recorder, N: Naming> SharedGate<'a, J, N> {
     /// The gate to this session. The alphabet is that of its specification. By it `connections::serve_all` serves the session, each
     /// connection at a seat of its own. The alphabet may be a copy (`seats::copy_of`): all threads read it, without the session's
     /// lock. No seat is given yet: `place` gives one for each connection, or answers 22, 26, 31 or 40 (`seats::refusal_of`).
     /// Constant cost; takes no memory.
     pub fn new(
-        shared: &'a Shared<D, Global, N>,
+        shared: &'a Shared<J, Global, N>,
         alphabet: &'a Alphabet<Global>,
-    ) -> SharedGate<'a, D, N>
+    ) -> SharedGate<'a, J, N>
         requires { alphabet.now ≡ N.spec.alphabet }
     {
         SharedGate { shared, alphabet }
@@ -46,7 +45,7 @@ impl<'a, D: Disk, N: Naming> SharedGate<'a, D, N> {
     }
 }
 
-impl<D: Disk, N: Naming + Send + Sync> Gate for SharedGate<'_, D, N> {
+impl<J: Recorder, N: Naming + Send + Sync> Gate for SharedGate<'_, J, N> {
     type Place = Share<N, Global>;
 
     ghost use Rattle.serving.specs.Runs.{IsAnsweredAt, IsNewSeat, IsRefusal};

@@ -1,5 +1,5 @@
 -- What a settled entry leaves of its seat.
-use Rattle.std.proofs.Common.{◌≡◌, ℕ, suc, ◌+◌, ◌<◌, ◌≤◌, Bool, List, [], ◌∷◌, ◌++◌, length, take, drop, refl, sym, ap, ◌∙◌, subst, arith, append_assoc, length-append}
+use Rattle.std.proofs.Common.{◌≡◌, ℕ, suc, ◌+◌, ◌<◌, ◌≤◌, ◌^◌, Bool, List, [], ◌∷◌, ◌++◌, length, take, drop, refl, sym, ap, ◌∙◌, subst, arith, append_assoc, length-append}
 use Rattle.std.proofs.lemmas.List.{take-append-drop}
 use Rattle.std.proofs.Math.Seq.{take-append_seam, take-length}
 use Rattle.alphabet.specs.declared.events.Report.{Report}
@@ -34,12 +34,12 @@ pub record Claimed (B : ℕ → Proc) (n k place : ℕ) (h whole : List Entry) (
   pub own : calls (take place whole) k ≡ take n (calls h k) ++ e ∷ []
   pub mine : take (n + 1) (calls (take place whole) k) ≡ take n (calls h k) ++ e ∷ []
   pub enough : n + 1 ≤ length (calls (take place whole) k)
-  pub small : n + 1 ≤ 1000000
+  pub small : n + 1 ≤ 2 ^ 62
   pub stands : place ≡ length (take place whole)
   pub within : place ≤ length whole
 
 pub claimed : (B : ℕ → Proc) (n k place : ℕ) (h whole : List Entry) (e : Entry) → StandsAt whole place e → Legal B whole → StartsWith whole h → length h < place → e.seat ≡ k → e.number ≡ n + 1
-    → n ≤ length (calls h k) → place ≤ 1000000 → Claimed B n k place h whole e
+    → n ≤ length (calls h k) → place ≤ 2 ^ 62 → Claimed B n k place h whole e
 claimed B n k place h whole e at legal begins longer seat number few small =
     let before = at.before in
     let now = before ++ e ∷ [] in
@@ -85,7 +85,7 @@ pub record ClaimedAll (B : ℕ → Proc) (b n k place : ℕ) (h whole : List Ent
   pub none : length rs ≡ 0 → seen ≡ h
   pub begins : StartsWith whole seen
   pub enough : n + length rs ≤ length (calls seen k)
-  pub small : n + length rs ≤ 1000000
+  pub small : n + length rs ≤ 2 ^ 62
 
 last_step : (rs : List Report) (seen whole : List Entry) (place m : ℕ) → (length rs ≡ 0 → seen ≡ take place whole) → ((i : ℕ) → i + 1 ≡ place + 1 + length rs → 0 < length rs → seen ≡ take i whole)
     → m + 1 ≡ place + suc (length rs) → seen ≡ take m whole
@@ -98,7 +98,7 @@ within_step [] whole place m one more is = omega (arith, one, is)
 within_step (r ∷ rs) whole place m one more is = more m (omega (arith, is)) (omega arith)
 
 pub claimed_all : (B : ℕ → Proc) (b n k place : ℕ) (h whole : List Entry) (rs : List Report) (vs : List Bool) (closed : Bool) → HasEntries whole place k (n + 1) rs vs → Legal B whole → StartsWith whole h
-    → length h < place → n ≤ length (calls h k) → place + length rs ≤ 1000001 → n ≤ 1000000 → ClaimedAll B b n k place h whole rs vs closed
+    → length h < place → n ≤ length (calls h k) → place + length rs ≤ 2 ^ 62 + 1 → n ≤ 2 ^ 62 → ClaimedAll B b n k place h whole rs vs closed
 claimed_all B b n k place h whole [] [] closed has legal begins longer few bound small =
     let same : n + 0 ≡ n = omega arith in
     record {

@@ -1,5 +1,5 @@
 -- What some reports of a seat come to, by the settled entries of those that were taken.
-use Rattle.std.proofs.Common.{◌≡◌, ℕ, zero, suc, ◌+◌, ◌<◌, ◌≤◌, Bool, false, Option, None, Some, List, [], ◌∷◌, length, take, drop, get_or, refl, sym, ap, ◌∙◌, subst, arith}
+use Rattle.std.proofs.Common.{◌≡◌, ℕ, zero, suc, ◌+◌, ◌<◌, ◌≤◌, ◌^◌, Bool, false, Option, None, Some, List, [], ◌∷◌, length, take, drop, get_or, refl, sym, ap, ◌∙◌, subst, arith}
 use Rattle.std.specs.Prelude.{◌||◌, IfSome}
 use Rattle.std.proofs.lemmas.List.{length-take-le}
 use Rattle.alphabet.specs.declared.events.Report.{Report}
@@ -26,7 +26,7 @@ none_left (suc n) (r ∷ reports) is = none_left n reports (omega (arith, is))
 
 module _ (spec : Specified) (b n k place : ℕ) (h whole : List Entry) (reports : List Report) (verdicts : List Bool) (count : ℕ) (closed : Bool)
     (has : HasEntries whole place k (n + 1) (take count reports) (take count verdicts)) (legal : Legal (bodies_of spec.bodies) whole) (begins : StartsWith whole h)
-    (longer : length h < place) (few : n ≤ length (calls h k)) (bound : place + count ≤ 1000001) (small : n ≤ 1000000) (within : count ≤ length reports) where
+    (longer : length h < place) (few : n ≤ length (calls h k)) (bound : place + count ≤ 2 ^ 62 + 1) (small : n ≤ 2 ^ 62) (within : count ≤ length reports) where
   abbrev B : ℕ → Proc
   B = bodies_of spec.bodies
 
@@ -42,7 +42,7 @@ module _ (spec : Specified) (b n k place : ℕ) (h whole : List Entry) (reports 
   enough : n + count ≤ length (calls all.seen k)
   enough = omega (arith, many, all.enough)
 
-  pub few_answered : n + count ≤ 1000000
+  pub few_answered : n + count ≤ 2 ^ 62
   few_answered = omega (arith, many, all.small)
 
   -- all were taken

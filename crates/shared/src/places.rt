@@ -7,8 +7,7 @@ ghost use Rattle.shared.specs.Seats.{answers_to};
 use crate::seat::{Seat, Shared};
 use crate::share::Share;
 use crate::turns::lock;
-use disk::Disk;
-use locked::{Fault, Locked, Naming, Opened, SeatFault, SeatNumber, Session};
+use locked::{Fault, Locked, Naming, Opened, Recorder, SeatFault, SeatNumber, SessionOn};
 use std::alloc::Allocator;
 use std::marker::Model;
 use std::sync::atomic::AtomicU64;
@@ -26,7 +25,7 @@ pub struct Places<N: Naming> {
 }
 
 impl<N: Naming> Model for Places<N> {
-    ghost use Rattle.std.specs.Prelude.{◌≡◌, ◌≤◌, ◌<◌, ◌+◌};
+    ghost use Rattle.std.specs.Prelude.{◌≡◌, ◌≤◌, ◌<◌, ◌+◌, ◌^◌};
     ghost use Rattle.shared.specs.View.{PlacesView};
 
     ghost Value = { PlacesView };
@@ -35,7 +34,7 @@ impl<N: Naming> Model for Places<N> {
 
     ghost invariant = { λ p. (p.part.parts ≡ p.free + 1)
         × (p.receipts ≤ p.part.amount)
-        × (p.receipts ≤ 1000000)
+        × (p.receipts ≤ 2 ^ 62)
         × (p.free < N.all)
         × (N.all ≤ 66) };
 }
@@ -80,9 +79,9 @@ impl<N: Naming> Places<N> {
     }
 
     // Takes a place back from a seat that has this number and was answered so often.
-    fn take_back<D: Disk, A: Allocator + Copy>(
+    fn take_back<J: Recorder, A: Allocator + Copy>(
         &mut self,
-        locked: &mut Locked<D, A, N>,
+        locked: &mut Locked<J, A, N>,
         seat: SeatNumber,
         unused: bool,
         answered: u64,
@@ -100,17 +99,17 @@ impl<N: Naming> Places<N> {
     }
 }
 
-impl<D: Disk + Drop, A: Allocator + Copy, N: Naming> Shared<D, A, N> {
+impl<J: Recorder + Drop, A: Allocator + Copy, N: Naming> Shared<J, A, N> {
     /// A service: a session that up to so many seats share at one time, to which nothing is offered, with names from 1 to 1,000; and its places,
     /// which are all free. Where memory is refused, the session is gone, and its file stays.
     pub fn service<R: Wait>(
         rt: &R,
         alloc: A,
-        session: Session<D, A>,
+        session: SessionOn<J, A>,
         opened: Opened,
         blank: Blank,
         places: u64,
-    ) -> Result<(Shared<D, A, N>, Places<N>), Fault>
+    ) -> Result<(Shared<J, A, N>, Places<N>), Fault>
         requires story { (session.spec ≡ N.spec) × (session.history ≡ N.opening) × (session.offered ≡ []) }
         requires book { opened.seen.book ≡ N.book }
         requires ledger { (blank.name ≡ N.name) × (blank.parts ≡ N.parts) × (N.all ≡ N.parts) }
@@ -134,7 +133,7 @@ impl<D: Disk + Drop, A: Allocator + Copy, N: Naming> Shared<D, A, N> {
     }
 }
 
-impl<D: Disk, A: Allocator + Copy, N: Naming> Shared<D, A, N> {
+impl<J: Recorder, A: Allocator + Copy, N: Naming> Shared<J, A, N> {
     /// Gives a free place to a seat without a name, which has seen the history as it stands. Its number is above 1,000. A seat takes no memory
     /// of the allocator.
     ///
@@ -143,7 +142,7 @@ impl<D: Disk, A: Allocator + Copy, N: Naming> Shared<D, A, N> {
         &self,
         rt: &R,
         places: &mut Places<N>,
-    ) -> Result<Seat<'_, D, A, N>, SeatFault>
+    ) -> Result<Seat<'_, J, A, N>, SeatFault>
         ensures seat { IfOk result (λ s. (s.share.mine ≡ []) × (s.share.closed ≡ false) × StartsWith s.share.seen N.opening) }
         ensures begun { IfOk result (λ s. s.share.begun ≡ 0) }
         ensures taken { IfOk result (λ _. places.new.free + 1 ≡ places.old.free) }

@@ -1,6 +1,6 @@
 //! A shared session, and the seats at it.
 
-ghost use Rattle.std.specs.Prelude.{◌≡◌, ◌↔◌, ◌≤◌, ◌<◌, ◌+◌, ◌++◌, ◌∷◌, [], length, false, None, IsTrue, IfOk, IfErr, IfSome};
+ghost use Rattle.std.specs.Prelude.{◌≡◌, ◌↔◌, ◌≤◌, ◌<◌, ◌+◌, ◌^◌, ◌++◌, ◌∷◌, [], length, suc, false, None, IsTrue, IfOk, IfErr, IfSome};
 ghost use Rattle.alphabet.specs.declared.events.Event.{Event};
 ghost use Rattle.alphabet.specs.EventSets.{member};
 ghost use Rattle.term.specs.Meaning.{Trace};
@@ -8,7 +8,7 @@ ghost use Rattle.term.specs.Proc.{bodies_of, root};
 ghost use Rattle.term.specs.Specs.{IsClosed};
 ghost use Rattle.locked.specs.Reports.{IsReport};
 ghost use Rattle.locked.specs.Entries.{events, summary_of};
-ghost use Rattle.locked.specs.Legal.{Legal};
+ghost use Rattle.locked.specs.Legal.{Legal, limit_of};
 ghost use Rattle.locked.specs.Beginnings.{StartsWith};
 ghost use Rattle.shared.specs.Seats.{Answered, Refused, Named};
 ghost use Rattle.shared.specs.Turns.{CameTo};
@@ -16,10 +16,10 @@ ghost use Rattle.std.specs.List.{AllByRecursion};
 
 use crate::share::{GROUP, Receipt, Round, Share, Status};
 use alphabet::{EventSet, Report};
-use disk::Disk;
 use left_right::Absorb;
 use locked::{
-    Board, Fault, Locked, NameFault, Naming, Opened, SeatFault, SeatNumber, Session, Summary,
+    Board, Fault, Locked, NameFault, Naming, Opened, Recorder, SeatFault, SeatNumber, SessionOn,
+    Summary,
 };
 use std::alloc::Allocator;
 use std::sync::atomic::AtomicU64;
@@ -27,11 +27,11 @@ use std::sync::ledger::Blank;
 use std::sync::{Condvar, Mutex, MutexGuard, Wait};
 
 /// A session that seats share. It isn't `Drop`: end it by `finish`.
-pub struct Shared<D: Disk, A: Allocator, N: Naming>
+pub struct Shared<J: Recorder, A: Allocator, N: Naming>
 where
     Board<N, A>: Absorb<Summary, State = Summary>,
 {
-    pub(crate) locked: Mutex<Locked<D, A, N>>,
+    pub(crate) locked: Mutex<Locked<J, A, N>>,
     // How many threads wait for the lock to judge.
     pub(crate) judging: AtomicU64,
     // How many have judged since the last settling, and how many had between the two before.
@@ -42,24 +42,24 @@ where
 }
 
 /// A seat at a shared session. It isn't `Drop`: end it by `end`. What may be dropped, and moved to a thread, is its `Share`.
-pub struct Seat<'a, D: Disk, A: Allocator, N: Naming>
+pub struct Seat<'a, J: Recorder, A: Allocator, N: Naming>
 where
     Board<N, A>: Absorb<Summary, State = Summary>,
 {
-    pub(crate) shared: &'a Shared<D, A, N>,
+    pub(crate) shared: &'a Shared<J, A, N>,
     pub share: Share<N, A>,
 }
 
-impl<D: Disk + Drop, A: Allocator + Copy, N: Naming> Shared<D, A, N> {
+impl<J: Recorder + Drop, A: Allocator + Copy, N: Naming> Shared<J, A, N> {
     /// A session that up to so many seats share, to which nothing is offered. Where memory is refused, the session is gone, and its file stays.
     pub fn new<R: Wait>(
         rt: &R,
         alloc: A,
-        session: Session<D, A>,
+        session: SessionOn<J, A>,
         opened: Opened,
         blank: Blank,
         places: u64,
-    ) -> Result<Shared<D, A, N>, Fault>
+    ) -> Result<Shared<J, A, N>, Fault>
         requires story { (session.spec ≡ N.spec) × (session.history ≡ N.opening) × (session.offered ≡ []) }
         requires book { opened.seen.book ≡ N.book }
         requires ledger { (blank.name ≡ N.name) × (blank.parts ≡ N.parts) × (N.all ≡ N.parts) }
@@ -79,11 +79,11 @@ impl<D: Disk + Drop, A: Allocator + Copy, N: Naming> Shared<D, A, N> {
     }
 }
 
-impl<D: Disk, A: Allocator + Copy, N: Naming> Shared<D, A, N> {
+impl<J: Recorder, A: Allocator + Copy, N: Naming> Shared<J, A, N> {
     /// Gives a seat, which has seen the history as it stands. A seat takes no memory of the allocator.
     ///
     /// The faults are asked for in this order: `Closed`, `Seats`, `Reader`. After `Reader` a seat number is used up.
-    pub fn seat<R: Wait>(&self, rt: &R, _alloc: A) -> Result<Seat<'_, D, A, N>, SeatFault>
+    pub fn seat<R: Wait>(&self, rt: &R, _alloc: A) -> Result<Seat<'_, J, A, N>, SeatFault>
         ensures seat { IfOk result (λ s. (s.share.mine ≡ []) × (s.share.closed ≡ false) × StartsWith s.share.seen N.opening) }
         ensures begun { IfOk result (λ s. s.share.begun ≡ 0) }
     {
@@ -98,7 +98,7 @@ impl<D: Disk, A: Allocator + Copy, N: Naming> Shared<D, A, N> {
     }
 
     /// The seat of a share again.
-    pub fn again(&self, share: Share<N, A>) -> Seat<'_, D, A, N>
+    pub fn again(&self, share: Share<N, A>) -> Seat<'_, J, A, N>
         ensures { result.share ≡ share }
     {
         Seat {
@@ -108,10 +108,11 @@ impl<D: Disk, A: Allocator + Copy, N: Naming> Shared<D, A, N> {
     }
 }
 
-impl<D: Disk, A: Allocator + Copy, N: Naming> Seat<'_, D, A, N> {
+impl<J: Recorder, A: Allocator + Copy, N: Naming> Seat<'_, J, A, N> {
     /// Reports. The receipt has the verdict and the place of the report's entry in the history.
     ///
-    /// The faults: `Depth` or `States` where judging met that limit; `History` at 1,000,000 entries; `Turn` where the history has
+    /// The faults: `Depth` or `States` where judging met that limit; `History` at 1,000,000 entries, or where names are kept as their bodies at 2^62, or at
+    /// 4,294,967,294 of this seat; `Turn` where the history has
     /// other calls of this seat than its own; `Journal` where the disk failed, which closes the session; `Closed` from then on;
     /// `Memory`.
     pub fn report<R: Wait>(&mut self, rt: &R, report: Report) -> Result<Receipt, Fault>
@@ -127,7 +128,8 @@ impl<D: Disk, A: Allocator + Copy, N: Naming> Seat<'_, D, A, N> {
     pub fn turn<R: Wait>(&mut self, rt: &R, reports: &[Report], verdicts: &mut [bool]) -> Round
         requires reports { AllByRecursion (IsReport N.spec.alphabet) reports.now }
         requires count { (0 < length reports.now) × (length reports.now ≤ GROUP) × (length reports.now ≤ length verdicts.old) }
-        ensures count { (result.count ≤ length reports.now) × (result.place + result.count ≤ 1000001) }
+        ensures count { (result.count ≤ length reports.now) × (result.place + result.count ≤ 2 ^ 62 + 1) }
+        ensures limit { result.place + result.count ≤ suc (limit_of N.spec.names) }
         ensures left { IfSome result.fault (λ _. result.count < length reports.now) }
         ensures came { CameTo N.spec self.old.share reports.now verdicts.new result.count result.place result.fault self.new.share }
         ensures room { length verdicts.new ≡ length verdicts.old }

@@ -1,6 +1,6 @@
 //! What a seat knows and has done.
 
-ghost use Rattle.std.specs.Prelude.{◌≡◌, ◌↔◌, ◌≤◌, ◌<◌, ◌+◌, ◌++◌, ◌∷◌, [], length, true, false, ℕ, IsTrue, None, Some, IfOk, IfErr, IfSome, is_some, ◌⊎◌};
+ghost use Rattle.std.specs.Prelude.{◌≡◌, ◌↔◌, ◌≤◌, ◌<◌, ◌+◌, ◌^◌, ◌++◌, ◌∷◌, [], length, suc, true, false, ℕ, IsTrue, None, Some, IfOk, IfErr, IfSome, is_some, ◌⊎◌};
 ghost use Rattle.alphabet.specs.declared.events.Event.{Event};
 ghost use Rattle.alphabet.specs.EventSets.{member};
 ghost use Rattle.term.specs.Meaning.{Trace};
@@ -8,7 +8,7 @@ ghost use Rattle.term.specs.Proc.{bodies_of, root};
 ghost use Rattle.locked.specs.Reports.{IsReport};
 ghost use Rattle.term.specs.Specs.{IsClosed};
 ghost use Rattle.locked.specs.Entries.{calls, events, summary_of};
-ghost use Rattle.locked.specs.Legal.{Legal};
+ghost use Rattle.locked.specs.Legal.{Legal, limit_of};
 ghost use Rattle.locked.specs.SessionView.{IsOf};
 ghost use Rattle.locked.specs.Beginnings.{StartsWith};
 ghost use Rattle.shared.specs.Faults.{closes};
@@ -20,8 +20,9 @@ use crate::seat::Shared;
 use crate::turns::{locked_for, named_at, take_turn};
 use alphabet::{EventSet, Report};
 use core::mem::replace_with;
-use disk::Disk;
-use locked::{Counts, Failed, Fault, Looker, NameFault, Naming, SeatNumber, Summary, is_of, look};
+use locked::{
+    Counts, Failed, Fault, Looker, NameFault, Naming, Recorder, SeatNumber, Summary, is_of, look,
+};
 use std::alloc::Allocator;
 use std::marker::Model;
 use std::sync::{MutexGuard, Wait, ledger};
@@ -111,7 +112,7 @@ impl<N: Naming, A: Allocator> Model for Share<N, A> {
         × (s.part.amount + s.begun ≡ s.answered + s.lost)
         × (s.failed ≡ None → s.lost ≡ 0)
         × (s.lost ≤ GROUP)
-        × (s.answered ≤ 1000000)
+        × (s.answered ≤ 4294967294)
         × (s.begun ≤ s.answered) };
 }
 
@@ -151,7 +152,7 @@ fn closed_by(fault: Option<Fault>) -> Option<Failed>
 // How many entries of the settled list are seen: all where a report was refused after it, or those up to the last of so many from this place
 // on.
 fn seen_by<N: Naming>(counts: &Counts<N>, place: u64, count: u32, fault: Option<Fault>) -> u64
-    requires { (0 < place) × (place + count ≤ 1000001) }
+    requires { (0 < place) × (place + count ≤ 2 ^ 62 + 1) }
     ensures all { IfSome fault (λ _. result ≡ length (N.opening ++ counts.now)) }
     ensures last { fault ≡ None → result + 1 ≡ place + count }
 {
@@ -275,16 +276,17 @@ impl<N: Naming, A: Allocator> Share<N, A> {
 impl<N: Naming, A: Allocator + Copy> Share<N, A> {
     /// Some reports, one after the other, in one turn under the lock: judged up to the first that is refused, and answered once their entries
     /// are settled. The first verdicts are then those of the receipts.
-    pub(crate) fn turn<D: Disk, R: Wait>(
+    pub(crate) fn turn<J: Recorder, R: Wait>(
         &mut self,
         rt: &R,
-        shared: &Shared<D, A, N>,
+        shared: &Shared<J, A, N>,
         reports: &[Report],
         verdicts: &mut [bool],
     ) -> Round
         requires reports { AllByRecursion (IsReport N.spec.alphabet) reports.now }
         requires count { (0 < length reports.now) × (length reports.now ≤ GROUP) × (length reports.now ≤ length verdicts.old) }
-        ensures count { (result.count ≤ length reports.now) × (result.place + result.count ≤ 1000001) }
+        ensures count { (result.count ≤ length reports.now) × (result.place + result.count ≤ 2 ^ 62 + 1) }
+        ensures limit { result.place + result.count ≤ suc (limit_of N.spec.names) }
         ensures left { IfSome result.fault (λ _. result.count < length reports.now) }
         ensures came { CameTo N.spec self.old reports.now verdicts.new result.count result.place result.fault self.new }
         ensures room { length verdicts.new ≡ length verdicts.old }
@@ -326,10 +328,10 @@ impl<N: Naming, A: Allocator + Copy> Share<N, A> {
     }
 
     /// A report: judged under the lock, and answered once it is settled.
-    pub(crate) fn report<D: Disk, R: Wait>(
+    pub(crate) fn report<J: Recorder, R: Wait>(
         &mut self,
         rt: &R,
-        shared: &Shared<D, A, N>,
+        shared: &Shared<J, A, N>,
         report: Report,
     ) -> Result<Receipt, Fault>
         requires { IsReport N.spec.alphabet report }
@@ -349,10 +351,10 @@ impl<N: Naming, A: Allocator + Copy> Share<N, A> {
 
     /// Takes a name, where the seat has none and has reported nothing, and no connection has that name. The answer is how many entries of the
     /// name stand in the settled history, which is then what was seen.
-    pub(crate) fn identify<D: Disk, R: Wait>(
+    pub(crate) fn identify<J: Recorder, R: Wait>(
         &mut self,
         rt: &R,
-        shared: &Shared<D, A, N>,
+        shared: &Shared<J, A, N>,
         name: SeatNumber,
     ) -> Result<u32, NameFault>
         ensures named { IfOk result (λ count. Named (bodies_of N.spec.bodies) self.old self.new name count) }
@@ -379,7 +381,11 @@ impl<N: Naming, A: Allocator + Copy> Share<N, A> {
     }
 
     /// The events that may come next after the settled history, which is then what was seen.
-    pub(crate) fn next<D: Disk, R: Wait>(&mut self, rt: &R, shared: &Shared<D, A, N>) -> EventSet
+    pub(crate) fn next<J: Recorder, R: Wait>(
+        &mut self,
+        rt: &R,
+        shared: &Shared<J, A, N>,
+    ) -> EventSet
         ensures next { (x : Event) → IsTrue (member result x) ↔ Trace (bodies_of N.spec.bodies) root (events self.new.seen ++ x ∷ []) }
         ensures seen { StartsWith self.new.seen self.old.seen × Legal (bodies_of N.spec.bodies) self.new.seen }
         ensures same { (self.new.seat ≡ self.old.seat) × (self.new.mine ≡ self.old.mine) × (self.new.closed ≡ self.old.closed) × (self.new.begun ≡ self.old.begun) }

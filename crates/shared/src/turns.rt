@@ -1,18 +1,18 @@
 //! How a seat's report is judged and settled under the lock, with those of other seats.
 
-ghost use Rattle.std.specs.Prelude.{◌≡◌, ◌≤◌, ◌<◌, ◌+◌, ◌++◌, length, take, None, IfOk, IfErr, IfSome};
+ghost use Rattle.std.specs.Prelude.{◌≡◌, ◌≤◌, ◌<◌, ◌+◌, ◌^◌, ◌++◌, length, suc, take, None, IfOk, IfErr, IfSome};
 ghost use Rattle.locked.specs.Entries.{calls};
 ghost use Rattle.std.specs.List.{AllByRecursion};
 ghost use Rattle.term.specs.Proc.{bodies_of};
 ghost use Rattle.locked.specs.Reports.{IsReport};
 ghost use Rattle.locked.specs.Beginnings.{StartsWith};
 ghost use Rattle.locked.specs.Groups.{HasEntries};
+ghost use Rattle.locked.specs.Legal.{limit_of};
 ghost use Rattle.shared.specs.Turns.{IsRefused};
 
 use crate::seat::Shared;
 use alphabet::Report;
-use disk::Disk;
-use locked::{Counts, Failed, Fault, Locked, NameFault, Naming, SeatNumber};
+use locked::{Counts, Failed, Fault, Locked, NameFault, Naming, Recorder, SeatNumber};
 use std::alloc::Allocator;
 use std::hint::spin_loop;
 use std::sync::atomic::Ordering;
@@ -49,10 +49,10 @@ fn pause(pauses: u32) {
 
 // Takes the lock. Most reports are over sooner than a thread that sleeps is woken. Where more threads wait than there are processors,
 // the one that holds the lock may be waiting for a processor.
-pub(crate) fn lock<'a, D: Disk, A: Allocator + Copy, N: Naming, R: Wait>(
+pub(crate) fn lock<'a, J: Recorder, A: Allocator + Copy, N: Naming, R: Wait>(
     rt: &R,
-    mutex: &'a Mutex<Locked<D, A, N>>,
-) -> MutexGuard<'a, Locked<D, A, N>> {
+    mutex: &'a Mutex<Locked<J, A, N>>,
+) -> MutexGuard<'a, Locked<J, A, N>> {
     for failed in 0..TRIES {
         if let Some(locked) = mutex.try_lock() {
             return locked;
@@ -67,10 +67,10 @@ pub(crate) fn lock<'a, D: Disk, A: Allocator + Copy, N: Naming, R: Wait>(
 }
 
 // The lock, where the settled list is no shorter than what the seat knows. Otherwise it is released.
-fn once_no_shorter<'a, D: Disk, A: Allocator + Copy, N: Naming>(
+fn once_no_shorter<'a, J: Recorder, A: Allocator + Copy, N: Naming>(
     known: &Counts<N>,
-    locked: MutexGuard<'a, Locked<D, A, N>>,
-) -> Option<MutexGuard<'a, Locked<D, A, N>>>
+    locked: MutexGuard<'a, Locked<J, A, N>>,
+) -> Option<MutexGuard<'a, Locked<J, A, N>>>
     ensures { IfSome result (λ l. StartsWith l.value.settled known.now) }
 {
     if !locked.knows(known) {
@@ -81,11 +81,11 @@ fn once_no_shorter<'a, D: Disk, A: Allocator + Copy, N: Naming>(
 }
 
 // Takes the lock once the settled list is no shorter than what the seat knows. No seat knows more than that, so the first turn ends it.
-pub(crate) fn locked_for<'a, D: Disk, A: Allocator + Copy, N: Naming, R: Wait>(
+pub(crate) fn locked_for<'a, J: Recorder, A: Allocator + Copy, N: Naming, R: Wait>(
     rt: &R,
-    shared: &'a Shared<D, A, N>,
+    shared: &'a Shared<J, A, N>,
     known: &Counts<N>,
-) -> MutexGuard<'a, Locked<D, A, N>>
+) -> MutexGuard<'a, Locked<J, A, N>>
     ensures { StartsWith result.value.settled known.now }
 {
     for _ in rt.forever() {
@@ -97,11 +97,11 @@ pub(crate) fn locked_for<'a, D: Disk, A: Allocator + Copy, N: Naming, R: Wait>(
 }
 
 // Takes the lock to judge. Until then the thread is counted, so that whoever has judged leaves the settling to it.
-fn locked_to_judge<'a, D: Disk, A: Allocator + Copy, N: Naming, R: Wait>(
+fn locked_to_judge<'a, J: Recorder, A: Allocator + Copy, N: Naming, R: Wait>(
     rt: &R,
-    shared: &'a Shared<D, A, N>,
+    shared: &'a Shared<J, A, N>,
     known: &Counts<N>,
-) -> MutexGuard<'a, Locked<D, A, N>>
+) -> MutexGuard<'a, Locked<J, A, N>>
     ensures { StartsWith result.value.settled known.now }
 {
     shared.judging.fetch_add(1, Ordering::SeqCst);
@@ -112,10 +112,10 @@ fn locked_to_judge<'a, D: Disk, A: Allocator + Copy, N: Naming, R: Wait>(
 }
 
 // Settles all that is offered, and wakes those that wait for it.
-fn settle<D: Disk, A: Allocator + Copy, N: Naming, R: Wait>(
+fn settle<J: Recorder, A: Allocator + Copy, N: Naming, R: Wait>(
     rt: &R,
-    shared: &Shared<D, A, N>,
-    locked: &mut Locked<D, A, N>,
+    shared: &Shared<J, A, N>,
+    locked: &mut Locked<J, A, N>,
 )
     ensures entries { locked.new.entries ≡ locked.old.entries }
     ensures longer { StartsWith locked.new.settled locked.old.settled }
@@ -129,11 +129,11 @@ fn settle<D: Disk, A: Allocator + Copy, N: Naming, R: Wait>(
 
 // Waits for a moment, where more than one thread has judged between the last two settlings, and fewer have since: those whose replies
 // came by the last one may be about to report again. The lock is released meanwhile.
-fn await_others<'a, D: Disk, A: Allocator + Copy, N: Naming, R: Wait>(
+fn await_others<'a, J: Recorder, A: Allocator + Copy, N: Naming, R: Wait>(
     rt: &R,
-    shared: &'a Shared<D, A, N>,
-    locked: MutexGuard<'a, Locked<D, A, N>>,
-) -> MutexGuard<'a, Locked<D, A, N>> {
+    shared: &'a Shared<J, A, N>,
+    locked: MutexGuard<'a, Locked<J, A, N>>,
+) -> MutexGuard<'a, Locked<J, A, N>> {
     let crowd = shared.crowd.load(Ordering::SeqCst);
     if crowd < 2 || shared.turns.load(Ordering::SeqCst) >= crowd {
         return locked;
@@ -148,11 +148,11 @@ fn await_others<'a, D: Disk, A: Allocator + Copy, N: Naming, R: Wait>(
 
 // Waits for the next settling. The lock is released meanwhile. Where syncs are fast, all is settled by the time that the threads which are
 // ready have run once, sooner than one that sleeps is woken.
-fn await_settling<'a, D: Disk, A: Allocator + Copy, N: Naming, R: Wait>(
+fn await_settling<'a, J: Recorder, A: Allocator + Copy, N: Naming, R: Wait>(
     rt: &R,
-    shared: &'a Shared<D, A, N>,
-    locked: MutexGuard<'a, Locked<D, A, N>>,
-) -> MutexGuard<'a, Locked<D, A, N>> {
+    shared: &'a Shared<J, A, N>,
+    locked: MutexGuard<'a, Locked<J, A, N>>,
+) -> MutexGuard<'a, Locked<J, A, N>> {
     let seen = shared.woken.notifications();
     MutexGuard::unlock(locked);
     for _ in 0..LOOKS {
@@ -169,12 +169,12 @@ fn await_settling<'a, D: Disk, A: Allocator + Copy, N: Naming, R: Wait>(
 
 // Waits until so many entries are settled, or the session is closed. Where nobody waits to judge, it settles all itself; otherwise the last of
 // those does.
-fn await_len<'a, D: Disk, A: Allocator + Copy, N: Naming, R: Wait>(
+fn await_len<'a, J: Recorder, A: Allocator + Copy, N: Naming, R: Wait>(
     rt: &R,
-    shared: &'a Shared<D, A, N>,
-    locked: MutexGuard<'a, Locked<D, A, N>>,
+    shared: &'a Shared<J, A, N>,
+    locked: MutexGuard<'a, Locked<J, A, N>>,
     len: u64,
-) -> MutexGuard<'a, Locked<D, A, N>> {
+) -> MutexGuard<'a, Locked<J, A, N>> {
     let mut locked = locked;
     let mut settles = shared.judging.load(Ordering::SeqCst) == 0;
     if settles {
@@ -194,11 +194,12 @@ fn await_len<'a, D: Disk, A: Allocator + Copy, N: Naming, R: Wait>(
     unreachable!()
 }
 
-// Waits until the entries of these reports of the seat are settled, from this place on. `Err` where the session was closed before.
-fn await_settled<'a, D: Disk, A: Allocator + Copy, N: Naming, R: Wait>(
+// Waits until the entries of these reports of the seat are settled, from this place on; where too many seats wait, it settles them itself.
+// `Err` where the session was closed before.
+fn await_settled<'a, J: Recorder, A: Allocator + Copy, N: Naming, R: Wait>(
     rt: &R,
-    shared: &'a Shared<D, A, N>,
-    locked: MutexGuard<'a, Locked<D, A, N>>,
+    shared: &'a Shared<J, A, N>,
+    locked: MutexGuard<'a, Locked<J, A, N>>,
     known: &Counts<N>,
     place: u64,
     seat: SeatNumber,
@@ -206,7 +207,7 @@ fn await_settled<'a, D: Disk, A: Allocator + Copy, N: Naming, R: Wait>(
     reports: &[Report],
     verdicts: &mut [bool],
 ) -> Result<Counts<N>, Failed>
-    requires place { (0 < place) × (place ≤ 1000001) }
+    requires place { (0 < place) × (place ≤ 2 ^ 62 + 1) }
     requires number { number + length reports.now ≤ 4294967295 }
     requires room { length reports.now ≤ length verdicts.old }
     ensures found { IfOk result (λ c. HasEntries (N.opening ++ c) place seat number reports.now (take (length reports.now) verdicts.new)) }
@@ -215,15 +216,22 @@ fn await_settled<'a, D: Disk, A: Allocator + Copy, N: Naming, R: Wait>(
 {
     let len = place - 1 + reports.len() as u64;
     let mut locked = locked;
+    let Some(waits) = locked.wait(place) else {
+        return settled_at_once(
+            rt, shared, locked, known, place, seat, number, reports, verdicts,
+        );
+    };
     for _ in rt.forever() {
         locked = await_len(rt, shared, locked, len);
         if let Some(counts) = locked.found(place, seat, number, reports, verdicts) {
             if known.front().begins(counts.front()) {
+                locked.end_wait(waits);
                 MutexGuard::unlock(locked);
                 return Ok(counts);
             }
         }
         if let Some(failed) = locked.failed() {
+            locked.end_wait(waits);
             MutexGuard::unlock(locked);
             return Err(failed);
         }
@@ -233,10 +241,10 @@ fn await_settled<'a, D: Disk, A: Allocator + Copy, N: Naming, R: Wait>(
 
 // Settles all, since a report of this seat was refused: so what is told of it is told of the settled history, in which the entries of those
 // before it stand from this place on. `Err` where the session is closed.
-fn settled_at_once<'a, D: Disk, A: Allocator + Copy, N: Naming, R: Wait>(
+fn settled_at_once<'a, J: Recorder, A: Allocator + Copy, N: Naming, R: Wait>(
     rt: &R,
-    shared: &'a Shared<D, A, N>,
-    locked: MutexGuard<'a, Locked<D, A, N>>,
+    shared: &'a Shared<J, A, N>,
+    locked: MutexGuard<'a, Locked<J, A, N>>,
     known: &Counts<N>,
     place: u64,
     seat: SeatNumber,
@@ -244,7 +252,7 @@ fn settled_at_once<'a, D: Disk, A: Allocator + Copy, N: Naming, R: Wait>(
     reports: &[Report],
     verdicts: &mut [bool],
 ) -> Result<Counts<N>, Failed>
-    requires place { (0 < place) × (place ≤ 1000001) }
+    requires place { (0 < place) × (place ≤ 2 ^ 62 + 1) }
     requires number { number + length reports.now ≤ 4294967295 }
     requires room { length reports.now ≤ length verdicts.old }
     ensures found { IfOk result (λ c. HasEntries (N.opening ++ c) place seat number reports.now (take (length reports.now) verdicts.new)) }
@@ -270,8 +278,8 @@ fn settled_at_once<'a, D: Disk, A: Allocator + Copy, N: Naming, R: Wait>(
 }
 
 // Offers reports of a seat one after the other, until one is refused. The answer is how many were taken, and why the next one wasn't.
-fn offer_all<D: Disk, A: Allocator + Copy, N: Naming>(
-    locked: &mut Locked<D, A, N>,
+fn offer_all<J: Recorder, A: Allocator + Copy, N: Naming>(
+    locked: &mut Locked<J, A, N>,
     seat: SeatNumber,
     number: u32,
     reports: &[Report],
@@ -279,13 +287,15 @@ fn offer_all<D: Disk, A: Allocator + Copy, N: Naming>(
 ) -> (u32, Option<Fault>)
     requires part { 0 < part.old.parts }
     requires reports { AllByRecursion (IsReport N.spec.alphabet) reports.now }
-    requires number { number + length reports.now ≤ 4294967295 }
-    requires small { length locked.old.entries ≤ 1000000 }
+    requires limit { length locked.old.entries ≤ limit_of N.spec.names }
+    requires small { length locked.old.entries ≤ 2 ^ 62 }
     ensures count { result.0 ≤ length reports.now }
     ensures counted { part.new.amount ≡ part.old.amount + result.0 }
     ensures parts { part.new.parts ≡ part.old.parts }
     ensures entries { length locked.new.entries ≡ length locked.old.entries + result.0 }
-    ensures small { length locked.new.entries ≤ 1000000 }
+    ensures limit { length locked.new.entries ≤ limit_of N.spec.names }
+    ensures small { length locked.new.entries ≤ 2 ^ 62 }
+    ensures numbers { number + result.0 ≤ 4294967295 }
     ensures settled { locked.new.settled ≡ locked.old.settled }
     ensures all { result.1 ≡ None → result.0 ≡ length reports.now }
     ensures refused { IfSome result.1 (IsRefused N.spec locked.new.entries seat number reports.now result.0) }
@@ -315,9 +325,9 @@ pub(crate) struct Turn<N: Naming> {
 
 /// Reports of a seat that knows this much are judged in one turn under the lock, up to the first that is refused, and settled with all that
 /// is offered. `Err` where the session is closed, with how many of them were offered and lost.
-pub(crate) fn take_turn<D: Disk, A: Allocator + Copy, N: Naming, R: Wait>(
+pub(crate) fn take_turn<J: Recorder, A: Allocator + Copy, N: Naming, R: Wait>(
     rt: &R,
-    shared: &Shared<D, A, N>,
+    shared: &Shared<J, A, N>,
     known: &Counts<N>,
     seat: SeatNumber,
     number: u32,
@@ -327,11 +337,12 @@ pub(crate) fn take_turn<D: Disk, A: Allocator + Copy, N: Naming, R: Wait>(
 ) -> Result<Turn<N>, (Failed, u32)>
     requires part { 0 < part.old.parts }
     requires reports { AllByRecursion (IsReport N.spec.alphabet) reports.now }
-    requires number { number + length reports.now ≤ 4294967295 }
     requires room { length reports.now ≤ length verdicts.old }
     ensures found { IfOk result (λ t. HasEntries (N.opening ++ t.counts) t.place seat number (take t.count reports.now) (take t.count verdicts.new)) }
     ensures count { IfOk result (λ t. (t.count ≤ length reports.now) × (t.fault ≡ None → t.count ≡ length reports.now)) }
-    ensures later { IfOk result (λ t. (length (N.opening ++ known.now) < t.place) × StartsWith t.counts known.now × (t.place + t.count ≤ 1000001)) }
+    ensures later { IfOk result (λ t. (length (N.opening ++ known.now) < t.place) × StartsWith t.counts known.now × (t.place + t.count ≤ 2 ^ 62 + 1)) }
+    ensures limit { IfOk result (λ t. t.place + t.count ≤ suc (limit_of N.spec.names)) }
+    ensures numbers { IfOk result (λ t. number + t.count ≤ 4294967295) }
     ensures counted { IfOk result (λ t. part.new.amount ≡ part.old.amount + t.count) }
     ensures refused { IfOk result (λ t. IfSome t.fault (IsRefused N.spec (N.opening ++ t.counts) seat number reports.now t.count)) }
     ensures lost { IfErr result (λ f. (part.new.amount ≡ part.old.amount + f.1) × (f.1 ≤ length reports.now)) }
@@ -363,15 +374,15 @@ pub(crate) fn take_turn<D: Disk, A: Allocator + Copy, N: Naming, R: Wait>(
 
 // Gives a name to a seat that has another number so far and has reported nothing, once all that is offered is settled. The answer is how
 // many entries of the name the settled list has with the opening, and that list.
-fn name_under<D: Disk, A: Allocator + Copy, N: Naming, R: Wait>(
+fn name_under<J: Recorder, A: Allocator + Copy, N: Naming, R: Wait>(
     rt: &R,
-    shared: &Shared<D, A, N>,
-    locked: &mut Locked<D, A, N>,
+    shared: &Shared<J, A, N>,
+    locked: &mut Locked<J, A, N>,
     name: SeatNumber,
     former: SeatNumber,
 ) -> Result<(u32, Counts<N>), NameFault>
     ensures later { IfOk result (λ n. StartsWith n.1 locked.old.settled) }
-    ensures count { IfOk result (λ n. (n.0 ≡ length (calls (N.opening ++ n.1) name)) × (n.0 ≤ 1000000)) }
+    ensures count { IfOk result (λ n. (n.0 ≡ length (calls (N.opening ++ n.1) name)) × (n.0 < 4294967295)) }
 {
     settle(rt, shared, locked);
     match locked.name(name, former) {
@@ -381,15 +392,15 @@ fn name_under<D: Disk, A: Allocator + Copy, N: Naming, R: Wait>(
 }
 
 /// The same for a seat that knows this much, under the lock.
-pub(crate) fn named_at<D: Disk, A: Allocator + Copy, N: Naming, R: Wait>(
+pub(crate) fn named_at<J: Recorder, A: Allocator + Copy, N: Naming, R: Wait>(
     rt: &R,
-    shared: &Shared<D, A, N>,
+    shared: &Shared<J, A, N>,
     known: &Counts<N>,
     name: SeatNumber,
     former: SeatNumber,
 ) -> Result<(u32, Counts<N>), NameFault>
     ensures later { IfOk result (λ n. StartsWith n.1 known.now) }
-    ensures count { IfOk result (λ n. (n.0 ≡ length (calls (N.opening ++ n.1) name)) × (n.0 ≤ 1000000)) }
+    ensures count { IfOk result (λ n. (n.0 ≡ length (calls (N.opening ++ n.1) name)) × (n.0 < 4294967295)) }
 {
     let mut locked = locked_for(rt, shared, known);
     let named = name_under(rt, shared, &mut locked, name, former);

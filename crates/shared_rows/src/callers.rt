@@ -2,11 +2,10 @@
 
 use crate::held::Gate;
 use alphabet::{Event, EventSet, Report};
-use disk::Disk;
-use journal::{Journal, Prepared};
+use journal::Prepared;
 use shared::{
-    Counts, Entry, Failed, Names, Naming, Publisher, Receipt, SeatNumber, Share, Shared, Source,
-    Spine, Summary, crosses, legal_crosses,
+    Counts, Entry, Failed, Names, Naming, Publisher, Receipt, Recorder, SeatNumber, Share, Shared,
+    Source, Spine, Summary, Waiting, crosses, legal_crosses,
 };
 use std::alloc::{AllocError, Global};
 use std::sync::{Wait, ledger};
@@ -61,10 +60,10 @@ fn is_of(receipt: &Receipt, index: usize, entry: &Entry) -> bool {
 }
 
 /// Reports tick so many times. A receipt for which there is no memory is left out, and so the history doesn't explain the others.
-fn ticks<D: Disk, N: Naming, T: Wait>(
+fn ticks<J: Recorder, N: Naming, T: Wait>(
     rt: &T,
     alloc: Global,
-    shared: &Shared<D, Global, N>,
+    shared: &Shared<J, Global, N>,
     share: Share<N, Global>,
     times: usize,
 ) -> (Share<N, Global>, Vec<Receipt, Global>) {
@@ -79,10 +78,10 @@ fn ticks<D: Disk, N: Naming, T: Wait>(
 }
 
 /// Looks while a sync is held. Sees nothing where none is.
-fn look_meanwhile<D: Disk, N: Naming, C: Clock>(
+fn look_meanwhile<J: Recorder, N: Naming, C: Clock>(
     clock: &C,
     gate: &Gate,
-    shared: &Shared<D, Global, N>,
+    shared: &Shared<J, Global, N>,
     share: Share<N, Global>,
 ) -> (Share<N, Global>, Option<u64>) {
     if !gate.is_held(clock) {
@@ -95,11 +94,11 @@ fn look_meanwhile<D: Disk, N: Naming, C: Clock>(
 }
 
 /// Does what the caller is to do.
-fn run<D: Disk, N: Naming, T: Wait + Clock>(
+fn run<J: Recorder, N: Naming, T: Wait + Clock>(
     rt: &T,
     alloc: Global,
     gate: &Gate,
-    shared: &Shared<D, Global, N>,
+    shared: &Shared<J, Global, N>,
     caller: Caller<N>,
 ) -> (Share<N, Global>, Answers) {
     let Caller { share, task } = caller;
@@ -123,16 +122,20 @@ fn run<D: Disk, N: Naming, T: Wait + Clock>(
 }
 
 /// Runs each caller on a thread of its own, in the order of the list where no thread can be made.
-pub(crate) fn run_all<D: Disk + Send, N: Naming + Send + Sync, R: Threads + Wait + Clock + Sync>(
+pub(crate) fn run_all<
+    J: Recorder + Send,
+    N: Naming + Send + Sync,
+    R: Threads + Wait + Clock + Sync,
+>(
     rt: &R,
     alloc: Global,
     gate: &Gate,
-    shared: &Shared<D, Global, N>,
+    shared: &Shared<J, Global, N>,
     callers: Vec<Caller<N>, Global>,
 ) -> Result<Vec<(Share<N, Global>, Answers), Global>, AllocError> {
     // The parts of what lies under the lock: the proof that the whole may go to another thread asks for each.
     legal_crosses();
-    crosses::<Journal<D>>();
+    crosses::<J>();
     crosses::<Option<Failed>>();
     crosses::<Spine<N>>();
     crosses::<Counts<N>>();
@@ -144,6 +147,7 @@ pub(crate) fn run_all<D: Disk + Send, N: Naming + Send + Sync, R: Threads + Wait
     crosses::<EventSet>();
     crosses::<Summary>();
     crosses::<Names>();
+    crosses::<Waiting>();
     let each = |caller: Caller<N>| run(rt, alloc, gate, shared, caller);
     map_vec(rt, callers, &each)
 }

@@ -6,6 +6,7 @@ ghost use Rattle.alphabet.specs.Channels.{event_count};
 use crate::ends::{put_kept, put_session, put_talk, put_unopened};
 use alphabet::Alphabet;
 use disk::Disk;
+use journal::Journal;
 use memory_disks::{Afterwards, FaultDisk};
 use rows::{Output, first_word, number_of, parts};
 use seats::{ServiceJudge, copy_of, refusal_of};
@@ -43,7 +44,7 @@ impl<'a> Visits<'a> {
 /// A seat comes. It is the last one of the list then.
 fn come<D: Disk, N: Naming, T: Wait>(
     rt: &T,
-    shared: &Shared<D, Global, N>,
+    shared: &Shared<Journal<D>, Global, N>,
     places: &mut Places<N>,
     shares: &mut Vec<Share<N, Global>, Global>,
     out: &mut Output,
@@ -65,7 +66,7 @@ fn come<D: Disk, N: Naming, T: Wait>(
 fn talk_at<D: Disk, N: Naming, T: Wait>(
     rt: &T,
     alloc: Global,
-    shared: &Shared<D, Global, N>,
+    shared: &Shared<Journal<D>, Global, N>,
     share: Share<N, Global>,
     alphabet: &Alphabet<Global>,
     input: &str,
@@ -86,7 +87,7 @@ fn talk_at<D: Disk, N: Naming, T: Wait>(
 fn act<D: Disk, N: Naming, T: Wait>(
     rt: &T,
     alloc: Global,
-    shared: &Shared<D, Global, N>,
+    shared: &Shared<Journal<D>, Global, N>,
     places: &mut Places<N>,
     shares: &mut Vec<Share<N, Global>, Global>,
     alphabet: &Alphabet<Global>,
@@ -118,7 +119,7 @@ fn act<D: Disk, N: Naming, T: Wait>(
 fn play_all<D: Disk, N: Naming, T: Wait>(
     rt: &T,
     alloc: Global,
-    shared: &Shared<D, Global, N>,
+    shared: &Shared<Journal<D>, Global, N>,
     places: &mut Places<N>,
     shares: &mut Vec<Share<N, Global>, Global>,
     alphabet: &Alphabet<Global>,
@@ -155,7 +156,7 @@ fn serve<D: Disk + Drop, N: Naming, T: Wait>(
     requires events { event_count N.spec.alphabet ≡ event_count alphabet.now }
     requires places { (0 < visits.now.places) × (visits.now.places ≤ 64) }
 {
-    let Ok((shared, places)) = Shared::<D, Global, N>::service(
+    let Ok((shared, places)) = Shared::<Journal<D>, Global, N>::service(
         rt,
         alloc,
         session,

@@ -7,6 +7,7 @@ use crate::ends::{put_kept, put_looks, put_session, put_talk, put_unopened};
 use crate::memory::Memory;
 use alphabet::Alphabet;
 use disk::Disk;
+use journal::Journal;
 use rows::{Output, first_word, number_of, parts};
 use seats::{SeatJudge, copy_of, refusal_of};
 use shared::{Naming, Opened, Session, Share, Shared};
@@ -46,7 +47,7 @@ impl<'a> Talks<'a> {
 /// Appends what comes of a conversation.
 fn talk<D: Disk, A: Allocator + Copy + Drop, N: Naming, T: Wait>(
     alloc: A,
-    judge: &mut SeatJudge<'_, D, A, N, T>,
+    judge: &mut SeatJudge<'_, Journal<D>, A, N, T>,
     alphabet: &Alphabet<A>,
     input: &str,
     out: &mut Output,
@@ -64,7 +65,7 @@ fn talk<D: Disk, A: Allocator + Copy + Drop, N: Naming, T: Wait>(
 fn talk_at<D: Disk, A: Allocator + Copy + Drop, N: Naming, T: Wait>(
     rt: &T,
     alloc: A,
-    shared: &Shared<D, A, N>,
+    shared: &Shared<Journal<D>, A, N>,
     share: Share<N, A>,
     alphabet: &Alphabet<A>,
     input: &str,
@@ -81,7 +82,7 @@ fn talk_at<D: Disk, A: Allocator + Copy + Drop, N: Naming, T: Wait>(
 fn talk_with<D: Disk, A: Allocator + Copy + Drop, N: Naming, T: Wait>(
     rt: &T,
     alloc: A,
-    shared: &Shared<D, A, N>,
+    shared: &Shared<Journal<D>, A, N>,
     shares: &mut Vec<Share<N, A>, A>,
     place: usize,
     alphabet: &Alphabet<A>,
@@ -104,7 +105,7 @@ fn talk_with<D: Disk, A: Allocator + Copy + Drop, N: Naming, T: Wait>(
 fn talk_all<D: Disk, A: Allocator + Copy + Drop, N: Naming, T: Wait>(
     rt: &T,
     alloc: A,
-    shared: &Shared<D, A, N>,
+    shared: &Shared<Journal<D>, A, N>,
     shares: &mut Vec<Share<N, A>, A>,
     alphabet: &Alphabet<A>,
     inputs: &str,
@@ -125,7 +126,7 @@ fn talk_all<D: Disk, A: Allocator + Copy + Drop, N: Naming, T: Wait>(
 fn take_places<D: Disk, A: Allocator + Copy, N: Naming, T: Wait>(
     rt: &T,
     alloc: A,
-    shared: &Shared<D, A, N>,
+    shared: &Shared<Journal<D>, A, N>,
     shares: &mut Vec<Share<N, A>, A>,
     places: u64,
 ) -> Option<Fault> {
@@ -144,7 +145,7 @@ fn take_places<D: Disk, A: Allocator + Copy, N: Naming, T: Wait>(
 fn put_refusal<D: Disk, A: Allocator + Copy, N: Naming, T: Wait>(
     rt: &T,
     alloc: A,
-    shared: &Shared<D, A, N>,
+    shared: &Shared<Journal<D>, A, N>,
     out: &mut Output,
 ) {
     match shared.seat(rt, alloc) {
@@ -160,7 +161,7 @@ fn put_refusal<D: Disk, A: Allocator + Copy, N: Naming, T: Wait>(
 /// Appends what each seat answers without a report.
 fn look_at_all<D: Disk, A: Allocator + Copy, N: Naming, T: Wait>(
     rt: &T,
-    shared: &Shared<D, A, N>,
+    shared: &Shared<Journal<D>, A, N>,
     shares: &mut Vec<Share<N, A>, A>,
     alphabet: &Alphabet<A>,
     out: &mut Output,
@@ -178,7 +179,7 @@ fn look_at_all<D: Disk, A: Allocator + Copy, N: Naming, T: Wait>(
 fn talk_in_turn<D: Disk, A: Allocator + Copy + Drop, N: Naming, T: Wait>(
     rt: &T,
     alloc: A,
-    shared: &Shared<D, A, N>,
+    shared: &Shared<Journal<D>, A, N>,
     shares: &mut Vec<Share<N, A>, A>,
     alphabet: &Alphabet<A>,
     talks: &Talks,
@@ -227,7 +228,7 @@ fn share<D: Disk + Drop, A: Allocator + Copy + Drop, N: Naming, T: Wait>(
     requires places { (0 < talks.now.places) × (talks.now.places ≤ 64) }
 {
     let mut shares = Vec::new(alloc);
-    match Shared::<D, A, N>::new(rt, alloc, session, opened, blank, talks.places) {
+    match Shared::<Journal<D>, A, N>::new(rt, alloc, session, opened, blank, talks.places) {
         Ok(shared) => {
             if shares.reserve(talks.places as usize).is_ok() {
                 talk_in_turn(

@@ -9,7 +9,7 @@ use crate::held::{Gate, HeldDisk};
 use disk::Disk;
 use memory_disks::MemoryDisk;
 use rows::{Output, first_word, number_of};
-use shared::{Entry, Naming, Opened, Session, Share, Shared};
+use shared::{Entry, Naming, Opened, Recorder, Session, SessionOn, Share, Shared};
 use std::alloc::{AllocError, Global};
 use std::marker::Brand;
 use std::sync::Wait;
@@ -43,10 +43,10 @@ impl Plan {
 }
 
 /// A place for each task.
-fn callers_of<D: Disk, N: Naming, T: Wait>(
+fn callers_of<J: Recorder, N: Naming, T: Wait>(
     rt: &T,
     alloc: Global,
-    shared: &Shared<D, Global, N>,
+    shared: &Shared<J, Global, N>,
     tasks: &[Task],
 ) -> Result<Vec<Caller<N>, Global>, AllocError> {
     let mut callers = Vec::new(alloc);
@@ -63,11 +63,11 @@ fn callers_of<D: Disk, N: Naming, T: Wait>(
 }
 
 /// Gives each task its place, arms the gate, and runs them all.
-fn done_at<D: Disk + Send, N: Naming + Send + Sync, T: Threads + Wait + Clock + Sync>(
+fn done_at<J: Recorder + Send, N: Naming + Send + Sync, T: Threads + Wait + Clock + Sync>(
     rt: &T,
     alloc: Global,
     gate: &Gate,
-    shared: &Shared<D, Global, N>,
+    shared: &Shared<J, Global, N>,
     tasks: &[Task],
 ) -> Result<Vec<(Share<N, Global>, Answers), Global>, AllocError> {
     let callers = callers_of(rt, alloc, shared, tasks)?;
@@ -92,11 +92,11 @@ fn part<N: Naming>(
 }
 
 /// Runs all tasks. Their answers, and so many of their shares, are appended to the lists.
-fn run_plan<D: Disk + Send, N: Naming + Send + Sync, T: Threads + Wait + Clock + Sync>(
+fn run_plan<J: Recorder + Send, N: Naming + Send + Sync, T: Threads + Wait + Clock + Sync>(
     rt: &T,
     alloc: Global,
     gate: &Gate,
-    shared: &Shared<D, Global, N>,
+    shared: &Shared<J, Global, N>,
     plan: &Plan,
     shares: &mut Vec<Share<N, Global>, Global>,
     all: &mut Vec<Answers, Global>,
@@ -107,9 +107,9 @@ fn run_plan<D: Disk + Send, N: Naming + Send + Sync, T: Threads + Wait + Clock +
 
 /// Appends how many reports were answered with a receipt, judged and rejected, whether the history explains all answers, and how many
 /// reports the status had that was looked at.
-fn put_end<D: Disk>(
+fn put_end<J: Recorder>(
     count: Option<u64>,
-    session: &Session<D, Global>,
+    session: &SessionOn<J, Global>,
     all: &[Answers],
     out: &mut Output,
 ) {
@@ -144,10 +144,10 @@ fn are_explained(all: &[Answers], history: &[Entry]) -> bool {
 }
 
 /// Appends what comes of the tasks at the seats of this shared session.
-fn put_shared<D: Disk + Drop + Send, N: Naming + Send + Sync, T: Threads + Wait + Clock + Sync>(
+fn put_shared<J: Recorder + Drop + Send, N: Naming + Send + Sync, T: Threads + Wait + Clock + Sync>(
     rt: &T,
     alloc: Global,
-    shared: Shared<D, Global, N>,
+    shared: Shared<J, Global, N>,
     gate: &Gate,
     plan: &Plan,
     out: &mut Output,
@@ -164,10 +164,10 @@ fn put_shared<D: Disk + Drop + Send, N: Naming + Send + Sync, T: Threads + Wait 
 }
 
 /// Appends what comes of the tasks at the seats of this session. The caller picks the names.
-fn share<D: Disk + Drop + Send, N: Naming + Send + Sync, T: Threads + Wait + Clock + Sync>(
+fn share<J: Recorder + Drop + Send, N: Naming + Send + Sync, T: Threads + Wait + Clock + Sync>(
     rt: &T,
     alloc: Global,
-    session: Session<D, Global>,
+    session: SessionOn<J, Global>,
     opened: Opened,
     blank: Blank,
     gate: &Gate,
@@ -178,7 +178,7 @@ fn share<D: Disk + Drop + Send, N: Naming + Send + Sync, T: Threads + Wait + Clo
     requires book { opened.seen.book ≡ N.book }
     requires ledger { (blank.name ≡ N.name) × (blank.parts ≡ N.parts) × (N.all ≡ N.parts) × (N.all ≡ 65) }
 {
-    match Shared::<D, Global, N>::new(rt, alloc, session, opened, blank, 4) {
+    match Shared::<J, Global, N>::new(rt, alloc, session, opened, blank, 4) {
         Ok(shared) => put_shared(rt, alloc, shared, gate, plan, out),
         Err(_) => out.is_cut = true,
     }

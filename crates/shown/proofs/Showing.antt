@@ -92,9 +92,9 @@ module _ (options : Options) (spec : Specified) (h : List Entry) (i : ℕ) (e : 
   pub place_here : (place : ℕ) → place ≡ i + 1 → place ≡ suc (length (take i h))
   place_here place at = omega (arith, at, length-take i h)
 
-  pub room_here : (text : List ℕ) (trace : List Event) (a r : List ℕ) (p : List Set) → IsJudged spec h → IsShown options spec (take i h) text trace a r p → IsTrue options.coverage → HasRoom a r p
-  room_here text trace a r p judged shown wanted =
-      room (event_count spec.alphabet) (take i h) shown.nexts a r p shown.same (omega (arith, length-take i h, judged.small)) (shown.counts_are wanted)
+  pub room_here : (text : List ℕ) (trace : List Event) (a r : List ℕ) (p : List Set) → length h ≤ 1000000 → IsShown options spec (take i h) text trace a r p → IsTrue options.coverage → HasRoom a r p
+  room_here text trace a r p small shown wanted =
+      room (event_count spec.alphabet) (take i h) shown.nexts a r p shown.same (omega (arith, length-take i h, small)) (shown.counts_are wanted)
 
   pub shown_next : (next : Set) (text text' : List ℕ) (trace trace' : List Event) (a r : List ℕ) (p : List Set) (a' r' : List ℕ) (p' : List Set) → IsShown options spec (take i h) text trace a r p →
       ((x : Event) → IsTrue (member next x) ↔ Trace B root (trace ++ x ∷ [])) →

@@ -1,6 +1,6 @@
 //! The text of a judged history.
 
-ghost use Rattle.std.specs.Prelude.{◌≡◌, ◌+◌, ◌<◌, ◌++◌, ℕ, List, Option, [], IfOk, OnOk, length, take};
+ghost use Rattle.std.specs.Prelude.{◌≡◌, ◌+◌, ◌<◌, ◌≤◌, ◌++◌, ℕ, List, Option, [], IfOk, OnOk, length, take};
 ghost use Rattle.std.specs.Io.KnownBytes.{Appends};
 ghost use Rattle.monitor.specs.Limits.{OpeningMeetsNone};
 ghost use Rattle.term.specs.Proc.{bodies_of};
@@ -13,7 +13,7 @@ use crate::coverage::{Counts, count_entry, put_coverage};
 use crate::entries::{follow, put_part, refused};
 use crate::options::Options;
 use crate::said::Said;
-use history::Entry;
+use history::{Entry, HISTORY_LIMIT};
 use monitor::Monitor;
 use std::alloc::{AllocError, Allocator};
 use std::io::Write;
@@ -84,6 +84,7 @@ fn show_entry<A: Allocator + Copy>(
     options: Options,
 ) -> Result<(), AllocError>
     requires within { index < length history.now }
+    requires small { length history.now ≤ 1000000 }
     requires judged { IsJudged monitor.old.spec history.now }
     requires said { IsSaid options.format monitor.old.spec.alphabet said.old }
     requires shown { (sent : List ℕ) × IsShown options monitor.old.spec (take index history.now) (sent ++ text.old.items) monitor.old.trace
@@ -121,6 +122,7 @@ fn show_entries<A: Allocator + Copy, W: Write>(
     options: Options,
     output: &mut W,
 ) -> Result<(), ShowError>
+    requires small { length history.now ≤ 1000000 }
     requires judged { IsJudged monitor.old.spec history.now }
     requires said { IsSaid options.format monitor.old.spec.alphabet said.old }
     requires shown { IsShown options monitor.old.spec [] text.old.items monitor.old.trace
@@ -147,6 +149,7 @@ fn put_whole<A: Allocator + Copy, W: Write>(
     options: Options,
     output: &mut W,
 ) -> Result<(), ShowError>
+    requires small { length history.now ≤ 1000000 }
     requires judged { IsJudged monitor.old.spec history.now }
     requires said { IsSaid options.format monitor.old.spec.alphabet said.old }
     requires shown { IsShown options monitor.old.spec [] text.old.items monitor.old.trace
@@ -169,6 +172,7 @@ fn fill<A: Allocator + Copy, W: Write>(
     options: Options,
     output: &mut W,
 ) -> Result<(), ShowError>
+    requires small { length history.now ≤ 1000000 }
     requires judged { IsJudged monitor.old.spec history.now }
     requires begun { monitor.old.trace ≡ [] }
     requires empty { text.old.items ≡ [] }
@@ -206,6 +210,7 @@ fn make_text<A: Allocator + Copy, W: Write>(
     options: Options,
     output: &mut W,
 ) -> Result<Vec<u8, A>, ShowError>
+    requires small { length history.now ≤ 1000000 }
     requires judged { IsJudged monitor.old.spec history.now }
     requires begun { monitor.old.trace ≡ [] }
     ensures { IfOk result (λ left. Writes options monitor.old.spec history.now (W.contents output.old) (W.contents output.new) left.items) }
@@ -222,7 +227,8 @@ fn make_text<A: Allocator + Copy, W: Write>(
 
 /// Writes the text of a history that was judged for the specification, but for its end, which is answered: the lines of its entries,
 /// and then those of coverage, as far as they are wanted. Nothing but refused memory and a failing output makes it fail; a part of
-/// the text may have been written then, but nothing of a text below 64 KiB.
+/// the text may have been written then, but nothing of a text below 64 KiB. A history of more than 1,000,000 entries counts as one for which
+/// there is no memory.
 ///
 /// Costs what judging the history costs; with coverage, a step more for each binary digit that an entry changes of the counts of
 /// what could come, for all events together; and for each rejected refusal its acceptances. It keeps 64 KiB of the text and a
@@ -237,6 +243,11 @@ pub fn show<A: Allocator + Copy, W: Write>(
     requires { IsJudged spec history.now }
     ensures { IfOk result (λ left. Writes options spec history.now (W.contents output.old) (W.contents output.new) left.items) }
 {
+    // The counts are of so many at most.
+    if history.len() > HISTORY_LIMIT {
+        drop(spec);
+        return Err(ShowError::Memory);
+    }
     let mut monitor = begin(alloc, spec)?;
     let left = make_text(alloc, &mut monitor, history, options, output);
     drop(monitor);

@@ -181,6 +181,14 @@ fn until_idle_option<'a>(alloc: Global) -> Result<Arg<'a>, AllocError> {
     .conflicts_with("N")
 }
 
+// The option for the log.
+fn log_option<'a>(alloc: Global) -> Arg<'a> {
+    Arg::new(alloc, "FILE")
+        .long("log")
+        .action(ArgAction::Set)
+        .help("Write to this file what happens, one JSON object a line; - for standard error")
+}
+
 fn serve_command<'a>(alloc: Global) -> Result<Command<'a>, AllocError> {
     on_process(
         alloc,
@@ -193,6 +201,7 @@ fn serve_command<'a>(alloc: Global) -> Result<Command<'a>, AllocError> {
     .arg(listen_option(alloc))?
     .arg(connections_option(alloc))?
     .arg(until_idle_option(alloc)?)?
+    .arg(log_option(alloc))?
     .arg(large_option(alloc))
 }
 
@@ -242,6 +251,7 @@ fn wish_at<'a>(matches: &ArgMatches<'a>, address: Address<'a>) -> Option<Wish<'a
         address,
         large: matches.get_flag("large"),
         until: until_of(matches)?,
+        log: matches.get_str("FILE"),
     }))
 }
 

@@ -84,4 +84,6 @@ pub struct Service<'a> {
     pub large: bool,
     /// When the server ends.
     pub until: Until,
+    /// The file of the log, if there is to be one; `-` for standard error.
+    pub log: Option<&'a str>,
 }

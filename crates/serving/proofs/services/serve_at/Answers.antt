@@ -1,5 +1,7 @@
 use denote.Param.{param}
 use denote.Param.Send.{sendable}
+use denote.Param.SendFields.{as_row_send}
+use denote.Struct.Field.{row_field}
 use Rattle.serving.proofs.Crossings.{alphabet_sync}
 use Rattle.shared.proofs.Crossings.{shared_sync}
 use Rattle.shared.proofs.LockedCrossings.{session_send}
@@ -7,7 +9,7 @@ use Rattle.serving.proofs.services.serve_at.Goals as goal
 
 pub serve_on-served-requires-sync-G : goal.serve_on-served-requires-sync-G
 serve_on-served-requires-sync-G g c κs within =
-    let session = session_send (param 0 g.row.D) g.D.Disk (
+    let session = session_send (param 0 g.row.J) g.J.Recorder (
       search sendable,
       (
         record { owned = c.legal_crosses.ensures.legal.owned; leaving = c.legal_crosses.ensures.legal.leaving },
@@ -18,7 +20,7 @@ serve_on-served-requires-sync-G g c κs within =
             (
               record { owned = c.crosses-10.ensures.owned; leaving = λ k x w. search sendable },
               (
-                record { owned = c.crosses.ensures.owned; leaving = λ k x w. search sendable },
+                as_row_send (row_field (param 0 g.row.J)) (record { owned = c.crosses.ensures.owned; leaving = c.crosses.ensures.leaving }),
                 (
                   search sendable,
                   (
@@ -38,7 +40,7 @@ serve_on-served-requires-sync-G g c κs within =
         ),
       ),
     ) in
-    let shared = shared_sync (param 0 g.row.D) (param 1 g.row.N) g.N.Naming g.N.Ledger _ g.D.Disk (
+    let shared = shared_sync (param 0 g.row.J) (param 1 g.row.N) g.N.Naming g.N.Ledger _ g.J.Recorder (
       record { owned = session.owned; leaving = session.leaving },
       (
         record { owned = c.crosses-3.ensures.owned; leaving = λ k x w. search sendable },
@@ -58,7 +60,10 @@ serve_on-served-requires-sync-G g c κs within =
                       search sendable,
                       (
                         record { owned = c.crosses-11.ensures.owned; leaving = λ k x w. search sendable },
-                        tt,
+                        (
+                          record { owned = c.crosses-12.ensures.owned; leaving = λ k x w. search sendable },
+                          tt,
+                        ),
                       ),
                     ),
                   ),

@@ -4,7 +4,7 @@ use Rattle.shared.specs.View.{SeatView}
 use Rattle.term.specs.Proc.{bodies_of}
 use Rattle.shared.specs.Legal.{Legal}
 use Rattle.shared.specs.Beginnings.{StartsWith}
-use Rattle.shared.specs.SessionView.{IsFor}
+use Rattle.shared.specs.SessionView.{IsRecorded}
 use Rattle.shared.proofs.Keeping.{if_ok}
 use Rattle.shared.proofs.ScriptLemmas.{if_err}
 use Rattle.connections.specs.declared.outcome.Outcome.{Outcome}
@@ -53,9 +53,9 @@ returns-clause-kept g c =
     let served = c.serve_in-served in
     let finish = c.finish-session in
     if_ok (λ k. (k.session ≡ finish.result.0) × (k.answered ≡ finish.result.1) × (k.endings ≡ served.new.endings) × (served.result ≡ Ok k.account.accept_failed))
-    (λ k. (script : List ℕ) × (root : List ℕ) × IsFor g.D.Disk.state script root k.session)
+    (λ k. (script : List ℕ) × (root : List ℕ) × IsRecorded g.J.Recorder.recording script root k.session)
     c.close.result
-    (λ k is. subst (λ s. (script : List ℕ) × (root : List ℕ) × IsFor g.D.Disk.state script root s) (sym is.0) finish.ensures.kept)
+    (λ k is. subst (λ s. (script : List ℕ) × (root : List ℕ) × IsRecorded g.J.Recorder.recording script root s) (sym is.0) finish.ensures.kept)
     c.close.ensures.closed
 
 pub returns-clause-memory : goal.returns-clause-memory

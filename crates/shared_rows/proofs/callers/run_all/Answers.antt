@@ -1,5 +1,7 @@
 use denote.Param.{param}
 use denote.Param.Send.{IsSync, sendable}
+use denote.Param.SendFields.{as_row_send}
+use denote.Struct.Field.{row_field}
 use Rattle.std.proofs.Crossing.{crosses}
 use Rattle.std.specs.contracts.alloc.Global as Global
 use Rattle.shared_rows.specs.contracts.held.Gate as Gate
@@ -9,7 +11,7 @@ use Rattle.shared_rows.proofs.callers.run_all.Goals as goal
 
 pub map_vec-requires-sync-F : goal.map_vec-requires-sync-F
 map_vec-requires-sync-F g c κs within =
-    let session = session_send (param 0 g.row.D) g.D.Disk (
+    let session = session_send (param 0 g.row.J) g.J.Recorder (
       search sendable,
       (
         record { owned = c.legal_crosses.ensures.legal.owned; leaving = c.legal_crosses.ensures.legal.leaving },
@@ -20,7 +22,7 @@ map_vec-requires-sync-F g c κs within =
             (
               record { owned = c.crosses-10.ensures.owned; leaving = λ k x w. search sendable },
               (
-                record { owned = c.crosses.ensures.owned; leaving = λ k x w. search sendable },
+                as_row_send (row_field (param 0 g.row.J)) (record { owned = c.crosses.ensures.owned; leaving = c.crosses.ensures.leaving }),
                 (
                   search sendable,
                   (
@@ -40,7 +42,7 @@ map_vec-requires-sync-F g c κs within =
         ),
       ),
     ) in
-    let shared = shared_sync (param 0 g.row.D) (param 1 g.row.N) g.N.Naming g.N.Ledger _ g.D.Disk (
+    let shared = shared_sync (param 0 g.row.J) (param 1 g.row.N) g.N.Naming g.N.Ledger _ g.J.Recorder (
       record { owned = session.owned; leaving = session.leaving },
       (
         record { owned = c.crosses-3.ensures.owned; leaving = λ k x w. search sendable },
@@ -60,7 +62,10 @@ map_vec-requires-sync-F g c κs within =
                       search sendable,
                       (
                         record { owned = c.crosses-12.ensures.owned; leaving = λ k x w. search sendable },
-                        tt,
+                        (
+                          record { owned = c.crosses-13.ensures.owned; leaving = λ k x w. search sendable },
+                          tt,
+                        ),
                       ),
                     ),
                   ),

@@ -7,7 +7,7 @@ use Rattle.shown.proofs.whole.show_entry.Goals as goal
 pub count_entry-requires : goal.count_entry-requires
 count_entry-requires g c =
     room_here c.args.options c.args.monitor.now.spec c.args.history.now c.args.index c.index-history-index.result c.requires.within c.index-history-index.is
-    (c.requires.shown.0 ++ c.args.text.now.items) c.args.monitor.now.trace c.args.counts.now.accepted.items c.args.counts.now.rejected.items c.args.counts.now.possible c.requires.judged c.requires.shown.1
+    (c.requires.shown.0 ++ c.args.text.now.items) c.args.monitor.now.trace c.args.counts.now.accepted.items c.args.counts.now.rejected.items c.args.counts.now.possible c.requires.small c.requires.shown.1
 
 pub follow-requires-clause-within : goal.follow-requires-clause-within
 follow-requires-clause-within g c =

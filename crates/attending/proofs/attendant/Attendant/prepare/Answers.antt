@@ -1,66 +1,21 @@
-use Rattle.std.proofs.Common.{◌≡◌, ◌∙◌, ◌&&◌, ap, cond, subst, sym, refl, [], List, ℕ, true, Bool}
-use Rattle.std.specs.Prelude.{IfSome}
-use Rattle.alphabet.specs.Channels.{Channel}
+use Rattle.std.proofs.Common.{List, None, Option, sym, subst, ◌∙◌}
 use Rattle.term.specs.Specs.{Specified}
 use Rattle.session.specs.Entry.{Entry}
-use Rattle.session.specs.Entries.{events}
-use Rattle.wire.specs.Requests.{Asks}
-use Rattle.wire.specs.Replies.{answer_text}
-use Rattle.wire.proofs.GroupLemmas.{not_quit}
-use Rattle.attending.specs.Lines.{ExplainsIf, is_acceptance}
-use Rattle.attending.specs.Preparing.{Moves}
-use Rattle.attending.specs.Standing.{course_of}
-use Rattle.attending.proofs.AttendLemmas.{follows, given_as, moves_by, prepares_of, ready_some, some_ready}
+use Rattle.attending.specs.Preparing.{IsReady, Prepares, standing}
 use Rattle.attending.proofs.attendant.Attendant.prepare.Goals as goal
 
-pub note-self-requires-clause-answers : goal.note-self-requires-clause-answers
-note-self-requires-clause-answers g c w =
-    let s = c.args.self.now in
-    let spec = s.alone.session.spec in
-    let n = c.answer-answer.new.alone.session in
-    let old = course_of s.alone.session.history s.alone.session.failed in
-    let new = course_of n.history n.failed in
-    let request = c.read_request-request.result in
-    let given = c.put_reply-answer.result in
-    let goes = given_as spec old new request c.answer-answer.result given c.put_reply-answer.ensures.same c.answer-answer.ensures.answers in
-    subst (λ (h : List Entry). IfSome s.monitor (λ m. Moves m.spec m.trace request given h)) (sym c.history.ensures.entries)
-    (moves_by s.monitor spec old new request given (ready_some s.monitor spec (events s.alone.session.history) (c.requires.ready.stands w)) goes)
+pub returns-clause-ready : goal.returns-clause-ready
+returns-clause-ready g c =
+    let a = c.answer_line-quit.new.self in
+    let n = c.let_go.new.alone.session in
+    subst (λ (s : Specified). IsReady a.manner s n.history a.monitor a.whole) (sym c.let_go.ensures.spec)
+    (subst (λ (h : List Entry). IsReady a.manner a.alone.session.spec h a.monitor a.whole) (sym c.let_go.ensures.history) c.answer_line-quit.ensures.ready)
 
-pub returns-in_default : goal.returns-in_default
-returns-in_default g c =
+pub returns-clause-prepares : goal.returns-clause-prepares
+returns-clause-prepares g c =
     let s = c.args.self.now in
-    let h = s.alone.session.history in
-    let spec = s.alone.session.spec in
-    let n = c.answer-answer.new.alone.session in
-    let old = course_of h s.alone.session.failed in
-    let new = course_of n.history n.failed in
-    let request = c.read_request-request.result in
-    let given = c.put_reply-answer.result in
-    let line = c.args.line.now in
-    let o = s.monitor in
-    let p = c.note-self.new.monitor in
-    let goes = given_as spec old new request c.answer-answer.result given c.put_reply-answer.ensures.same c.answer-answer.ensures.answers in
-    let asks = subst (λ (cs : List Channel). Asks cs line request) (c.alphabet.ensures ∙ ap (λ (x : Specified). x.alphabet) c.spec.ensures) c.read_request-request.ensures.asks in
-    let names = c.alphabet-2.ensures ∙ ap (λ (x : Specified). x.alphabet) c.spec-2.ensures ∙ ap (λ (x : Specified). x.alphabet) c.answer-answer.ensures.spec in
-    let text = c.put_reply-answer.ensures.text ∙ ap (λ (cs : List Channel). answer_text cs given) names in
-    let reply = c.leave_out.ensures.reply ∙ ap (λ (b : Bool). cond (s.manner.quiet && b) [] c.put_reply-answer.new.reply.items) c.accepts.ensures
-    ∙ ap (λ (t : List ℕ). cond (s.manner.quiet && is_acceptance given) [] t) text in
-    let stood = λ (w : s.whole ≡ true). ready_some o spec (events h) (c.requires.ready.stands w) in
-    record {
-      ready = record {
-        wanted = c.note-self.ensures.some ∙ c.requires.ready.wanted;
-        stands = λ e.
-            let w = (c.note-self.ensures.whole e).0 in
-            some_ready p n.spec (events n.history)
-            (subst (λ (x : Specified). IfSome p (λ m. (m.spec ≡ x) × (m.trace ≡ events n.history))) (sym c.answer-answer.ensures.spec)
-            (subst (λ (y : List Entry). IfSome p (λ m. (m.spec ≡ spec) × (m.trace ≡ events y))) c.history.ensures.entries
-            (follows o p spec (events h) (events c.history.result.now) (stood w) c.note-self.ensures.some (c.note-self.ensures.stands e))));
-      };
-      prepares = prepares_of s.manner spec h n.history s.alone.session.failed n.failed s.tally c.after-self.result s.lines c.note-self.new.lines s.whole c.note-self.result line
-          c.leave_out.new.reply.items c.note-self.new.said.items request given asks goes reply c.after-self.ensures (λ e. c.note-self.ensures.whole e)
-          (λ e. subst (λ (b : Bool). ExplainsIf b spec c.note-self.new.lines h line request given c.note-self.new.said.items) c.requires.ready.wanted
-          (c.note-self.ensures.explains spec old new (stood (c.note-self.ensures.whole e).0) (sym c.history.ensures.entries) goes e));
-      quit = λ e. cc;
-      other = λ e. not_quit spec.alphabet line request asks c.in_default.not-Quit;
-      same = (refl, c.answer-answer.ensures.spec);
-    }
+    let a = c.answer_line-quit.new.self in
+    let n = c.let_go.new.alone.session in
+    let old = standing s.alone.session.history s.alone.session.failed s.tally s.lines s.whole None in
+    subst (λ (h : List Entry). Prepares s.manner s.alone.session.spec old c.args.line.now (standing h n.failed a.tally a.lines a.whole None) a.reply.items a.said.items) (sym c.let_go.ensures.history)
+    (subst (λ (f : Option Entry). Prepares s.manner s.alone.session.spec old c.args.line.now (standing a.alone.session.history f a.tally a.lines a.whole None) a.reply.items a.said.items) (sym c.let_go.ensures.failed) c.answer_line-quit.ensures.prepares)

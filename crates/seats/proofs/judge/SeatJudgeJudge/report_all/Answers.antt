@@ -49,6 +49,6 @@ returns-clause-answered g c =
     let none : c.loop-rest.rest.now ≡ [] = nil_from_length c.loop-rest.rest.now zero in
     let some : group ≡ [] → ⊥ = λ is. let e : (length group == 0) ≡ true = ap (λ (l : List Report). length l == 0) is in let no : ⊥ = cc (e, c.is_empty.ensures, c.if-is_empty.false) in no in
     let whole : i.front ≡ group = sym (i.cut ∙ ap (λ (l : List Report). i.front ++ l) none ∙ append-nil i.front) in
-    reported_by (λ (j : SeatJudge g.row.D.Denot g.row.A.Denot g.row.N.Denot g.row.R.Denot). j.seat.share) (λ j v. record j { seat = record j.seat { share = v } }) (λ j v. refl) (Reports g.N.Naming.spec) group
+    reported_by (λ (j : SeatJudge g.row.J.Denot g.row.A.Denot g.row.N.Denot g.row.R.Denot). j.seat.share) (λ j v. record j { seat = record j.seat { share = v } }) (λ j v. refl) (Reports g.N.Naming.spec) group
     c.loop-rest.answers.items c.args.self.now c.loop-rest.self some
     (subst (λ (l : List Report). AllReported (Reports g.N.Naming.spec) c.args.self.now.seat.share l c.loop-rest.answers.items c.loop-rest.self.seat.share) whole i.judged)

@@ -1,0 +1,327 @@
+#!/usr/bin/env python3
+"""`cspwatch serve --log`: what the log says of connections, and that nothing waits for it.
+
+    tests/logs_of_service.py [--program FILE] [--speed] [--lines 20000] [--ratio 1.2]
+
+A service has a client that is rejected once, sends a line that isn't judged, and quits, and one that is killed; its log has these in
+their order. A log that is full, or a pipe that nobody reads, changes no reply, and is reported once; standard error that nobody reads
+holds up no end. With --speed 64 clients send lines ahead, with a log and without one. The last line is `N passed, M failed`.
+"""
+import argparse
+import contextlib
+import json
+import os
+import re
+import socket
+import struct
+import subprocess
+import sys
+import tempfile
+import threading
+import time
+
+HERE = os.path.dirname(os.path.abspath(__file__))
+ROOT = os.path.dirname(HERE)
+PROGRAM = os.path.join(ROOT, "crates", "cspwatch", "out", "cspwatch")
+
+SCRIPT = "channel a, b\nP = a -> b -> P\n"
+ACCEPTING = "channel a\nP = a -> P\n"
+SECONDS = 60
+TIME = r"20[0-9]{2}-[01][0-9]-[0-3][0-9]T[0-2][0-9]:[0-5][0-9]:[0-5][0-9]\.[0-9]{3}Z"
+REJECTIONS = 4000
+"""So many lines fill a pipe that nobody reads: one has some 110 bytes, and the pipe takes 65,536."""
+
+AT_ONCE = 64
+
+
+class Run:
+    """A run of the server in a folder, with a log of this name."""
+
+    def __init__(self, program, folder, log, words=("--until-idle",), script=SCRIPT, errors_to=None):
+        with open(os.path.join(folder, "p.csp"), "w", encoding="utf-8") as file:
+            file.write(script)
+        self.errors = os.path.join(folder, "errors")
+        log = ["--log", log] if log else []
+        with open(self.errors, "wb") as errors:
+            self.process = subprocess.Popen(
+                [program, "serve", "p.csp", "P", "j", "--listen", "127.0.0.1:0", *words, *log],
+                cwd=folder, stdout=subprocess.PIPE, stderr=errors_to or errors, text=True)
+        first = self.process.stdout.readline()
+        found = re.fullmatch(r"listening 127\.0\.0\.1:([0-9]+)\n", first)
+        if not found:
+            self.process.kill()
+            raise RuntimeError(f"the first line is {first!r}")
+        self.port = int(found.group(1))
+
+    def connect(self):
+        return socket.create_connection(("127.0.0.1", self.port), timeout=SECONDS)
+
+    def end(self):
+        """The status and standard error, once it has ended by itself."""
+        try:
+            self.process.communicate(timeout=SECONDS)
+        finally:
+            self.process.kill()
+        with open(self.errors, encoding="utf-8") as file:
+            return self.process.returncode, file.read()
+
+
+def ask(link, lines):
+    """The replies to these lines, which are sent together."""
+    link.sendall("".join(line + "\n" for line in lines).encode())
+    got = b""
+    while got.count(b"\n") < len(lines):
+        more = link.recv(65536)
+        if not more:
+            break
+        got += more
+    return got.decode().splitlines()
+
+
+def entries_of(folder, name="log"):
+    """The log's objects without their times, which have to be in order."""
+    with open(os.path.join(folder, name), encoding="utf-8") as file:
+        entries = [json.loads(line) for line in file]
+    times = [entry.pop("time") for entry in entries]
+    if times != sorted(times) or not all(re.fullmatch(TIME, one) for one in times):
+        raise RuntimeError(f"the times are {times}")
+    return entries
+
+
+def says_what_happens(options, folder):
+    run = Run(options.program, folder, "log")
+    with run.connect() as first:
+        peer = "127.0.0.1:%d" % first.getsockname()[1]
+        replies = ask(first, ["I 3", "E a", "E a", "E c", "R \"é"])
+        # This one is killed: its end is a reset.
+        with run.connect() as second:
+            other = "127.0.0.1:%d" % second.getsockname()[1]
+            ask(second, ["E b", "S"])
+            second.setsockopt(socket.SOL_SOCKET, socket.SO_LINGER, struct.pack("ii", 1, 0))
+        time.sleep(0.3)
+        replies += ask(first, ["Q"])
+        first.recv(1)
+    status, errors = run.end()
+    if replies[:3] != ["I 3 0", "OK 1", "NO 2"] or replies[3] != "ERR 11 event" or replies[-1] != "BYE":
+        yield f"the replies are {replies}"
+    if status != 1 or errors != "2 lines were not judged\n":
+        yield f"it ended with {status} {errors!r}"
+    code = int(replies[4].split(" ")[1])
+    wanted = [
+        {"what": "listening", "address": f"127.0.0.1:{run.port}"},
+        {"what": "connected", "connection": 1, "peer": peer},
+        {"what": "rejected", "connection": 1, "seat": 3, "place": 2, "line": "E a"},
+        {"what": "not judged", "connection": 1, "seat": 3, "code": 11, "line": "E c"},
+        {"what": "not judged", "connection": 1, "seat": 3, "code": code, "line": "R \"é"},
+        {"what": "connected", "connection": 2, "peer": other},
+        {"what": "ended", "connection": 2, "reports": 1, "why": "broken"},
+        {"what": "ended", "connection": 1, "seat": 3, "reports": 2, "why": "quit"},
+        {"what": "closed"}]
+    got = entries_of(folder)
+    if got != wanted:
+        yield "the log is\n" + "\n".join(map(json.dumps, got)) + "\nand not\n" + "\n".join(map(json.dumps, wanted))
+
+
+def counts_lines_of_a_run(options, folder):
+    run = Run(options.program, folder, "log", ["--connections", "1"])
+    with run.connect() as link:
+        ask(link, ["E a", "E c", "Q"])
+    status, errors = run.end()
+    if (status, errors) != (2, "1 line was not judged\n"):
+        yield f"it ended with {status} {errors!r}"
+    if [entry["what"] for entry in entries_of(folder)] != ["listening", "connected", "not judged", "ended", "closed"]:
+        yield f"the log is {entries_of(folder)}"
+
+
+def says_each_fault(options, folder):
+    run = Run(options.program, folder, "log")
+    with run.connect() as first, run.connect() as second:
+        ask(first, ["I 3"])
+        if (got := ask(second, ["I 3", "a", "E " + "a" * 5000])) != ["ERR 27 taken", "ERR 10 command", "ERR 12 line"]:
+            yield f"the replies are {got}"
+        second.recv(1)
+    run.end()
+    got = [(entry["code"], entry["line"]) for entry in entries_of(folder) if entry["what"] == "not judged"]
+    if got[:2] != [(27, "I 3"), (10, "a")] or [code for code, _ in got[2:]] != [12] or got[2][1] != "E " + "a" * 4094:
+        yield f"the lines not judged are {got}"
+
+
+def says_who_got_no_place(options, folder):
+    run = Run(options.program, folder, "log")
+    with contextlib.ExitStack() as stack:
+        links = [stack.enter_context(run.connect()) for _ in range(AT_ONCE)]
+        for link in links:
+            ask(link, ["S"])
+        with run.connect() as late:
+            if (got := late.recv(64)) != b"ERR 22 seats\n":
+                yield f"one too many got {got!r}"
+    run.end()
+    whys = [entry["why"] for entry in entries_of(folder) if entry["what"] == "ended"]
+    if sorted(whys) != ["ERR 22 seats"] + ["finished"] * AT_ONCE:
+        yield f"connections ended by {whys}"
+
+
+def goes_on_without(options, folder, log, wanted):
+    run = Run(options.program, folder, log)
+    begun = time.monotonic()
+    with run.connect() as link:
+        for _ in range(REJECTIONS // 100):
+            replies = ask(link, ["E b"] * 100)
+            if len(replies) != 100 or any(not reply.startswith("NO ") for reply in replies):
+                yield f"the replies are {replies}"
+                break
+    status, errors = run.end()
+    if status != 1 or errors != wanted:
+        yield f"it ended with {status} {errors!r}"
+    if time.monotonic() - begun > SECONDS / 2:
+        yield "it took too long"
+
+
+def passes_over_a_full_log(options, folder):
+    return goes_on_without(options, folder, "/dev/full", "/dev/full: cannot write, the log ends\n")
+
+
+def passes_over_a_pipe(options, folder):
+    os.mkfifo(os.path.join(folder, "pipe"))
+    return goes_on_without(options, folder, "pipe", "pipe: cannot write, the log ends\n")
+
+
+def writes_on_standard_error(options, folder):
+    run = Run(options.program, folder, "-")
+    with run.connect() as link:
+        ask(link, ["E b", "Q"])
+    _, errors = run.end()
+    whats = [json.loads(line)["what"] for line in errors.splitlines()]
+    if whats != ["listening", "connected", "rejected", "ended", "closed"]:
+        yield f"standard error has {errors!r}"
+
+
+def leaves_the_journal_alone(options, folder):
+    """Where standard error is closed, the journal isn't written to in its place."""
+    closing = os.path.join(folder, "closing")
+    with open(closing, "w", encoding="utf-8") as file:
+        file.write('#!/bin/sh\nexec "%s" "$@" 2>&-\n' % options.program)
+    os.chmod(closing, 0o700)
+    run = Run(closing, folder, "-")
+    with run.connect() as link:
+        ask(link, ["E a", "E a", "E c", "Q"])
+    status, _ = run.end()
+    done = subprocess.run([options.program, "replay", "--read-only", "j"], cwd=folder, stdout=subprocess.PIPE, timeout=SECONDS, check=False, text=True)
+    if (status, done.returncode, done.stdout) != (1, 1, "S 2 1 0 1 open\n"):
+        yield f"it ended with {status}, and replay says {done}"
+
+
+def ends_beside_an_unread_pipe(options, folder):
+    run = Run(options.program, folder, "-", errors_to=subprocess.PIPE)
+    with run.process:
+        with run.connect() as link:
+            for _ in range(REJECTIONS // 100):
+                replies = ask(link, ["E b"] * 99 + ["E c"])
+                if len(replies) != 100 or replies[-1] != "ERR 11 event":
+                    yield f"the replies are {replies}"
+                    break
+        begun = time.monotonic()
+        try:
+            status = run.process.wait(timeout=SECONDS / 2)
+        except subprocess.TimeoutExpired:
+            status = "no end"
+            run.process.kill()
+        took = time.monotonic() - begun
+        output = run.process.stdout.read()
+    rejected = REJECTIONS // 100 * 99
+    if status != 1 or output != f"S {rejected} 0 0 {rejected} open\n":
+        yield f"it ended with {status} {output!r}"
+    if took > 5:
+        yield f"the end took {took:.1f} s"
+
+
+REFUSED = {
+    "there": "there: cannot write\n",
+    "gone/log": "gone/log: cannot write\n",
+    "j": "j: in use by this run\n",
+    "./j": "./j: in use by this run\n",
+    "p.csp": "p.csp: in use by this run\n"}
+"""By the word for the log, what is said of it."""
+
+
+def refuses_some_files(options, folder):
+    os.mkdir(os.path.join(folder, "there"))
+    with open(os.path.join(folder, "p.csp"), "w", encoding="utf-8") as file:
+        file.write(SCRIPT)
+    for log, wanted in REFUSED.items():
+        done = subprocess.run([options.program, "serve", "p.csp", "P", "j", "--listen", "127.0.0.1:0", "--log", log],
+                              cwd=folder, stdout=subprocess.PIPE, stderr=subprocess.PIPE, timeout=SECONDS, check=False, text=True)
+        if (done.returncode, done.stdout, done.stderr) != (5, "", wanted):
+            yield f"it ended with {done}"
+        if sorted(os.listdir(folder)) != ["p.csp", "there"]:
+            yield f"{log}: it left {sorted(os.listdir(folder))}"
+    with open(os.path.join(folder, "p.csp"), encoding="utf-8") as file:
+        if file.read() != SCRIPT:
+            yield "the script isn't as it was"
+
+
+# ---- speed
+
+
+def send_ahead(port, lines):
+    """A client that sends its lines and reads its replies at the same time."""
+    with socket.create_connection(("127.0.0.1", port), timeout=SECONDS) as link:
+        text = ("E a\nS\n" * (lines // 2) + "Q\n").encode()
+        sender = threading.Thread(target=link.sendall, args=(text,))
+        sender.start()
+        while link.recv(65536):
+            pass
+        sender.join()
+
+
+def seconds_with(options, log):
+    with tempfile.TemporaryDirectory() as folder:
+        run = Run(options.program, folder, log, script=ACCEPTING)
+        clients = [threading.Thread(target=send_ahead, args=(run.port, options.lines)) for _ in range(AT_ONCE)]
+        begun = time.monotonic()
+        for client in clients:
+            client.start()
+        for client in clients:
+            client.join()
+        took = time.monotonic() - begun
+        run.end()
+        return took
+
+
+def costs_little(options, _):
+    without, with_log = (min(seconds_with(options, log) for _ in range(3)) for log in ("", "log"))
+    print(f"{AT_ONCE} clients with {options.lines} lines each: {without:.2f} s without a log, {with_log:.2f} s with one")
+    if with_log > options.ratio * without:
+        yield "the log costs too much"
+
+
+TESTS = [
+    says_what_happens, counts_lines_of_a_run, says_each_fault, says_who_got_no_place, passes_over_a_full_log, passes_over_a_pipe, writes_on_standard_error,
+    leaves_the_journal_alone, ends_beside_an_unread_pipe, refuses_some_files]
+
+
+def main():
+    parser = argparse.ArgumentParser()
+    parser.add_argument("--program", default=PROGRAM)
+    parser.add_argument("--speed", action="store_true")
+    parser.add_argument("--lines", type=int, default=20000)
+    parser.add_argument("--ratio", type=float, default=1.2)
+    options = parser.parse_args()
+    options.program = os.path.abspath(options.program)
+    passed = failed = 0
+    for test in TESTS + [costs_little] * options.speed:
+        with tempfile.TemporaryDirectory() as folder:
+            try:
+                problems = list(test(options, folder))
+            except (OSError, RuntimeError, ValueError, subprocess.TimeoutExpired) as error:
+                problems = [f"{type(error).__name__}: {error}"]
+        for problem in problems:
+            print(f"{test.__name__}: {problem}")
+        passed += not problems
+        failed += bool(problems)
+    print(f"{passed} passed, {failed} failed")
+    return 1 if failed else 0
+
+
+if __name__ == "__main__":
+    sys.exit(main())
