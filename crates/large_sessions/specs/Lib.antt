@@ -1,0 +1,5 @@
+-- To believe.
+pub mod Sessions
+-- Of the layers below, for those above.
+pub use Rattle.parts.specs.Parts
+pub use Rattle.parts.specs.Recorder
