@@ -4,6 +4,7 @@ pub mod Conversations
 pub mod Prints
 pub mod Showings
 pub mod Followings
+pub mod Parts
 -- Of the layers below, for those above.
 pub use Rattle.attending.specs.Courses
 pub use Rattle.attending.specs.Standing
