@@ -9,4 +9,5 @@ mod error;
 mod replaying;
 
 pub use creating::create;
+pub use parts::Parts;
 pub use replaying::Replaying;

@@ -3,6 +3,7 @@
 #![tactic(auto)]
 
 mod opening;
+mod opening_parts;
 mod service_gate;
 mod services;
 mod sessions;
@@ -13,6 +14,7 @@ pub use connections::{
     Reusable, RunStatus, Served, TcpAccept, Terms, Totals, UnixAccept, serve_all, serve_on,
 };
 pub use opening::{OpenError, open};
+pub use opening_parts::open_parts;
 pub use service_gate::ServiceGate;
 pub use services::{ClosedService, serve_service};
 pub use sessions::{Closing, serve_session};
