@@ -11,6 +11,7 @@ pub use Rattle.attending.specs.Standing
 pub use Rattle.attending.specs.Attendances
 pub use Rattle.attending.specs.declared.manner.Manner
 pub use Rattle.attending.specs.declared.manner.Ending
+pub use Rattle.large_sessions.specs.Opening
 pub use Rattle.shared.specs.Entry
 pub use Rattle.shared.specs.SessionError
 pub use Rattle.shown.specs.declared.options.Options

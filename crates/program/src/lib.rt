@@ -18,6 +18,7 @@ pub use checking::{Checked, check};
 pub use exit::Exit;
 pub use following::{FollowError, follow};
 pub use forms::{PrintError, print};
+pub use large_sessions::Replaying;
 pub use parts::{DisplayedParts, ReplayedParts, follow_parts, replay_parts, show_parts};
 pub use replaying::{Replayed, replay};
 pub use shared::{Session, SessionError, Summary};

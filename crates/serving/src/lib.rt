@@ -13,6 +13,7 @@ pub use connections::{
     Accept, AcceptFault, Account, Closed, Connections, Ending, Gate, Listen, Outcome, Over,
     Reusable, RunStatus, Served, TcpAccept, Terms, Totals, UnixAccept, serve_all, serve_on,
 };
+pub use large_sessions::Parts;
 pub use opening::{OpenError, open};
 pub use opening_parts::open_parts;
 pub use service_gate::ServiceGate;
