@@ -1,0 +1,4 @@
+pub mod Taking
+pub mod Starting
+pub mod Finishing
+pub mod Going

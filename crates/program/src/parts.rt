@@ -1,6 +1,6 @@
 //! Journals in parts, replayed and shown, one part after the other.
 
-ghost use Rattle.std.specs.Prelude.{◌≡◌, ◌⊎◌, ◌≤◌, ◌++◌, Ok, ℕ, List, [], false, IsTrue, IfOk, IfErr, OnOk, MatchResult};
+ghost use Rattle.std.specs.Prelude.{◌≡◌, ◌⊎◌, ◌≤◌, ◌<◌, ◌^◌, ◌++◌, Ok, length, ℕ, List, [], false, IsTrue, IfOk, IfErr, OnOk, MatchResult};
 ghost use Rattle.std.specs.Io.KnownBytes.{Appends};
 ghost use Rattle.term.specs.Specs.{Specified};
 ghost use Rattle.shared.specs.Entry.{Entry};
@@ -50,7 +50,7 @@ fn whole_of<F: Folder + Drop, A: Allocator + Copy>(
         → AreReplayOf size (F.state folder).bytes r.opened.held.script r.opened.held.root r.taken.spec r.taken.entries) }
     ensures fault { IfErr result (λ error. IsTrue (F.state folder).claims_bytes → HaveNoSession size (F.state folder).bytes error) }
     ensures only { IsTrue (F.state folder).claims_bytes → (script root : List ℕ) (spec : Specified) (h : List Entry)
-        → AreReplayOf size (F.state folder).bytes script root spec h
+        → AreReplayOf size (F.state folder).bytes script root spec h → length h < 2 ^ 62
         → MatchResult result (λ r. (r.taken.spec ≡ spec) × (r.taken.entries ≡ h)) IsOutside }
 {
     let (replaying, header) = match Replaying::begin(alloc, folder, size) {
@@ -94,7 +94,7 @@ pub fn replay_parts<F: Folder + Drop, A: Allocator + Copy>(
 
     // Files that hold a history give it, with what its script denotes, device and memory apart.
     ensures only { IsTrue (F.state folder).claims_bytes → (script root : List ℕ) (spec : Specified) (h : List Entry)
-        → AreReplayOf size (F.state folder).bytes script root spec h
+        → AreReplayOf size (F.state folder).bytes script root spec h → length h < 2 ^ 62
         → MatchResult result (λ r. (r.replaying.taken.spec ≡ spec) × (r.replaying.taken.entries ≡ h)) IsOutside }
 {
     let replaying = whole_of(alloc, folder, size)?;
@@ -186,7 +186,7 @@ fn lines_of_parts<F: Folder + Drop, A: Allocator + Copy, W: Write>(
     ensures text { IfOk result (λ r. Writes options r.0.taken.spec r.0.taken.entries (W.contents output.old) (W.contents output.new) r.1.items) }
     ensures fault { IfErr result (λ error. IsTrue (F.state folder).claims_bytes → HaveNoDisplay size (F.state folder).bytes error) }
     ensures only { IsTrue (F.state folder).claims_bytes → (script root : List ℕ) (spec : Specified) (h : List Entry)
-        → AreReplayOf size (F.state folder).bytes script root spec h
+        → AreReplayOf size (F.state folder).bytes script root spec h → length h < 2 ^ 62
         → MatchResult result (λ r. (r.0.taken.spec ≡ spec) × (r.0.taken.entries ≡ h)) IsBeyond }
 {
     let (replaying, mut showing) = begin_both(alloc, folder, size, options)?;
@@ -238,7 +238,7 @@ pub fn show_parts<F: Folder + Drop, A: Allocator + Copy, W: Write>(
 
     // Of files that hold a history exactly what `Displays` has of it is written. Devices and memory apart.
     ensures only { IsTrue (F.state folder).claims_bytes → (script root : List ℕ) (spec : Specified) (h : List Entry)
-        → AreReplayOf size (F.state folder).bytes script root spec h
+        → AreReplayOf size (F.state folder).bytes script root spec h → length h < 2 ^ 62
         → MatchResult result (λ r. (r.replaying.taken.entries ≡ h) × WritesAll spec h options (W.contents output.old) (W.contents output.new) × (r.exit ≡ replay_exit h)) IsBeyond }
 {
     let (replaying, mut left) = lines_of_parts(alloc, folder, size, options, output)?;
