@@ -2,6 +2,7 @@
 
 ghost use Rattle.std.specs.Prelude.{◌≡◌, ◌⊎◌, ◌≤◌, ◌<◌, ◌^◌, ◌++◌, Ok, length, ℕ, List, [], false, IsTrue, IfOk, IfErr, OnOk, MatchResult};
 ghost use Rattle.std.specs.Io.KnownBytes.{Appends};
+ghost use Rattle.disk.specs.Calls.{Continues};
 ghost use Rattle.term.specs.Specs.{Specified};
 ghost use Rattle.shared.specs.Entry.{Entry};
 ghost use Rattle.shared.specs.Scripts.{IsOutside, IsReadAs};
@@ -9,8 +10,9 @@ ghost use Rattle.shared.specs.Records.{names_of as names_kept};
 ghost use Rattle.wire.specs.Replies.{status_text};
 ghost use Rattle.attending.specs.Courses.{status_of};
 ghost use Rattle.large_sessions.specs.Opening.{IsDone};
-ghost use Rattle.large_sessions.specs.Sessions.{AreReplayOf, HaveNoSession};
-ghost use Rattle.shown.specs.Shows.{Writes};
+ghost use Rattle.large_sessions.specs.Parts.{IsAlike};
+ghost use Rattle.large_sessions.specs.Sessions.{AreReplayOf, HaveNoSession, IsStartOf};
+ghost use Rattle.shown.specs.Shows.{Sends, Shows, Writes};
 ghost use Rattle.program.specs.Exits.{replay_exit};
 ghost use Rattle.program.specs.Parts.{AreFollowed, HaveNoDisplay};
 ghost use Rattle.program.specs.Showings.{IsBeyond, WritesAll};
@@ -122,6 +124,11 @@ fn begin_both<F: Folder + Drop, A: Allocator + Copy>(
     requires { 1 ≤ size }
     ensures showing { IfOk result (λ p. (p.1.spec ≡ p.0.taken.spec) × (p.1.options ≡ options) × (p.1.history ≡ []) × (p.1.written ≡ [])) }
     ensures gone { IfOk result (λ p. p.0.taken.gone ≡ 0) }
+    ensures size { IfOk result (λ p. p.0.opened.held.size ≡ size) }
+    ensures folder { IfOk result (λ p. Continues (F.state folder) (F.state p.0.opened.held.folder)) }
+    ensures untouched { IfOk result (λ p. IsTrue (F.state folder).claims_bytes → (F.state p.0.opened.held.folder).bytes ≡ (F.state folder).bytes) }
+    ensures only { IsTrue (F.state folder).claims_bytes → (script root : List ℕ) (spec : Specified) (h : List Entry)
+        → AreReplayOf size (F.state folder).bytes script root spec h → length h < 2 ^ 62 → MatchResult result (λ p. IsStartOf p.0 script root spec h) IsBeyond }
     ensures fault { IfErr result (λ error. IsTrue (F.state folder).claims_bytes → HaveNoDisplay size (F.state folder).bytes error) }
 {
     let (replaying, header) = match Replaying::begin(alloc, folder, size) {
@@ -154,6 +161,20 @@ fn show_each<F: Folder + Drop, A: Allocator + Copy, W: Write>(
     showing: &mut Showing<A>,
     output: &mut W,
 ) -> Result<Replaying<F, A>, DisplayError>
+    requires spec { showing.old.spec ≡ replaying.taken.spec }
+    requires none { (showing.old.history ≡ []) × (showing.old.written ≡ []) × (replaying.taken.gone ≡ 0) }
+    ensures done { IfOk result (λ r. IsDone r.opened) }
+    ensures alike { IfOk result (λ r. IsAlike replaying.opened.held r.opened.held × (r.taken.spec ≡ replaying.taken.spec)) }
+    ensures options { (showing.new.options ≡ showing.old.options) × (showing.new.spec ≡ showing.old.spec) }
+    ensures history { IfOk result (λ r. showing.new.history ≡ r.taken.entries) }
+    ensures sends { OnOk result (Sends (W.contents output.old) (W.contents output.new) [] showing.new.written) }
+    ensures held { IfOk result (λ r. IsTrue (F.state replaying.opened.held.folder).claims_bytes
+        → AreReplayOf replaying.opened.held.size (F.state replaying.opened.held.folder).bytes r.opened.held.script r.opened.held.root r.taken.spec r.taken.entries) }
+    ensures fault { IfErr result (λ error. IsTrue (F.state replaying.opened.held.folder).claims_bytes
+        → HaveNoDisplay replaying.opened.held.size (F.state replaying.opened.held.folder).bytes error) }
+    ensures only { IsTrue (F.state replaying.opened.held.folder).claims_bytes → (script root : List ℕ) (spec : Specified) (h : List Entry)
+        → AreReplayOf replaying.opened.held.size (F.state replaying.opened.held.folder).bytes script root spec h → length h < 2 ^ 62 → IsStartOf replaying script root spec h
+        → MatchResult result (λ r. r.taken.entries ≡ h) IsBeyond }
 {
     let mut replaying = replaying;
     showing.take(alloc, replaying.entries(), output)?;
@@ -264,6 +285,9 @@ fn text_of_parts<F: Folder + Drop, A: Allocator + Copy>(
     size: usize,
     options: Options,
 ) -> Result<Vec<u8, A>, DisplayError>
+    requires { 1 ≤ size }
+    ensures { IfOk result (λ text. (script : List ℕ) × (root : List ℕ) × (spec : Specified) × (h : List Entry) × Shows options spec h text.items
+        × (IsTrue (F.state folder).claims_bytes → AreReplayOf size (F.state folder).bytes script root spec h)) }
 {
     let mut text = Vec::new(alloc);
     match lines_of_parts(alloc, folder, size, options, &mut text) {
