@@ -7,8 +7,8 @@ use Rattle.shown.specs.Shows.{Shows, Writes}
 use Rattle.shown.proofs.Sending.{writes_whole}
 use Rattle.shown.proofs.whole.show.Goals as goal
 
-pub begin-showing-requires : goal.begin-showing-requires
-begin-showing-requires g c = c.requires.within.opening
+pub begin-requires : goal.begin-requires
+begin-requires g c = c.requires.within.opening
 
 pub take-requires : goal.take-requires
 take-requires g c =
