@@ -47,3 +47,10 @@ pub covered_but_end : (options : Options) (spec : Specified) (h : List Entry) (s
 covered_but_end options spec h sent text text' trace a r p shown wanted put =
     let whole = ap (λ t. sent ++ t) put.2 ∙ sym (append_assoc sent text put.0) in
     shown_covered {T = Unit {0}} {E = Unit {0}} (Ok tt) options spec h (sent ++ text) (sent ++ text') trace a r p shown wanted (put.0, put.1, whole)
+
+-- the text of a whole history was, of which the showing was begun with nothing
+pub writes_whole : (options options' : Options) (spec spec' : Specified) (h h' : List Entry) (old new : Option (List ℕ)) (first written left : List ℕ) → options' ≡ options → spec' ≡ spec → h' ≡ h → first ≡ [] →
+    Sends old new first written → Shows options' spec' h' (written ++ left) → Writes options spec h old new left
+writes_whole options options' spec spec' h h' old new first written left same_options same_spec same none sends shows =
+    writes_all options spec h old new first written left none sends
+    (subst (λ o. Shows o spec h (written ++ left)) same_options (subst (λ s. Shows options' s h (written ++ left)) same_spec (subst (λ l. Shows options' spec' l (written ++ left)) same shows)))

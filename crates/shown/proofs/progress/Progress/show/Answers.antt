@@ -38,12 +38,12 @@ returns-clause-at g c =
     let counts = c.count_entry.new.counts in
     let trace = c.follow.new.monitor.trace in
     let place : p.shown + 1 ≡ suc (length before) = omega (arith, c.requires.at.count_is) in
-    let count : p.shown + 1 ≡ length c.and.result.items = omega (arith, c.requires.at.count_is, ap length c.and.ensures, length-append before (e ∷ [])) in
+    let count : p.shown + 1 ≡ length c.and-self.result.items = omega (arith, c.requires.at.count_is, ap length c.and-self.ensures, length-append before (e ∷ [])) in
     record {
       spec_is = c.follow.ensures.spec;
       said = c.in_ok-put_part.ensures.said;
       count_is = count;
-      shown = subst (λ h. IsShown options p.monitor.spec h (sent ++ text) trace counts.accepted.items counts.rejected.items counts.possible) (sym c.and.ensures)
+      shown = subst (λ h. IsShown options p.monitor.spec h (sent ++ text) trace counts.accepted.items counts.rejected.items counts.possible) (sym c.and-self.ensures)
           (shown_next options p.monitor.spec before e c.next-next.result (sent ++ p.text.items) (sent ++ text) p.monitor.trace trace
           p.counts.accepted.items p.counts.rejected.items p.counts.possible counts.accepted.items counts.rejected.items counts.possible
           c.requires.at.shown c.next-next.ensures
