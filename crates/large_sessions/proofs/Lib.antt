@@ -1,4 +1,5 @@
 pub mod Taking
 pub mod Starting
-pub mod Finishing
 pub mod Going
+pub mod Went
+pub mod Finishing
