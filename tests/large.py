@@ -15,6 +15,7 @@ WORD = "--large"
 BUILT = os.path.join(os.path.dirname(os.path.dirname(os.path.abspath(__file__))), "crates", "cspwatch", "out", "cspwatch")
 SECONDS = 60
 LIMITS = (b"20 depth", b"21 states")
+LIMIT = 6  # the status where a limit is met, or where a history is full
 JOURNAL = b"cspwatch large journal 1\n"
 
 
@@ -34,9 +35,9 @@ def has_word(case):
 
 
 def meets_limit(case):
-    """Whether a limit of states or of depth is among what the case wants to see."""
+    """Whether the case wants to see a limit of states or of depth, or the status of one: with the word a history isn't full either."""
     wanted = [octets(line) for name in ("stdout", "stderr") for line in case.get(name, [])]
-    return any(line.endswith(LIMITS) for line in wanted)
+    return case.get("status") == LIMIT or any(line.endswith(LIMITS) for line in wanted)
 
 
 def with_word(case):

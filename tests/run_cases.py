@@ -5,7 +5,7 @@
 
 Without --program the program is crates/cspwatch/out/cspwatch, without a FILE all files of tests/cases are run, and then the rows of the
 sweeps over the libraries, where the gate has built their programs (`tests/row_sweeps.py`). tests/README.md has the form of a case. With
---large only the cases of `check` are run, each with that word and but for those that meet `20` or `21`: what they want is the same. The
+--large only the cases of `check` are run, each with that word and but for those that meet `20`, `21` or `23`: what they want is the same. The
 last line is `N passed, M failed`; the status is 0 where none failed.
 """
 import argparse
