@@ -1,5 +1,5 @@
 -- What the files of a journal in parts give a session of a script, and how what is said of a folder after a look at it is said of it before.
-use Rattle.std.proofs.Common.{◌≡◌, ◌⊎◌, inl, inr, ⊎_elim, ℕ, ◌<◌, ◌^◌, List, [], ◌∷◌, length, get_or, Result, Ok, Err, IfOk, IfErr, MatchResult, IsTrue, refl, sym, ◌∙◌, ap, subst, arith}
+use Rattle.std.proofs.Common.{◌≡◌, ◌⊎◌, inl, inr, ⊎_elim, ℕ, ◌<◌, ◌^◌, List, [], length, get_or, Result, IfOk, IfErr, MatchResult, IsTrue, refl, sym, ◌∙◌, ap, subst, arith}
 use Rattle.disk.specs.State.{FolderState}
 use Rattle.disk.specs.Calls.{Continues}
 use Rattle.disk.specs.Runs.{LeavesOnly}
@@ -9,8 +9,6 @@ use Rattle.term.specs.declared.names.Names.{Names}
 use Rattle.term.specs.declared.names.Names.TheVariants.{Bodies}
 use Rattle.journal.specs.declared.version.Version.{Version}
 use Rattle.shared.specs.Entry.{Entry}
-use Rattle.shared.specs.Records.{names_of}
-use Rattle.shared.specs.SessionError.{SessionError}
 use Rattle.shared.specs.SessionError.TheVariants.{Device}
 use Rattle.shared.specs.Scripts.{IsReadAs}
 use Rattle.shared.specs.SessionView.{SessionView}
@@ -69,8 +67,8 @@ read_here n names a script b root x spec names_are script_is root_is spec_is r =
 -- ---- a journal that was read, part by part: how it was after the first part, and at the end
 
 module _ {F : Type 0} (state : F → FolderState) (old : FolderState) (size : ℕ) (p r : Replayed F) (v : Version) (script root : List ℕ) (of : IsOf p.opened.held v script root size) (alike : IsAlike p.opened.held r.opened.held)
-  (first : Continues old (state p.opened.held.folder)) (first_bytes : IsTrue old.claims_bytes → (state p.opened.held.folder).bytes ≡ old.bytes)
-  (second : Continues (state p.opened.held.folder) (state r.opened.held.folder)) (second_bytes : IsTrue (state p.opened.held.folder).claims_bytes → (state r.opened.held.folder).bytes ≡ (state p.opened.held.folder).bytes) where
+    (first : Continues old (state p.opened.held.folder)) (first_bytes : IsTrue old.claims_bytes → (state p.opened.held.folder).bytes ≡ old.bytes)
+    (second : Continues (state p.opened.held.folder) (state r.opened.held.folder)) (second_bytes : IsTrue (state p.opened.held.folder).claims_bytes → (state r.opened.held.folder).bytes ≡ (state p.opened.held.folder).bytes) where
   pub claims_there : IsTrue old.claims_bytes → IsTrue (state p.opened.held.folder).claims_bytes
   claims_there claims = subst IsTrue (sym first.bytes_claim) claims
 

@@ -40,9 +40,10 @@ returns-in-Err-whole-clause-fault g c = λ claims.
     let old = state c.args.folder in
     let p = c.in-Ok.begun in
     let here = subst IsTrue (sym c.in-Ok.ensures.continues.bytes_claim) claims in
-    let e = c.in-Err-whole.error in
-    (at_files (λ (n : ℕ) (files : List (List ℕ)). HaveNoSession n files e) p.0.opened.held.size c.args.size (state p.0.opened.held.folder).bytes old.bytes c.in-Ok.ensures.is.size_is (c.in-Ok.ensures.untouched claims) (c.in-Err-whole.ensures.fault here),
-    inl (c.requires.there claims))
+    let e = c.in-Err-whole.error in (
+      at_files (λ (n : ℕ) (files : List (List ℕ)). HaveNoSession n files e) p.0.opened.held.size c.args.size (state p.0.opened.held.folder).bytes old.bytes c.in-Ok.ensures.is.size_is (c.in-Ok.ensures.untouched claims) (c.in-Err-whole.ensures.fault here),
+      inl (c.requires.there claims),
+    )
 
 pub returns-in-Err-whole-clause-only : goal.returns-in-Err-whole-clause-only
 returns-in-Err-whole-clause-only g c = λ claims spec h holds small.
