@@ -3,3 +3,5 @@ pub mod Starting
 pub mod Going
 pub mod Went
 pub mod Finishing
+-- Of the layers below, for those above.
+pub use Rattle.parts.proofs.Firsts
