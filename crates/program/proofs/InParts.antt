@@ -1,5 +1,5 @@
 -- What is shown of a journal in parts.
-use Rattle.std.proofs.Common.{◌≡◌, ◌<◌, ◌^◌, ℕ, IsTrue, List, [], ◌∷◌, ◌++◌, Option, Ok, length, drop, inl, refl, sym, ◌∙◌, ap, subst}
+use Rattle.std.proofs.Common.{◌≡◌, ◌<◌, ◌^◌, ℕ, IsTrue, List, [], ◌∷◌, ◌++◌, Option, Result, Ok, Err, IsErrAnd, MatchResult, length, drop, inl, refl, sym, ◌∙◌, ap, subst}
 use Rattle.disk.specs.State.{FolderState}
 use Rattle.disk.specs.Calls.{Continues}
 use Rattle.disk.proofs.Moments.{continues_on}
@@ -108,3 +108,8 @@ pub written_all : (spec : Specified) (h : List Entry) (options : Options) (old m
     → Appends mid new (left ++ summary_text options.format counts) → WritesAll spec h options old new
 written_all spec h options old mid new left counts same lines written = all_written {T = Unit {0}} {E = Unit {0}} (Ok tt) spec h options old mid new left counts same lines written
 
+
+-- an error of either kind
+pub err_match : {T E : Type 0} (r : Result T E) (P : E → Type 0) (Q : T → Type 0) (R : E → Type 0) → IsErrAnd r P → ((e : E) → P e → R e) → MatchResult r Q R
+err_match (Ok x) P Q R has step = absurd has
+err_match (Err e) P Q R has step = step e has

@@ -68,3 +68,38 @@ loop-replaying-preserved g c =
           (e.gone ∙ ap (λ (r : Resumed). r.gone) taken ∙ sym (ap (λ (r : Resumed). length r.entries) taken)) e.longer;
       sends = sends_more (contents c.args.output.now) (contents c.loop-replaying.output) (contents c.take-2.new.output) [] s.written c.take-2.new.self.written i.sends f.sends;
     }
+
+pub returns-in-Err-clause-fault : goal.returns-in-Err-clause-fault
+returns-in-Err-clause-fault g c claims =
+    let state = g.F.Folder.state in
+    let taken = c.let_go.ensures.taken in
+    let go = c.let_go.new.self in
+    let w = went_gone state c.args.replaying c.loop-replaying.replaying go c.loop-replaying.invariant.went c.let_go.ensures.opened (ap (λ (r : Resumed). r.spec) taken) (ap (λ (r : Resumed). r.entries) taken) in
+    failed_fault state c.args.replaying go w c.in-Err.error c.in-Err.ensures.fault claims
+
+pub returns-in-Err-clause-only : goal.returns-in-Err-clause-only
+returns-in-Err-clause-only g c claims script root spec h is small start =
+    let state = g.F.Folder.state in
+    let taken = c.let_go.ensures.taken in
+    let go = c.let_go.new.self in
+    let w = went_gone state c.args.replaying c.loop-replaying.replaying go c.loop-replaying.invariant.went c.let_go.ensures.opened (ap (λ (r : Resumed). r.spec) taken) (ap (λ (r : Resumed). r.entries) taken) in
+    failed_only state c.args.replaying go w c.in-Err.error c.in-Err.ensures.only claims script root spec h is small start
+
+pub returns-clause-held : goal.returns-clause-held
+returns-clause-held g c claims =
+    let state = g.F.Folder.state in
+    let i = c.loop-replaying.invariant in
+    let r = c.loop-replaying.replaying in
+    let o = c.args.replaying.opened.held in
+    let f : IsFrom state (state o.folder) o.size r = record { size_is = i.went.alike.size; goes = i.went.goes; bytes = i.went.bytes } in
+    replay_from state (state o.folder) o.size r f r.opened.held.script r.opened.held.root r.taken.spec r.taken.entries (c.is_done.ensures.hold c.while-is_done.false) claims
+
+pub returns-clause-only : goal.returns-clause-only
+returns-clause-only g c claims script root spec h is small start =
+    let state = g.F.Folder.state in
+    let i = c.loop-replaying.invariant in
+    let r = c.loop-replaying.replaying in
+    let o = c.args.replaying.opened.held in
+    let f : IsFrom state (state o.folder) o.size r = record { size_is = i.went.alike.size; goes = i.went.goes; bytes = i.went.bytes } in
+    let all = ends_at state (state o.folder) o.size r f (c.is_done.ensures.all c.while-is_done.false) claims script root spec h is (i.went.only claims script root spec h is small start) in
+    all.1
