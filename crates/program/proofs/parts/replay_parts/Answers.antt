@@ -8,5 +8,5 @@ returns-in-Ok-clause-only g c claims script root spec h is small = c.in_ok-repla
 
 pub returns-in_err-replaying-clause-only : goal.returns-in_err-replaying-clause-only
 returns-in_err-replaying-clause-only g c claims script root spec h is small =
-    let failed = c.in_err-replaying.field-0 in
+    let failed = c.in_err-replaying.field-0.0 in
     err_match c.from_residual.result (λ e. e ≡ failed) _ IsOutside c.from_residual.ensures.1 (λ e same. subst IsOutside (sym same) (c.in_err-replaying.ensures.only claims script root spec h is small))

@@ -30,8 +30,8 @@ loop-replaying-init g c =
       sends = subst (λ (w : List ℕ). Sends (g.W.Write.contents c.args.output.now) (g.W.Write.contents c.take.new.output) w c.take.new.self.written) c.requires.none.1 e.sends;
     }
 
-pub take-2-requires : goal.take-2-requires
-take-2-requires g c =
+pub take-requires-2 : goal.take-requires-2
+take-requires-2 g c =
     let i = c.loop-replaying.invariant in
     let s = c.loop-replaying.showing in
     let taken = c.let_go.ensures.taken in
