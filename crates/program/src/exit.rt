@@ -109,7 +109,8 @@ impl Exit {
             SessionError::BadHeader
             | SessionError::Truncated
             | SessionError::BadRecord(_)
-            | SessionError::OtherVerdict(_) => Exit::BadJournal,
+            | SessionError::OtherVerdict(_)
+            | SessionError::Part(_) => Exit::BadJournal,
         }
     }
 }

@@ -25,6 +25,7 @@ fn session_error(name: &str) -> SessionError {
         "Truncated" => SessionError::Truncated,
         "BadRecord" => SessionError::BadRecord(2),
         "OtherVerdict" => SessionError::OtherVerdict(3),
+        "Part" => SessionError::Part(4),
         _ => SessionError::Memory,
     }
 }
