@@ -1,5 +1,7 @@
 -- A text of which a part was written already.
-use Rattle.std.proofs.Common.{◌≡◌, ℕ, true, false, List, [], ◌++◌, Option, Ok, sym, ap, subst, ◌∙◌, append_assoc}
+use Rattle.std.proofs.Common.{◌≡◌, ℕ, true, false, List, [], ◌∷◌, ◌++◌, Vec, Option, Ok, refl, sym, ap, subst, ◌∙◌, append_assoc, append-nil}
+use Rattle.std.proofs.lemmas.Grind.{flat_map-append}
+use Rattle.std.specs.List.{flat_map}
 use Rattle.std.specs.Io.KnownBytes.{Appends}
 use Rattle.std.proofs.KnownBytes.{Appends-nil, Appends-trans}
 use Rattle.alphabet.specs.declared.events.Event.{Event}
@@ -9,39 +11,46 @@ use Rattle.history.specs.declared.entry.Entry.{Entry}
 use Rattle.shown.specs.declared.options.Options.{Options}
 use Rattle.shown.specs.Coverage.{IsCoverage}
 use Rattle.shown.specs.Findings.{ShowsEntry}
-use Rattle.shown.specs.Shows.{Writes}
-use Rattle.shown.specs.Steps.{IsSent, IsShown}
-use Rattle.shown.proofs.Showing.{shown_alone, shown_covered}
+use Rattle.shown.specs.Shows.{Sends, Shows, Writes}
+use Rattle.shown.specs.Steps.{IsShown, joined}
+use Rattle.shown.proofs.Further.{shown_covered}
 
 -- what an entry adds to the text, it adds to what was written and the text
 pub after_sent : (options : Options) (spec : Specified) (before : List Entry) (e : Entry) (sent old new : List ℕ) →
     (part : List ℕ) × ShowsEntry options spec before e part × (new ≡ old ++ part) → (part : List ℕ) × ShowsEntry options spec before e part × (sent ++ new ≡ (sent ++ old) ++ part)
 after_sent options spec before e sent old new part = (part.0, part.1, ap (λ t. sent ++ t) part.2 ∙ sym (append_assoc sent old part.0))
 
--- nothing was written yet
-pub sent_none : (options : Options) (spec : Specified) (h : List Entry) (contents : Option (List ℕ)) (text : List ℕ) (trace : List Event) (a r : List ℕ) (p : List Set) → IsShown options spec h text trace a r p →
-    IsSent options spec h contents contents text trace a r p
-sent_none options spec h contents text trace a r p shown = ([], shown, Appends-nil contents)
+-- one text more
+pub joined_more : {A : Type 0} (texts new : List (Vec ℕ A)) (text : Vec ℕ A) → new ≡ texts ++ text ∷ [] → joined new ≡ joined texts ++ text.items
+joined_more texts new text is =
+    ap joined is ∙ flat_map-append (λ t. t.items) texts (text ∷ []) ∙ ap (λ t. joined texts ++ t) (append-nil text.items)
 
--- one entry further, after which a part of the text was written
-pub sent_further : (options : Options) (spec spec' : Specified) (h h' : List Entry) (old mid new : Option (List ℕ)) (text text' left : List ℕ) (trace trace' : List Event) (a r a' r' : List ℕ) (p p' : List Set) →
-    spec' ≡ spec → IsSent options spec h old mid text trace a r p →
-    ((sent : List ℕ) → IsShown options spec' h (sent ++ text) trace a r p → IsShown options spec' h' (sent ++ text') trace' a' r' p') →
-    (sent : List ℕ) × Appends mid new sent × (text' ≡ sent ++ left) → IsSent options spec h' old new left trace' a' r' p'
-sent_further options spec spec' h h' old mid new text text' left trace trace' a r a' r' p p' same was further sent =
-    let shown = subst (λ s. IsShown options s h' (was.0 ++ text') trace' a' r' p') same (further was.0 (subst (λ s. IsShown options s h (was.0 ++ text) trace a r p) (sym same) was.1)) in
-    let parted : was.0 ++ text' ≡ (was.0 ++ sent.0) ++ left = ap (λ t. was.0 ++ t) sent.2 ∙ sym (append_assoc was.0 sent.0 left) in
-    (was.0 ++ sent.0, subst (λ t. IsShown options spec h' t trace' a' r' p') parted shown, Appends-trans old mid new was.0 sent.0 was.2 sent.1)
+-- nothing was written
+pub sends_none : (contents : Option (List ℕ)) (text : List ℕ) → Sends contents contents text text
+sends_none contents text = ([], Appends-nil contents, sym (append-nil text))
 
--- all is shown, without coverage
-pub shown_but_end : (options : Options) (spec : Specified) (h : List Entry) (old new : Option (List ℕ)) (text : List ℕ) (trace : List Event) (a r : List ℕ) (p : List Set) →
-    IsSent options spec h old new text trace a r p → options.coverage ≡ false → Writes options spec h old new text
-shown_but_end options spec h old new text trace a r p was unwanted = (was.0, shown_alone options spec h (was.0 ++ text) trace a r p was.1 unwanted, was.2)
+-- and more after it
+pub sends_more : (old mid new : Option (List ℕ)) (first second third : List ℕ) → Sends old mid first second → Sends mid new second third → Sends old new first third
+sends_more old mid new first second third was more =
+    (was.0 ++ more.0, Appends-trans old mid new was.0 more.0 was.1 more.1, more.2 ∙ ap (λ t. t ++ more.0) was.2 ∙ append_assoc first was.0 more.0)
 
--- and with it
-pub covered_but_end : (options : Options) (spec : Specified) (h : List Entry) (old new : Option (List ℕ)) (text text' : List ℕ) (trace : List Event) (a r : List ℕ) (p : List Set) →
-    (was : IsSent options spec h old new text trace a r p) → options.coverage ≡ true →
-    (put : List ℕ) × IsCoverage options.format spec.alphabet h was.1.nexts put × (text' ≡ text ++ put) → Writes options spec h old new text'
-covered_but_end options spec h old new text text' trace a r p was wanted put =
-    let whole = ap (λ t. was.0 ++ t) put.2 ∙ sym (append_assoc was.0 text put.0) in
-    (was.0, shown_covered {T = Unit {0}} {E = Unit {0}} (Ok tt) options spec h (was.0 ++ text) (was.0 ++ text') trace a r p was.1 wanted (put.0, put.1, whole), was.2)
+-- a text was written from its beginning on
+pub writes_all : (options : Options) (spec : Specified) (h : List Entry) (old new : Option (List ℕ)) (first written left : List ℕ) → first ≡ [] → Sends old new first written → Shows options spec h (written ++ left) →
+    Writes options spec h old new left
+writes_all options spec h old new first written left none sends shows =
+    (sends.0, subst (λ t. Shows options spec h (t ++ left)) (sends.2 ∙ ap (λ t. t ++ sends.0) none) shows, sends.1)
+
+-- all is shown, with the coverage
+pub covered_but_end : (options : Options) (spec : Specified) (h : List Entry) (sent text text' : List ℕ) (trace : List Event) (a r : List ℕ) (p : List Set) →
+    (shown : IsShown options spec h (sent ++ text) trace a r p) → options.coverage ≡ true →
+    (put : List ℕ) × IsCoverage options.format spec.alphabet h shown.nexts put × (text' ≡ text ++ put) → Shows options spec h (sent ++ text')
+covered_but_end options spec h sent text text' trace a r p shown wanted put =
+    let whole = ap (λ t. sent ++ t) put.2 ∙ sym (append_assoc sent text put.0) in
+    shown_covered {T = Unit {0}} {E = Unit {0}} (Ok tt) options spec h (sent ++ text) (sent ++ text') trace a r p shown wanted (put.0, put.1, whole)
+
+-- the text of a whole history was, of which the showing was begun with nothing
+pub writes_whole : (options options' : Options) (spec spec' : Specified) (h h' : List Entry) (old new : Option (List ℕ)) (first written left : List ℕ) → options' ≡ options → spec' ≡ spec → h' ≡ h → first ≡ [] →
+    Sends old new first written → Shows options' spec' h' (written ++ left) → Writes options spec h old new left
+writes_whole options options' spec spec' h h' old new first written left same_options same_spec same none sends shows =
+    writes_all options spec h old new first written left none sends
+    (subst (λ o. Shows o spec h (written ++ left)) same_options (subst (λ s. Shows options' s h (written ++ left)) same_spec (subst (λ l. Shows options' spec' l (written ++ left)) same shows)))

@@ -4,6 +4,7 @@ pub mod Lines
 pub mod Findings
 pub mod Coverage
 pub mod Shows
+pub mod Showings
 pub mod Nearness
 pub mod Reasons
 -- Steps of the program.

@@ -35,3 +35,7 @@ pub record Shows (options : Options) (spec : Specified) (h : List Entry) (text :
 -- since the writer had the bytes `old`, the text of the history was written but for its end, `left`
 abbrev pub Writes : Options → Specified → List Entry → Option (List ℕ) → Option (List ℕ) → List ℕ → Type 0
 Writes options spec h old new left = (sent : List ℕ) × Shows options spec h (sent ++ left) × Appends old new sent
+
+-- what was written of a text became more by exactly what the writer, which had the bytes `old`, was given
+abbrev pub Sends : Option (List ℕ) → Option (List ℕ) → List ℕ → List ℕ → Type 0
+Sends old new before after = (sent : List ℕ) × Appends old new sent × (after ≡ before ++ sent)

@@ -32,9 +32,9 @@ pub record Adds (old new : List ℕ) (passes : Event → Bool) : Type 0 where
 
 -- what counting an entry needs of the counts
 pub record HasRoom (accepted rejected : List ℕ) (possible : List Set) : Type 0 where
-  pub accepted_small : (x : Event) → count_at accepted x < 2 ^ 32
-  pub rejected_small : (x : Event) → count_at rejected x < 2 ^ 32
-  pub possible_small : (x : Event) → tallied possible x < 2 ^ 32
+  pub accepted_small : (x : Event) → count_at accepted x < 2 ^ 62
+  pub rejected_small : (x : Event) → count_at rejected x < 2 ^ 62
+  pub possible_small : (x : Event) → tallied possible x < 2 ^ 62
 
 -- the entry was counted, and what could come before it
 pub record CountsEntry (e : Entry) (next : Set) (a r : List ℕ) (p : List Set) (a' r' : List ℕ) (p' : List Set) : Type 0 where

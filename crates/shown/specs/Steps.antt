@@ -1,6 +1,5 @@
 -- What was made of the first entries of a history.
-use Rattle.std.specs.Prelude.{◌≡◌, ◌++◌, ℕ, IsTrue, List, Option, length}
-use Rattle.std.specs.Io.KnownBytes.{Appends}
+use Rattle.std.specs.Prelude.{◌≡◌, ◌++◌, ℕ, IsTrue, List, Vec, length}
 use Rattle.std.specs.List.{flat_map}
 use Rattle.alphabet.specs.declared.events.Event.{Event}
 use Rattle.alphabet.specs.EventSets.{Set}
@@ -10,9 +9,11 @@ use Rattle.term.specs.Specs.{Specified}
 use Rattle.history.specs.declared.entry.Entry.{Entry}
 use Rattle.history.specs.Entries.{events}
 use Rattle.shown.specs.declared.options.Options.{Options}
+use Rattle.shown.specs.declared.progress.Progress.{Progress}
 use Rattle.shown.specs.Findings.{HasNext, ShowsEntry}
 use Rattle.shown.specs.Shows.{OneForEach}
 use Rattle.shown.specs.Slots.{CountAll}
+use Rattle.shown.specs.Said.{IsSaid}
 
 -- the text, the trace and, where coverage is wanted, the counts are those of these entries
 pub record IsShown (options : Options) (spec : Specified) (h : List Entry) (text : List ℕ) (trace : List Event) (accepted rejected : List ℕ) (possible : List Set) : Type 0 where
@@ -25,7 +26,17 @@ pub record IsShown (options : Options) (spec : Specified) (h : List Entry) (text
   pub trace_is : trace ≡ events h
   pub counts_are : IsTrue options.coverage → CountAll (event_count spec.alphabet) h nexts accepted rejected possible
 
--- so are what was written since the writer had the bytes `old` and this text after it, together
-abbrev pub IsSent : Options → Specified → List Entry → Option (List ℕ) → Option (List ℕ) → List ℕ → List Event → List ℕ → List ℕ → List Set → Type 0
-IsSent options spec h old new text trace accepted rejected possible =
-    (sent : List ℕ) × IsShown options spec h (sent ++ text) trace accepted rejected possible × Appends old new sent
+-- several texts in one
+abbrev pub joined : {A : Type 0} → List (Vec ℕ A) → List ℕ
+joined texts = flat_map (λ text. text.items) texts
+
+-- what was written of the text
+abbrev pub written : {A : Type 0} → Progress A → List ℕ
+written p = joined p.sent.items
+
+-- What is kept is that of its entries, for this specification: of their text what was written, and what wasn't yet.
+pub record IsAt {A : Type 0} (options : Options) (spec : Specified) (p : Progress A) : Type 0 where
+  pub spec_is : p.monitor.spec ≡ spec
+  pub said : IsSaid options.format spec.alphabet p.said
+  pub count_is : p.shown ≡ length p.history.items
+  pub shown : IsShown options spec p.history.items (written p ++ p.text.items) p.monitor.trace p.counts.accepted.items p.counts.rejected.items p.counts.possible

@@ -40,7 +40,7 @@ pub(crate) fn count_of(counts: &[u64], event: Event) -> u64
 
 /// Counts the event once more, if it is counted at all.
 pub(crate) fn count_event(counts: &mut [u64], event: Event)
-    requires { slot event < length counts.old → count_at counts.old event < 2 ^ 32 }
+    requires { slot event < length counts.old → count_at counts.old event < 2 ^ 62 }
     ensures length { length counts.new ≡ length counts.old }
     ensures each { (x : Event) → slot x < length counts.old → count_at counts.new x ≡ count_at counts.old x + cond (is_event event x) 1 0 }
 {

@@ -47,8 +47,8 @@ impl<A: Allocator + Copy> Counts<A> {
 
 /// Counts an accepted or a rejected event.
 fn count_report<A: Allocator>(counts: &mut Counts<A>, entry: &Entry)
-    requires accepted { (x : Event) → count_at counts.old.accepted.items x < 2 ^ 32 }
-    requires rejected { (x : Event) → count_at counts.old.rejected.items x < 2 ^ 32 }
+    requires accepted { (x : Event) → count_at counts.old.accepted.items x < 2 ^ 62 }
+    requires rejected { (x : Event) → count_at counts.old.rejected.items x < 2 ^ 62 }
     ensures accepted { Adds counts.old.accepted.items counts.new.accepted.items (λ x. reports x entry.now.report && entry.now.verdict) }
     ensures rejected { Adds counts.old.rejected.items counts.new.rejected.items (λ x. reports x entry.now.report && not entry.now.verdict) }
     ensures possible { counts.new.possible ≡ counts.old.possible }

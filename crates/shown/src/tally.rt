@@ -10,7 +10,7 @@ use std::alloc::{AllocError, Allocator};
 use std::marker::Model;
 
 /// How many binary digits a count has.
-const DIGITS: usize = 33;
+const DIGITS: usize = 63;
 
 /// In how many of the sets that were added each event is. For each binary digit, the lowest first, it has the events in whose
 /// count that digit is 1.
@@ -29,7 +29,7 @@ impl<A: Allocator> Model for Tally<A> {
 
     ghost view = { λ t. t.digits.items };
 
-    ghost invariant = { λ t. length t.digits.items ≡ 33 };
+    ghost invariant = { λ t. length t.digits.items ≡ 63 };
 }
 
 impl<A: Allocator> Tally<A> {
@@ -44,7 +44,7 @@ impl<A: Allocator> Tally<A> {
 
     /// Counts each event of the set once more. Costs a step for each digit that changes.
     pub(crate) fn add(&mut self, set: EventSet)
-        requires { (x : Event) → tallied self.old x < 2 ^ 32 }
+        requires { (x : Event) → tallied self.old x < 2 ^ 62 }
         ensures { (x : Event) → tallied self.new x ≡ tallied self.old x + cond (member set x) 1 0 }
     {
         add_to(&mut self.digits, set);

@@ -1,22 +1,23 @@
 -- What was made of the first entries, one entry further.
-use Rattle.std.proofs.Common.{◌≡◌, ◌↔◌, ℕ, zero, suc, nat_lt, Result, Ok, Err, OnOk, ◌+◌, ◌^◌, ◌<◌, ◌≤◌, Bool, true, false, not, cond, ◌&&◌, IsTrue, List, [], ◌∷◌, ◌++◌, length, take, drop, get_or, refl, sym, ap, subst, ◌∙◌, append-nil, length-append, arith}
+use Rattle.std.proofs.Common.{◌≡◌, ◌↔◌, ℕ, zero, suc, nat_lt, Result, Ok, Err, OnOk, ◌+◌, ◌^◌, ◌<◌, ◌≤◌, Bool, true, false, not, cond, ◌&&◌, IsTrue, List, [], ◌∷◌, ◌++◌, length, take, drop, get_or, refl, sym, ap, subst, ◌∙◌, append-nil, append_assoc, length-append, arith}
 use Rattle.std.proofs.lemmas.Grind.{flat_map-append}
 use Rattle.std.proofs.lemmas.List.Sums.{sum_by-append, count_by-le-length}
-use Rattle.std.proofs.lemmas.List.{get_or_past, length-take}
+use Rattle.std.proofs.lemmas.List.{get_or_past}
 use Rattle.std.proofs.lemmas.Bool.Decides.{nat_tests}
 use Rattle.std.proofs.Math.Seq.{take-suc}
 use Rattle.std.specs.List.{count_by, flat_map}
 use Rattle.alphabet.specs.declared.events.Event.{Event}
 use Rattle.alphabet.specs.EventSets.{Set, member}
 use Rattle.alphabet.specs.Channels.{event_count}
-use Rattle.term.specs.Proc.{Proc, bodies_of, root}
+use Rattle.term.specs.Proc.{bodies_of, root}
 use Rattle.term.specs.Meaning.{Trace}
 use Rattle.term.specs.Verdict.{Verdict}
 use Rattle.monitor.specs.Monitors.{MeetsNone}
 use Rattle.term.specs.Specs.{Specified}
 use Rattle.history.specs.declared.entry.Entry.{Entry}
 use Rattle.history.specs.Entries.{events}
-use Rattle.history.specs.Legal.{IsJudged}
+use Rattle.history.specs.Legal.{HasRoom as HasRoomFor, IsJudged}
+use Rattle.history.proofs.Histories.{room_small}
 use Rattle.shown.specs.declared.options.Options.{Options}
 use Rattle.shown.specs.Findings.{HasNext, ShowsEntry}
 use Rattle.shown.specs.Coverage.{IsCoverage, accepted_count, rejected_count, reports}
@@ -48,7 +49,7 @@ all_added n h nexts e next a r p a' r' p' were adds =
       possible_are = λ x. adds.possible x ∙ ap (λ k. k + cond (member next x) 1 0) (were.possible_are x) ∙ sym (one_more (λ X. member X x) nexts next);
     }
 
-small_by : (n : ℕ) (count : Event → ℕ) (counts : List ℕ) (x : Event) (b : Bool) → nat_lt (slot x) (suc n) ≡ b → AreCounts n count counts → count x ≤ 1000000 → count_at counts x < 2 ^ 32
+small_by : (n : ℕ) (count : Event → ℕ) (counts : List ℕ) (x : Event) (b : Bool) → nat_lt (slot x) (suc n) ≡ b → AreCounts n count counts → count x < 2 ^ 62 → count_at counts x < 2 ^ 62
 small_by n count counts x true e are le =
     let l : slot x < suc n = grind (arith, nat_tests) in
     omega (arith, are.each x l)
@@ -57,7 +58,7 @@ small_by n count counts x false e are le =
     omega (arith, get_or_past counts (slot x) 0 (omega (arith, are.all)))
 
 -- the counts of a history are small
-room : (n : ℕ) (h : List Entry) (nexts : List Set) (a r : List ℕ) (p : List Set) → length nexts ≡ length h → length h ≤ 1000000 → CountAll n h nexts a r p → HasRoom a r p
+room : (n : ℕ) (h : List Entry) (nexts : List Set) (a r : List ℕ) (p : List Set) → length nexts ≡ length h → length h < 2 ^ 62 → CountAll n h nexts a r p → HasRoom a r p
 room n h nexts a r p same small were =
     record {
       accepted_small = λ x. let le = count_by-le-length (λ (y : Entry). reports x y.report && y.verdict) h in small_by n (accepted_count h) a x (nat_lt (slot x) (suc n)) refl were.accepted_are (omega (arith, le));
@@ -71,55 +72,59 @@ around [] i d l = absurd (omega (arith, l))
 around (x ∷ xs) zero d l = refl
 around (x ∷ xs) (suc i) d l = ap (λ ys. x ∷ ys) (around xs i d (omega arith))
 
-module _ (options : Options) (spec : Specified) (h : List Entry) (i : ℕ) (e : Entry) (l : i < length h) (is : e ≡ get_or h i e) where
-  abbrev B : ℕ → Proc
-  B = bodies_of spec.bodies
+-- the entries that come, one of which is looked at
+module _ (spec : Specified) (start entries : List Entry) (i : ℕ) (e : Entry) (l : i < length entries) (is : e ≡ get_or entries i e) where
+  parted : start ++ entries ≡ (start ++ take i entries) ++ e ∷ drop (suc i) entries
+  parted =
+      ap (λ t. start ++ t) (around entries i e l ∙ ap (λ x. take i entries ++ x ∷ drop (suc i) entries) (sym is))
+      ∙ sym (append_assoc start (take i entries) (e ∷ drop (suc i) entries))
 
-  parted : h ≡ take i h ++ e ∷ drop (suc i) h
-  parted = around h i e l ∙ ap (λ x. take i h ++ x ∷ drop (suc i) h) (sym is)
+  pub longer : (h h' : List Entry) → h ≡ start ++ take i entries → h' ≡ h ++ e ∷ [] → h' ≡ start ++ take (i + 1) entries
+  longer h h' was now =
+      let k : suc i ≡ i + 1 = omega arith in
+      now ∙ ap (λ t. t ++ e ∷ []) was ∙ append_assoc start (take i entries) (e ∷ [])
+      ∙ ap (λ t. start ++ t) (sym (take-suc entries i e l ∙ ap (λ x. take i entries ++ x ∷ []) (sym is)) ∙ ap (λ (n : ℕ). take n entries) k)
 
-  longer : take (i + 1) h ≡ take i h ++ e ∷ []
-  longer =
-      let k : i + 1 ≡ suc i = omega arith in
-      ap (λ (n : ℕ). take n h) k ∙ take-suc h i e l ∙ ap (λ x. take i h ++ x ∷ []) (sym is)
+  pub fits_here : (h : List Entry) → IsJudged spec (start ++ entries) → h ≡ start ++ take i entries → IsTrue e.verdict ↔ Verdict (bodies_of spec.bodies) (events h) e.report
+  fits_here h judged was =
+      subst (λ t. IsTrue e.verdict ↔ Verdict (bodies_of spec.bodies) (events t) e.report) (sym was) (judged.legal (start ++ take i entries) e (drop (suc i) entries) parted).verdict
 
-  pub fits_here : (trace : List Event) → IsJudged spec h → trace ≡ events (take i h) → IsTrue e.verdict ↔ Verdict B trace e.report
-  fits_here trace judged at = subst (λ u. IsTrue e.verdict ↔ Verdict B u e.report) (sym at) (judged.legal (take i h) e (drop (suc i) h) parted).verdict
+  pub within_here : (h : List Entry) → IsJudged spec (start ++ entries) → h ≡ start ++ take i entries → MeetsNone spec (events h) e.report
+  within_here h judged was =
+      subst (λ t. MeetsNone spec (events t) e.report) (sym was) (judged.within.reports (start ++ take i entries) e (drop (suc i) entries) parted)
 
-  pub within_here : (trace : List Event) → IsJudged spec h → trace ≡ events (take i h) → MeetsNone spec trace e.report
-  within_here trace judged at = subst (λ u. MeetsNone spec u e.report) (sym at) (judged.within.reports (take i h) e (drop (suc i) h) parted)
+  pub small_here : (h : List Entry) → IsJudged spec (start ++ entries) → h ≡ start ++ take i entries → length h < 2 ^ 62
+  small_here h judged was =
+      room_small spec.names h e.number (subst (λ t. HasRoomFor spec.names t e.number) (sym was) (judged.room (start ++ take i entries) e (drop (suc i) entries) parted))
 
-  pub place_here : (place : ℕ) → place ≡ i + 1 → place ≡ suc (length (take i h))
-  place_here place at = omega (arith, at, length-take i h)
+-- one entry further
+module _ (options : Options) (spec : Specified) (before : List Entry) (e : Entry) where
+  pub room_here : (text : List ℕ) (trace : List Event) (a r : List ℕ) (p : List Set) → length before < 2 ^ 62 → IsShown options spec before text trace a r p → IsTrue options.coverage → HasRoom a r p
+  room_here text trace a r p small shown wanted = room (event_count spec.alphabet) before shown.nexts a r p shown.same small (shown.counts_are wanted)
 
-  pub room_here : (text : List ℕ) (trace : List Event) (a r : List ℕ) (p : List Set) → length h ≤ 1000000 → IsShown options spec (take i h) text trace a r p → IsTrue options.coverage → HasRoom a r p
-  room_here text trace a r p small shown wanted =
-      room (event_count spec.alphabet) (take i h) shown.nexts a r p shown.same (omega (arith, length-take i h, small)) (shown.counts_are wanted)
-
-  pub shown_next : (next : Set) (text text' : List ℕ) (trace trace' : List Event) (a r : List ℕ) (p : List Set) (a' r' : List ℕ) (p' : List Set) → IsShown options spec (take i h) text trace a r p →
-      ((x : Event) → IsTrue (member next x) ↔ Trace B root (trace ++ x ∷ [])) →
-      (part : List ℕ) × ShowsEntry options spec (take i h) e part × (text' ≡ text ++ part) →
-      (IsTrue options.coverage → CountsEntry e next a r p a' r' p') → trace' ≡ events (take i h ++ e ∷ []) →
-      IsShown options spec (take (i + 1) h) text' trace' a' r' p'
+  pub shown_next : (next : Set) (text text' : List ℕ) (trace trace' : List Event) (a r : List ℕ) (p : List Set) (a' r' : List ℕ) (p' : List Set) → IsShown options spec before text trace a r p →
+      ((x : Event) → IsTrue (member next x) ↔ Trace (bodies_of spec.bodies) root (trace ++ x ∷ [])) →
+      (part : List ℕ) × ShowsEntry options spec before e part × (text' ≡ text ++ part) →
+      (IsTrue options.coverage → CountsEntry e next a r p a' r' p') → trace' ≡ events (before ++ e ∷ []) →
+      IsShown options spec (before ++ e ∷ []) text' trace' a' r' p'
   shown_next next text text' trace trace' a r p a' r' p' shown nexts_is part counted moved =
-      let has : HasNext B (take i h) next = λ x. subst (λ u. IsTrue (member next x) ↔ Trace B root (u ++ x ∷ [])) shown.trace_is (nexts_is x) in
-      let it : IsShown options spec (take i h ++ e ∷ []) text' trace' a' r' p' = record {
+      let has : HasNext (bodies_of spec.bodies) before next = λ x. subst (λ u. IsTrue (member next x) ↔ Trace (bodies_of spec.bodies) root (u ++ x ∷ [])) shown.trace_is (nexts_is x) in
+      record {
         parts = shown.parts ++ part.0 ∷ [];
         nexts = shown.nexts ++ next ∷ [];
         parts_are = more shown.parts_are part.1;
         nexts_are = more shown.nexts_are has;
-        same = length-append shown.nexts (next ∷ []) ∙ ap (λ n. n + 1) shown.same ∙ sym (length-append (take i h) (e ∷ []));
+        same = length-append shown.nexts (next ∷ []) ∙ ap (λ n. n + 1) shown.same ∙ sym (length-append before (e ∷ []));
         text_is = part.2 ∙ ap (λ t. t ++ part.0) shown.text_is ∙ ap (λ t. flat_map (λ q. q) shown.parts ++ t) (sym (append-nil part.0)) ∙ sym (flat_map-append (λ q. q) shown.parts (part.0 ∷ []));
         trace_is = moved;
-        counts_are = λ wanted. all_added (event_count spec.alphabet) (take i h) shown.nexts e next a r p a' r' p' (shown.counts_are wanted) (counted wanted);
-      } in
-      subst (λ g. IsShown options spec g text' trace' a' r' p') (sym longer) it
+        counts_are = λ wanted. all_added (event_count spec.alphabet) before shown.nexts e next a r p a' r' p' (shown.counts_are wanted) (counted wanted);
+      }
 
 -- nothing is shown yet
-pub nothing_shown : (options : Options) (spec : Specified) (n : ℕ) (text : List ℕ) (trace : List Event) (a r : List ℕ) (p : List Set) → n ≡ event_count spec.alphabet → text ≡ [] → trace ≡ [] →
-    AreCounts n (λ _. 0) a → AreCounts n (λ _. 0) r → ((x : Event) → tallied p x ≡ 0) → IsShown options spec [] text trace a r p
-nothing_shown options spec n text trace a r p same empty begun za zr zp =
-    record {
+pub nothing_shown : (options : Options) (spec : Specified) (h : List Entry) (n : ℕ) (text : List ℕ) (trace : List Event) (a r : List ℕ) (p : List Set) → n ≡ event_count spec.alphabet → h ≡ [] → text ≡ [] → trace ≡ [] →
+    AreCounts n (λ _. 0) a → AreCounts n (λ _. 0) r → ((x : Event) → tallied p x ≡ 0) → IsShown options spec h text trace a r p
+nothing_shown options spec h n text trace a r p same none_yet empty begun za zr zp =
+    let it : IsShown options spec [] text trace a r p = record {
       parts = [];
       nexts = [];
       parts_are = none;
@@ -132,7 +137,8 @@ nothing_shown options spec n text trace a r p same empty begun za zr zp =
         rejected_are = subst (λ m. AreCounts m (λ _. 0) r) same zr;
         possible_are = zp;
       };
-    }
+    } in
+    subst (λ l. IsShown options spec l text trace a r p) (sym none_yet) it
 
 covers : (b : Bool) (options : Options) (spec : Specified) (h : List Entry) (nexts : List Set) (text : List ℕ) → b ≡ true → IsCoverage options.format spec.alphabet h nexts text →
     HasCoverageIf b options spec h nexts text
