@@ -11,5 +11,5 @@ abbrev pub failures_of : {F : Type 0} → FileDisk F → ℕ
 failures_of disk = disk.failures.n
 
 -- how often a folder has failed
-abbrev pub folder_failures_of : {R F L A : Type 0} → FileFolder R F L A → ℕ
+abbrev pub folder_failures_of : {S A : Type 0} → FileFolder S A → ℕ
 folder_failures_of folder = folder.failures.n
