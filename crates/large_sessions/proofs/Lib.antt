@@ -1,0 +1,8 @@
+pub mod Taking
+pub mod Starting
+pub mod Going
+pub mod Stepping
+pub mod Went
+pub mod Finishing
+-- Of the layers below, for those above.
+pub use Rattle.parts.proofs.Firsts
