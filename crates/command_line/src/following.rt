@@ -1,6 +1,7 @@
 //! `cspwatch show --follow`: the reports of a journal, and then those that come.
 
-use crate::evidence::{Stamp, bytes_of, stamp_of};
+use crate::evidence::{Stamp, bytes_of, files_of, is_large, stamp_of};
+use crate::limits::PART_SIZE;
 use crate::telling::{tell_fault, tell_journal};
 use memory_disks::MemoryDisk;
 use program::{Exit, FollowError, Options};
@@ -34,6 +35,28 @@ fn tell_follow<R: Files<File = File>, E: Write + IsTerminal>(
     }
 }
 
+// `look`, at the files of a large journal.
+fn look_at_parts<R: Files<File = File> + AllocGlobal, O: Write, E: Write + IsTerminal>(
+    rt: &R,
+    name: &str,
+    options: Options,
+    before: Vec<u8, Global>,
+    output: &mut O,
+    errors: &mut E,
+) -> Result<Vec<u8, Global>, Exit> {
+    let folder = match files_of(rt, name, errors) {
+        Ok(folder) => folder,
+        Err(exit) => {
+            drop(before);
+            return Err(exit);
+        }
+    };
+    match program::follow_parts(rt.alloc(), folder, PART_SIZE, options, before, output) {
+        Ok(text) => Ok(text),
+        Err(error) => Err(tell_follow(rt, errors, name, error)),
+    }
+}
+
 // Looks at the file as it stands in this moment, and writes what is shown of it beyond what was shown before. The answer is all of it, or
 // the status of the fault that was reported.
 fn look<R: Files<File = File> + AllocGlobal, O: Write, E: Write + IsTerminal>(
@@ -44,6 +67,9 @@ fn look<R: Files<File = File> + AllocGlobal, O: Write, E: Write + IsTerminal>(
     output: &mut O,
     errors: &mut E,
 ) -> Result<Vec<u8, Global>, Exit> {
+    if is_large(rt, name) {
+        return look_at_parts(rt, name, options, before, output, errors);
+    }
     let bytes = match bytes_of(rt, name, errors) {
         Ok(bytes) => bytes,
         Err(exit) => {

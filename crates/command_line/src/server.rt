@@ -6,17 +6,18 @@ ghost use Rattle.command_line.specs.Crossings.{JournalCrosses};
 use crate::doors::{Door, Entrance, close_up, listen_at};
 use crate::endings::{Ended, tell_ended};
 use crate::journal_files::{hold_streams, journal_at, take_away};
-use crate::limits::names_by;
+use crate::limits::{PART_SIZE, names_by};
 use crate::log_files::Log;
 use crate::logged::{Known, LoggedAccept};
 use crate::logging::{log_of, start};
 use crate::scripts::{Script, tell_read, text_of};
-use crate::telling::{tell_fault, tell_open};
-use file_disk::FileDisk;
+use crate::telling::{tell_fault, tell_journal, tell_open};
+use file_disk::{FileDisk, FileFolder};
 use journal::Journal;
-use program::{Exit, Session};
+use program::{Exit, Session, SessionError};
 use serving::{
-    Accept, Connections, Listen, Recorder, SessionOn, open, serve_service, serve_session,
+    Accept, Connections, Listen, OpenError, Parts, Recorder, SessionOn, open, open_parts,
+    serve_service, serve_session,
 };
 use std::alloc::{AllocError, Global};
 use std::fs::File;
@@ -265,12 +266,54 @@ fn session_at<R: Files<File = File> + AllocGlobal, E: Write + IsTerminal>(
         Ok(session) => Ok((session, is_made)),
         Err((error, _)) => {
             take_away(rt, service.journal, is_made);
-            let script = Script {
-                name: service.spec,
-                text: script,
-                process: service.process.as_bytes(),
-            };
-            Err(tell_open(rt, errors, &script, names, service.journal, error))
+            Err(tell_unopened(rt, service, script, error, errors))
+        }
+    }
+}
+
+// Reports why there is no session of the script on the journal, and answers the status.
+fn tell_unopened<R: Files<File = File> + AllocGlobal, E: Write + IsTerminal>(
+    rt: &R,
+    service: &Service<'_>,
+    script: &[u8],
+    error: OpenError,
+    errors: &mut E,
+) -> Exit {
+    let script = Script {
+        name: service.spec,
+        text: script,
+        process: service.process.as_bytes(),
+    };
+    let names = names_by(service.large);
+    tell_open(rt, errors, &script, names, service.journal, error)
+}
+
+// The same session with names kept as their bodies, on a journal in parts, the first of which is the file.
+fn session_in_parts<'a, R: Files<File = File> + AllocGlobal, E: Write + IsTerminal>(
+    rt: &'a R,
+    service: &'a Service<'_>,
+    script: &[u8],
+    errors: &mut E,
+) -> Result<(SessionOn<Parts<FileFolder<'a, R, Global>, Global>, Global>, bool), Exit>
+    ensures { IfOk result (λ r. r.0.offered ≡ []) }
+{
+    let (file, is_made) = journal_at(rt, service.journal, errors)?;
+    let Ok(folder) = FileFolder::new(rt, rt.alloc(), service.journal, file) else {
+        take_away(rt, service.journal, is_made);
+        return Err(tell_journal(
+            rt,
+            errors,
+            service.journal,
+            SessionError::Device,
+        ));
+    };
+    let root = service.process.as_bytes();
+    match open_parts(rt.alloc(), folder, script, root, PART_SIZE) {
+        Ok(session) => Ok((session, is_made)),
+        Err((error, folder)) => {
+            drop(folder);
+            take_away(rt, service.journal, is_made);
+            Err(tell_unopened(rt, service, script, error, errors))
         }
     }
 }
@@ -318,8 +361,39 @@ fn serve_held<
         Ok(script) => script,
         Err(exit) => return exit,
     };
+    if service.large {
+        return serve_in_parts(rt, service, &script, output, errors);
+    }
     journal_crosses();
     match session_at(rt, service, &script, errors) {
+        Ok((session, is_made)) => serve_at(rt, service, session, is_made, output, errors),
+        Err(exit) => exit,
+    }
+}
+
+// The same, with names kept as their bodies, on a journal in parts.
+fn serve_in_parts<
+    R: Files<File = File>
+        + Net<Stream = TcpStream, Listener = TcpListener>
+        + AllocGlobal
+        + Threads
+        + Wait
+        + Clock
+        + Eprint
+        + Copy
+        + Send
+        + Sync
+        + 'static,
+    O: Write,
+    E: Write + IsTerminal,
+>(
+    rt: &R,
+    service: &Service<'_>,
+    script: &[u8],
+    output: &mut O,
+    errors: &mut E,
+) -> Exit {
+    match session_in_parts(rt, service, script, errors) {
         Ok((session, is_made)) => serve_at(rt, service, session, is_made, output, errors),
         Err(exit) => exit,
     }

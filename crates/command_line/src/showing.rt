@@ -4,11 +4,12 @@ ghost use Rattle.std.specs.Prelude.{◌≡◌, ◌⊎◌, IfOk};
 ghost use Rattle.program.specs.declared.exit.Exit.TheVariants.{Done, Rejected};
 ghost use Rattle.command_line.specs.Commands.{Shown};
 
-use crate::evidence::{bytes_of, tell_after};
+use crate::evidence::{bytes_of, files_of, is_large, tell_after};
+use crate::limits::PART_SIZE;
 use crate::telling::{tell_fault, tell_journal};
-use disk::Disk;
+use disk::{Disk, Folder};
 use memory_disks::MemoryDisk;
-use program::{DisplayError, Displayed, Exit, Options};
+use program::{DisplayError, Displayed, DisplayedParts, Exit, Options};
 use std::alloc::Global;
 use std::fs::File;
 use std::io::{IsTerminal, Write};
@@ -32,8 +33,63 @@ fn display<D: Disk + Drop, O: Write>(
     Ok((exit, session.into_disk()))
 }
 
+// The same of a journal in parts, with the number of bytes that come after its last record.
+fn display_parts<F: Folder + Drop, O: Write>(
+    alloc: Global,
+    folder: F,
+    options: Options,
+    output: &mut O,
+) -> Result<(Exit, usize), DisplayError>
+    ensures { IfOk result (λ r. Shown options (O.contents output.old) (O.contents output.new) r.0) }
+{
+    let DisplayedParts { replaying, exit } =
+        program::show_parts(alloc, folder, PART_SIZE, options, output)?;
+    let after = replaying.bytes_after();
+    drop(replaying);
+    Ok((exit, after))
+}
+
+// Reports why a journal isn't displayed whole, and answers the status.
+fn tell_display<R: Files<File = File>, E: Write + IsTerminal>(
+    rt: &R,
+    name: &str,
+    error: DisplayError,
+    errors: &mut E,
+) -> Exit
+    ensures { ((result ≡ Done) ⊎ (result ≡ Rejected)) → ⊥ }
+{
+    match error {
+        DisplayError::Session(error) => tell_journal(rt, errors, name, error),
+        DisplayError::Output => tell_fault(errors, "-", "cannot write", Exit::FileFailed),
+    }
+}
+
+// `show`, of a large journal.
+fn show_large<R: Files<File = File> + AllocGlobal, O: Write, E: Write + IsTerminal>(
+    rt: &R,
+    name: &str,
+    options: Options,
+    output: &mut O,
+    errors: &mut E,
+) -> Exit
+    ensures { (result ≡ Done) ⊎ (result ≡ Rejected) → Shown options (O.contents output.old) (O.contents output.new) result }
+{
+    let folder = match files_of(rt, name, errors) {
+        Ok(folder) => folder,
+        Err(exit) => return exit,
+    };
+    match display_parts(rt.alloc(), folder, options, output) {
+        Ok((exit, after)) => {
+            tell_after(errors, name, after);
+            exit
+        }
+        Err(error) => tell_display(rt, name, error, errors),
+    }
+}
+
 /// Judges the records of the journal in the file again, writes what is asked for of them, and answers the exit status. The file is only
-/// read, as it stands in this moment: another run may have it open. What stands past the first closed gate is reported.
+/// read, as it stands in this moment: another run may have it open. What stands past the first closed gate is reported. A large
+/// journal may have further files.
 pub fn show<R: Files<File = File> + AllocGlobal, O: Write, E: Write + IsTerminal>(
     rt: &R,
     name: &str,
@@ -43,6 +99,9 @@ pub fn show<R: Files<File = File> + AllocGlobal, O: Write, E: Write + IsTerminal
 ) -> Exit
     ensures { (result ≡ Done) ⊎ (result ≡ Rejected) → Shown options (O.contents output.old) (O.contents output.new) result }
 {
+    if is_large(rt, name) {
+        return show_large(rt, name, options, output, errors);
+    }
     let bytes = match bytes_of(rt, name, errors) {
         Ok(bytes) => bytes,
         Err(exit) => return exit,
@@ -53,7 +112,6 @@ pub fn show<R: Files<File = File> + AllocGlobal, O: Write, E: Write + IsTerminal
             tell_after(errors, name, len.saturating_sub(disk.bytes().len()));
             exit
         }
-        Err(DisplayError::Session(error)) => tell_journal(rt, errors, name, error),
-        Err(DisplayError::Output) => tell_fault(errors, "-", "cannot write", Exit::FileFailed),
+        Err(error) => tell_display(rt, name, error, errors),
     }
 }

@@ -1,4 +1,5 @@
 pub mod Alone
 pub mod Displays
 pub mod Fields
+pub mod InParts
 pub mod Results

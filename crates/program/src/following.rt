@@ -27,7 +27,7 @@ pub enum FollowError {
 }
 
 // One text after the other.
-fn joined<A: Allocator>(text: Vec<u8, A>, left: Vec<u8, A>) -> Result<Vec<u8, A>, AllocError>
+pub(crate) fn joined<A: Allocator>(text: Vec<u8, A>, left: Vec<u8, A>) -> Result<Vec<u8, A>, AllocError>
     ensures { IfOk result (λ whole. whole.items ≡ text.items ++ left.items) }
 {
     let mut text = text;
@@ -119,7 +119,7 @@ pub fn follow<D: Disk + Drop, A: Allocator + Copy, W: Write>(
 }
 
 // Writes what the text has more than what was shown before, where there was memory for the text, and gives it back.
-fn show_on<A: Allocator, W: Write>(
+pub(crate) fn show_on<A: Allocator, W: Write>(
     text: Result<Vec<u8, A>, AllocError>,
     before: Vec<u8, A>,
     output: &mut W,

@@ -33,7 +33,7 @@ pub struct Replayed<D: Disk, A: Allocator> {
 }
 
 // How a replay ends with so many rejected reports.
-fn exit_of(rejected: u64) -> Exit
+pub(crate) fn exit_of(rejected: u64) -> Exit
     ensures { result ≡ rejected_exit rejected }
 {
     if rejected > 0 {

@@ -109,7 +109,7 @@ pub(crate) fn lines_of<D: Disk, A: Allocator + Copy, W: Write>(
 }
 
 // Writes the end of the lines, and the counts after it.
-fn write_end<A: Allocator, W: Write>(
+pub(crate) fn write_end<A: Allocator, W: Write>(
     left: &mut Vec<u8, A>,
     format: Format,
     summary: Summary,

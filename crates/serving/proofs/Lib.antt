@@ -1,4 +1,5 @@
 pub mod Closings
 pub mod Crossings
 pub mod Openings
+pub mod OpeningsInParts
 pub mod ServiceClosings

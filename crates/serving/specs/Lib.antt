@@ -1,4 +1,5 @@
 -- To believe.
 pub mod Held
+pub mod HeldInParts
 pub mod Runs
 pub mod Services

@@ -3,6 +3,7 @@
 #![tactic(auto)]
 
 mod opening;
+mod opening_parts;
 mod service_gate;
 mod services;
 mod sessions;
@@ -12,7 +13,9 @@ pub use connections::{
     Accept, AcceptFault, Account, Closed, Connections, Ending, Gate, Listen, Outcome, Over,
     Reusable, RunStatus, Served, TcpAccept, Terms, Totals, UnixAccept, serve_all, serve_on,
 };
+pub use large_sessions::Parts;
 pub use opening::{OpenError, open};
+pub use opening_parts::open_parts;
 pub use service_gate::ServiceGate;
 pub use services::{ClosedService, serve_service};
 pub use sessions::{Closing, serve_session};

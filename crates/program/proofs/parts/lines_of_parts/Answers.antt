@@ -1,0 +1,57 @@
+use Rattle.std.proofs.Common.{◌∙◌, refl, sym}
+use Rattle.std.proofs.lemmas.Result.{IfOk-weaker}
+use Rattle.shown.specs.Shows.{Shows, Writes}
+use Rattle.shown.proofs.Sending.{writes_whole}
+use Rattle.program.proofs.InParts.{IsFrom, claims_at, display_from, replay_at, replay_from}
+use Rattle.program.proofs.parts.lines_of_parts.Goals as goal
+
+pub returns-in-Ok-end-clause-replayed : goal.returns-in-Ok-end-clause-replayed
+returns-in-Ok-end-clause-replayed g c claims =
+    let state = g.F.Folder.state in
+    let s = state c.args.folder in
+    let b = c.in_ok-begin_both.ensures in
+    let begun = c.in_ok-begin_both.replaying in
+    let r = c.in-Ok.replaying in
+    let first : IsFrom state s c.args.size begun = record { size_is = b.size; goes = b.folder; bytes = b.untouched } in
+    replay_from state s c.args.size begun first r.opened.held.script r.opened.held.root r.taken.spec r.taken.entries c.in-Ok.ensures.held claims
+
+pub returns-in-Ok-end-clause-text : goal.returns-in-Ok-end-clause-text
+returns-in-Ok-end-clause-text g c =
+    let b = c.in_ok-begin_both.ensures in
+    let e = c.in-Ok.ensures in
+    let r = c.in-Ok.replaying in
+    let later = c.show_each.new.showing in
+    let old = g.W.Write.contents c.args.output.now in
+    let new = g.W.Write.contents c.show_each.new.output in
+    let o = c.show_each.ensures.options in
+    writes_whole c.args.options later.options r.taken.spec later.spec r.taken.entries later.history old new _ later.written c.in-Ok-end.left.items
+    (o.0 ∙ b.showing.1) (o.1 ∙ b.showing.0 ∙ sym e.alike.1) e.history refl e.sends c.in-Ok-end.ensures.text
+
+pub returns-in-Ok-end-clause-only : goal.returns-in-Ok-end-clause-only
+returns-in-Ok-end-clause-only g c claims script root spec h is small =
+    let state = g.F.Folder.state in
+    let s = state c.args.folder in
+    let b = c.in_ok-begin_both.ensures in
+    let begun = c.in_ok-begin_both.replaying in
+    let first : IsFrom state s c.args.size begun = record { size_is = b.size; goes = b.folder; bytes = b.untouched } in
+    let start = b.only claims script root spec h is small in
+    let e = c.in-Ok.ensures in
+    (e.alike.1 ∙ start.spec_is, e.only (claims_at state s c.args.size begun first claims) script root spec h (replay_at state s c.args.size begun first script root spec h claims is) small start)
+
+pub returns-in-Err-clause-fault : goal.returns-in-Err-clause-fault
+returns-in-Err-clause-fault g c claims =
+    let state = g.F.Folder.state in
+    let s = state c.args.folder in
+    let b = c.in_ok-begin_both.ensures in
+    let begun = c.in_ok-begin_both.replaying in
+    let first : IsFrom state s c.args.size begun = record { size_is = b.size; goes = b.folder; bytes = b.untouched } in
+    display_from state s c.args.size begun first c.in-Err.error c.in-Err.ensures.fault claims
+
+pub returns-in-Err-clause-only : goal.returns-in-Err-clause-only
+returns-in-Err-clause-only g c claims script root spec h is small =
+    let state = g.F.Folder.state in
+    let s = state c.args.folder in
+    let b = c.in_ok-begin_both.ensures in
+    let begun = c.in_ok-begin_both.replaying in
+    let first : IsFrom state s c.args.size begun = record { size_is = b.size; goes = b.folder; bytes = b.untouched } in
+    c.in-Err.ensures.only (claims_at state s c.args.size begun first claims) script root spec h (replay_at state s c.args.size begun first script root spec h claims is) small (b.only claims script root spec h is small)

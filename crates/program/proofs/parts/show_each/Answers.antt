@@ -1,0 +1,105 @@
+use Rattle.std.proofs.Common.{◌≡◌, ◌++◌, List, ℕ, [], length, refl, sym, ap, subst, ◌∙◌}
+use Rattle.session.specs.Resumed.{Resumed}
+use Rattle.shared.specs.Entry.{Entry}
+use Rattle.large_sessions.proofs.Going.{fewer_left}
+use Rattle.large_sessions.proofs.Went.{Went, failed_fault, failed_only, went_gone, went_none, went_on}
+use Rattle.shown.specs.Shows.{Sends}
+use Rattle.shown.proofs.Sending.{sends_more}
+use Rattle.program.proofs.InParts.{AreShown, IsFrom, ends_at, judged_on, replay_from, shown_first, shown_on}
+use Rattle.program.proofs.parts.show_each.Goals as goal
+
+pub take-requires : goal.take-requires
+take-requires g c =
+    let t = c.args.replaying.taken in
+    let s = c.args.showing.now in
+    judged_on t.spec s.spec t.entries (s.history ++ c.entries.result.now) c.requires.spec
+    (ap (λ (l : List Entry). s.history ++ l) c.entries.ensures.entries ∙ shown_first s.history t.entries t.gone c.requires.none.0 c.requires.none.2)
+    c.entries.ensures.judged
+
+pub loop-replaying-init : goal.loop-replaying-init
+loop-replaying-init g c =
+    let t = c.args.replaying.taken in
+    let s = c.args.showing.now in
+    let e = c.in_ok-take.ensures in
+    record {
+      went = went_none g.F.Folder.state c.args.replaying;
+      spec_is = c.take.ensures.spec ∙ c.requires.spec;
+      same = c.take.ensures.spec;
+      options_are = c.take.ensures.options;
+      history_is = e.history ∙ ap (λ (l : List Entry). s.history ++ l) c.entries.ensures.entries ∙ shown_first s.history t.entries t.gone c.requires.none.0 c.requires.none.2;
+      sends = subst (λ (w : List ℕ). Sends (g.W.Write.contents c.args.output.now) (g.W.Write.contents c.take.new.output) w c.take.new.self.written) c.requires.none.1 e.sends;
+    }
+
+pub take-requires-2 : goal.take-requires-2
+take-requires-2 g c =
+    let i = c.loop-replaying.invariant in
+    let s = c.loop-replaying.showing in
+    let taken = c.let_go.ensures.taken in
+    let e = c.in-Ok.ensures in
+    let t = c.in-Ok.next.taken in
+    let go = c.let_go.new.self.taken in
+    judged_on t.spec s.spec t.entries (s.history ++ c.entries-2.result.now)
+    (i.spec_is ∙ sym (ap (λ (r : Resumed). r.spec) taken) ∙ sym e.spec)
+    (ap (λ (l : List Entry). s.history ++ l) c.entries-2.ensures.entries
+        ∙ shown_on s.history go.entries t.entries t.gone (i.history_is ∙ sym (ap (λ (r : Resumed). r.entries) taken))
+        (e.gone ∙ ap (λ (r : Resumed). r.gone) taken ∙ sym (ap (λ (r : Resumed). length r.entries) taken)) e.longer)
+    c.entries-2.ensures.judged
+
+pub loop-replaying-preserved : goal.loop-replaying-preserved
+loop-replaying-preserved g c =
+    let state = g.F.Folder.state in
+    let contents = g.W.Write.contents in
+    let i = c.loop-replaying.invariant in
+    let s = c.loop-replaying.showing in
+    let taken = c.let_go.ensures.taken in
+    let e = c.in-Ok.ensures in
+    let t = c.in-Ok.next.taken in
+    let go = c.let_go.new.self in
+    let w = went_gone state c.args.replaying c.loop-replaying.replaying go i.went c.let_go.ensures.opened (ap (λ (r : Resumed). r.spec) taken) (ap (λ (r : Resumed). r.entries) taken) in
+    let n : Went state go c.in-Ok.next = record { alike = e.alike; spec_is = e.spec; longer = e.longer; goes = e.continues; bytes = e.untouched; moment = e.any_moment; only = e.only } in
+    let f = c.in_ok-take-2.ensures in
+    record {
+      went = went_on state c.args.replaying go w c.in-Ok.next n;
+      spec_is = c.take-2.ensures.spec ∙ i.spec_is ∙ sym (ap (λ (r : Resumed). r.spec) taken) ∙ sym e.spec;
+      same = c.take-2.ensures.spec ∙ i.same;
+      options_are = c.take-2.ensures.options ∙ i.options_are;
+      history_is = f.history ∙ ap (λ (l : List Entry). s.history ++ l) c.entries-2.ensures.entries
+          ∙ shown_on s.history go.taken.entries t.entries t.gone (i.history_is ∙ sym (ap (λ (r : Resumed). r.entries) taken))
+          (e.gone ∙ ap (λ (r : Resumed). r.gone) taken ∙ sym (ap (λ (r : Resumed). length r.entries) taken)) e.longer;
+      sends = sends_more (contents c.args.output.now) (contents c.loop-replaying.output) (contents c.take-2.new.output) [] s.written c.take-2.new.self.written i.sends f.sends;
+    }
+
+pub returns-in-Err-clause-fault : goal.returns-in-Err-clause-fault
+returns-in-Err-clause-fault g c claims =
+    let state = g.F.Folder.state in
+    let taken = c.let_go.ensures.taken in
+    let go = c.let_go.new.self in
+    let w = went_gone state c.args.replaying c.loop-replaying.replaying go c.loop-replaying.invariant.went c.let_go.ensures.opened (ap (λ (r : Resumed). r.spec) taken) (ap (λ (r : Resumed). r.entries) taken) in
+    failed_fault state c.args.replaying go w c.in-Err.error c.in-Err.ensures.fault claims
+
+pub returns-in-Err-clause-only : goal.returns-in-Err-clause-only
+returns-in-Err-clause-only g c claims script root spec h is small start =
+    let state = g.F.Folder.state in
+    let taken = c.let_go.ensures.taken in
+    let go = c.let_go.new.self in
+    let w = went_gone state c.args.replaying c.loop-replaying.replaying go c.loop-replaying.invariant.went c.let_go.ensures.opened (ap (λ (r : Resumed). r.spec) taken) (ap (λ (r : Resumed). r.entries) taken) in
+    failed_only state c.args.replaying go w c.in-Err.error c.in-Err.ensures.only claims script root spec h is small start
+
+pub returns-clause-held : goal.returns-clause-held
+returns-clause-held g c claims =
+    let state = g.F.Folder.state in
+    let i = c.loop-replaying.invariant in
+    let r = c.loop-replaying.replaying in
+    let o = c.args.replaying.opened.held in
+    let f : IsFrom state (state o.folder) o.size r = record { size_is = i.went.alike.size; goes = i.went.goes; bytes = i.went.bytes } in
+    replay_from state (state o.folder) o.size r f r.opened.held.script r.opened.held.root r.taken.spec r.taken.entries (c.is_done.ensures.hold c.while-is_done.false) claims
+
+pub returns-clause-only : goal.returns-clause-only
+returns-clause-only g c claims script root spec h is small start =
+    let state = g.F.Folder.state in
+    let i = c.loop-replaying.invariant in
+    let r = c.loop-replaying.replaying in
+    let o = c.args.replaying.opened.held in
+    let f : IsFrom state (state o.folder) o.size r = record { size_is = i.went.alike.size; goes = i.went.goes; bytes = i.went.bytes } in
+    let all = ends_at state (state o.folder) o.size r f (c.is_done.ensures.all c.while-is_done.false) claims script root spec h is (i.went.only claims script root spec h is small start) in
+    all.1

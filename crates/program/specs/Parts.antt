@@ -1,0 +1,26 @@
+-- What is shown of a journal in parts.
+use Rattle.std.specs.Prelude.{ℕ, List, Option, IsTrue}
+use Rattle.disk.specs.State.{FolderState}
+use Rattle.term.specs.Specs.{Specified}
+use Rattle.shared.specs.Entry.{Entry}
+use Rattle.large_sessions.specs.Sessions.{AreReplayOf, HaveNoSession}
+use Rattle.shown.specs.declared.options.Options.{Options}
+use Rattle.shown.specs.Shows.{Shows}
+use Rattle.program.specs.declared.showing.DisplayError.{DisplayError}
+use Rattle.program.specs.declared.showing.DisplayError.TheVariants.{Session, Output}
+use Rattle.program.specs.Followings.{WritesOn}
+
+-- Why the journal in these files isn't displayed: they have no session for this reason, or the output failed.
+abbrev pub HaveNoDisplay : ℕ → List (List ℕ) → DisplayError → Type 0
+HaveNoDisplay size files (Session error) = HaveNoSession size files error
+HaveNoDisplay size files Output = Unit {0}
+
+-- The text is that of the history that the folder's files hold, as asked for, and was written as far as it wasn't shown before.
+pub record AreFollowed (size : ℕ) (s : FolderState) (options : Options) (before text : List ℕ) (old new : Option (List ℕ)) : Type 0 where
+  pub script : List ℕ
+  pub root : List ℕ
+  pub spec : Specified
+  pub history : List Entry
+  pub replayed : IsTrue s.claims_bytes → AreReplayOf size s.bytes script root spec history
+  pub shows : Shows options spec history text
+  pub written : WritesOn before text old new

@@ -1,0 +1,330 @@
+//! Journals in parts, replayed and shown, one part after the other.
+
+ghost use Rattle.std.specs.Prelude.{◌≡◌, ◌⊎◌, ◌≤◌, ◌<◌, ◌^◌, ◌++◌, Ok, length, ℕ, List, [], false, IsTrue, IfOk, IfErr, OnOk, MatchResult};
+ghost use Rattle.std.specs.Io.KnownBytes.{Appends};
+ghost use Rattle.disk.specs.Calls.{Continues};
+ghost use Rattle.term.specs.Specs.{Specified};
+ghost use Rattle.shared.specs.Entry.{Entry};
+ghost use Rattle.shared.specs.Scripts.{IsOutside, IsReadAs};
+ghost use Rattle.shared.specs.Records.{names_of as names_kept};
+ghost use Rattle.wire.specs.Replies.{status_text};
+ghost use Rattle.attending.specs.Courses.{status_of};
+ghost use Rattle.large_sessions.specs.Opening.{IsDone};
+ghost use Rattle.large_sessions.specs.Parts.{IsAlike};
+ghost use Rattle.large_sessions.specs.Sessions.{AreReplayOf, HaveNoSession, IsStartOf};
+ghost use Rattle.shown.specs.Shows.{Sends, Shows, Writes};
+ghost use Rattle.program.specs.Exits.{replay_exit};
+ghost use Rattle.program.specs.Parts.{AreFollowed, HaveNoDisplay};
+ghost use Rattle.program.specs.Showings.{IsBeyond, WritesAll};
+
+use crate::exit::Exit;
+use crate::following::{FollowError, joined, show_on};
+use crate::replaying::exit_of;
+use crate::showing::{DisplayError, write_end};
+use crate::summaries::summary_line;
+use disk::Folder;
+use large_sessions::Replaying;
+use shared::{SessionError, names_of, read_as};
+use shown::{Options, Showing};
+use std::alloc::{AllocError, Allocator};
+use std::io::Write;
+
+/// What a replay of a journal in parts comes to.
+#[derive(Drop)]
+pub struct ReplayedParts<F: Folder, A: Allocator> {
+    /// The replay, of which no part is left.
+    pub replaying: Replaying<F, A>,
+    /// The counts of the history, as `S` is answered.
+    pub line: Vec<u8, A>,
+    /// `Rejected` where the history has a rejected report, else `Done`.
+    pub exit: Exit,
+}
+
+// All parts of the journal, replayed.
+fn whole_of<F: Folder + Drop, A: Allocator + Copy>(
+    alloc: A,
+    folder: F,
+    size: usize,
+) -> Result<Replaying<F, A>, SessionError>
+    requires { 1 ≤ size }
+    ensures done { IfOk result (λ r. IsDone r.opened) }
+    ensures replayed { IfOk result (λ r. IsTrue (F.state folder).claims_bytes
+        → AreReplayOf size (F.state folder).bytes r.opened.held.script r.opened.held.root r.taken.spec r.taken.entries) }
+    ensures fault { IfErr result (λ error. IsTrue (F.state folder).claims_bytes → HaveNoSession size (F.state folder).bytes error) }
+    ensures only { IsTrue (F.state folder).claims_bytes → (script root : List ℕ) (spec : Specified) (h : List Entry)
+        → AreReplayOf size (F.state folder).bytes script root spec h → length h < 2 ^ 62
+        → MatchResult result (λ r. (r.taken.spec ≡ spec) × (r.taken.entries ≡ h)) IsOutside }
+{
+    let (replaying, header) = match Replaying::begin(alloc, folder, size) {
+        Ok(begun) => begun,
+        Err((error, folder)) => {
+            drop(folder);
+            return Err(error);
+        }
+    };
+    drop(header);
+    match replaying.whole() {
+        Ok(replaying) => {
+            // Then the files hold just its history.
+            let _is_done = replaying.is_done();
+            Ok(replaying)
+        }
+        Err((error, folder)) => {
+            drop(folder);
+            Err(error)
+        }
+    }
+}
+
+/// Judges the records of a journal in parts again, one part after the other: the replay, the line with its counts, and the exit status.
+/// Nothing is written to the files. The errors are those of `Replaying::next`, or `Memory`. Takes memory for one part.
+pub fn replay_parts<F: Folder + Drop, A: Allocator + Copy>(
+    alloc: A,
+    folder: F,
+    size: usize,
+) -> Result<ReplayedParts<F, A>, SessionError>
+    requires { 1 ≤ size }
+    // The files hold the history, of which each verdict is that of what its script denotes.
+    ensures replayed { IfOk result (λ r. IsTrue (F.state folder).claims_bytes
+        → AreReplayOf size (F.state folder).bytes r.replaying.opened.held.script r.replaying.opened.held.root r.replaying.taken.spec r.replaying.taken.entries) }
+    ensures done { IfOk result (λ r. IsDone r.replaying.opened) }
+    ensures line { IfOk result (λ r. r.line.items ≡ status_text (status_of r.replaying.taken.entries false)) }
+    ensures exit { IfOk result (λ r. r.exit ≡ replay_exit r.replaying.taken.entries) }
+
+    // Or the files have no session for this reason.
+    ensures fault { IfErr result (λ error. IsTrue (F.state folder).claims_bytes → HaveNoSession size (F.state folder).bytes error) }
+
+    // Files that hold a history give it, with what its script denotes, device and memory apart.
+    ensures only { IsTrue (F.state folder).claims_bytes → (script root : List ℕ) (spec : Specified) (h : List Entry)
+        → AreReplayOf size (F.state folder).bytes script root spec h → length h < 2 ^ 62
+        → MatchResult result (λ r. (r.replaying.taken.spec ≡ spec) × (r.replaying.taken.entries ≡ h)) IsOutside }
+{
+    let replaying = whole_of(alloc, folder, size)?;
+    let summary = replaying.summary();
+    match summary_line(alloc, summary, false) {
+        Ok(line) => Ok(ReplayedParts {
+            replaying,
+            line,
+            exit: exit_of(summary.rejected),
+        }),
+        Err(_) => {
+            drop(replaying);
+            Err(SessionError::Memory)
+        }
+    }
+}
+
+// The first part, replayed, and a showing of what it is of.
+fn begin_both<F: Folder + Drop, A: Allocator + Copy>(
+    alloc: A,
+    folder: F,
+    size: usize,
+    options: Options,
+) -> Result<(Replaying<F, A>, Showing<A>), DisplayError>
+    requires { 1 ≤ size }
+    ensures showing { IfOk result (λ p. (p.1.spec ≡ p.0.taken.spec) × (p.1.options ≡ options) × (p.1.history ≡ []) × (p.1.written ≡ [])) }
+    ensures gone { IfOk result (λ p. p.0.taken.gone ≡ 0) }
+    ensures size { IfOk result (λ p. p.0.opened.held.size ≡ size) }
+    ensures folder { IfOk result (λ p. Continues (F.state folder) (F.state p.0.opened.held.folder)) }
+    ensures untouched { IfOk result (λ p. IsTrue (F.state folder).claims_bytes → (F.state p.0.opened.held.folder).bytes ≡ (F.state folder).bytes) }
+    ensures only { IsTrue (F.state folder).claims_bytes → (script root : List ℕ) (spec : Specified) (h : List Entry)
+        → AreReplayOf size (F.state folder).bytes script root spec h → length h < 2 ^ 62 → MatchResult result (λ p. IsStartOf p.0 script root spec h) IsBeyond }
+    ensures fault { IfErr result (λ error. IsTrue (F.state folder).claims_bytes → HaveNoDisplay size (F.state folder).bytes error) }
+{
+    let (replaying, header) = match Replaying::begin(alloc, folder, size) {
+        Ok(begun) => begun,
+        Err((error, folder)) => {
+            drop(folder);
+            return Err(DisplayError::Session(error));
+        }
+    };
+    // What it keeps: its entries are judged.
+    let _entries = replaying.entries();
+    let names = names_of(header.version);
+    let Ok(spec) = read_as(alloc, &header.script, &header.root, names) else {
+        drop(replaying);
+        return Err(DisplayError::Session(SessionError::Memory));
+    };
+    match Showing::begin(alloc, spec, options) {
+        Ok(showing) => Ok((replaying, showing)),
+        Err(error) => {
+            drop(replaying);
+            Err(error.into())
+        }
+    }
+}
+
+// Shows what the parts hold, one after the other. The entries of a part are let go before the next one is read.
+fn show_each<F: Folder + Drop, A: Allocator + Copy, W: Write>(
+    alloc: A,
+    replaying: Replaying<F, A>,
+    showing: &mut Showing<A>,
+    output: &mut W,
+) -> Result<Replaying<F, A>, DisplayError>
+    requires spec { showing.old.spec ≡ replaying.taken.spec }
+    requires none { (showing.old.history ≡ []) × (showing.old.written ≡ []) × (replaying.taken.gone ≡ 0) }
+    ensures done { IfOk result (λ r. IsDone r.opened) }
+    ensures alike { IfOk result (λ r. IsAlike replaying.opened.held r.opened.held × (r.taken.spec ≡ replaying.taken.spec)) }
+    ensures options { (showing.new.options ≡ showing.old.options) × (showing.new.spec ≡ showing.old.spec) }
+    ensures history { IfOk result (λ r. showing.new.history ≡ r.taken.entries) }
+    ensures sends { OnOk result (Sends (W.contents output.old) (W.contents output.new) [] showing.new.written) }
+    ensures held { IfOk result (λ r. IsTrue (F.state replaying.opened.held.folder).claims_bytes
+        → AreReplayOf replaying.opened.held.size (F.state replaying.opened.held.folder).bytes r.opened.held.script r.opened.held.root r.taken.spec r.taken.entries) }
+    ensures fault { IfErr result (λ error. IsTrue (F.state replaying.opened.held.folder).claims_bytes
+        → HaveNoDisplay replaying.opened.held.size (F.state replaying.opened.held.folder).bytes error) }
+    ensures only { IsTrue (F.state replaying.opened.held.folder).claims_bytes → (script root : List ℕ) (spec : Specified) (h : List Entry)
+        → AreReplayOf replaying.opened.held.size (F.state replaying.opened.held.folder).bytes script root spec h → length h < 2 ^ 62 → IsStartOf replaying script root spec h
+        → MatchResult result (λ r. r.taken.entries ≡ h) IsBeyond }
+{
+    let mut replaying = replaying;
+    showing.take(alloc, replaying.entries(), output)?;
+    while !replaying.is_done() {
+        replaying.let_go();
+        replaying = match replaying.next() {
+            Ok((next, _)) => next,
+            Err((error, folder)) => {
+                drop(folder);
+                return Err(DisplayError::Session(error));
+            }
+        };
+        showing.take(alloc, replaying.entries(), output)?;
+    }
+    Ok(replaying)
+}
+
+// Writes the lines of what the parts hold, but for their end, which is answered.
+fn lines_of_parts<F: Folder + Drop, A: Allocator + Copy, W: Write>(
+    alloc: A,
+    folder: F,
+    size: usize,
+    options: Options,
+    output: &mut W,
+) -> Result<(Replaying<F, A>, Vec<u8, A>), DisplayError>
+    requires { 1 ≤ size }
+    ensures done { IfOk result (λ r. IsDone r.0.opened) }
+    ensures replayed { IfOk result (λ r. IsTrue (F.state folder).claims_bytes
+        → AreReplayOf size (F.state folder).bytes r.0.opened.held.script r.0.opened.held.root r.0.taken.spec r.0.taken.entries) }
+    ensures text { IfOk result (λ r. Writes options r.0.taken.spec r.0.taken.entries (W.contents output.old) (W.contents output.new) r.1.items) }
+    ensures fault { IfErr result (λ error. IsTrue (F.state folder).claims_bytes → HaveNoDisplay size (F.state folder).bytes error) }
+    ensures only { IsTrue (F.state folder).claims_bytes → (script root : List ℕ) (spec : Specified) (h : List Entry)
+        → AreReplayOf size (F.state folder).bytes script root spec h → length h < 2 ^ 62
+        → MatchResult result (λ r. (r.0.taken.spec ≡ spec) × (r.0.taken.entries ≡ h)) IsBeyond }
+{
+    let (replaying, mut showing) = begin_both(alloc, folder, size, options)?;
+    match show_each(alloc, replaying, &mut showing, output) {
+        Ok(replaying) => match showing.end() {
+            Ok(left) => Ok((replaying, left)),
+            Err(error) => {
+                drop(replaying);
+                Err(error.into())
+            }
+        },
+        Err(error) => {
+            drop(showing);
+            Err(error)
+        }
+    }
+}
+
+/// What was displayed of a journal in parts.
+#[derive(Drop)]
+pub struct DisplayedParts<F: Folder, A: Allocator> {
+    /// The replay, of which no part is left.
+    pub replaying: Replaying<F, A>,
+    /// `Rejected` where the history has a rejected report, else `Done`.
+    pub exit: Exit,
+}
+
+/// Judges the records of a journal in parts again, one part after the other, and writes what is asked for of its history: the lines, and then
+/// the counts. Nothing is written to the files. The errors are those of `replay_parts`, and that of the output; a part of the text may have
+/// been written then, of 64 KiB or more. Takes memory for one part.
+pub fn show_parts<F: Folder + Drop, A: Allocator + Copy, W: Write>(
+    alloc: A,
+    folder: F,
+    size: usize,
+    options: Options,
+    output: &mut W,
+) -> Result<DisplayedParts<F, A>, DisplayError>
+    requires { 1 ≤ size }
+    // The files hold the history, of which each verdict is that of what its script denotes.
+    ensures replayed { IfOk result (λ r. IsTrue (F.state folder).claims_bytes
+        → AreReplayOf size (F.state folder).bytes r.replaying.opened.held.script r.replaying.opened.held.root r.replaying.taken.spec r.replaying.taken.entries) }
+
+    // What was written is that history, as asked for, with exactly the events and the acceptances of what the script denotes.
+    ensures text { IfOk result (λ r. WritesAll r.replaying.taken.spec r.replaying.taken.entries options (W.contents output.old) (W.contents output.new)) }
+    ensures exit { IfOk result (λ r. r.exit ≡ replay_exit r.replaying.taken.entries) }
+
+    // Or the files have no session for this reason, or the output failed.
+    ensures fault { IfErr result (λ error. IsTrue (F.state folder).claims_bytes → HaveNoDisplay size (F.state folder).bytes error) }
+
+    // Of files that hold a history exactly what `Displays` has of it is written. Devices and memory apart.
+    ensures only { IsTrue (F.state folder).claims_bytes → (script root : List ℕ) (spec : Specified) (h : List Entry)
+        → AreReplayOf size (F.state folder).bytes script root spec h → length h < 2 ^ 62
+        → MatchResult result (λ r. (r.replaying.taken.entries ≡ h) × WritesAll spec h options (W.contents output.old) (W.contents output.new) × (r.exit ≡ replay_exit h)) IsBeyond }
+{
+    let (replaying, mut left) = lines_of_parts(alloc, folder, size, options, output)?;
+    let summary = replaying.summary();
+    let written = write_end(&mut left, options.format, summary, output);
+    drop(left);
+    match written {
+        Ok(()) => Ok(DisplayedParts {
+            replaying,
+            exit: exit_of(summary.rejected),
+        }),
+        Err(error) => {
+            drop(replaying);
+            Err(error.into())
+        }
+    }
+}
+
+// The lines of what the parts hold.
+fn text_of_parts<F: Folder + Drop, A: Allocator + Copy>(
+    alloc: A,
+    folder: F,
+    size: usize,
+    options: Options,
+) -> Result<Vec<u8, A>, DisplayError>
+    requires { 1 ≤ size }
+    ensures { IfOk result (λ text. (script : List ℕ) × (root : List ℕ) × (spec : Specified) × (h : List Entry) × Shows options spec h text.items
+        × (IsTrue (F.state folder).claims_bytes → AreReplayOf size (F.state folder).bytes script root spec h)) }
+{
+    let mut text = Vec::new(alloc);
+    match lines_of_parts(alloc, folder, size, options, &mut text) {
+        Ok((replaying, left)) => {
+            drop(replaying);
+            match joined(text, left) {
+                Ok(text) => Ok(text),
+                Err(AllocError) => Err(DisplayError::Session(SessionError::Memory)),
+            }
+        }
+        Err(error) => {
+            drop(text);
+            Err(error)
+        }
+    }
+}
+
+/// `follow`, of a journal in parts.
+pub fn follow_parts<F: Folder + Drop, A: Allocator + Copy, W: Write>(
+    alloc: A,
+    folder: F,
+    size: usize,
+    options: Options,
+    before: Vec<u8, A>,
+    output: &mut W,
+) -> Result<Vec<u8, A>, FollowError>
+    requires { 1 ≤ size }
+    ensures { IfOk result (λ text. AreFollowed size (F.state folder) options before.items text.items (W.contents output.old) (W.contents output.new)) }
+{
+    match text_of_parts(alloc, folder, size, options) {
+        Ok(text) => show_on(Ok(text), before, output),
+        Err(error) => {
+            drop(before);
+            match error {
+                DisplayError::Session(error) => Err(FollowError::Session(error)),
+                DisplayError::Output => Err(FollowError::Session(SessionError::Memory)),
+            }
+        }
+    }
+}
