@@ -17,7 +17,7 @@ pub struct Names {
     /// By its number, whether the seat of a name has a connection.
     taken: [bool; 1001],
     /// The first so many are the numbers that were never used.
-    spare: [u16; 64],
+    spare: [u32; 64],
     spares: usize,
 }
 
@@ -60,7 +60,7 @@ impl Names {
         requires { name ≤ self.now.last }
         ensures { result ≡ slice_index_or self.now.taken name false }
     {
-        self.taken[usize::from(name.get())]
+        self.taken[name.get() as usize]
     }
 
     /// The seat of this name has a connection from now on.
@@ -70,7 +70,7 @@ impl Names {
         ensures taken { self.new.taken ≡ slice_set self.old.taken name true }
         ensures spare { self.new.spare ≡ self.old.spare }
     {
-        self.taken[usize::from(name.get())] = true;
+        self.taken[name.get() as usize] = true;
     }
 
     /// The seat with this number has no connection any more.
@@ -80,8 +80,8 @@ impl Names {
         ensures unnamed { self.old.last < seat → self.new.taken ≡ self.old.taken }
         ensures spare { self.new.spare ≡ self.old.spare }
     {
-        if seat.get() <= self.last {
-            self.taken[usize::from(seat.get())] = false;
+        if seat.get() <= u32::from(self.last) {
+            self.taken[seat.get() as usize] = false;
         }
     }
 
@@ -109,7 +109,7 @@ impl Names {
         }
         self.spares -= 1;
         let number = self.spare[self.spares];
-        if number <= self.last {
+        if number <= u32::from(self.last) {
             return None;
         }
         SeatNumber::new(number)
