@@ -13,7 +13,7 @@ pub const LAST_NAME: u16 = 1000;
 /// Beside them are numbers above the names that were given to seats and never used: they are given again before others.
 #[derive(Drop)]
 pub struct Names {
-    last: u16,
+    last: u32,
     /// By its number, whether the seat of a name has a connection.
     taken: [bool; 1001],
     /// The first so many are the numbers that were never used.
@@ -40,7 +40,7 @@ impl Names {
         ensures spare { result.spare ≡ [] }
     {
         Names {
-            last,
+            last: u32::from(last),
             taken: [false; 1001],
             spare: [0; 64],
             spares: 0,
@@ -48,7 +48,7 @@ impl Names {
     }
 
     /// The last of the names.
-    pub fn last(&self) -> u16
+    pub fn last(&self) -> u32
         ensures last { result ≡ self.now.last }
         ensures small { result ≤ 1000 }
     {
@@ -80,7 +80,7 @@ impl Names {
         ensures unnamed { self.old.last < seat → self.new.taken ≡ self.old.taken }
         ensures spare { self.new.spare ≡ self.old.spare }
     {
-        if seat.get() <= u32::from(self.last) {
+        if seat.get() <= self.last {
             self.taken[seat.get() as usize] = false;
         }
     }
@@ -109,7 +109,7 @@ impl Names {
         }
         self.spares -= 1;
         let number = self.spare[self.spares];
-        if number <= u32::from(self.last) {
+        if number <= self.last {
             return None;
         }
         SeatNumber::new(number)
