@@ -1,6 +1,6 @@
 -- A report to a session moves the course of one who reports alone.
 use Rattle.std.proofs.Common.{◌≡◌, ◌≤◌, inl, inr, ℕ, suc, ◌||◌, List, [], ◌∷◌, ◌++◌, length, Bool, true, false, Option, Some, None, refl, sym, ap, ◌∙◌, subst, arith}
-use Rattle.session.proofs.Histories.{calls-le}
+use Rattle.session.proofs.Histories.{calls-le, full_for, names_below}
 use Rattle.std.specs.Prelude.{IsTrue, ◌↔◌, is_some}
 use Rattle.std.proofs.lemmas.List.{append-nil}
 use Rattle.alphabet.specs.declared.events.Report.{Report}
@@ -47,29 +47,29 @@ long_of Bodies h number (inl full) le = omega (arith, full)
 long_of Bodies h number (inr full) le = omega (arith, full, le)
 
 pub refused : {D : Type 0} (old new : SessionView D) (seat number : ℕ) (r : Report) (fault : SessionFault) →
-    (old.failed ≡ None → old.offered ≡ []) → number ≡ next_number (entries old) seat → new.history ≡ old.history → ExplainsReport old new seat number 0 r fault →
+    (old.failed ≡ None → old.offered ≡ []) → seat ≡ 1 → number ≡ next_number (entries old) seat → new.history ≡ old.history → ExplainsReport old new seat number 0 r fault →
     Leaves old.spec (course_of old.history old.failed) r (reported_as fault) (course_of new.history new.failed)
-refused old new seat number r session.Depth idle turn same (e, left, now) = record {
+refused old new seat number r session.Depth idle one turn same (e, left, now) = record {
   why = subst (λ (h : List Entry). Stops old.spec (events h) r limit.Depth) (all old (idle e.0.is_open)) e.1;
   same = same;
   closed = ap is_some now;
 }
-refused old new seat number r session.States idle turn same (e, left, now) = record {
+refused old new seat number r session.States idle one turn same (e, left, now) = record {
   why = subst (λ (h : List Entry). Stops old.spec (events h) r limit.States) (all old (idle e.0.is_open)) e.1;
   same = same;
   closed = ap is_some now;
 }
-refused old new seat number r session.Seats idle turn same (e, left, now) = absurd e
-refused old new seat number r session.History idle turn same (e, left, now) = record {
+refused old new seat number r session.Seats idle one turn same (e, left, now) = absurd e
+refused old new seat number r session.History idle one turn same (e, left, now) = record {
   why =
       let is = all old (idle e.0) in
       let number_is : number ≡ next_number old.history seat = turn ∙ ap (λ (h : List Entry). next_number h seat) is in
-      long_of old.spec.names old.history number (subst (λ (h : List Entry). IsFull old.spec.names h number) is e.3) (omega (arith, number_is, calls-le old.history seat));
+      long_of old.spec.names old.history number (subst (λ (h : List Entry). IsFull old.spec.names h number) is (full_for old.spec.names (entries old) seat number (omega (arith, one, names_below old.spec.names)) e.3)) (omega (arith, number_is, calls-le old.history seat));
   same = same;
   closed = ap is_some now;
 }
-refused old new seat number r session.Turn idle turn same (e, left, now) = absurd (e.1 turn)
-refused old new seat number r session.Behind idle turn same (e, left, now) = absurd (omega (arith, e.2))
-refused old new seat number r (session.Journal x) idle turn same fails = record { why = tt; same = same; closed = ap is_some fails.closed }
-refused old new seat number r (session.Closed x) idle turn same (e, left, now) = record { why = tt; same = same; closed = ap is_some (now ∙ e) }
-refused old new seat number r session.Memory idle turn same (e, left, now) = record { why = tt; same = same; closed = ap is_some now }
+refused old new seat number r session.Turn idle one turn same (e, left, now) = absurd (e.1 turn)
+refused old new seat number r session.Behind idle one turn same (e, left, now) = absurd (omega (arith, e.2))
+refused old new seat number r (session.Journal x) idle one turn same fails = record { why = tt; same = same; closed = ap is_some fails.closed }
+refused old new seat number r (session.Closed x) idle one turn same (e, left, now) = record { why = tt; same = same; closed = ap is_some (now ∙ e) }
+refused old new seat number r session.Memory idle one turn same (e, left, now) = record { why = tt; same = same; closed = ap is_some now }

@@ -24,10 +24,13 @@ pub(crate) struct Alone<D: Disk, A: Allocator> {
     pub(crate) session: Session<D, A>,
     seat: SeatNumber,
     ghost idle: { session.failed ≡ None → session.offered ≡ [] },
+    ghost first: { seat ≡ 1 },
 }
 
 /// The first seat of a session.
-fn first_seat() -> SeatNumber {
+fn first_seat() -> SeatNumber
+    ensures { result ≡ 1 }
+{
     match SeatNumber::new(1) {
         Some(seat) => seat,
         None => unreachable!(),

@@ -17,4 +17,4 @@ pub use entry::{Entry, Summary};
 pub use history::{HISTORY_LIMIT, History, LARGE_HISTORY_LIMIT};
 pub use legal::{Candidate, LegalHistory};
 pub use monitor::{AfterFault, Monitor, crosses};
-pub use seat::SeatNumber;
+pub use seat::{LARGE_LAST_SEAT, LAST_SEAT, SeatNumber};

@@ -13,11 +13,11 @@ pub const LAST_NAME: u16 = 1000;
 /// Beside them are numbers above the names that were given to seats and never used: they are given again before others.
 #[derive(Drop)]
 pub struct Names {
-    last: u16,
+    last: u32,
     /// By its number, whether the seat of a name has a connection.
     taken: [bool; 1001],
     /// The first so many are the numbers that were never used.
-    spare: [u16; 64],
+    spare: [u32; 64],
     spares: usize,
 }
 
@@ -40,7 +40,7 @@ impl Names {
         ensures spare { result.spare ≡ [] }
     {
         Names {
-            last,
+            last: u32::from(last),
             taken: [false; 1001],
             spare: [0; 64],
             spares: 0,
@@ -48,7 +48,7 @@ impl Names {
     }
 
     /// The last of the names.
-    pub fn last(&self) -> u16
+    pub fn last(&self) -> u32
         ensures last { result ≡ self.now.last }
         ensures small { result ≤ 1000 }
     {
@@ -60,7 +60,7 @@ impl Names {
         requires { name ≤ self.now.last }
         ensures { result ≡ slice_index_or self.now.taken name false }
     {
-        self.taken[usize::from(name.get())]
+        self.taken[name.get() as usize]
     }
 
     /// The seat of this name has a connection from now on.
@@ -70,7 +70,7 @@ impl Names {
         ensures taken { self.new.taken ≡ slice_set self.old.taken name true }
         ensures spare { self.new.spare ≡ self.old.spare }
     {
-        self.taken[usize::from(name.get())] = true;
+        self.taken[name.get() as usize] = true;
     }
 
     /// The seat with this number has no connection any more.
@@ -81,7 +81,7 @@ impl Names {
         ensures spare { self.new.spare ≡ self.old.spare }
     {
         if seat.get() <= self.last {
-            self.taken[usize::from(seat.get())] = false;
+            self.taken[seat.get() as usize] = false;
         }
     }
 

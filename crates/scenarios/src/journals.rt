@@ -9,6 +9,7 @@ use memory_disks::MemoryDisk;
 use rows::{Output, first_word};
 use session::SeatNumber;
 use std::alloc::Global;
+use term::Names;
 
 /// Appends a record, as `SEAT NUMBER KIND MARK..`.
 fn put_record(record: &Record<Global>, out: &mut Output) {
@@ -94,8 +95,10 @@ pub(crate) fn play(alloc: Global, row: &str, out: &mut Output) -> bool {
         "seat" => {
             let number = text.parse().unwrap_or(0);
             put_seat(SeatNumber::new(number), out);
-            out.put(" ");
-            put_seat(SeatNumber::after(number), out);
+            for names in [Names::Steps, Names::Bodies] {
+                out.put(" ");
+                put_seat(SeatNumber::after(number, names), out);
+            }
         }
         _ => return false,
     }

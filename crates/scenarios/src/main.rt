@@ -18,7 +18,7 @@
 //! | `memory until ROW`, `memory always ROW` | the same where the request and all after it are refused: until an answer says so; or all |
 //! | `no_request ROW` | one of these rows, where every request is refused during the calls that take no memory: the answers, after which a call is named that made a request, and the file |
 //! | `copied FILE` | the journal in the file: its header and its records, and the file of a journal of the same |
-//! | `seat NUMBER` | the seat with this number, and the one after it |
+//! | `seat NUMBER` | the seat with this number, and the one after it, where names are kept as steps, and as their bodies |
 //! | `fault_text session NAME`, `fault_text journal NAME` | a fault's number and word, and its text |
 //! | `file TEXT # CALLS`, `disk TEXT # CALLS` | a disk on a real file of this text, or in memory: what each call answers, and the bytes at the end |
 #![tactic(auto)]

@@ -76,7 +76,7 @@ impl<J: Recorder, A: Allocator + Copy, N: Naming, R: Wait> Judge for ServiceJudg
     }
 
     fn identify(&mut self, seat: u16) -> Option<Result<u64, Fault>> {
-        let name = SeatNumber::new(seat)?;
+        let name = SeatNumber::new(u32::from(seat))?;
         let rt = self.judge.rt;
         match self.judge.seat.identify(rt, name) {
             Ok(count) => Some(Ok(u64::from(count))),

@@ -8,7 +8,7 @@ use Rattle.term.specs.Specs.{Specified}
 use Rattle.locked.specs.Entry.{Entry}
 use Rattle.locked.specs.Entries.{calls}
 use Rattle.locked.specs.Fault.{Fault}
-use Rattle.locked.specs.Legal.{Legal}
+use Rattle.locked.specs.Legal.{Legal, seat_limit}
 use Rattle.locked.specs.Beginnings.{StartsWith}
 use Rattle.locked.specs.Groups.{HasEntries}
 use Rattle.shared.specs.View.{SeatView}
@@ -26,7 +26,7 @@ none_left (suc n) (r ∷ reports) is = none_left n reports (omega (arith, is))
 
 module _ (spec : Specified) (b n k place : ℕ) (h whole : List Entry) (reports : List Report) (verdicts : List Bool) (count : ℕ) (closed : Bool)
     (has : HasEntries whole place k (n + 1) (take count reports) (take count verdicts)) (legal : Legal (bodies_of spec.bodies) whole) (begins : StartsWith whole h)
-    (longer : length h < place) (few : n ≤ length (calls h k)) (bound : place + count ≤ 2 ^ 62 + 1) (small : n ≤ 2 ^ 62) (within : count ≤ length reports) where
+    (longer : length h < place) (few : n ≤ length (calls h k)) (bound : place + count ≤ 2 ^ 62 + 1) (small : n ≤ 2 ^ 62) (within : count ≤ length reports) (named : k ≤ seat_limit spec.names) where
   abbrev B : ℕ → Proc
   B = bodies_of spec.bodies
 
@@ -78,7 +78,7 @@ module _ (spec : Specified) (b n k place : ℕ) (h whole : List Entry) (reports 
         let mid : SeatView = view_of b k all.seen (n + count) closed in
         let new : SeatView = view_of b k whole (n + count) shut in
         let length_is : length mid.mine ≡ n + count = length-take-le (n + count) (calls all.seen k) enough in
-        let why : Answers spec whole k mid.mine refused.report f = answers spec whole k (n + 1 + count) mid.mine refused.report f (omega (arith, length_is)) refused.why in
+        let why : Answers spec whole k mid.mine refused.report f = answers spec whole k (n + 1 + count) mid.mine refused.report f named (omega (arith, length_is)) refused.why in
         let one : Refused spec mid new refused.report f = record { legal = legal; begins = all.begins; same = own.1; begun = refl; why = why; seat = refl; closed = shut_is } in
         record {
           mid = mid;

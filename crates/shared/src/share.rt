@@ -8,7 +8,7 @@ ghost use Rattle.term.specs.Proc.{bodies_of, root};
 ghost use Rattle.locked.specs.Reports.{IsReport};
 ghost use Rattle.term.specs.Specs.{IsClosed};
 ghost use Rattle.locked.specs.Entries.{calls, events, summary_of};
-ghost use Rattle.locked.specs.Legal.{Legal, limit_of};
+ghost use Rattle.locked.specs.Legal.{Legal, limit_of, seat_limit};
 ghost use Rattle.locked.specs.SessionView.{IsOf};
 ghost use Rattle.locked.specs.Beginnings.{StartsWith};
 ghost use Rattle.shared.specs.Faults.{closes};
@@ -95,6 +95,7 @@ impl<N: Naming, A: Allocator> Model for Share<N, A> {
 
     ghost use Rattle.std.specs.Prelude.{◌≡◌, ◌≤◌, ◌+◌, ◌++◌, length, [], take, None, is_some};
     ghost use Rattle.locked.specs.Entries.{calls};
+    ghost use Rattle.locked.specs.Legal.{seat_limit};
     ghost use Rattle.shared.specs.declared.share.TheConstants.{GROUP};
 
     ghost view = { λ s. record {
@@ -113,7 +114,8 @@ impl<N: Naming, A: Allocator> Model for Share<N, A> {
         × (s.failed ≡ None → s.lost ≡ 0)
         × (s.lost ≤ GROUP)
         × (s.answered ≤ 4294967294)
-        × (s.begun ≤ s.answered) };
+        × (s.begun ≤ s.answered)
+        × (s.number ≤ seat_limit N.spec.names) };
 }
 
 // 30 for the report whose entry is the first that the disk failed on, and 31 for all others.
@@ -171,6 +173,7 @@ impl<N: Naming, A: Allocator> Share<N, A> {
         looker: Looker<N, A>,
     ) -> Share<N, A>
         requires fresh { calls (N.opening ++ known) number ≡ [] }
+        requires within { number ≤ seat_limit N.spec.names }
         requires part { (part.parts ≡ 1) × (part.amount ≡ 0) }
         ensures { (result.mine ≡ []) × (result.begun ≡ 0) × (result.seen ≡ N.opening ++ known) × (result.seat ≡ number) × (result.closed ≡ false) }
     {

@@ -7,7 +7,7 @@ ghost use Rattle.term.specs.Proc.{bodies_of};
 ghost use Rattle.locked.specs.Reports.{IsReport};
 ghost use Rattle.locked.specs.Beginnings.{StartsWith};
 ghost use Rattle.locked.specs.Groups.{HasEntries};
-ghost use Rattle.locked.specs.Legal.{limit_of};
+ghost use Rattle.locked.specs.Legal.{limit_of, seat_limit};
 ghost use Rattle.shared.specs.Turns.{IsRefused};
 
 use crate::seat::Shared;
@@ -383,6 +383,7 @@ fn name_under<J: Recorder, A: Allocator + Copy, N: Naming, R: Wait>(
 ) -> Result<(u32, Counts<N>), NameFault>
     ensures later { IfOk result (λ n. StartsWith n.1 locked.old.settled) }
     ensures count { IfOk result (λ n. (n.0 ≡ length (calls (N.opening ++ n.1) name)) × (n.0 < 4294967295)) }
+    ensures within { IfOk result (λ _. name ≤ seat_limit N.spec.names) }
 {
     settle(rt, shared, locked);
     match locked.name(name, former) {
@@ -401,6 +402,7 @@ pub(crate) fn named_at<J: Recorder, A: Allocator + Copy, N: Naming, R: Wait>(
 ) -> Result<(u32, Counts<N>), NameFault>
     ensures later { IfOk result (λ n. StartsWith n.1 known.now) }
     ensures count { IfOk result (λ n. (n.0 ≡ length (calls (N.opening ++ n.1) name)) × (n.0 < 4294967295)) }
+    ensures within { IfOk result (λ _. name ≤ seat_limit N.spec.names) }
 {
     let mut locked = locked_for(rt, shared, known);
     let named = name_under(rt, shared, &mut locked, name, former);

@@ -95,7 +95,7 @@ module _ (spec : Specified) (start entries : List Entry) (i : ℕ) (e : Entry) (
 
   pub small_here : (h : List Entry) → IsJudged spec (start ++ entries) → h ≡ start ++ take i entries → length h < 2 ^ 62
   small_here h judged was =
-      room_small spec.names h e.number (subst (λ t. HasRoomFor spec.names t e.number) (sym was) (judged.room (start ++ take i entries) e (drop (suc i) entries) parted))
+      room_small spec.names h e.seat e.number (subst (λ t. HasRoomFor spec.names t e.seat e.number) (sym was) (judged.room (start ++ take i entries) e (drop (suc i) entries) parted))
 
 -- one entry further
 module _ (options : Options) (spec : Specified) (before : List Entry) (e : Entry) where

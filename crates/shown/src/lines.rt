@@ -18,7 +18,7 @@ use std::alloc::{AllocError, Allocator};
 pub(crate) fn put_head<B: Allocator>(
     text: &mut Vec<u8, B>,
     place: u64,
-    seat: u16,
+    seat: u32,
     number: u32,
     format: Format,
 ) -> Result<(), AllocError>

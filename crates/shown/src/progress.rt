@@ -86,16 +86,21 @@ impl<A: Allocator + Copy> Progress<A> {
         ensures written { IfOk result (λ progress. written progress ≡ []) }
     {
         let monitor = begin(alloc, spec)?;
-        let counts = Counts::new(alloc, monitor.spec().alphabet().len())?;
-        Ok(Progress {
-            monitor,
-            history: Past::new(),
-            shown: 0,
-            said: Said::new(alloc),
-            counts,
-            sent: Past::new(),
-            text: Vec::new(alloc),
-        })
+        match Counts::new(alloc, monitor.spec().alphabet().len()) {
+            Ok(counts) => Ok(Progress {
+                monitor,
+                history: Past::new(),
+                shown: 0,
+                said: Said::new(alloc),
+                counts,
+                sent: Past::new(),
+                text: Vec::new(alloc),
+            }),
+            Err(error) => {
+                drop(monitor);
+                Err(error)
+            }
+        }
     }
 
     /// Appends what is shown of the next entry, counts it, and goes on by it.
@@ -161,13 +166,26 @@ impl<A: Allocator + Copy> Progress<A> {
         Ok(())
     }
 
+    /// What wasn't written yet of the text.
+    fn into_text(self) -> Vec<u8, A>
+        ensures { result ≡ self.text }
+    {
+        let Progress { text, .. } = self;
+        text
+    }
+
     /// What wasn't written yet of the text of the entries, with the coverage at its end where it is wanted.
     pub(crate) fn end(self, options: Options) -> Result<Vec<u8, A>, AllocError>
         requires { IsAt options self.monitor.spec self }
         ensures { IfOk result (λ left. Shows options self.monitor.spec self.history.items (written self ++ left.items)) }
     {
         let mut progress = self;
-        progress.put_end(options)?;
-        Ok(progress.text)
+        match progress.put_end(options) {
+            Ok(()) => Ok(progress.into_text()),
+            Err(error) => {
+                drop(progress);
+                Err(error)
+            }
+        }
     }
 }

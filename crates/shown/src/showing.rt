@@ -105,9 +105,17 @@ impl<A: Allocator + Copy> Showing<A> {
         ensures text { IfOk result (λ left. Shows self.options self.spec self.history (self.written ++ left.items)) }
         ensures failed { (error : error_type) → self.fault ≡ Some error → result ≡ Err error }
     {
-        match self.fault {
-            Some(error) => Err(error),
-            None => Ok(self.progress.end(self.options)?),
+        let Showing {
+            progress,
+            options,
+            fault,
+        } = self;
+        match fault {
+            Some(error) => {
+                drop(progress);
+                Err(error)
+            }
+            None => Ok(progress.end(options)?),
         }
     }
 }

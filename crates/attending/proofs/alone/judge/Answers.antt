@@ -18,7 +18,7 @@ returns-in-Err-clause-reports g c =
     let n = c.report.new.self in
     subst (λ (x : Fault). Leaves s.spec (course_of s.history s.failed) c.args.report.now x (course_of n.history n.failed)) (sym c.reported.ensures)
     (refused s n c.args.alone.now.seat c.next_number-number.result c.args.report.now c.in-Err.fault
-    c.args.alone.now.idle c.next_number-number.ensures
+    c.args.alone.now.idle c.args.alone.now.first c.next_number-number.ensures
     c.in-Err.ensures.stays c.in-Err.ensures.fault)
 
 pub returns-in-Ok-clause-last : goal.returns-in-Ok-clause-last

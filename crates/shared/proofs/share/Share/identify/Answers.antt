@@ -22,7 +22,7 @@ invariant_of-self g c =
     let n : c.in-Ok.count ≡ length (calls (o ++ now) name) = c.in-Ok.ensures.count.0 in
     let same : length (calls (take m (o ++ now)) name) ≡ length (calls (o ++ now) name) = ap (λ (l : List Entry). length (calls l name)) (whole_seen m (o ++ now) is) in
     let opening : length (calls (o ++ now) name) ≡ length (calls o name) + length (calls now name) = ap length (calls-append name o now) ∙ length-append (calls o name) (calls now name) in
-    (omega (arith, is), omega (arith, n, same), omega (arith, n, opening), i.3, omega (arith, i.4, i.8), i.5, i.6, omega (arith, c.in-Ok.ensures.count.1), omega arith)
+    (omega (arith, is), omega (arith, n, same), omega (arith, n, opening), i.3, omega (arith, i.4, i.8), i.5, i.6, omega (arith, c.in-Ok.ensures.count.1), omega arith, c.in-Ok.ensures.within)
 
 pub returns-in-Ok-clause-named : goal.returns-in-Ok-clause-named
 returns-in-Ok-clause-named g c =

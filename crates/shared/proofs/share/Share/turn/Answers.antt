@@ -60,10 +60,10 @@ invariant_of-self g c =
     let none : is_some s.failed ≡ false = ap is_some c.in_default.is in
     let any =
     came_any spec s.begun s.answered s.number t.place old (o ++ t.counts) c.args.reports.now c.take_turn.new.verdicts t.count (is_some s.failed) c.in-Ok.ensures.found legal (seen_begins s.seen o s.known t.counts l.1)
-    longer i.1 l.2 (omega (arith, i.7)) c.in-Ok.ensures.count.0 t.fault c.seen_by-self-inside.result shut c.requires.count.0 c.in-Ok.ensures.count.1 c.in-Ok.ensures.refused c.seen_by-self-inside.ensures.all
+    longer i.1 l.2 (omega (arith, i.7)) c.in-Ok.ensures.count.0 i.9 t.fault c.seen_by-self-inside.result shut c.requires.count.0 c.in-Ok.ensures.count.1 c.in-Ok.ensures.refused c.seen_by-self-inside.ensures.all
     c.seen_by-self-inside.ensures.last (λ h. ap is_some (c.closed_by-self-inside.ensures.none h) ∙ sym none)
     (IfSome_then t.fault c.closed_by-self-inside.ensures.some (λ f h. h ∙ or_false (closes f) ∙ ap (λ b. closes f || b) (sym none))) in
-    (any.1, any.2, i.2, c.take_turn.ensures.parts ∙ i.3, omega (arith, i.4, c.in-Ok.ensures.counted), (λ h. i.5 c.in_default.is), i.6, omega (arith, c.in-Ok.ensures.numbers), omega (arith, i.8))
+    (any.1, any.2, i.2, c.take_turn.ensures.parts ∙ i.3, omega (arith, i.4, c.in-Ok.ensures.counted), (λ h. i.5 c.in_default.is), i.6, omega (arith, c.in-Ok.ensures.numbers), omega (arith, i.8), i.9)
 
 pub returns-in-Ok-clause-came : goal.returns-in-Ok-clause-came
 returns-in-Ok-clause-came g c =
@@ -81,7 +81,7 @@ returns-in-Ok-clause-came g c =
     let none : is_some s.failed ≡ false = ap is_some c.in_default.is in
     let any =
     came_any spec s.begun s.answered s.number t.place old (o ++ t.counts) c.args.reports.now c.take_turn.new.verdicts t.count (is_some s.failed) c.in-Ok.ensures.found legal (seen_begins s.seen o s.known t.counts l.1)
-    longer i.1 l.2 (omega (arith, i.7)) c.in-Ok.ensures.count.0 t.fault c.seen_by-self-inside.result shut c.requires.count.0 c.in-Ok.ensures.count.1 c.in-Ok.ensures.refused c.seen_by-self-inside.ensures.all
+    longer i.1 l.2 (omega (arith, i.7)) c.in-Ok.ensures.count.0 i.9 t.fault c.seen_by-self-inside.result shut c.requires.count.0 c.in-Ok.ensures.count.1 c.in-Ok.ensures.refused c.seen_by-self-inside.ensures.all
     c.seen_by-self-inside.ensures.last (λ h. ap is_some (c.closed_by-self-inside.ensures.none h) ∙ sym none)
     (IfSome_then t.fault c.closed_by-self-inside.ensures.some (λ f h. h ∙ or_false (closes f) ∙ ap (λ b. closes f || b) (sym none))) in
     subst (λ (v : SeatView). CameTo spec v c.args.reports.now c.take_turn.new.verdicts t.count t.place t.fault (view_of s.begun s.number (take c.seen_by-self-inside.result (o ++ t.counts)) (s.answered + t.count) shut)) c.self.view_is any.0

@@ -4,11 +4,11 @@ use Rattle.shown.specs.Steps.{joined}
 use Rattle.shown.proofs.Further.{nothing_shown}
 use Rattle.shown.proofs.progress.Progress.new.Goals as goal
 
-pub returns-clause-at : goal.returns-clause-at
-returns-clause-at g c options =
+pub returns-in-Ok-clause-at : goal.returns-in-Ok-clause-at
+returns-in-Ok-clause-at g c options =
     let spec = c.args.spec in
     let m = c.in_ok-monitor.monitor in
-    let counts = c.in_ok-counts.counts in
+    let counts = c.in-Ok.counts in
     record {
       spec_is = c.in_ok-monitor.ensures.spec;
       said = c.new-3.ensures options.format spec.alphabet;
@@ -17,5 +17,5 @@ returns-clause-at g c options =
           counts.accepted.items counts.rejected.items counts.possible
           (c.len.ensures.count ∙ ap event_count (c.alphabet.ensures ∙ ap (λ s. s.alphabet) (c.spec.ensures ∙ c.in_ok-monitor.ensures.spec)))
           c.new-2.ensures (ap₂ (λ texts text. joined texts ++ text) c.new-4.ensures c.new-5.ensures.items) c.in_ok-monitor.ensures.trace
-          c.in_ok-counts.ensures.accepted c.in_ok-counts.ensures.rejected c.in_ok-counts.ensures.possible;
+          c.in-Ok.ensures.accepted c.in-Ok.ensures.rejected c.in-Ok.ensures.possible;
     }
