@@ -334,7 +334,7 @@ module _ {G P R W A L : Type 0} (gate : G) (gives : P → Type 0) (refuses : Fau
 
   -- an accept failed
   pub so_far_failed : (first now next : A) (places : L) (book : Book (Visit G P R W)) (any : Bool) (failures : ℕ) (ended : Option Bool)
-      → SoFar first now places book any failures None → fails now next → EndsByFailure terms failures ended → SoFar first next places book any (failures + 1) ended
+      → SoFar first now places book any failures None → fails now next × (next ≡ now) → EndsByFailure terms failures ended → SoFar first next places book any (failures + 1) ended
   so_far_failed first now next places book any failures ended far fault ends =
       so_far_step first now next places book (standing book any failures None) (standing book any (failures + 1) ended) failed failed refl refl fault (refl, ends, refl) far
 
@@ -480,7 +480,7 @@ module _ {G P R W A L : Type 0} (gate : G) (gives : P → Type 0) (refuses : Fau
   pub so_far_looked : (first now next : A) (places : L) (old new : Book (Visit G P R W)) (any any' : Bool) (failures failures' : ℕ) (seen : Look) (idle : Bool) (ended : Option Bool)
       → (seen ≡ look.Taken → SoFar first now places old any failures None → SoFar first next places new any' 0 None)
       → (seen ≢ look.Taken → SoFar first now places old any failures None → SoFar first now places new any' failures None)
-      → (seen ≡ look.Nobody → waits now next) → (seen ≡ look.Failed → fails now next) → idle ≡ (any' && (length new.visits == 0))
+      → (seen ≡ look.Nobody → waits now next) → (seen ≡ look.Failed → fails now next × (next ≡ now)) → idle ≡ (any' && (length new.visits == 0))
       → (seen ≡ look.Taken → (ended ≡ None) × (failures' ≡ 0)) → (seen ≡ look.Nobody → EndsByIdleness terms idle ended × (failures' ≡ 0))
       → (seen ≡ look.Failed → EndsByFailure terms failures ended × IfNone ended (failures' ≡ failures + 1))
       → SoFar first now places old any failures None → (n : ℕ) × SoFar first next places new any' n ended × IfNone ended (n ≡ failures')

@@ -59,13 +59,13 @@ Goes is old [] new = new ≡ old
 Goes {S} is old (step ∷ steps) new = (mid : S) × is old step mid × Goes is mid steps new
 
 -- What becomes of where connections come from, by a step: a connection with a reader and a writer is taken, of which this came; none comes; an
--- accept fails; and nothing as a connection is over.
+-- accept fails, which leaves it as it was; and nothing as a connection is over.
 module _ {A R W O : Type 0} (takes : A → R → W → A → Type 0) (fails waits : A → A → Type 0) (came_of : R → W → O → Type 0) where
   abbrev pub IsLook : A → Step O → A → Type 0
   IsLook old (took one) new = (reader : R) × (writer : W) × takes old reader writer new × came_of reader writer one
   IsLook old freed new = new ≡ old
   IsLook old nobody new = waits old new
-  IsLook old failed new = fails old new
+  IsLook old failed new = fails old new × (new ≡ old)
 
 -- The fault for which a connection got no place, if it got none.
 abbrev pub refusal_of : {P : Type 0} → Outcome P → Option Fault

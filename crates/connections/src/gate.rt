@@ -83,11 +83,11 @@ pub trait Listen: Accept {
     /// None came within a moment: what it was before, and what it is then.
     ghost waits: { Self → Self → Type 0 } = { λ old new. new ≡ old };
 
-    /// Takes the next connection, or answers within a moment that none came. Where it can't, it may be asked again.
+    /// Takes the next connection, or answers within a moment that none came. Where it can't, it stays as it is, and may be asked again.
     fn accept_soon(&mut self) -> Result<Option<(Self::Reader, Self::Writer)>, AcceptFault>
         ensures taken { IfOk result (λ next. IfSome next (λ connection. Self.takes self.old connection.0 connection.1 self.new)) }
         ensures none { IfOk result (λ next. IfNone next (waits self.old self.new)) }
-        ensures failed { OnErr result (Self.fails self.old self.new) };
+        ensures failed { OnErr result (Self.fails self.old self.new × (self.new ≡ self.old)) };
 }
 
 /// A gate whose places are given back once their connections are over, so that they may be given again. One thread has the free places.

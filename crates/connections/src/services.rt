@@ -197,7 +197,7 @@ where
         → IsSoFar gate.now (G.gives gate.now) (G.refuses gate.now) G.serves G.answered G.free G.counted A.takes A.fails A.waits A.Reader.left A.Writer.contents terms first accept.old places (book_of G.free G.counted hall.old) hall.old.any failures None
         → IsSoFar gate.now (G.gives gate.now) (G.refuses gate.now) G.serves G.answered G.free G.counted A.takes A.fails A.waits A.Reader.left A.Writer.contents terms first accept.old places (book_of G.free G.counted hall.new) hall.new.any failures None }
     ensures nobody { result ≡ Look.Nobody → A.waits accept.old accept.new }
-    ensures failed { result ≡ Look.Failed → A.fails accept.old accept.new }
+    ensures failed { result ≡ Look.Failed → A.fails accept.old accept.new × (accept.new ≡ accept.old) }
     ensures capacity { vec_capacity hall.new.running ≡ vec_capacity hall.old.running }
 {
     match accept.accept_soon() {
