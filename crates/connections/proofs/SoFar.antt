@@ -23,7 +23,7 @@ use Rattle.connections.specs.declared.visits.Visited.{Visited}
 use Rattle.connections.specs.declared.visits.Visited.TheVariants as visited
 use Rattle.connections.specs.Accounts.{has_rejected, met_limit}
 use Rattle.wire.specs.declared.answers.Fault.TheVariants.{Seats}
-use Rattle.connections.specs.Outcomes.{IsOutcome, ending_of, places_of}
+use Rattle.connections.specs.Outcomes.{IsOutcome, WasClosed, ending_of, places_of}
 use Rattle.connections.specs.Services.{EndsByFailure, EndsByIdleness, Goes, IsLook, IsStep, IsSum, IsWithout, Standing, Step, took, freed, nobody, failed, beginning, capped, refusal_of, steps_by, taken_of, unjudged_of}
 use Rattle.connections.specs.Visiting.{Comes, State, present, past, visits_of, outcomes_of, outcome_after, place_after, refusal_in, standing, Book, IsAdded, IsState, IsVisit, IsVisited, IsAt, IsRefused, IsSoFar, Leave, none, more, Leaves, Without, before_place, promises}
 
@@ -144,34 +144,34 @@ module _ {G P R W : Type 0} where
 module _ {G P R W A L : Type 0} (gate : G) (gives : P → Type 0) (refuses : Fault → Type 0)
     (serves : G → P → P → Tally → Option (List ℕ) → Option (List ℕ) → Option (List ℕ) → Option (List ℕ) → Result End WireError → Type 0)
     (answered : P → ℕ) (free counted : L → ℕ)
-    (takes : A → R → W → A → Type 0) (fails waits : A → A → Type 0) (left : R → Option (List ℕ)) (contents : W → Option (List ℕ)) (terms : Terms) where
+    (takes : A → R → W → A → Type 0) (fails waits : A → A → Type 0) (left : R → Option (List ℕ)) (closed : R → Type 0) (contents : W → Option (List ℕ)) (terms : Terms) where
   abbrev Is : R → W → State G P R W → Type 0
-  Is = IsState gate gives refuses serves answered free counted takes fails waits left contents terms
+  Is = IsState gate gives refuses serves answered free counted takes fails waits left closed contents terms
 
   abbrev Was : R → W → Outcome P → Type 0
-  Was r w o = IsOutcome gives (IsWithout refuses) (serves gate) (left r) (contents w) o
+  Was r w o = IsOutcome gives (IsWithout refuses) (serves gate) (WasClosed left closed) (left r) (contents w) o
 
   abbrev Meets : R → W → Visit G P R W → Type 0
-  Meets = IsVisit gate gives refuses serves answered free counted takes fails waits left contents terms
+  Meets = IsVisit gate gives refuses serves answered free counted takes fails waits left closed contents terms
 
   abbrev Kept : Visit G P R W → Visited P → Type 0
-  Kept = IsVisited serves left contents
+  Kept = IsVisited serves left closed contents
 
   abbrev Looked : A → Step (State G P R W) → A → Type 0
   Looked = IsLook takes fails waits Is
 
   abbrev SoFar : A → A → L → Book (Visit G P R W) → Bool → ℕ → Option Bool → Type 0
-  SoFar = IsSoFar gate gives refuses serves answered free counted takes fails waits left contents terms
+  SoFar = IsSoFar gate gives refuses serves answered free counted takes fails waits left closed contents terms
 
   abbrev At : A → A → L → Book (Visit G P R W) → Standing → Type 0
-  At = IsAt gate gives refuses serves answered free counted takes fails waits left contents terms
+  At = IsAt gate gives refuses serves answered free counted takes fails waits left closed contents terms
 
   abbrev ComesAt : P → R → W → Visited P → Type 0
-  ComesAt place r w gone = Comes serves gate place (left r) (contents w) gone
+  ComesAt place r w gone = Comes serves (WasClosed left closed) gate place (left r) (contents w) gone
 
   pub came : (r : R) (w : W) (place : P) (gone : Visited P) → gives place → ComesAt place r w gone → Was r w (outcome_after gone)
-  came r w place (visited.Over over) given comes = (place, comes.0, comes.1, given, comes.2)
-  came r w place (visited.CalledOff last) given comes = tt
+  came r w place (visited.Over over) given comes = (place, comes.0, comes.1, given, comes.2, comes.3)
+  came r w place (visited.CalledOff last) given comes = (place, given)
 
   -- what was answered at the place that comes back
   pub worth : (r : R) (w : W) (place : P) (gone : Visited P) → answered place ≡ 0 → ComesAt place r w gone
@@ -182,10 +182,10 @@ module _ {G P R W A L : Type 0} (gate : G) (gives : P → Type 0) (refuses : Fau
   -- what a thread promises, of its connection
   promised : (r : R) (w : W) (v : Visit G P R W) (gone : Visited P) → (is : Meets r w v) → Kept v gone → ComesAt is.0 r w gone
   promised r w v gone is kept =
-      subst (λ x. Comes serves gate is.0 (left r) (contents x) gone) is.3.3
-      (subst (λ x. Comes serves gate is.0 (left x) (contents v.writer.value) gone) is.3.2
-      (subst (λ x. Comes serves gate x (left v.reader.value) (contents v.writer.value) gone) is.3.1
-      (subst (λ x. Comes serves x v.place.value (left v.reader.value) (contents v.writer.value) gone) is.3.0 kept)))
+      subst (λ x. Comes serves (WasClosed left closed) gate is.0 (left r) (contents x) gone) is.3.3
+      (subst (λ x. Comes serves (WasClosed left closed) gate is.0 (left x) (contents v.writer.value) gone) is.3.2
+      (subst (λ x. Comes serves (WasClosed left closed) gate x (left v.reader.value) (contents v.writer.value) gone) is.3.1
+      (subst (λ x. Comes serves (WasClosed left closed) x v.place.value (left v.reader.value) (contents v.writer.value) gone) is.3.0 kept)))
 
   -- steps in which this one is over that was there
   record Changed (first now : A) (states : List (Step (State G P R W))) (visits : List (Visit G P R W)) (gone : Visited P) : Type 0 where

@@ -16,7 +16,7 @@ use Rattle.connections.specs.declared.visits.Running.{Running}
 use Rattle.connections.specs.declared.visits.Visit.{Visit}
 use Rattle.connections.specs.declared.visits.Visited.{Visited}
 use Rattle.connections.specs.declared.visits.Visited.TheVariants as visited
-use Rattle.connections.specs.Outcomes.{IsOutcome, ending_of, places_of}
+use Rattle.connections.specs.Outcomes.{IsOutcome, WasClosed, ending_of, places_of}
 use Rattle.connections.specs.Accounts.{has_rejected, met_limit}
 use Rattle.connections.specs.Services.{Goes, IsLook, IsStep, IsSum, IsWithout, Standing, Step, beginning, capped, refusal_of, steps_by, taken_of, unjudged_of}
 
@@ -42,13 +42,13 @@ abbrev pub refusal_in : {G P R W : Type 0} → State G P R W → Option Fault
 refusal_in (present visit) = None
 refusal_in (past came) = refusal_of came
 
--- What comes of a connection at a place of a gate, whose reader and writer know these bytes: it is served; or it was called off, and the
--- place is as it was.
+-- What comes of a connection at a place of a gate, whose reader and writer know these bytes: it is served, and closed; or it was called off,
+-- and the place is as it was.
 abbrev pub Comes : {G P : Type 0} → (G → P → P → Tally → Option (List ℕ) → Option (List ℕ) → Option (List ℕ) → Option (List ℕ) → Result End WireError → Type 0)
-    → G → P → Option (List ℕ) → Option (List ℕ) → Visited P → Type 0
-Comes serves gate place left written (visited.Over over) =
-    (rest : Option (List ℕ)) × (new : Option (List ℕ)) × serves gate place over.place over.tally left rest written new over.end
-Comes serves gate place left written (visited.CalledOff last) = last ≡ place
+    → (Option (List ℕ) → Type 0) → G → P → Option (List ℕ) → Option (List ℕ) → Visited P → Type 0
+Comes serves closed gate place left written (visited.Over over) =
+    (rest : Option (List ℕ)) × (new : Option (List ℕ)) × serves gate place over.place over.tally left rest written new over.end × closed rest
+Comes serves closed gate place left written (visited.CalledOff last) = last ≡ place
 
 -- the thread of a connection with this reader and writer begins so, at this place of a gate
 abbrev pub Begins : {G P R W : Type 0} → G → P → R → W → Visit G P R W → Type 0
@@ -57,9 +57,9 @@ Begins gate place reader writer visit =
 
 -- what it promises
 module _ {G P R W : Type 0} (serves : G → P → P → Tally → Option (List ℕ) → Option (List ℕ) → Option (List ℕ) → Option (List ℕ) → Result End WireError → Type 0)
-    (left : R → Option (List ℕ)) (contents : W → Option (List ℕ)) where
+    (left : R → Option (List ℕ)) (closed : R → Type 0) (contents : W → Option (List ℕ)) where
   abbrev pub IsVisited : Visit G P R W → Visited P → Type 0
-  IsVisited visit gone = Comes serves visit.gate.value visit.place.value (left visit.reader.value) (contents visit.writer.value) gone
+  IsVisited visit gone = Comes serves (WasClosed left closed) visit.gate.value visit.place.value (left visit.reader.value) (contents visit.writer.value) gone
 
 -- the place that a thread gives back, and what came of its connection
 abbrev pub place_after : {P : Type 0} → Visited P → P
@@ -135,7 +135,7 @@ standing book any failures ended = record { there = length book.visits; any = an
 module _ {G P R W A L : Type 0} (gate : G) (gives : P → Type 0) (refuses : Fault → Type 0)
     (serves : G → P → P → Tally → Option (List ℕ) → Option (List ℕ) → Option (List ℕ) → Option (List ℕ) → Result End WireError → Type 0)
     (answered : P → ℕ) (free counted : L → ℕ)
-    (takes : A → R → W → A → Type 0) (fails waits : A → A → Type 0) (left : R → Option (List ℕ)) (contents : W → Option (List ℕ)) (terms : Terms) where
+    (takes : A → R → W → A → Type 0) (fails waits : A → A → Type 0) (left : R → Option (List ℕ)) (closed : R → Type 0) (contents : W → Option (List ℕ)) (terms : Terms) where
   -- a thread serves a connection with this reader and writer, at a place that the gate gave
   abbrev pub IsVisit : R → W → Visit G P R W → Type 0
   IsVisit reader writer visit = (place : P) × gives place × (answered place ≡ 0) × Begins gate place reader writer visit
@@ -143,7 +143,7 @@ module _ {G P R W A L : Type 0} (gate : G) (gives : P → Type 0) (refuses : Fau
   -- what was done with a connection with this reader and writer
   abbrev pub IsState : R → W → State G P R W → Type 0
   IsState reader writer (present visit) = IsVisit reader writer visit
-  IsState reader writer (past came) = IsOutcome gives (IsWithout refuses) (serves gate) (left reader) (contents writer) came
+  IsState reader writer (past came) = IsOutcome gives (IsWithout refuses) (serves gate) (WasClosed left closed) (left reader) (contents writer) came
 
   -- The service so far, since it began to take connections with these places: its steps, with those that it took, of which these are there, and
   -- what came of the others; and how it stands.

@@ -17,8 +17,12 @@ pub struct AcceptFault;
 
 /// What the lines of a connection are read from, as the connection is closed.
 pub trait Close {
+    /// The connection was closed while this was so. Of a type that isn't known, only `close` shows it.
+    ghost is_closed: { Self → Type 0 } = { λ _. Unit {0} };
+
     /// Closes the connection, which is over, so that its peer still gets all that was written.
-    fn close(self);
+    fn close(self)
+        ensures { is_closed self };
 }
 
 /// Where connections come from. It says by relations of its own which connections come.

@@ -1,7 +1,7 @@
 //! Connections, each served by a thread of its own.
 
 ghost use Rattle.std.specs.Prelude.{◌≡◌, ◌≤◌, ℕ, List, [], Option, length, vec_capacity, IfOk, IfErr, OnErr};
-ghost use Rattle.connections.specs.Outcomes.{InTurn, IsLast, IsOutcome};
+ghost use Rattle.connections.specs.Outcomes.{InTurn, IsLast, IsOutcome, WasClosed};
 ghost use Rattle.connections.specs.Starting.{Each, IsJoined, IsTaken};
 
 use crate::gate::{Accept, AcceptFault, Close, Gate, Over};
@@ -31,11 +31,12 @@ struct Begun<G, P, R, W> {
     writer: Snapshot<W>,
 }
 
-impl<G: Gate, R: Source, W: Sink> Promise<Over<G::Place>> for Begun<G, G::Place, R, W> {
+impl<G: Gate, R: Source + Close, W: Sink> Promise<Over<G::Place>> for Begun<G, G::Place, R, W> {
     ghost use Rattle.std.specs.Prelude.{ℕ, List, Option};
+    ghost use Rattle.connections.specs.Outcomes.{WasClosed};
 
     ghost kept_by = { λ begun over. (rest : Option (List ℕ)) × (new : Option (List ℕ))
-        × G.serves begun.gate.value begun.place.value over.place over.tally (R.left begun.reader.value) rest (W.contents begun.writer.value) new over.end };
+        × G.serves begun.gate.value begun.place.value over.place over.tally (R.left begun.reader.value) rest (W.contents begun.writer.value) new over.end × WasClosed R.left R.is_closed rest };
 }
 
 // A connection that was taken.
@@ -55,7 +56,7 @@ fn serve_one<T: Wait, R: Source + Close + Drop, W: Sink + Drop, G: Gate>(
     gate: &G,
     place: G::Place,
 ) -> Over<G::Place>
-    ensures { (rest : Option (List ℕ)) × (new : Option (List ℕ)) × G.serves gate.now place result.place result.tally (R.left reader) rest (W.contents writer) new result.end }
+    ensures { (rest : Option (List ℕ)) × (new : Option (List ℕ)) × G.serves gate.now place result.place result.tally (R.left reader) rest (W.contents writer) new result.end × WasClosed R.left R.is_closed rest }
 {
     let over = gate.serve(rt, alloc, place, &mut reader, &mut writer);
     drop(writer);
@@ -219,7 +220,7 @@ where
     requires threads { (threads.items ≡ []) × (count ≤ vec_capacity threads) }
     requires outcomes { (outcomes.items ≡ []) × (count ≤ vec_capacity outcomes) }
     ensures { (end : _)
-        × InTurn A.takes (λ reader writer. IsOutcome (G.gives gate.now) (G.refuses gate.now) (G.serves gate.now) (A.Reader.left reader) (A.Writer.contents writer)) accept result.outcomes.items end
+        × InTurn A.takes (λ reader writer. IsOutcome (G.gives gate.now) (G.refuses gate.now) (G.serves gate.now) (WasClosed A.Reader.left A.Reader.is_closed) (A.Reader.left reader) (A.Writer.contents writer)) accept result.outcomes.items end
         × IsLast A.fails end (length result.outcomes.items) count result.accept_failed }
 {
     let accept_failed = take_all(rt, alloc, scope, &mut accept, gate, count, &mut threads);
@@ -247,7 +248,7 @@ where
     A::Writer: 's,
     G::Place: 's,
     ensures served { IfOk result (λ s. (end : _)
-        × InTurn A.takes (λ reader writer. IsOutcome (G.gives gate.now) (G.refuses gate.now) (G.serves gate.now) (A.Reader.left reader) (A.Writer.contents writer)) accept s.outcomes.items end
+        × InTurn A.takes (λ reader writer. IsOutcome (G.gives gate.now) (G.refuses gate.now) (G.serves gate.now) (WasClosed A.Reader.left A.Reader.is_closed) (A.Reader.left reader) (A.Writer.contents writer)) accept s.outcomes.items end
         × IsLast A.fails end (length s.outcomes.items) count s.accept_failed) }
     ensures memory { IfErr result (λ error. error.1 ≡ accept) }
 {
@@ -277,7 +278,7 @@ where
     // One outcome for each connection, in the order in which they were taken: what came of that one. They are as many as were asked for, or
     // fewer where an accept failed after the last of them.
     ensures served { IfOk result (λ s. (end : _)
-        × InTurn A.takes (λ reader writer. IsOutcome (G.gives gate.now) (G.refuses gate.now) (G.serves gate.now) (A.Reader.left reader) (A.Writer.contents writer)) accept s.outcomes.items end
+        × InTurn A.takes (λ reader writer. IsOutcome (G.gives gate.now) (G.refuses gate.now) (G.serves gate.now) (WasClosed A.Reader.left A.Reader.is_closed) (A.Reader.left reader) (A.Writer.contents writer)) accept s.outcomes.items end
         × IsLast A.fails end (length s.outcomes.items) count s.accept_failed) }
     ensures memory { IfErr result (λ error. error.1 ≡ accept) }
 {
