@@ -14,7 +14,7 @@ use Rattle.seats.specs.Judges.{Reports, Statuses, Nexts, Identifies}
 use Rattle.connections.specs.declared.outcome.Outcome.{Outcome}
 use Rattle.connections.specs.declared.totals.Totals.{Totals}
 use Rattle.connections.specs.declared.services.Terms.{Terms}
-use Rattle.connections.specs.Outcomes.{IsOutcome, ending_of, places_of}
+use Rattle.connections.specs.Outcomes.{IsOutcome, WasClosed, ending_of, places_of}
 use Rattle.connections.specs.Services.{Goes, IsLook, IsStep, IsSum, IsWithout, Step, beginning, refusal_of, steps_by, taken_of}
 use Rattle.serving.specs.Runs.{IsNewSeat, IsRefusal, no_answers}
 
@@ -25,8 +25,8 @@ IsServedAt spec first last tally left rest old new end =
     Serves (LineReplies (Reports spec) (Statuses (bodies_of spec.bodies)) (Nexts (bodies_of spec.bodies)) (Identifies (bodies_of spec.bodies)) spec.alphabet)
     (noted first no_answers) (noted last tally) left rest old new end
 
--- For an accept that takes such connections, fails, or waits for one, of readers and writers that know these bytes.
-module _ {L R W : Type 0} (takes : L → R → W → L → Type 0) (fails waits : L → L → Type 0) (left : R → Option (List ℕ)) (contents : W → Option (List ℕ)) where
+-- For an accept that takes such connections, fails, or waits for one, of readers and writers that know these bytes, where a connection is closed so.
+module _ {L R W : Type 0} (takes : L → R → W → L → Type 0) (fails waits : L → L → Type 0) (left : R → Option (List ℕ)) (closed : R → Type 0) (contents : W → Option (List ℕ)) where
   -- The service, on these terms and with so many places, of a session of this specification that began with the first history, and ended with the
   -- second: its steps, with what came of each connection, at a seat of its own, in the order in which they were taken, and of all together; how it
   -- stood at the end, when none was there any more; and how many reports were answered with `OK` or `NO`, to the seats that left among them.
@@ -36,7 +36,7 @@ module _ {L R W : Type 0} (takes : L → R → W → L → Type 0) (fails waits 
     pub last : L
     pub failures : ℕ
     pub any : Bool
-    pub looks : Goes (IsLook takes fails waits (λ reader writer. IsOutcome (IsNewSeat opening) (IsWithout IsRefusal) (IsServedAt spec) (left reader) (contents writer))) accept steps last
+    pub looks : Goes (IsLook takes fails waits (λ reader writer. IsOutcome (IsNewSeat opening) (IsWithout IsRefusal) (IsServedAt spec) (WasClosed left closed) (left reader) (contents writer))) accept steps last
     pub stands : Goes (IsStep IsRefusal terms room) beginning (steps_by refusal_of steps) (record { there = 0; any = any; failures = failures; ended = Some accept_failed })
     pub sum : IsSum (map ending_of (taken_of steps)) totals
     pub counted : length history ≡ length opening + answered
