@@ -14,13 +14,13 @@ use crate::server::serve;
 use crate::showing::show;
 use crate::telling::tell_use;
 use program::{Exit, Manner};
+use serving::Starts;
 use std::convert::AsStr;
 use std::fs::File;
 use std::io::{IsTerminal, Read, Write};
 use std::net::{Net, TcpListener, TcpStream};
 use std::rt::Files;
 use std::sync::Wait;
-use std::thread::Threads;
 use std::time::Clock;
 use wire::Plain;
 use words::{Check, Wish, example_of, read_words};
@@ -69,7 +69,7 @@ fn fulfil<
     R: Files<File = File>
         + Net<Stream = TcpStream, Listener = TcpListener>
         + AllocGlobal
-        + Threads
+        + Starts
         + Wait
         + Clock
         + Eprint
@@ -112,7 +112,7 @@ fn fulfil_words<
     R: Files<File = File>
         + Net<Stream = TcpStream, Listener = TcpListener>
         + AllocGlobal
-        + Threads
+        + Starts
         + Wait
         + Clock
         + Eprint
@@ -142,7 +142,7 @@ pub fn run<
     R: Files<File = File>
         + Net<Stream = TcpStream, Listener = TcpListener>
         + AllocGlobal
-        + Threads
+        + Starts
         + Wait
         + Clock
         + Eprint

@@ -16,7 +16,7 @@ use file_disk::{FileDisk, FileFolder};
 use journal::Journal;
 use program::{Exit, Session, SessionError};
 use serving::{
-    Accept, Connections, Listen, OpenError, Parts, Recorder, SessionOn, open, open_parts,
+    Accept, Connections, Listen, OpenError, Parts, Recorder, SessionOn, Starts, open, open_parts,
     serve_service, serve_session,
 };
 use std::alloc::{AllocError, Global};
@@ -25,7 +25,6 @@ use std::io::{IsTerminal, Write};
 use std::net::{Net, SocketAddr, TcpListener, TcpStream};
 use std::rt::Files;
 use std::sync::Wait;
-use std::thread::Threads;
 use std::time::Clock;
 use words::{Service, Until};
 
@@ -34,7 +33,7 @@ const RETRIES: u8 = 100;
 
 // Serves so many connections that are taken so at this session, and says what is left of the run, with the lines that weren't judged if these
 // are to be counted.
-fn serve_some<J: Recorder + Drop + Send, L: Accept + Drop, R: AllocGlobal + Threads + Wait + Sync>(
+fn serve_some<J: Recorder + Drop + Send, L: Accept + Drop, R: AllocGlobal + Starts + Wait + Sync>(
     rt: &R,
     session: SessionOn<J, Global>,
     accept: L,
@@ -60,7 +59,7 @@ fn serve_some<J: Recorder + Drop + Send, L: Accept + Drop, R: AllocGlobal + Thre
 fn serve_all<
     J: Recorder + Drop + Send,
     L: Listen + Drop,
-    R: AllocGlobal + Threads + Wait + Clock + Sync,
+    R: AllocGlobal + Starts + Wait + Clock + Sync,
 >(rt: &R, session: SessionOn<J, Global>, accept: L, until_idle: bool) -> Result<Ended, AllocError>
     requires { session.offered ≡ [] }
 {
@@ -81,7 +80,7 @@ fn serve_all<
 fn serve_until<
     J: Recorder + Drop + Send,
     L: Listen + Drop,
-    R: AllocGlobal + Threads + Wait + Clock + Sync,
+    R: AllocGlobal + Starts + Wait + Clock + Sync,
 >(
     rt: &R,
     session: SessionOn<J, Global>,
@@ -102,7 +101,7 @@ fn serve_until<
 fn serve_logged<
     J: Recorder + Drop + Send,
     L: Known + Drop,
-    R: AllocGlobal + Threads + Wait + Clock + Eprint + Copy + Send + Sync + 'static,
+    R: AllocGlobal + Starts + Wait + Clock + Eprint + Copy + Send + Sync + 'static,
 >(
     rt: &R,
     service: &Service<'_>,
@@ -134,7 +133,7 @@ fn serve_logged<
 fn serve_with<
     J: Recorder + Drop + Send,
     L: Known + Drop,
-    R: AllocGlobal + Threads + Wait + Clock + Eprint + Copy + Send + Sync + 'static,
+    R: AllocGlobal + Starts + Wait + Clock + Eprint + Copy + Send + Sync + 'static,
 >(
     rt: &R,
     service: &Service<'_>,
@@ -156,7 +155,7 @@ fn serve_through<
     J: Recorder + Drop + Send,
     R: Files<File = File>
         + AllocGlobal
-        + Threads
+        + Starts
         + Wait
         + Clock
         + Eprint
@@ -210,7 +209,7 @@ fn serve_at<
     R: Files<File = File>
         + Net<Stream = TcpStream, Listener = TcpListener>
         + AllocGlobal
-        + Threads
+        + Starts
         + Wait
         + Clock
         + Eprint
@@ -324,7 +323,7 @@ pub(crate) fn serve<
     R: Files<File = File>
         + Net<Stream = TcpStream, Listener = TcpListener>
         + AllocGlobal
-        + Threads
+        + Starts
         + Wait
         + Clock
         + Eprint
@@ -346,7 +345,7 @@ fn serve_held<
     R: Files<File = File>
         + Net<Stream = TcpStream, Listener = TcpListener>
         + AllocGlobal
-        + Threads
+        + Starts
         + Wait
         + Clock
         + Eprint
@@ -376,7 +375,7 @@ fn serve_in_parts<
     R: Files<File = File>
         + Net<Stream = TcpStream, Listener = TcpListener>
         + AllocGlobal
-        + Threads
+        + Starts
         + Wait
         + Clock
         + Eprint

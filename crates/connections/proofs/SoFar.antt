@@ -144,15 +144,15 @@ module _ {G P R W : Type 0} where
 module _ {G P R W A L : Type 0} (gate : G) (gives : P → Type 0) (refuses : Fault → Type 0)
     (serves : G → P → P → Tally → Option (List ℕ) → Option (List ℕ) → Option (List ℕ) → Option (List ℕ) → Result End WireError → Type 0)
     (answered : P → ℕ) (free counted : L → ℕ)
-    (takes : A → R → W → A → Type 0) (fails waits : A → A → Type 0) (left : R → Option (List ℕ)) (closed : R → Type 0) (contents : W → Option (List ℕ)) (terms : Terms) where
+    (takes : A → R → W → A → Type 0) (fails waits : A → A → Type 0) (left : R → Option (List ℕ)) (closed : R → Type 0) (contents : W → Option (List ℕ)) (told : W → Fault → Type 0) (terms : Terms) where
   abbrev Is : R → W → State G P R W → Type 0
-  Is = IsState gate gives refuses serves answered free counted takes fails waits left closed contents terms
+  Is = IsState gate gives refuses serves answered free counted takes fails waits left closed contents told terms
 
   abbrev Was : R → W → Outcome P → Type 0
-  Was r w o = IsOutcome gives (IsWithout refuses) (serves gate) (WasClosed left closed) (left r) (contents w) o
+  Was r w o = IsOutcome gives (IsWithout refuses) (serves gate) (WasClosed left closed) (told w) (Unit {0}) (left r) (contents w) o
 
   abbrev Meets : R → W → Visit G P R W → Type 0
-  Meets = IsVisit gate gives refuses serves answered free counted takes fails waits left closed contents terms
+  Meets = IsVisit gate gives refuses serves answered free counted takes fails waits left closed contents told terms
 
   abbrev Kept : Visit G P R W → Visited P → Type 0
   Kept = IsVisited serves left closed contents
@@ -161,17 +161,17 @@ module _ {G P R W A L : Type 0} (gate : G) (gives : P → Type 0) (refuses : Fau
   Looked = IsLook takes fails waits Is
 
   abbrev SoFar : A → A → L → Book (Visit G P R W) → Bool → ℕ → Option Bool → Type 0
-  SoFar = IsSoFar gate gives refuses serves answered free counted takes fails waits left closed contents terms
+  SoFar = IsSoFar gate gives refuses serves answered free counted takes fails waits left closed contents told terms
 
   abbrev At : A → A → L → Book (Visit G P R W) → Standing → Type 0
-  At = IsAt gate gives refuses serves answered free counted takes fails waits left closed contents terms
+  At = IsAt gate gives refuses serves answered free counted takes fails waits left closed contents told terms
 
   abbrev ComesAt : P → R → W → Visited P → Type 0
   ComesAt place r w gone = Comes serves (WasClosed left closed) gate place (left r) (contents w) gone
 
   pub came : (r : R) (w : W) (place : P) (gone : Visited P) → gives place → ComesAt place r w gone → Was r w (outcome_after gone)
   came r w place (visited.Over over) given comes = (place, comes.0, comes.1, given, comes.2, comes.3)
-  came r w place (visited.CalledOff last) given comes = (place, given)
+  came r w place (visited.CalledOff last) given comes = (tt, place, given)
 
   -- what was answered at the place that comes back
   pub worth : (r : R) (w : W) (place : P) (gone : Visited P) → answered place ≡ 0 → ComesAt place r w gone
@@ -380,11 +380,11 @@ module _ {G P R W A L : Type 0} (gate : G) (gives : P → Type 0) (refuses : Fau
 
   -- one more that is refused
   pub so_far_refused : (first now next : A) (places : L) (old new : Book (Visit G P R W)) (any : Bool) (failures : ℕ) (r : R) (w : W) (fault : Fault)
-      → SoFar first now places old any failures None → takes now r w next → IsRefused refuses terms.threads old fault → new.visits ≡ old.visits → IsAdded old.totals (ending.Refused fault) new.totals
+      → SoFar first now places old any failures None → takes now r w next → IsRefused refuses terms.threads old fault → told w fault → new.visits ≡ old.visits → IsAdded old.totals (ending.Refused fault) new.totals
       → new.free ≡ old.free → new.counted ≡ old.counted → SoFar first next places new true 0 None
-  so_far_refused first now next places old new any failures r w fault far taken why visits added free_is counted_is =
+  so_far_refused first now next places old new any failures r w fault far taken why was visits added free_is counted_is =
       let long = ap length visits in
-      so_far_past first now next places old new (standing old any failures None) (standing new true 0 None) r w (Refused fault) far taken (without_for old fault why) visits added free_is (omega (arith, counted_is))
+      so_far_past first now next places old new (standing old any failures None) (standing new true 0 None) r w (Refused fault) far taken (without_for old fault why, was) visits added free_is (omega (arith, counted_is))
       (refl, full_for first now places old (standing old any failures None) fault far why, ap (λ n. record { there = n; any = true; failures = 0; ended = None }) long)
 
   -- one more that got a place, and none was there of it any more at once

@@ -135,7 +135,7 @@ standing book any failures ended = record { there = length book.visits; any = an
 module _ {G P R W A L : Type 0} (gate : G) (gives : P → Type 0) (refuses : Fault → Type 0)
     (serves : G → P → P → Tally → Option (List ℕ) → Option (List ℕ) → Option (List ℕ) → Option (List ℕ) → Result End WireError → Type 0)
     (answered : P → ℕ) (free counted : L → ℕ)
-    (takes : A → R → W → A → Type 0) (fails waits : A → A → Type 0) (left : R → Option (List ℕ)) (closed : R → Type 0) (contents : W → Option (List ℕ)) (terms : Terms) where
+    (takes : A → R → W → A → Type 0) (fails waits : A → A → Type 0) (left : R → Option (List ℕ)) (closed : R → Type 0) (contents : W → Option (List ℕ)) (told : W → Fault → Type 0) (terms : Terms) where
   -- a thread serves a connection with this reader and writer, at a place that the gate gave
   abbrev pub IsVisit : R → W → Visit G P R W → Type 0
   IsVisit reader writer visit = (place : P) × gives place × (answered place ≡ 0) × Begins gate place reader writer visit
@@ -143,7 +143,7 @@ module _ {G P R W A L : Type 0} (gate : G) (gives : P → Type 0) (refuses : Fau
   -- what was done with a connection with this reader and writer
   abbrev pub IsState : R → W → State G P R W → Type 0
   IsState reader writer (present visit) = IsVisit reader writer visit
-  IsState reader writer (past came) = IsOutcome gives (IsWithout refuses) (serves gate) (WasClosed left closed) (left reader) (contents writer) came
+  IsState reader writer (past came) = IsOutcome gives (IsWithout refuses) (serves gate) (WasClosed left closed) (told writer) (Unit {0}) (left reader) (contents writer) came
 
   -- The service so far, since it began to take connections with these places: its steps, with those that it took, of which these are there, and
   -- what came of the others; and how it stands.

@@ -1,11 +1,12 @@
 //! Connections, each served by a thread of its own.
 
 ghost use Rattle.std.specs.Prelude.{◌≡◌, ◌≤◌, ℕ, List, [], Option, length, vec_capacity, IfOk, IfErr, OnErr};
-ghost use Rattle.connections.specs.Outcomes.{InTurn, IsLast, IsOutcome, WasClosed};
+ghost use Rattle.connections.specs.Outcomes.{InTurn, IsLast, IsOutcome, WasClosed, WasTold};
 ghost use Rattle.connections.specs.Starting.{Each, IsJoined, IsTaken};
 
 use crate::gate::{Accept, AcceptFault, Close, Gate, Over};
 use crate::outcome::Outcome;
+use crate::starts::Starts;
 use std::alloc::{AllocError, Global};
 use std::snapshot::Snapshot;
 use std::sync::Wait;
@@ -75,13 +76,13 @@ fn start<'s, E, T, G, R, W>(
     writer: W,
 ) -> Taken<Over<G::Place>, Begun<G, G::Place, R, W>>
 where
-    T: Threads + Wait + Sync,
+    T: Starts + Wait + Sync,
     G: Gate + Sync,
     R: Source + Close + Send + Drop + 's,
     W: Sink + Send + Drop + 's,
     G::Place: 's,
     requires { G.gives gate.now place }
-    ensures { IsTaken gate.now (G.gives gate.now) (G.refuses gate.now) reader writer result }
+    ensures { IsTaken gate.now (G.gives gate.now) (G.refuses gate.now) (WasTold W.contents W.has_handed_on W.failures) (T.lacks rt.now) reader writer result }
 {
     let begun = Begun {
         gate: Snapshot::of(gate),
@@ -89,7 +90,7 @@ where
         reader: Snapshot::of(&reader),
         writer: Snapshot::of(&writer),
     };
-    match scope.spawn_with(begun, move || {
+    match rt.start(scope, begun, move || {
         serve_one(rt, alloc, reader, writer, gate, place)
     }) {
         Ok(thread) => Taken::Started(thread),
@@ -106,14 +107,14 @@ fn take<'s, E, T, A, G>(
     gate: &'s G,
 ) -> Result<Taken<Over<G::Place>, Begun<G, G::Place, A::Reader, A::Writer>>, AcceptFault>
 where
-    T: Threads + Wait + Sync,
+    T: Starts + Wait + Sync,
     A: Accept,
     G: Gate + Sync,
     A::Reader: 's,
     A::Writer: 's,
     G::Place: 's,
     ensures taken { IfOk result (λ t. (reader : _) × (writer : _) × A.takes accept.old reader writer accept.new
-        × IsTaken gate.now (G.gives gate.now) (G.refuses gate.now) reader writer t) }
+        × IsTaken gate.now (G.gives gate.now) (G.refuses gate.now) (WasTold A.Writer.contents A.Writer.has_handed_on A.Writer.failures) (T.lacks rt.now) reader writer t) }
     ensures failed { OnErr result (A.fails accept.old accept.new) }
 {
     let (reader, mut writer) = match accept.accept() {
@@ -140,7 +141,7 @@ fn take_all<'s, E, T, A, G>(
     threads: &mut Vec<Taken<Over<G::Place>, Begun<G, G::Place, A::Reader, A::Writer>>>,
 ) -> bool
 where
-    T: Threads + Wait + Sync,
+    T: Starts + Wait + Sync,
     A: Accept,
     G: Gate + Sync,
     A::Reader: 's,
@@ -148,7 +149,7 @@ where
     G::Place: 's,
     requires none { threads.old.items ≡ [] }
     requires room { count ≤ vec_capacity threads.old }
-    ensures { (mid : _) × InTurn A.takes (IsTaken gate.now (G.gives gate.now) (G.refuses gate.now)) accept.old threads.new.items mid
+    ensures { (mid : _) × InTurn A.takes (IsTaken gate.now (G.gives gate.now) (G.refuses gate.now) (WasTold A.Writer.contents A.Writer.has_handed_on A.Writer.failures) (T.lacks rt.now)) accept.old threads.new.items mid
         × IsLast A.fails mid (length threads.new.items) count result }
 {
     for _index in 0..count {
@@ -211,7 +212,7 @@ fn run_all<'s, E, T, A, G>(
     mut outcomes: Vec<Outcome<G::Place>>,
 ) -> Served<G::Place>
 where
-    T: Threads + Wait + Sync,
+    T: Starts + Wait + Sync,
     A: Accept + Drop,
     G: Gate + Sync,
     A::Reader: 's,
@@ -220,7 +221,7 @@ where
     requires threads { (threads.items ≡ []) × (count ≤ vec_capacity threads) }
     requires outcomes { (outcomes.items ≡ []) × (count ≤ vec_capacity outcomes) }
     ensures { (end : _)
-        × InTurn A.takes (λ reader writer. IsOutcome (G.gives gate.now) (G.refuses gate.now) (G.serves gate.now) (WasClosed A.Reader.left A.Reader.is_closed) (A.Reader.left reader) (A.Writer.contents writer)) accept result.outcomes.items end
+        × InTurn A.takes (λ reader writer. IsOutcome (G.gives gate.now) (G.refuses gate.now) (G.serves gate.now) (WasClosed A.Reader.left A.Reader.is_closed) (WasTold A.Writer.contents A.Writer.has_handed_on A.Writer.failures writer) (T.lacks rt.now) (A.Reader.left reader) (A.Writer.contents writer)) accept result.outcomes.items end
         × IsLast A.fails end (length result.outcomes.items) count result.accept_failed }
 {
     let accept_failed = take_all(rt, alloc, scope, &mut accept, gate, count, &mut threads);
@@ -241,14 +242,14 @@ fn start_all<'s, E, T, A, G>(
     count: u8,
 ) -> Result<Served<G::Place>, (AllocError, A)>
 where
-    T: Threads + Wait + Sync,
+    T: Starts + Wait + Sync,
     A: Accept + Drop,
     G: Gate + Sync,
     A::Reader: 's,
     A::Writer: 's,
     G::Place: 's,
     ensures served { IfOk result (λ s. (end : _)
-        × InTurn A.takes (λ reader writer. IsOutcome (G.gives gate.now) (G.refuses gate.now) (G.serves gate.now) (WasClosed A.Reader.left A.Reader.is_closed) (A.Reader.left reader) (A.Writer.contents writer)) accept s.outcomes.items end
+        × InTurn A.takes (λ reader writer. IsOutcome (G.gives gate.now) (G.refuses gate.now) (G.serves gate.now) (WasClosed A.Reader.left A.Reader.is_closed) (WasTold A.Writer.contents A.Writer.has_handed_on A.Writer.failures writer) (T.lacks rt.now) (A.Reader.left reader) (A.Writer.contents writer)) accept s.outcomes.items end
         × IsLast A.fails end (length s.outcomes.items) count s.accept_failed) }
     ensures memory { IfErr result (λ error. error.1 ≡ accept) }
 {
@@ -272,13 +273,13 @@ pub fn serve_all<T, A, G>(
     count: u8,
 ) -> Result<Served<G::Place>, (AllocError, A)>
 where
-    T: Threads + Wait + Sync,
+    T: Starts + Wait + Sync,
     A: Accept + Drop,
     G: Gate + Sync,
     // One outcome for each connection, in the order in which they were taken: what came of that one. They are as many as were asked for, or
     // fewer where an accept failed after the last of them.
     ensures served { IfOk result (λ s. (end : _)
-        × InTurn A.takes (λ reader writer. IsOutcome (G.gives gate.now) (G.refuses gate.now) (G.serves gate.now) (WasClosed A.Reader.left A.Reader.is_closed) (A.Reader.left reader) (A.Writer.contents writer)) accept s.outcomes.items end
+        × InTurn A.takes (λ reader writer. IsOutcome (G.gives gate.now) (G.refuses gate.now) (G.serves gate.now) (WasClosed A.Reader.left A.Reader.is_closed) (WasTold A.Writer.contents A.Writer.has_handed_on A.Writer.failures writer) (T.lacks rt.now) (A.Reader.left reader) (A.Writer.contents writer)) accept s.outcomes.items end
         × IsLast A.fails end (length s.outcomes.items) count s.accept_failed) }
     ensures memory { IfErr result (λ error. error.1 ≡ accept) }
 {
