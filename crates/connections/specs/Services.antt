@@ -121,7 +121,7 @@ steps_by f (failed ∷ steps) = failed ∷ steps_by f steps
 module _ {A R W P L : Type 0} (gives : P → Type 0) (refuses : Fault → Type 0)
     (serves : P → P → Tally → Option (List ℕ) → Option (List ℕ) → Option (List ℕ) → Option (List ℕ) → Result End WireError → Type 0)
     (answered : P → ℕ) (free counted : L → ℕ)
-    (takes : A → R → W → A → Type 0) (fails waits : A → A → Type 0) (left : R → Option (List ℕ)) (closed : R → Type 0) (contents : W → Option (List ℕ)) (told : W → Fault → Type 0) where
+    (takes : A → R → W → A → Type 0) (fails waits : A → A → Type 0) (left : R → Option (List ℕ)) (is_closed : R → Type 0) (contents : W → Option (List ℕ)) (told : W → Fault → Type 0) where
   -- What came of a service on these terms that began to take connections with these places: its steps, with what came of each connection, in
   -- the order in which they were taken, and of all together; and how it stood at the end, when none was there any more. Its places are free
   -- again, and count what was answered at each.
@@ -130,7 +130,7 @@ module _ {A R W P L : Type 0} (gives : P → Type 0) (refuses : Fault → Type 0
     pub last : A
     pub failures : ℕ
     pub any : Bool
-    pub looks : Goes (IsLook takes fails waits (λ reader writer. IsOutcome gives (IsWithout refuses) serves (WasClosed left closed) (told writer) (Unit {0}) (left reader) (contents writer))) accept steps last
+    pub looks : Goes (IsLook takes fails waits (λ reader writer. IsOutcome gives (IsWithout refuses) serves (WasClosed left is_closed) (told writer) (Unit {0}) (left reader) (contents writer))) accept steps last
     pub stands : Goes (IsStep refuses terms (free places)) beginning (steps_by refusal_of steps) (record { there = 0; any = any; failures = failures; ended = Some closed.accept_failed })
     pub sum : IsSum (map ending_of (taken_of steps)) closed.totals
     pub free_are : free closed.places ≡ free places
