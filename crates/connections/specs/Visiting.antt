@@ -18,7 +18,7 @@ use Rattle.connections.specs.declared.visits.Visited.{Visited}
 use Rattle.connections.specs.declared.visits.Visited.TheVariants as visited
 use Rattle.connections.specs.Outcomes.{IsOutcome, WasClosed, ending_of, places_of}
 use Rattle.connections.specs.Accounts.{has_rejected, met_limit}
-use Rattle.connections.specs.Services.{Goes, IsLook, IsStep, IsSum, IsWithout, Standing, Step, beginning, capped, refusal_of, steps_by, taken_of, unjudged_of}
+use Rattle.connections.specs.Services.{Goes, Holding, IsHeld, IsLook, IsStep, IsSum, IsWithout, Standing, Step, Without, beginning, capped, nothing_held, refusal_of, steps_by, taken_of, unjudged_of}
 
 -- A connection that was taken: its thread runs, or it is over.
 pub data State (G P R W : Type 0) : Type 0 where
@@ -36,6 +36,16 @@ abbrev pub outcomes_of : {G P R W : Type 0} → List (State G P R W) → List (O
 outcomes_of [] = []
 outcomes_of (present visit ∷ states) = outcomes_of states
 outcomes_of (past came ∷ states) = came ∷ outcomes_of states
+
+-- the numbers of those whose threads run, where the first of them all has this number
+abbrev pub numbers_of : {G P R W : Type 0} → ℕ → List (State G P R W) → List ℕ
+numbers_of number [] = []
+numbers_of number (present visit ∷ states) = number ∷ numbers_of (number + 1) states
+numbers_of number (past came ∷ states) = numbers_of (number + 1) states
+
+-- who has a place, where these were taken
+abbrev pub holding_of : {G P R W : Type 0} → List (State G P R W) → Holding
+holding_of states = record { by = numbers_of 0 states; taken = length states }
 
 -- the fault for which one got no place, if it got none
 abbrev pub refusal_in : {G P R W : Type 0} → State G P R W → Option Fault
@@ -90,11 +100,6 @@ promises (running ∷ others) = running.thread.promise ∷ promises others
 
 abbrev pub book_of : {P V L : Type 0} → (L → ℕ) → (L → ℕ) → Hall P V L → Book V
 book_of free counted hall = record { visits = promises hall.running.items; totals = hall.totals; free = free hall.places; counted = counted hall.places }
-
--- the second list is the first one with this taken out of it
-abbrev pub Without : {V : Type 0} → V → List V → List V → Type 0
-Without v [] ys = ⊥
-Without {V} v (x ∷ xs) ys = ((x ≡ v) × (ys ≡ xs)) ⊎ ((zs : List V) × (ys ≡ x ∷ zs) × Without v xs zs)
 
 -- A thread kept its promise, its place was given back, and how its connection ended was added.
 pub record Leaves {V P : Type 0} (kept : V → Visited P → Type 0) (answered : P → ℕ) (old new : Book V) : Type 0 where
@@ -156,5 +161,7 @@ module _ {G P R W A L : Type 0} (gate : G) (gives : P → Type 0) (refuses : Fau
     pub free_are : book.free + length (visits_of (taken_of states)) ≡ free places
     pub counted_are : book.counted ≡ counted places + sum_by answered (places_of (outcomes_of (taken_of states)))
 
+  -- The same, and which connections have a place.
   abbrev pub IsSoFar : A → A → L → Book (Visit G P R W) → Bool → ℕ → Option Bool → Type 0
-  IsSoFar first now places book any failures ended = IsAt first now places book (standing book any failures ended)
+  IsSoFar first now places book any failures ended =
+      (at : IsAt first now places book (standing book any failures ended)) × Goes IsHeld nothing_held (steps_by refusal_in at.states) (holding_of (taken_of at.states))

@@ -2,7 +2,8 @@
 
 ghost use Rattle.std.specs.Prelude.{◌≡◌, ◌+◌, ◌<◌, [], length, vec_capacity, IfOk, IfErr};
 ghost use Rattle.connections.specs.Outcomes.{WasClosed, ending_of};
-ghost use Rattle.connections.specs.Visiting.{Begins, Comes, GoesOn, IsAdded, Without, book_of, outcome_after, place_after, promises};
+ghost use Rattle.connections.specs.Services.{Without};
+ghost use Rattle.connections.specs.Visiting.{Begins, Comes, GoesOn, IsAdded, book_of, outcome_after, place_after, promises};
 
 use crate::gate::{Close, Gate, Over, Reusable};
 use crate::outcome::Ending;
