@@ -21,6 +21,7 @@ use std::io::{IsTerminal, Read, Write};
 use std::net::{Net, TcpListener, TcpStream};
 use std::rt::Files;
 use std::sync::Wait;
+use std::thread::Threads;
 use std::time::Clock;
 use wire::Plain;
 use words::{Check, Wish, example_of, read_words};
@@ -70,6 +71,7 @@ fn fulfil<
         + Net<Stream = TcpStream, Listener = TcpListener>
         + AllocGlobal
         + Starts
+        + Threads
         + Wait
         + Clock
         + Eprint
@@ -113,6 +115,7 @@ fn fulfil_words<
         + Net<Stream = TcpStream, Listener = TcpListener>
         + AllocGlobal
         + Starts
+        + Threads
         + Wait
         + Clock
         + Eprint
@@ -143,6 +146,7 @@ pub fn run<
         + Net<Stream = TcpStream, Listener = TcpListener>
         + AllocGlobal
         + Starts
+        + Threads
         + Wait
         + Clock
         + Eprint

@@ -25,6 +25,7 @@ use std::io::{IsTerminal, Write};
 use std::net::{Net, SocketAddr, TcpListener, TcpStream};
 use std::rt::Files;
 use std::sync::Wait;
+use std::thread::Threads;
 use std::time::Clock;
 use words::{Service, Until};
 
@@ -33,7 +34,7 @@ const RETRIES: u8 = 100;
 
 // Serves so many connections that are taken so at this session, and says what is left of the run, with the lines that weren't judged if these
 // are to be counted.
-fn serve_some<J: Recorder + Drop + Send, L: Accept + Drop, R: AllocGlobal + Starts + Wait + Sync>(
+fn serve_some<J: Recorder + Drop + Send, L: Accept + Drop, R: AllocGlobal + Starts + Threads + Wait + Sync>(
     rt: &R,
     session: SessionOn<J, Global>,
     accept: L,
@@ -59,7 +60,7 @@ fn serve_some<J: Recorder + Drop + Send, L: Accept + Drop, R: AllocGlobal + Star
 fn serve_all<
     J: Recorder + Drop + Send,
     L: Listen + Drop,
-    R: AllocGlobal + Starts + Wait + Clock + Sync,
+    R: AllocGlobal + Starts + Threads + Wait + Clock + Sync,
 >(rt: &R, session: SessionOn<J, Global>, accept: L, until_idle: bool) -> Result<Ended, AllocError>
     requires { session.offered ≡ [] }
 {
@@ -80,7 +81,7 @@ fn serve_all<
 fn serve_until<
     J: Recorder + Drop + Send,
     L: Listen + Drop,
-    R: AllocGlobal + Starts + Wait + Clock + Sync,
+    R: AllocGlobal + Starts + Threads + Wait + Clock + Sync,
 >(
     rt: &R,
     session: SessionOn<J, Global>,
@@ -101,7 +102,7 @@ fn serve_until<
 fn serve_logged<
     J: Recorder + Drop + Send,
     L: Known + Drop,
-    R: AllocGlobal + Starts + Wait + Clock + Eprint + Copy + Send + Sync + 'static,
+    R: AllocGlobal + Starts + Threads + Wait + Clock + Eprint + Copy + Send + Sync + 'static,
 >(
     rt: &R,
     service: &Service<'_>,
@@ -133,7 +134,7 @@ fn serve_logged<
 fn serve_with<
     J: Recorder + Drop + Send,
     L: Known + Drop,
-    R: AllocGlobal + Starts + Wait + Clock + Eprint + Copy + Send + Sync + 'static,
+    R: AllocGlobal + Starts + Threads + Wait + Clock + Eprint + Copy + Send + Sync + 'static,
 >(
     rt: &R,
     service: &Service<'_>,
@@ -156,6 +157,7 @@ fn serve_through<
     R: Files<File = File>
         + AllocGlobal
         + Starts
+        + Threads
         + Wait
         + Clock
         + Eprint
@@ -210,6 +212,7 @@ fn serve_at<
         + Net<Stream = TcpStream, Listener = TcpListener>
         + AllocGlobal
         + Starts
+        + Threads
         + Wait
         + Clock
         + Eprint
@@ -324,6 +327,7 @@ pub(crate) fn serve<
         + Net<Stream = TcpStream, Listener = TcpListener>
         + AllocGlobal
         + Starts
+        + Threads
         + Wait
         + Clock
         + Eprint
@@ -346,6 +350,7 @@ fn serve_held<
         + Net<Stream = TcpStream, Listener = TcpListener>
         + AllocGlobal
         + Starts
+        + Threads
         + Wait
         + Clock
         + Eprint
@@ -376,6 +381,7 @@ fn serve_in_parts<
         + Net<Stream = TcpStream, Listener = TcpListener>
         + AllocGlobal
         + Starts
+        + Threads
         + Wait
         + Clock
         + Eprint

@@ -2,10 +2,10 @@
 
 ghost use Rattle.std.specs.Prelude.{◌≡◌, IfOk, OnErr};
 
-use std::thread::{Promise, PromisedHandle, Scope, SpawnError, Threads};
+use std::thread::{Promise, PromisedHandle, Scope, SpawnError};
 
 /// What starts the threads of a run's connections. It says by a proposition of its own that one couldn't be started.
-pub trait Starts: Threads {
+pub trait Starts {
     /// A thread couldn't be started.
     ghost lacks: { Self → Type 0 };
 

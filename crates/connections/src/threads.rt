@@ -76,7 +76,7 @@ fn start<'s, E, T, G, R, W>(
     writer: W,
 ) -> Taken<Over<G::Place>, Begun<G, G::Place, R, W>>
 where
-    T: Starts + Wait + Sync,
+    T: Starts + Threads + Wait + Sync,
     G: Gate + Sync,
     R: Source + Close + Send + Drop + 's,
     W: Sink + Send + Drop + 's,
@@ -107,7 +107,7 @@ fn take<'s, E, T, A, G>(
     gate: &'s G,
 ) -> Result<Taken<Over<G::Place>, Begun<G, G::Place, A::Reader, A::Writer>>, AcceptFault>
 where
-    T: Starts + Wait + Sync,
+    T: Starts + Threads + Wait + Sync,
     A: Accept,
     G: Gate + Sync,
     A::Reader: 's,
@@ -141,7 +141,7 @@ fn take_all<'s, E, T, A, G>(
     threads: &mut Vec<Taken<Over<G::Place>, Begun<G, G::Place, A::Reader, A::Writer>>>,
 ) -> bool
 where
-    T: Starts + Wait + Sync,
+    T: Starts + Threads + Wait + Sync,
     A: Accept,
     G: Gate + Sync,
     A::Reader: 's,
@@ -212,7 +212,7 @@ fn run_all<'s, E, T, A, G>(
     mut outcomes: Vec<Outcome<G::Place>>,
 ) -> Served<G::Place>
 where
-    T: Starts + Wait + Sync,
+    T: Starts + Threads + Wait + Sync,
     A: Accept + Drop,
     G: Gate + Sync,
     A::Reader: 's,
@@ -242,7 +242,7 @@ fn start_all<'s, E, T, A, G>(
     count: u8,
 ) -> Result<Served<G::Place>, (AllocError, A)>
 where
-    T: Starts + Wait + Sync,
+    T: Starts + Threads + Wait + Sync,
     A: Accept + Drop,
     G: Gate + Sync,
     A::Reader: 's,
@@ -273,7 +273,7 @@ pub fn serve_all<T, A, G>(
     count: u8,
 ) -> Result<Served<G::Place>, (AllocError, A)>
 where
-    T: Starts + Wait + Sync,
+    T: Starts + Threads + Wait + Sync,
     A: Accept + Drop,
     G: Gate + Sync,
     // One outcome for each connection, in the order in which they were taken: what came of that one. They are as many as were asked for, or

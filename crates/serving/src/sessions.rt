@@ -25,6 +25,7 @@ use std::alloc::{AllocError, Global};
 use std::marker::Brand;
 use std::sync::ledger::Blank;
 use std::sync::{Wait, ledger};
+use std::thread::Threads;
 
 /// A session whose connections are over.
 #[derive(Drop)]
@@ -75,7 +76,7 @@ pub(crate) fn give_up<J: Recorder + Drop, L, C>(
 fn serve_at<
     J: Recorder + Send,
     N: Naming + Send + Sync,
-    T: Starts + Wait + Sync,
+    T: Starts + Threads + Wait + Sync,
     L: Accept + Drop,
 >(
     rt: &T,
@@ -126,7 +127,7 @@ fn serve_at<
 fn serve_in<
     J: Recorder + Send,
     N: Naming + Send + Sync,
-    T: Starts + Wait + Sync,
+    T: Starts + Threads + Wait + Sync,
     L: Accept + Drop,
 >(
     rt: &T,
@@ -184,7 +185,7 @@ fn close<J: Recorder + Drop, L>(
 fn over_seats<
     N: Naming + Send + Sync,
     J: Recorder + Drop + Send,
-    T: Starts + Wait + Sync,
+    T: Starts + Threads + Wait + Sync,
     L: Accept + Drop,
 >(
     rt: &T,
@@ -242,7 +243,7 @@ fn over_seats<
 /// how each connection ended. Nothing is offered to the session before. Its specification is as it was, and its history is legal and
 /// begins with the one that it had. The error is that memory ran out before the first connection, and comes with where connections come
 /// from; the session is gone then, and its file stays.
-pub fn serve_session<J: Recorder + Drop + Send, T: Starts + Wait + Sync, L: Accept + Drop>(
+pub fn serve_session<J: Recorder + Drop + Send, T: Starts + Threads + Wait + Sync, L: Accept + Drop>(
     rt: &T,
     alloc: Global,
     session: SessionOn<J, Global>,

@@ -67,7 +67,7 @@ const ENDINGS: [Ending; 5] = [
 type Places<G> = Vec<<G as Gate>::Place, Global>;
 
 // The places, how the connections ended, and what came of them together.
-fn ended<T: Starts + Wait + Sync, G: Gate + Sync>(
+fn ended<T: Starts + Threads + Wait + Sync, G: Gate + Sync>(
     rt: &T,
     alloc: Global,
     gate: &G,
