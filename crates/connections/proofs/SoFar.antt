@@ -136,6 +136,12 @@ pub none_after : {P : Type 0} (gone : Visited P) → refusal_of (outcome_after g
 none_after (visited.Over over) = refl
 none_after (visited.CalledOff place) = refl
 
+abbrev holding : List ℕ → ℕ → Holding
+holding by taken = record { by = by; taken = taken }
+
+holding_at : (by by' : List ℕ) (taken taken' : ℕ) → by ≡ by' → taken ≡ taken' → holding by taken ≡ holding by' taken'
+holding_at by by' taken taken' bys takens = ap (λ l. holding l taken) bys ∙ ap (λ n. holding by' n) takens
+
 module _ {G P R W : Type 0} where
   visits_last : (ss : List (State G P R W)) (s : State G P R W) → visits_of (ss ++ s ∷ []) ≡ visits_of ss ++ visits_of (s ∷ [])
   visits_last [] s = refl
@@ -159,9 +165,6 @@ module _ {G P R W : Type 0} where
 
   long_last : (ss : List (State G P R W)) (s : State G P R W) → length (ss ++ s ∷ []) ≡ length ss + 1
   long_last ss s = length-append ss (s ∷ [])
-
-  holding_at : (by by' : List ℕ) (taken taken' : ℕ) → by ≡ by' → taken ≡ taken' → (record { by = by; taken = taken } : Holding) ≡ record { by = by'; taken = taken' }
-  holding_at by by' taken taken' bys takens = ap (λ l. record { by = l; taken = taken }) bys ∙ ap (λ n. record { by = by'; taken = n }) takens
 
   -- one more, whose thread runs
   held_present : (ss : List (State G P R W)) (v : Visit G P R W) → IsHeld (holding_of ss) (took None) (holding_of (ss ++ present v ∷ []))

@@ -29,6 +29,7 @@ module _ {L R W : Type 0} (takes : L → R → W → L → Type 0) (fails waits 
         any = came.any;
         looks = came.looks;
         stands = came.stands;
+        held = came.held;
         sum = came.sum;
         counted = counted;
         receipts_are = omega (arith, none, count, counted_are);
