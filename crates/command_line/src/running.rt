@@ -14,7 +14,6 @@ use crate::server::serve;
 use crate::showing::show;
 use crate::telling::tell_use;
 use program::{Exit, Manner};
-use serving::Starts;
 use std::convert::AsStr;
 use std::fs::File;
 use std::io::{IsTerminal, Read, Write};
@@ -70,7 +69,6 @@ fn fulfil<
     R: Files<File = File>
         + Net<Stream = TcpStream, Listener = TcpListener>
         + AllocGlobal
-        + Starts
         + Threads
         + Wait
         + Clock
@@ -114,7 +112,6 @@ fn fulfil_words<
     R: Files<File = File>
         + Net<Stream = TcpStream, Listener = TcpListener>
         + AllocGlobal
-        + Starts
         + Threads
         + Wait
         + Clock
@@ -145,7 +142,6 @@ pub fn run<
     R: Files<File = File>
         + Net<Stream = TcpStream, Listener = TcpListener>
         + AllocGlobal
-        + Starts
         + Threads
         + Wait
         + Clock

@@ -16,7 +16,7 @@ use file_disk::{FileDisk, FileFolder};
 use journal::Journal;
 use program::{Exit, Session, SessionError};
 use serving::{
-    Accept, Connections, Listen, OpenError, Parts, Recorder, SessionOn, Starts, open, open_parts,
+    Accept, Connections, Listen, OpenError, Parts, Recorder, SessionOn, open, open_parts,
     serve_service, serve_session,
 };
 use std::alloc::{AllocError, Global};
@@ -34,7 +34,7 @@ const RETRIES: u8 = 100;
 
 // Serves so many connections that are taken so at this session, and says what is left of the run, with the lines that weren't judged if these
 // are to be counted.
-fn serve_some<J: Recorder + Drop + Send, L: Accept + Drop, R: AllocGlobal + Starts + Threads + Wait + Sync>(
+fn serve_some<J: Recorder + Drop + Send, L: Accept + Drop, R: AllocGlobal + Threads + Wait + Sync>(
     rt: &R,
     session: SessionOn<J, Global>,
     accept: L,
@@ -60,7 +60,7 @@ fn serve_some<J: Recorder + Drop + Send, L: Accept + Drop, R: AllocGlobal + Star
 fn serve_all<
     J: Recorder + Drop + Send,
     L: Listen + Drop,
-    R: AllocGlobal + Starts + Threads + Wait + Clock + Sync,
+    R: AllocGlobal + Threads + Wait + Clock + Sync,
 >(rt: &R, session: SessionOn<J, Global>, accept: L, until_idle: bool) -> Result<Ended, AllocError>
     requires { session.offered ≡ [] }
 {
@@ -81,7 +81,7 @@ fn serve_all<
 fn serve_until<
     J: Recorder + Drop + Send,
     L: Listen + Drop,
-    R: AllocGlobal + Starts + Threads + Wait + Clock + Sync,
+    R: AllocGlobal + Threads + Wait + Clock + Sync,
 >(
     rt: &R,
     session: SessionOn<J, Global>,
@@ -102,7 +102,7 @@ fn serve_until<
 fn serve_logged<
     J: Recorder + Drop + Send,
     L: Known + Drop,
-    R: AllocGlobal + Starts + Threads + Wait + Clock + Eprint + Copy + Send + Sync + 'static,
+    R: AllocGlobal + Threads + Wait + Clock + Eprint + Copy + Send + Sync + 'static,
 >(
     rt: &R,
     service: &Service<'_>,
@@ -134,7 +134,7 @@ fn serve_logged<
 fn serve_with<
     J: Recorder + Drop + Send,
     L: Known + Drop,
-    R: AllocGlobal + Starts + Threads + Wait + Clock + Eprint + Copy + Send + Sync + 'static,
+    R: AllocGlobal + Threads + Wait + Clock + Eprint + Copy + Send + Sync + 'static,
 >(
     rt: &R,
     service: &Service<'_>,
@@ -156,7 +156,6 @@ fn serve_through<
     J: Recorder + Drop + Send,
     R: Files<File = File>
         + AllocGlobal
-        + Starts
         + Threads
         + Wait
         + Clock
@@ -211,7 +210,6 @@ fn serve_at<
     R: Files<File = File>
         + Net<Stream = TcpStream, Listener = TcpListener>
         + AllocGlobal
-        + Starts
         + Threads
         + Wait
         + Clock
@@ -326,7 +324,6 @@ pub(crate) fn serve<
     R: Files<File = File>
         + Net<Stream = TcpStream, Listener = TcpListener>
         + AllocGlobal
-        + Starts
         + Threads
         + Wait
         + Clock
@@ -349,7 +346,6 @@ fn serve_held<
     R: Files<File = File>
         + Net<Stream = TcpStream, Listener = TcpListener>
         + AllocGlobal
-        + Starts
         + Threads
         + Wait
         + Clock
@@ -380,7 +376,6 @@ fn serve_in_parts<
     R: Files<File = File>
         + Net<Stream = TcpStream, Listener = TcpListener>
         + AllocGlobal
-        + Starts
         + Threads
         + Wait
         + Clock

@@ -16,14 +16,14 @@ use Rattle.connections.specs.Starting.{IsJoined, IsTaken}
 
 module _ {G P R W : Type 0} (gate : G) (gives : P → Type 0) (refuses : Fault → Type 0)
     (serves : G → P → P → Tally → Option (List ℕ) → Option (List ℕ) → Option (List ℕ) → Option (List ℕ) → Result End WireError → Type 0)
-    (left : R → Option (List ℕ)) (closed : R → Type 0) (contents : W → Option (List ℕ)) (told : W → Fault → Type 0) (lacks : Type 0) where
+    (left : R → Option (List ℕ)) (closed : R → Type 0) (contents : W → Option (List ℕ)) (told : W → Fault → Type 0) where
   -- what a thread promises
   abbrev Kept : Begun G P R W → Over P → Type 0
   Kept begun over = (rest : Option (List ℕ)) × (new : Option (List ℕ))
       × serves begun.gate.value begun.place.value over.place over.tally (left begun.reader.value) rest (contents begun.writer.value) new over.end × WasClosed left closed rest
 
-  pub joined : (r : R) (w : W) (t : Taken (Over P) (Begun G P R W)) (o : Outcome P) → IsTaken gate gives refuses told lacks r w t → IsJoined Kept t o
-      → IsOutcome gives refuses (serves gate) (WasClosed left closed) (told w) lacks (left r) (contents w) o
+  pub joined : (r : R) (w : W) (t : Taken (Over P) (Begun G P R W)) (o : Outcome P) → IsTaken gate gives refuses told r w t → IsJoined Kept t o
+      → IsOutcome gives refuses (serves gate) (WasClosed left closed) (told w) (left r) (contents w) o
   joined r w (Started handle) (outcome.Over over) taken kept =
       let at : (rest : Option (List ℕ)) × (new : Option (List ℕ)) × serves gate handle.promise.place.value over.place over.tally (left r) rest (contents w) new over.end × WasClosed left closed rest =
       subst (λ x. (rest : Option (List ℕ)) × (new : Option (List ℕ)) × serves gate handle.promise.place.value over.place over.tally (left r) rest (contents x) new over.end × WasClosed left closed rest) taken.3

@@ -149,7 +149,7 @@ module _ {G P R W A L : Type 0} (gate : G) (gives : P → Type 0) (refuses : Fau
   Is = IsState gate gives refuses serves answered free counted takes fails waits left closed contents told terms
 
   abbrev Was : R → W → Outcome P → Type 0
-  Was r w o = IsOutcome gives (IsWithout refuses) (serves gate) (WasClosed left closed) (told w) (Unit {0}) (left r) (contents w) o
+  Was r w o = IsOutcome gives (IsWithout refuses) (serves gate) (WasClosed left closed) (told w) (left r) (contents w) o
 
   abbrev Meets : R → W → Visit G P R W → Type 0
   Meets = IsVisit gate gives refuses serves answered free counted takes fails waits left closed contents told terms
@@ -171,7 +171,7 @@ module _ {G P R W A L : Type 0} (gate : G) (gives : P → Type 0) (refuses : Fau
 
   pub came : (r : R) (w : W) (place : P) (gone : Visited P) → gives place → ComesAt place r w gone → Was r w (outcome_after gone)
   came r w place (visited.Over over) given comes = (place, comes.0, comes.1, given, comes.2, comes.3)
-  came r w place (visited.CalledOff last) given comes = (tt, place, given)
+  came r w place (visited.CalledOff last) given comes = (place, given)
 
   -- what was answered at the place that comes back
   pub worth : (r : R) (w : W) (place : P) (gone : Visited P) → answered place ≡ 0 → ComesAt place r w gone

@@ -20,18 +20,18 @@ WasTold {W} contents has_handed_on failures old fault =
 abbrev pub WasClosed : {R : Type 0} → (R → Option (List ℕ)) → (R → Type 0) → Option (List ℕ) → Type 0
 WasClosed {R} left is_closed rest = (last : R) × (left last ≡ rest) × is_closed last
 
--- For a gate that gives these places, refuses one for these faults, and serves a connection so; for a connection that is closed so, and told a
--- fault so; and for what lacks a thread.
+-- For a gate that gives these places, refuses one for these faults, and serves a connection so; and for a connection that is closed so, and told
+-- a fault so.
 module _ {P : Type 0} (gives : P → Type 0) (refuses : Fault → Type 0)
     (serves : P → P → Tally → Option (List ℕ) → Option (List ℕ) → Option (List ℕ) → Option (List ℕ) → Result End WireError → Type 0)
-    (closed : Option (List ℕ) → Type 0) (told : Fault → Type 0) (lacks : Type 0) where
+    (closed : Option (List ℕ) → Type 0) (told : Fault → Type 0) where
   -- What came of a connection whose reader and writer knew these bytes as it was taken: it was served to its end at a place that the
   -- gate gave, and closed then; or the gate gave no place for this fault, which it was told; or it gave one, and no thread could be started.
   abbrev pub IsOutcome : Option (List ℕ) → Option (List ℕ) → Outcome P → Type 0
   IsOutcome left written (Over over) =
       (place : P) × (rest : Option (List ℕ)) × (new : Option (List ℕ)) × gives place × serves place over.place over.tally left rest written new over.end × closed rest
   IsOutcome left written (Refused fault) = refuses fault × told fault
-  IsOutcome left written NotStarted = lacks × (place : P) × gives place
+  IsOutcome left written NotStarted = (place : P) × gives place
 
 -- For what goes on by a connection with this reader and this writer.
 module _ {A R W O : Type 0} (takes : A → R → W → A → Type 0) (came_of : R → W → O → Type 0) where

@@ -130,7 +130,7 @@ module _ {A R W P L : Type 0} (gives : P → Type 0) (refuses : Fault → Type 0
     pub last : A
     pub failures : ℕ
     pub any : Bool
-    pub looks : Goes (IsLook takes fails waits (λ reader writer. IsOutcome gives (IsWithout refuses) serves (WasClosed left is_closed) (told writer) (Unit {0}) (left reader) (contents writer))) accept steps last
+    pub looks : Goes (IsLook takes fails waits (λ reader writer. IsOutcome gives (IsWithout refuses) serves (WasClosed left is_closed) (told writer) (left reader) (contents writer))) accept steps last
     pub stands : Goes (IsStep refuses terms (free places)) beginning (steps_by refusal_of steps) (record { there = 0; any = any; failures = failures; ended = Some closed.accept_failed })
     pub sum : IsSum (map ending_of (taken_of steps)) closed.totals
     pub free_are : free closed.places ≡ free places

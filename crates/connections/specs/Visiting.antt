@@ -143,7 +143,7 @@ module _ {G P R W A L : Type 0} (gate : G) (gives : P → Type 0) (refuses : Fau
   -- what was done with a connection with this reader and writer
   abbrev pub IsState : R → W → State G P R W → Type 0
   IsState reader writer (present visit) = IsVisit reader writer visit
-  IsState reader writer (past came) = IsOutcome gives (IsWithout refuses) (serves gate) (WasClosed left closed) (told writer) (Unit {0}) (left reader) (contents writer) came
+  IsState reader writer (past came) = IsOutcome gives (IsWithout refuses) (serves gate) (WasClosed left closed) (told writer) (left reader) (contents writer) came
 
   -- The service so far, since it began to take connections with these places: its steps, with those that it took, of which these are there, and
   -- what came of the others; and how it stands.

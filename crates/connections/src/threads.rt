@@ -6,7 +6,6 @@ ghost use Rattle.connections.specs.Starting.{Each, IsJoined, IsTaken};
 
 use crate::gate::{Accept, AcceptFault, Close, Gate, Over};
 use crate::outcome::Outcome;
-use crate::starts::Starts;
 use std::alloc::{AllocError, Global};
 use std::snapshot::Snapshot;
 use std::sync::Wait;
@@ -76,13 +75,13 @@ fn start<'s, E, T, G, R, W>(
     writer: W,
 ) -> Taken<Over<G::Place>, Begun<G, G::Place, R, W>>
 where
-    T: Starts + Threads + Wait + Sync,
+    T: Threads + Wait + Sync,
     G: Gate + Sync,
     R: Source + Close + Send + Drop + 's,
     W: Sink + Send + Drop + 's,
     G::Place: 's,
     requires { G.gives gate.now place }
-    ensures { IsTaken gate.now (G.gives gate.now) (G.refuses gate.now) (WasTold W.contents W.has_handed_on W.failures) (T.lacks rt.now) reader writer result }
+    ensures { IsTaken gate.now (G.gives gate.now) (G.refuses gate.now) (WasTold W.contents W.has_handed_on W.failures) reader writer result }
 {
     let begun = Begun {
         gate: Snapshot::of(gate),
@@ -90,7 +89,7 @@ where
         reader: Snapshot::of(&reader),
         writer: Snapshot::of(&writer),
     };
-    match rt.start(scope, begun, move || {
+    match scope.spawn_with(begun, move || {
         serve_one(rt, alloc, reader, writer, gate, place)
     }) {
         Ok(thread) => Taken::Started(thread),
@@ -107,14 +106,14 @@ fn take<'s, E, T, A, G>(
     gate: &'s G,
 ) -> Result<Taken<Over<G::Place>, Begun<G, G::Place, A::Reader, A::Writer>>, AcceptFault>
 where
-    T: Starts + Threads + Wait + Sync,
+    T: Threads + Wait + Sync,
     A: Accept,
     G: Gate + Sync,
     A::Reader: 's,
     A::Writer: 's,
     G::Place: 's,
     ensures taken { IfOk result (λ t. (reader : _) × (writer : _) × A.takes accept.old reader writer accept.new
-        × IsTaken gate.now (G.gives gate.now) (G.refuses gate.now) (WasTold A.Writer.contents A.Writer.has_handed_on A.Writer.failures) (T.lacks rt.now) reader writer t) }
+        × IsTaken gate.now (G.gives gate.now) (G.refuses gate.now) (WasTold A.Writer.contents A.Writer.has_handed_on A.Writer.failures) reader writer t) }
     ensures failed { OnErr result (A.fails accept.old accept.new) }
 {
     let (reader, mut writer) = match accept.accept() {
@@ -141,7 +140,7 @@ fn take_all<'s, E, T, A, G>(
     threads: &mut Vec<Taken<Over<G::Place>, Begun<G, G::Place, A::Reader, A::Writer>>>,
 ) -> bool
 where
-    T: Starts + Threads + Wait + Sync,
+    T: Threads + Wait + Sync,
     A: Accept,
     G: Gate + Sync,
     A::Reader: 's,
@@ -149,7 +148,7 @@ where
     G::Place: 's,
     requires none { threads.old.items ≡ [] }
     requires room { count ≤ vec_capacity threads.old }
-    ensures { (mid : _) × InTurn A.takes (IsTaken gate.now (G.gives gate.now) (G.refuses gate.now) (WasTold A.Writer.contents A.Writer.has_handed_on A.Writer.failures) (T.lacks rt.now)) accept.old threads.new.items mid
+    ensures { (mid : _) × InTurn A.takes (IsTaken gate.now (G.gives gate.now) (G.refuses gate.now) (WasTold A.Writer.contents A.Writer.has_handed_on A.Writer.failures)) accept.old threads.new.items mid
         × IsLast A.fails mid (length threads.new.items) count result }
 {
     for _index in 0..count {
@@ -212,7 +211,7 @@ fn run_all<'s, E, T, A, G>(
     mut outcomes: Vec<Outcome<G::Place>>,
 ) -> Served<G::Place>
 where
-    T: Starts + Threads + Wait + Sync,
+    T: Threads + Wait + Sync,
     A: Accept + Drop,
     G: Gate + Sync,
     A::Reader: 's,
@@ -221,7 +220,7 @@ where
     requires threads { (threads.items ≡ []) × (count ≤ vec_capacity threads) }
     requires outcomes { (outcomes.items ≡ []) × (count ≤ vec_capacity outcomes) }
     ensures { (end : _)
-        × InTurn A.takes (λ reader writer. IsOutcome (G.gives gate.now) (G.refuses gate.now) (G.serves gate.now) (WasClosed A.Reader.left A.Reader.is_closed) (WasTold A.Writer.contents A.Writer.has_handed_on A.Writer.failures writer) (T.lacks rt.now) (A.Reader.left reader) (A.Writer.contents writer)) accept result.outcomes.items end
+        × InTurn A.takes (λ reader writer. IsOutcome (G.gives gate.now) (G.refuses gate.now) (G.serves gate.now) (WasClosed A.Reader.left A.Reader.is_closed) (WasTold A.Writer.contents A.Writer.has_handed_on A.Writer.failures writer) (A.Reader.left reader) (A.Writer.contents writer)) accept result.outcomes.items end
         × IsLast A.fails end (length result.outcomes.items) count result.accept_failed }
 {
     let accept_failed = take_all(rt, alloc, scope, &mut accept, gate, count, &mut threads);
@@ -242,14 +241,14 @@ fn start_all<'s, E, T, A, G>(
     count: u8,
 ) -> Result<Served<G::Place>, (AllocError, A)>
 where
-    T: Starts + Threads + Wait + Sync,
+    T: Threads + Wait + Sync,
     A: Accept + Drop,
     G: Gate + Sync,
     A::Reader: 's,
     A::Writer: 's,
     G::Place: 's,
     ensures served { IfOk result (λ s. (end : _)
-        × InTurn A.takes (λ reader writer. IsOutcome (G.gives gate.now) (G.refuses gate.now) (G.serves gate.now) (WasClosed A.Reader.left A.Reader.is_closed) (WasTold A.Writer.contents A.Writer.has_handed_on A.Writer.failures writer) (T.lacks rt.now) (A.Reader.left reader) (A.Writer.contents writer)) accept s.outcomes.items end
+        × InTurn A.takes (λ reader writer. IsOutcome (G.gives gate.now) (G.refuses gate.now) (G.serves gate.now) (WasClosed A.Reader.left A.Reader.is_closed) (WasTold A.Writer.contents A.Writer.has_handed_on A.Writer.failures writer) (A.Reader.left reader) (A.Writer.contents writer)) accept s.outcomes.items end
         × IsLast A.fails end (length s.outcomes.items) count s.accept_failed) }
     ensures memory { IfErr result (λ error. error.1 ≡ accept) }
 {
@@ -273,13 +272,13 @@ pub fn serve_all<T, A, G>(
     count: u8,
 ) -> Result<Served<G::Place>, (AllocError, A)>
 where
-    T: Starts + Threads + Wait + Sync,
+    T: Threads + Wait + Sync,
     A: Accept + Drop,
     G: Gate + Sync,
     // One outcome for each connection, in the order in which they were taken: what came of that one. They are as many as were asked for, or
     // fewer where an accept failed after the last of them.
     ensures served { IfOk result (λ s. (end : _)
-        × InTurn A.takes (λ reader writer. IsOutcome (G.gives gate.now) (G.refuses gate.now) (G.serves gate.now) (WasClosed A.Reader.left A.Reader.is_closed) (WasTold A.Writer.contents A.Writer.has_handed_on A.Writer.failures writer) (T.lacks rt.now) (A.Reader.left reader) (A.Writer.contents writer)) accept s.outcomes.items end
+        × InTurn A.takes (λ reader writer. IsOutcome (G.gives gate.now) (G.refuses gate.now) (G.serves gate.now) (WasClosed A.Reader.left A.Reader.is_closed) (WasTold A.Writer.contents A.Writer.has_handed_on A.Writer.failures writer) (A.Reader.left reader) (A.Writer.contents writer)) accept s.outcomes.items end
         × IsLast A.fails end (length s.outcomes.items) count s.accept_failed) }
     ensures memory { IfErr result (λ error. error.1 ≡ accept) }
 {

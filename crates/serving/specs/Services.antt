@@ -38,7 +38,7 @@ module _ {L R W : Type 0} (takes : L → R → W → L → Type 0) (fails waits 
     pub last : L
     pub failures : ℕ
     pub any : Bool
-    pub looks : Goes (IsLook takes fails waits (λ reader writer. IsOutcome (IsNewSeat opening) (IsWithout IsRefusal) (IsServedAt spec) (WasClosed left closed) (told writer) (Unit {0}) (left reader) (contents writer))) accept steps last
+    pub looks : Goes (IsLook takes fails waits (λ reader writer. IsOutcome (IsNewSeat opening) (IsWithout IsRefusal) (IsServedAt spec) (WasClosed left closed) (told writer) (left reader) (contents writer))) accept steps last
     pub stands : Goes (IsStep IsRefusal terms room) beginning (steps_by refusal_of steps) (record { there = 0; any = any; failures = failures; ended = Some accept_failed })
     pub sum : IsSum (map ending_of (taken_of steps)) totals
     pub counted : length history ≡ length opening + answered

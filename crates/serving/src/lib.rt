@@ -11,7 +11,7 @@ mod shared_gate;
 
 pub use connections::{
     Accept, AcceptFault, Account, Closed, Connections, Ending, Gate, Listen, Outcome, Over,
-    Reusable, RunStatus, Served, Starts, TcpAccept, Terms, Totals, UnixAccept, serve_all, serve_on,
+    Reusable, RunStatus, Served, TcpAccept, Terms, Totals, UnixAccept, serve_all, serve_on,
 };
 pub use large_sessions::Parts;
 pub use opening::{OpenError, open};

@@ -14,7 +14,7 @@ ghost use Rattle.serving.specs.Runs.{CameTo, Went};
 
 use crate::shared_gate::SharedGate;
 use alphabet::{Alphabet, EventSet};
-use connections::{Accept, Account, Connections, Ending, Starts, part, serve_all};
+use connections::{Accept, Account, Connections, Ending, part, serve_all};
 use journal::Prepared;
 use seats::copy_of;
 use shared::{
@@ -76,7 +76,7 @@ pub(crate) fn give_up<J: Recorder + Drop, L, C>(
 fn serve_at<
     J: Recorder + Send,
     N: Naming + Send + Sync,
-    T: Starts + Threads + Wait + Sync,
+    T: Threads + Wait + Sync,
     L: Accept + Drop,
 >(
     rt: &T,
@@ -92,7 +92,7 @@ fn serve_at<
     requires shares { (shares.old.items ≡ []) × (count ≤ vec_capacity shares.old) }
     requires endings { (endings.old.items ≡ []) × (count ≤ vec_capacity endings.old) }
     ensures served { IfOk result (λ accept_failed. (outcomes : List (Outcome SeatView))
-        × CameTo L.takes L.fails L.Reader.left L.Reader.is_closed L.Writer.contents (WasTold L.Writer.contents L.Writer.has_handed_on L.Writer.failures) (T.lacks rt.now) accept count N.spec N.opening outcomes accept_failed
+        × CameTo L.takes L.fails L.Reader.left L.Reader.is_closed L.Writer.contents (WasTold L.Writer.contents L.Writer.has_handed_on L.Writer.failures) accept count N.spec N.opening outcomes accept_failed
         × (shares.new.items ≡ places_of outcomes) × (endings.new.items ≡ map ending_of outcomes)) }
     ensures memory { IfErr result (λ error. error.1 ≡ accept) }
 {
@@ -127,7 +127,7 @@ fn serve_at<
 fn serve_in<
     J: Recorder + Send,
     N: Naming + Send + Sync,
-    T: Starts + Threads + Wait + Sync,
+    T: Threads + Wait + Sync,
     L: Accept + Drop,
 >(
     rt: &T,
@@ -143,7 +143,7 @@ fn serve_in<
     requires shares { shares.old.items ≡ [] }
     requires endings { (endings.old.items ≡ []) × (count ≤ vec_capacity endings.old) }
     ensures served { IfOk result (λ accept_failed. (outcomes : List (Outcome SeatView))
-        × CameTo L.takes L.fails L.Reader.left L.Reader.is_closed L.Writer.contents (WasTold L.Writer.contents L.Writer.has_handed_on L.Writer.failures) (T.lacks rt.now) accept count N.spec N.opening outcomes accept_failed
+        × CameTo L.takes L.fails L.Reader.left L.Reader.is_closed L.Writer.contents (WasTold L.Writer.contents L.Writer.has_handed_on L.Writer.failures) accept count N.spec N.opening outcomes accept_failed
         × (shares.new.items ≡ places_of outcomes) × (endings.new.items ≡ map ending_of outcomes)) }
     ensures memory { IfErr result (λ error. error.1 ≡ accept) }
 {
@@ -185,7 +185,7 @@ fn close<J: Recorder + Drop, L>(
 fn over_seats<
     N: Naming + Send + Sync,
     J: Recorder + Drop + Send,
-    T: Starts + Threads + Wait + Sync,
+    T: Threads + Wait + Sync,
     L: Accept + Drop,
 >(
     rt: &T,
@@ -205,7 +205,7 @@ fn over_seats<
     requires endings { (room.endings.items ≡ []) × (count ≤ vec_capacity room.endings) }
     ensures session { IfOk result (λ c. (c.session.spec ≡ N.spec) × StartsWith c.session.history N.opening × Legal (bodies_of N.spec.bodies) c.session.history) }
     ensures kept { IfOk result (λ c. (script : List ℕ) × (root : List ℕ) × IsRecorded J.recording script root c.session) }
-    ensures went { IfOk result (λ c. Went L.takes L.fails L.Reader.left L.Reader.is_closed L.Writer.contents (WasTold L.Writer.contents L.Writer.has_handed_on L.Writer.failures) (T.lacks rt.now) accept count N.spec N.opening c.session.history c.endings.items c.account.accept_failed c.answered) }
+    ensures went { IfOk result (λ c. Went L.takes L.fails L.Reader.left L.Reader.is_closed L.Writer.contents (WasTold L.Writer.contents L.Writer.has_handed_on L.Writer.failures) accept count N.spec N.opening c.session.history c.endings.items c.account.accept_failed c.answered) }
     ensures account { IfOk result (λ c. (c.account.rejected ≡ list_any has_rejected c.endings.items) × (c.account.limit ≡ list_any met_limit c.endings.items)) }
     ensures memory { IfErr result (λ error. error.1 ≡ accept) }
 {
@@ -243,7 +243,7 @@ fn over_seats<
 /// how each connection ended. Nothing is offered to the session before. Its specification is as it was, and its history is legal and
 /// begins with the one that it had. The error is that memory ran out before the first connection, and comes with where connections come
 /// from; the session is gone then, and its file stays.
-pub fn serve_session<J: Recorder + Drop + Send, T: Starts + Threads + Wait + Sync, L: Accept + Drop>(
+pub fn serve_session<J: Recorder + Drop + Send, T: Threads + Wait + Sync, L: Accept + Drop>(
     rt: &T,
     alloc: Global,
     session: SessionOn<J, Global>,
@@ -255,7 +255,7 @@ pub fn serve_session<J: Recorder + Drop + Send, T: Starts + Threads + Wait + Syn
     ensures kept { IfOk result (λ c. (script : List ℕ) × (root : List ℕ) × IsRecorded J.recording script root c.session) }
 
     // What came of each connection, in the order in which they were taken.
-    ensures went { IfOk result (λ c. Went L.takes L.fails L.Reader.left L.Reader.is_closed L.Writer.contents (WasTold L.Writer.contents L.Writer.has_handed_on L.Writer.failures) (T.lacks rt.now) accept connections session.spec session.history c.session.history c.endings.items c.account.accept_failed c.answered) }
+    ensures went { IfOk result (λ c. Went L.takes L.fails L.Reader.left L.Reader.is_closed L.Writer.contents (WasTold L.Writer.contents L.Writer.has_handed_on L.Writer.failures) accept connections session.spec session.history c.session.history c.endings.items c.account.accept_failed c.answered) }
     ensures account { IfOk result (λ c. (c.account.rejected ≡ list_any has_rejected c.endings.items) × (c.account.limit ≡ list_any met_limit c.endings.items)) }
     ensures memory { IfErr result (λ error. error.1 ≡ accept) }
 {

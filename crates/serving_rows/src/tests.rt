@@ -6,7 +6,7 @@ use crate::gate::{Stop, Turns};
 use crate::meeting::{Client, Meeting};
 use crate::series::{SILENT, Series};
 use connections::{
-    Account, Closed, Ending, Gate, Served, Starts, Terms, Totals, part, serve_all, serve_on,
+    Account, Closed, Ending, Gate, Served, Terms, Totals, part, serve_all, serve_on,
 };
 use std::alloc::Global;
 use std::sync::Wait;
@@ -67,7 +67,7 @@ const ENDINGS: [Ending; 5] = [
 type Places<G> = Vec<<G as Gate>::Place, Global>;
 
 // The places, how the connections ended, and what came of them together.
-fn ended<T: Starts + Threads + Wait + Sync, G: Gate + Sync>(
+fn ended<T: Threads + Wait + Sync, G: Gate + Sync>(
     rt: &T,
     alloc: Global,
     gate: &G,
