@@ -354,8 +354,7 @@ module _ {G P R W A L : Type 0} (gate : G) (gives : P → Type 0) (refuses : Fau
       let states = changed.new ++ freed number ∷ [] in
       let same : taken_of states ≡ taken_of changed.new = taken_last changed.new (freed number) ∙ append-nil (taken_of changed.new) in
       let one = ap length changed.there in let all = ap length at.there in
-      let less : length new.visits + 1 ≡ length old.visits = omega (arith, one, all, fewer) in
-      (
+      let less : length new.visits + 1 ≡ length old.visits = omega (arith, one, all, fewer) in (
         record {
           states = states;
           looks = goes_more Looked first now now changed.new (freed number) changed.looks refl;
