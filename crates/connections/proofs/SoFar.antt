@@ -421,6 +421,7 @@ module _ {G P R W A L : Type 0} (gate : G) (gives : P → Type 0) (refuses : Fau
   -- none came
   pub so_far_nobody : (first now next : A) (places : L) (book : Book (Visit G P R W)) (any : Bool) (failures : ℕ) (ended : Option Bool)
       → SoFar first now places book any failures None → waits now next → EndsByIdleness terms (any && (length book.visits == 0)) ended → SoFar first next places book any 0 ended
+  unfolding so_far_step
   so_far_nobody first now next places book any failures ended far waited ends = (
     so_far_step first now next places book (standing book any failures None) (standing book any 0 ended) nobody nobody refl refl waited (refl, ends, refl) far.0,
     still_held far.0.states nobody nobody refl refl (λ h. refl) far.1,
@@ -429,6 +430,7 @@ module _ {G P R W A L : Type 0} (gate : G) (gives : P → Type 0) (refuses : Fau
   -- an accept failed
   pub so_far_failed : (first now next : A) (places : L) (book : Book (Visit G P R W)) (any : Bool) (failures : ℕ) (ended : Option Bool)
       → SoFar first now places book any failures None → fails now next × (next ≡ now) → EndsByFailure terms failures ended → SoFar first next places book any (failures + 1) ended
+  unfolding so_far_step
   so_far_failed first now next places book any failures ended far fault ends = (
     so_far_step first now next places book (standing book any failures None) (standing book any (failures + 1) ended) failed failed refl refl fault (refl, ends, refl) far.0,
     still_held far.0.states failed failed refl refl (λ h. refl) far.1,
@@ -478,6 +480,7 @@ module _ {G P R W A L : Type 0} (gate : G) (gives : P → Type 0) (refuses : Fau
   pub so_far_refused : (first now next : A) (places : L) (old new : Book (Visit G P R W)) (any : Bool) (failures : ℕ) (r : R) (w : W) (fault : Fault)
       → SoFar first now places old any failures None → takes now r w next → IsRefused refuses terms.threads old fault → told w fault → new.visits ≡ old.visits → IsAdded old.totals (ending.Refused fault) new.totals
       → new.free ≡ old.free → new.counted ≡ old.counted → SoFar first next places new true 0 None
+  unfolding so_far_past
   so_far_refused first now next places old new any failures r w fault far taken why was visits added free_is counted_is =
       let long = ap length visits in (
         so_far_past first now next places old new (standing old any failures None) (standing new true 0 None) r w (Refused fault) far.0 taken (without_for old fault why, was) visits added free_is (omega (arith, counted_is))
@@ -489,6 +492,7 @@ module _ {G P R W A L : Type 0} (gate : G) (gives : P → Type 0) (refuses : Fau
   pub so_far_called_off : (first now next : A) (places : L) (old new : Book (Visit G P R W)) (any : Bool) (failures : ℕ) (r : R) (w : W) (o : Outcome P)
       → SoFar first now places old any failures None → takes now r w next → Was r w o → refusal_of o ≡ None → length old.visits < terms.threads → new.visits ≡ old.visits
       → IsAdded old.totals (ending_of o) new.totals → new.free ≡ old.free → new.counted ≡ old.counted + sum_by answered (places_of (o ∷ [])) → SoFar first next places new true 0 None
+  unfolding so_far_past so_far_step
   so_far_called_off first now next places old new any failures r w o far taken was placed few visits added free_is counted_is =
       let long = ap length visits in
       let mid : Standing = record { there = length old.visits + 1; any = true; failures = 0; ended = None } in
