@@ -23,9 +23,9 @@ use Rattle.connections.specs.declared.visits.Visited.{Visited}
 use Rattle.connections.specs.declared.visits.Visited.TheVariants as visited
 use Rattle.connections.specs.Accounts.{has_rejected, met_limit}
 use Rattle.wire.specs.declared.answers.Fault.TheVariants.{Seats}
-use Rattle.connections.specs.Outcomes.{IsOutcome, ending_of, places_of}
-use Rattle.connections.specs.Services.{EndsByFailure, EndsByIdleness, Goes, IsLook, IsStep, IsSum, IsWithout, Standing, Step, took, freed, nobody, failed, beginning, capped, refusal_of, steps_by, taken_of, unjudged_of}
-use Rattle.connections.specs.Visiting.{Comes, State, present, past, visits_of, outcomes_of, outcome_after, place_after, refusal_in, standing, Book, IsAdded, IsState, IsVisit, IsVisited, IsAt, IsRefused, IsSoFar, Leave, none, more, Leaves, Without, before_place, promises}
+use Rattle.connections.specs.Outcomes.{IsOutcome, WasClosed, ending_of, places_of}
+use Rattle.connections.specs.Services.{EndsByFailure, EndsByIdleness, Goes, Holding, IsHeld, IsLook, IsStep, IsSum, IsWithout, Standing, Step, Without, took, freed, nobody, failed, beginning, capped, nothing_held, refusal_of, steps_by, taken_of, unjudged_of}
+use Rattle.connections.specs.Visiting.{Comes, State, present, past, visits_of, outcomes_of, outcome_after, place_after, refusal_in, standing, Book, IsAdded, IsState, IsVisit, IsVisited, IsAt, IsRefused, IsSoFar, Leave, none, more, Leaves, before_place, holding_of, numbers_of, promises}
 
 or_in : (a b c : Bool) → (a || (b || c)) ≡ ((a || b) || c)
 or_in true b c = refl
@@ -105,16 +105,22 @@ goes_more is a b d (x ∷ xs) t h one = (h.0, h.1, goes_more is h.0 b d xs t h.2
 steps_last : {O Q : Type 0} (f : O → Q) (ss : List (Step O)) (s : Step O) → steps_by f (ss ++ s ∷ []) ≡ steps_by f ss ++ steps_by f (s ∷ [])
 steps_last f [] s = refl
 steps_last f (took one ∷ ss) s = ap (λ l. took (f one) ∷ l) (steps_last f ss s)
-steps_last f (freed ∷ ss) s = ap (λ l. freed ∷ l) (steps_last f ss s)
+steps_last f (freed k ∷ ss) s = ap (λ l. freed k ∷ l) (steps_last f ss s)
 steps_last f (nobody ∷ ss) s = ap (λ l. nobody ∷ l) (steps_last f ss s)
 steps_last f (failed ∷ ss) s = ap (λ l. failed ∷ l) (steps_last f ss s)
 
 taken_last : {O : Type 0} (ss : List (Step O)) (s : Step O) → taken_of (ss ++ s ∷ []) ≡ taken_of ss ++ taken_of (s ∷ [])
 taken_last [] s = refl
 taken_last (took one ∷ ss) s = ap (λ l. one ∷ l) (taken_last ss s)
-taken_last (freed ∷ ss) s = taken_last ss s
+taken_last (freed k ∷ ss) s = taken_last ss s
 taken_last (nobody ∷ ss) s = taken_last ss s
 taken_last (failed ∷ ss) s = taken_last ss s
+
+-- one step more, by which more is known
+steps_more : {S O Q : Type 0} (is : S → Step Q → S → Type 0) (f : O → Q) (begun old new : S) (ss : List (Step O)) (s : Step O) (x : Step Q)
+    → Goes is begun (steps_by f ss) old → steps_by f (s ∷ []) ≡ x ∷ [] → is old x new → Goes is begun (steps_by f (ss ++ s ∷ [])) new
+steps_more is f begun old new ss s x h same one =
+    subst (λ l. Goes is begun l new) (sym (steps_last f ss s ∙ ap (λ l. steps_by f ss ++ l) same)) (goes_more is begun old new (steps_by f ss) x h one)
 
 -- one step more, by which a service stands otherwise
 stands_more : {O : Type 0} (f : O → Option Fault) (refuses : Fault → Type 0) (terms : Terms) (room : ℕ) (begun old new : Standing) (ss : List (Step O)) (s : Step O) (x : Step (Option Fault))
@@ -130,11 +136,52 @@ pub none_after : {P : Type 0} (gone : Visited P) → refusal_of (outcome_after g
 none_after (visited.Over over) = refl
 none_after (visited.CalledOff place) = refl
 
+abbrev holding : List ℕ → ℕ → Holding
+holding by taken = record { by = by; taken = taken }
+
+holding_at : (by by' : List ℕ) (taken taken' : ℕ) → by ≡ by' → taken ≡ taken' → holding by taken ≡ holding by' taken'
+holding_at by by' taken taken' bys takens = ap (λ l. holding l taken) bys ∙ ap (λ n. holding by' n) takens
+
 module _ {G P R W : Type 0} where
   visits_last : (ss : List (State G P R W)) (s : State G P R W) → visits_of (ss ++ s ∷ []) ≡ visits_of ss ++ visits_of (s ∷ [])
   visits_last [] s = refl
   visits_last (present v ∷ ss) s = ap (λ vs. v ∷ vs) (visits_last ss s)
   visits_last (past o ∷ ss) s = visits_last ss s
+
+  numbers_last : (n : ℕ) (ss : List (State G P R W)) (s : State G P R W) → numbers_of n (ss ++ s ∷ []) ≡ numbers_of n ss ++ numbers_of (n + length ss) (s ∷ [])
+  numbers_last n [] s = let at : n ≡ n + 0 = omega arith in ap (λ k. numbers_of k (s ∷ [])) at
+  numbers_last n (present v ∷ ss) s =
+      let at : (n + 1) + length ss ≡ n + length (present v ∷ ss) = omega arith in
+      ap (λ l. n ∷ l) (numbers_last (n + 1) ss s ∙ ap (λ k. numbers_of (n + 1) ss ++ numbers_of k (s ∷ [])) at)
+  numbers_last n (past o ∷ ss) s =
+      let at : (n + 1) + length ss ≡ n + length (past o ∷ ss) = omega arith in
+      numbers_last (n + 1) ss s ∙ ap (λ k. numbers_of (n + 1) ss ++ numbers_of k (s ∷ [])) at
+
+  -- where none is there any more, none has a place
+  numbers_none : (n : ℕ) (ss : List (State G P R W)) → IsNone (visits_of ss) → numbers_of n ss ≡ []
+  numbers_none n [] empty = refl
+  numbers_none n (present v ∷ ss) empty = absurd empty
+  numbers_none n (past o ∷ ss) empty = numbers_none (n + 1) ss empty
+
+  long_last : (ss : List (State G P R W)) (s : State G P R W) → length (ss ++ s ∷ []) ≡ length ss + 1
+  long_last ss s = length-append ss (s ∷ [])
+
+  -- one more, whose thread runs
+  held_present : (ss : List (State G P R W)) (v : Visit G P R W) → IsHeld (holding_of ss) (took None) (holding_of (ss ++ present v ∷ []))
+  held_present ss v =
+      let at : 0 + length ss ≡ length ss = omega arith in
+      holding_at _ _ _ _ (numbers_last 0 ss (present v) ∙ ap (λ k. numbers_of 0 ss ++ k ∷ []) at) (long_last ss (present v))
+
+  -- one more, that got no place
+  held_refused : (ss : List (State G P R W)) (o : Outcome P) (fault : Fault) → IsHeld (holding_of ss) (took (Some fault)) (holding_of (ss ++ past o ∷ []))
+  held_refused ss o fault = holding_at _ _ _ _ (numbers_last 0 ss (past o) ∙ append-nil (numbers_of 0 ss)) (long_last ss (past o))
+
+  -- one more that got a place, and is over
+  held_over : (ss : List (State G P R W)) (o : Outcome P)
+      → IsHeld (record { by = numbers_of 0 ss ++ length ss ∷ []; taken = length ss + 1 }) (freed (length ss)) (holding_of (ss ++ past o ∷ []))
+  held_over ss o =
+      let left : numbers_of 0 (ss ++ past o ∷ []) ≡ numbers_of 0 ss ++ [] = numbers_last 0 ss (past o) in
+      (subst (λ l. Without (length ss) (numbers_of 0 ss ++ length ss ∷ []) l) (sym left) (without_between (length ss) (numbers_of 0 ss) []), long_last ss (past o))
 
   outcomes_last : (ss : List (State G P R W)) (s : State G P R W) → outcomes_of (ss ++ s ∷ []) ≡ outcomes_of ss ++ outcomes_of (s ∷ [])
   outcomes_last [] s = refl
@@ -144,34 +191,34 @@ module _ {G P R W : Type 0} where
 module _ {G P R W A L : Type 0} (gate : G) (gives : P → Type 0) (refuses : Fault → Type 0)
     (serves : G → P → P → Tally → Option (List ℕ) → Option (List ℕ) → Option (List ℕ) → Option (List ℕ) → Result End WireError → Type 0)
     (answered : P → ℕ) (free counted : L → ℕ)
-    (takes : A → R → W → A → Type 0) (fails waits : A → A → Type 0) (left : R → Option (List ℕ)) (contents : W → Option (List ℕ)) (terms : Terms) where
+    (takes : A → R → W → A → Type 0) (fails waits : A → A → Type 0) (left : R → Option (List ℕ)) (closed : R → Type 0) (contents : W → Option (List ℕ)) (told : W → Fault → Type 0) (terms : Terms) where
   abbrev Is : R → W → State G P R W → Type 0
-  Is = IsState gate gives refuses serves answered free counted takes fails waits left contents terms
+  Is = IsState gate gives refuses serves answered free counted takes fails waits left closed contents told terms
 
   abbrev Was : R → W → Outcome P → Type 0
-  Was r w o = IsOutcome gives (IsWithout refuses) (serves gate) (left r) (contents w) o
+  Was r w o = IsOutcome gives (IsWithout refuses) (serves gate) (WasClosed left closed) (told w) (left r) (contents w) o
 
   abbrev Meets : R → W → Visit G P R W → Type 0
-  Meets = IsVisit gate gives refuses serves answered free counted takes fails waits left contents terms
+  Meets = IsVisit gate gives refuses serves answered free counted takes fails waits left closed contents told terms
 
   abbrev Kept : Visit G P R W → Visited P → Type 0
-  Kept = IsVisited serves left contents
+  Kept = IsVisited serves left closed contents
 
   abbrev Looked : A → Step (State G P R W) → A → Type 0
   Looked = IsLook takes fails waits Is
 
   abbrev SoFar : A → A → L → Book (Visit G P R W) → Bool → ℕ → Option Bool → Type 0
-  SoFar = IsSoFar gate gives refuses serves answered free counted takes fails waits left contents terms
+  SoFar = IsSoFar gate gives refuses serves answered free counted takes fails waits left closed contents told terms
 
   abbrev At : A → A → L → Book (Visit G P R W) → Standing → Type 0
-  At = IsAt gate gives refuses serves answered free counted takes fails waits left contents terms
+  At = IsAt gate gives refuses serves answered free counted takes fails waits left closed contents told terms
 
   abbrev ComesAt : P → R → W → Visited P → Type 0
-  ComesAt place r w gone = Comes serves gate place (left r) (contents w) gone
+  ComesAt place r w gone = Comes serves (WasClosed left closed) gate place (left r) (contents w) gone
 
   pub came : (r : R) (w : W) (place : P) (gone : Visited P) → gives place → ComesAt place r w gone → Was r w (outcome_after gone)
-  came r w place (visited.Over over) given comes = (place, comes.0, comes.1, given, comes.2)
-  came r w place (visited.CalledOff last) given comes = tt
+  came r w place (visited.Over over) given comes = (place, comes.0, comes.1, given, comes.2, comes.3)
+  came r w place (visited.CalledOff last) given comes = (place, given)
 
   -- what was answered at the place that comes back
   pub worth : (r : R) (w : W) (place : P) (gone : Visited P) → answered place ≡ 0 → ComesAt place r w gone
@@ -182,10 +229,10 @@ module _ {G P R W A L : Type 0} (gate : G) (gives : P → Type 0) (refuses : Fau
   -- what a thread promises, of its connection
   promised : (r : R) (w : W) (v : Visit G P R W) (gone : Visited P) → (is : Meets r w v) → Kept v gone → ComesAt is.0 r w gone
   promised r w v gone is kept =
-      subst (λ x. Comes serves gate is.0 (left r) (contents x) gone) is.3.3
-      (subst (λ x. Comes serves gate is.0 (left x) (contents v.writer.value) gone) is.3.2
-      (subst (λ x. Comes serves gate x (left v.reader.value) (contents v.writer.value) gone) is.3.1
-      (subst (λ x. Comes serves x v.place.value (left v.reader.value) (contents v.writer.value) gone) is.3.0 kept)))
+      subst (λ x. Comes serves (WasClosed left closed) gate is.0 (left r) (contents x) gone) is.3.3
+      (subst (λ x. Comes serves (WasClosed left closed) gate is.0 (left x) (contents v.writer.value) gone) is.3.2
+      (subst (λ x. Comes serves (WasClosed left closed) gate x (left v.reader.value) (contents v.writer.value) gone) is.3.1
+      (subst (λ x. Comes serves (WasClosed left closed) x v.place.value (left v.reader.value) (contents v.writer.value) gone) is.3.0 kept)))
 
   -- steps in which this one is over that was there
   record Changed (first now : A) (states : List (Step (State G P R W))) (visits : List (Visit G P R W)) (gone : Visited P) : Type 0 where
@@ -196,6 +243,9 @@ module _ {G P R W A L : Type 0} (gate : G) (gives : P → Type 0) (refuses : Fau
     counts : (f : Ending → ℕ) → sum_by f (map ending_of (outcomes_of (taken_of new))) ≡ sum_by f (map ending_of (outcomes_of (taken_of states))) + f (ending_of (outcome_after gone))
     same : steps_by refusal_in new ≡ steps_by refusal_in states
     fewer : length (visits_of (taken_of new)) + 1 ≡ length (visits_of (taken_of states))
+    number : ℕ
+    out : (m : ℕ) → Without (m + number) (numbers_of m (taken_of states)) (numbers_of m (taken_of new))
+    long : length (taken_of new) ≡ length (taken_of states)
     worth_more : sum_by answered (places_of (outcomes_of (taken_of new))) ≡ sum_by answered (places_of (outcomes_of (taken_of states))) + answered (place_after gone)
 
   -- the same after a step in which no connection was taken
@@ -211,14 +261,19 @@ module _ {G P R W A L : Type 0} (gate : G) (gives : P → Type 0) (refuses : Fau
     counts = λ f. ap (λ os. sum_by f (map ending_of (outcomes_of os))) (idles rest.new) ∙ (rest.counts f ∙ ap (λ os. sum_by f (map ending_of (outcomes_of os)) + f (ending_of (outcome_after gone))) (sym idle));
     same = longer rest.new ss rest.same;
     fewer = ap (λ os. length (visits_of os) + 1) (idles rest.new) ∙ (rest.fewer ∙ ap (λ os. length (visits_of os)) (sym idle));
+    number = rest.number;
+    out = λ m.
+        subst (λ os. Without (m + rest.number) (numbers_of m os) (numbers_of m (taken_of (s ∷ rest.new)))) (sym idle)
+        (subst (λ os. Without (m + rest.number) (numbers_of m (taken_of ss)) (numbers_of m os)) (sym (idles rest.new)) (rest.out m));
+    long = ap length (idles rest.new) ∙ (rest.long ∙ ap length (sym idle));
     worth_more = ap (λ os. sum_by answered (places_of (outcomes_of os))) (idles rest.new) ∙ (rest.worth_more ∙ ap (λ os. sum_by answered (places_of (outcomes_of os)) + answered (place_after gone)) (sym idle));
   }
 
   change : (first now : A) (states : List (Step (State G P R W))) (v : Visit G P R W) (visits : List (Visit G P R W)) (gone : Visited P)
       → Goes Looked first states now → Without v (visits_of (taken_of states)) visits → Kept v gone → Changed first now states visits gone
   change first now [] v visits gone looks out kept = absurd out
-  change first now (freed ∷ ss) v visits gone looks out kept =
-      changed_after first looks.0 now freed ss visits gone refl (λ l. refl) (λ l k e. ap (λ x. freed ∷ x) e) looks.1 (change looks.0 now ss v visits gone looks.2 out kept)
+  change first now (freed n ∷ ss) v visits gone looks out kept =
+      changed_after first looks.0 now (freed n) ss visits gone refl (λ l. refl) (λ l k e. ap (λ x. freed n ∷ x) e) looks.1 (change looks.0 now ss v visits gone looks.2 out kept)
   change first now (nobody ∷ ss) v visits gone looks out kept =
       changed_after first looks.0 now nobody ss visits gone refl (λ l. refl) (λ l k e. ap (λ x. nobody ∷ x) e) looks.1 (change looks.0 now ss v visits gone looks.2 out kept)
   change first now (failed ∷ ss) v visits gone looks out kept =
@@ -240,6 +295,11 @@ module _ {G P R W A L : Type 0} (gate : G) (gives : P → Type 0) (refuses : Fau
             omega (arith, count, all, some);
         same = ap (λ l. took (refusal_of o) ∷ l) rest.same;
         fewer = rest.fewer;
+        number = rest.number + 1;
+        out = λ m.
+            let at : (m + 1) + rest.number ≡ m + (rest.number + 1) = omega arith in
+            subst (λ k. Without k (numbers_of (m + 1) (taken_of ss)) (numbers_of (m + 1) (taken_of rest.new))) at (rest.out (m + 1));
+        long = ap suc rest.long;
         worth_more = omega (arith, before, after, sums);
       }
   change first now (took (present u) ∷ ss) v visits gone looks (inl here) kept =
@@ -258,6 +318,9 @@ module _ {G P R W A L : Type 0} (gate : G) (gives : P → Type 0) (refuses : Fau
             omega (arith, all);
         same = ap (λ r. took r ∷ steps_by refusal_in ss) (none_after gone);
         fewer = omega arith;
+        number = 0;
+        out = λ m. let at : m ≡ m + 0 = omega arith in inl (at, refl);
+        long = refl;
         worth_more = omega (arith, more, one);
       }
   change first now (took (present u) ∷ ss) v visits gone looks (inr later) kept =
@@ -271,31 +334,42 @@ module _ {G P R W A L : Type 0} (gate : G) (gives : P → Type 0) (refuses : Fau
         counts = rest.counts;
         same = ap (λ l. took None ∷ l) rest.same;
         fewer = omega (arith, fewer);
+        number = rest.number + 1;
+        out = λ m.
+            let at : (m + 1) + rest.number ≡ m + (rest.number + 1) = omega arith in
+            inr (numbers_of (m + 1) (taken_of rest.new), refl, subst (λ k. Without k (numbers_of (m + 1) (taken_of ss)) (numbers_of (m + 1) (taken_of rest.new))) at (rest.out (m + 1)));
+        long = ap suc rest.long;
         worth_more = rest.worth_more;
       }
 
   pub so_far_left : (first now : A) (places : L) (old new : Book (Visit G P R W)) (any : Bool) (failures : ℕ) (ended : Option Bool)
       → SoFar first now places old any failures ended → Leaves Kept answered old new → SoFar first now places new any failures ended
   so_far_left first now places old new any failures ended far leaves =
-      let out : Without leaves.visit (visits_of (taken_of far.states)) new.visits = subst (λ vs. Without leaves.visit vs new.visits) (sym far.there) leaves.out in
-      let changed = change first now far.states leaves.visit new.visits leaves.gone far.looks out leaves.kept_by in
-      let fewer = changed.fewer in let free_is = leaves.free_is in let free_are = far.free_are in
-      let counted_is = leaves.counted_is in let counted_are = far.counted_are in let sums = changed.worth_more in
-      let states = changed.new ++ freed ∷ [] in
-      let same : taken_of states ≡ taken_of changed.new = taken_last changed.new freed ∙ append-nil (taken_of changed.new) in
-      let one = ap length changed.there in let all = ap length far.there in
-      let less : length new.visits + 1 ≡ length old.visits = omega (arith, one, all, fewer) in
-      record {
-        states = states;
-        looks = goes_more Looked first now now changed.new freed changed.looks refl;
-        stands = stands_more refusal_in refuses terms (free places) beginning (standing old any failures ended) (standing new any failures ended) changed.new freed freed
-            (subst (λ l. Goes (IsStep refuses terms (free places)) beginning l (standing old any failures ended)) (sym changed.same) far.stands) refl (less, refl);
-        there = ap visits_of same ∙ changed.there;
-        sum = subst (λ os. IsSum (map ending_of (outcomes_of os)) new.totals) (sym same)
-            (sum_more (map ending_of (outcomes_of (taken_of far.states))) (map ending_of (outcomes_of (taken_of changed.new))) (ending_of (outcome_after leaves.gone)) old.totals new.totals changed.tests changed.counts far.sum leaves.added);
-        free_are = let long = ap (λ os. length (visits_of os)) same in omega (arith, fewer, free_is, free_are, long);
-        counted_are = let sums' = ap (λ os. sum_by answered (places_of (outcomes_of os))) same in omega (arith, counted_is, counted_are, sums, sums');
-      }
+      let at = far.0 in
+      let out : Without leaves.visit (visits_of (taken_of at.states)) new.visits = subst (λ vs. Without leaves.visit vs new.visits) (sym at.there) leaves.out in
+      let changed = change first now at.states leaves.visit new.visits leaves.gone at.looks out leaves.kept_by in
+      let fewer = changed.fewer in let free_is = leaves.free_is in let free_are = at.free_are in
+      let counted_is = leaves.counted_is in let counted_are = at.counted_are in let sums = changed.worth_more in
+      let number = 0 + changed.number in
+      let states = changed.new ++ freed number ∷ [] in
+      let same : taken_of states ≡ taken_of changed.new = taken_last changed.new (freed number) ∙ append-nil (taken_of changed.new) in
+      let one = ap length changed.there in let all = ap length at.there in
+      let less : length new.visits + 1 ≡ length old.visits = omega (arith, one, all, fewer) in (
+        record {
+          states = states;
+          looks = goes_more Looked first now now changed.new (freed number) changed.looks refl;
+          stands = stands_more refusal_in refuses terms (free places) beginning (standing old any failures ended) (standing new any failures ended) changed.new (freed number) (freed number)
+              (subst (λ l. Goes (IsStep refuses terms (free places)) beginning l (standing old any failures ended)) (sym changed.same) at.stands) refl (less, refl);
+          there = ap visits_of same ∙ changed.there;
+          sum = subst (λ os. IsSum (map ending_of (outcomes_of os)) new.totals) (sym same)
+              (sum_more (map ending_of (outcomes_of (taken_of at.states))) (map ending_of (outcomes_of (taken_of changed.new))) (ending_of (outcome_after leaves.gone)) old.totals new.totals changed.tests changed.counts at.sum leaves.added);
+          free_are = let long = ap (λ os. length (visits_of os)) same in omega (arith, fewer, free_is, free_are, long);
+          counted_are = let sums' = ap (λ os. sum_by answered (places_of (outcomes_of os))) same in omega (arith, counted_is, counted_are, sums, sums');
+        },
+        steps_more IsHeld refusal_in nothing_held (holding_of (taken_of at.states)) (holding_of (taken_of states)) changed.new (freed number) (freed number)
+            (subst (λ l. Goes IsHeld nothing_held l (holding_of (taken_of at.states))) (sym changed.same) far.1) refl
+            (subst (λ os. Without number (numbers_of 0 (taken_of at.states)) (numbers_of 0 os)) (sym same) (changed.out 0), ap length same ∙ changed.long),
+      )
 
   pub so_far_on : (first now : A) (places : L) (old new : Book (Visit G P R W)) (any : Bool) (failures : ℕ) (ended : Option Bool)
       → SoFar first now places old any failures ended → Leave Kept answered old new → SoFar first now places new any failures ended
@@ -326,17 +400,41 @@ module _ {G P R W A L : Type 0} (gate : G) (gives : P → Type 0) (refuses : Fau
         counted_are = let sums = ap (λ os. sum_by answered (places_of (outcomes_of os))) same in omega (arith, counted_are, sums);
       }
 
+  -- after a step that changes nothing of who has a place
+  still_held : (ss : List (Step (State G P R W))) (s : Step (State G P R W)) (x : Step (Option Fault)) → steps_by refusal_in (s ∷ []) ≡ x ∷ [] → taken_of (s ∷ []) ≡ []
+      → ((h : Holding) → IsHeld h x h) → Goes IsHeld nothing_held (steps_by refusal_in ss) (holding_of (taken_of ss))
+      → Goes IsHeld nothing_held (steps_by refusal_in (ss ++ s ∷ [])) (holding_of (taken_of (ss ++ s ∷ [])))
+  still_held ss s x is idle still held =
+      let same : taken_of (ss ++ s ∷ []) ≡ taken_of ss = taken_last ss s ∙ (ap (λ l. taken_of ss ++ l) idle ∙ append-nil (taken_of ss)) in
+      subst (λ os. Goes IsHeld nothing_held (steps_by refusal_in (ss ++ s ∷ [])) (holding_of os)) (sym same)
+      (steps_more IsHeld refusal_in nothing_held (holding_of (taken_of ss)) (holding_of (taken_of ss)) ss s x held is (still (holding_of (taken_of ss))))
+
+  -- after a step in which one was taken
+  more_held : (ss : List (Step (State G P R W))) (one : State G P R W) (r : Option Fault) → refusal_in one ≡ r
+      → IsHeld (holding_of (taken_of ss)) (took r) (holding_of (taken_of ss ++ one ∷ []))
+      → Goes IsHeld nothing_held (steps_by refusal_in ss) (holding_of (taken_of ss))
+      → Goes IsHeld nothing_held (steps_by refusal_in (ss ++ took one ∷ [])) (holding_of (taken_of (ss ++ took one ∷ [])))
+  more_held ss one r is step held =
+      subst (λ os. Goes IsHeld nothing_held (steps_by refusal_in (ss ++ took one ∷ [])) (holding_of os)) (sym (taken_last ss (took one)))
+      (steps_more IsHeld refusal_in nothing_held (holding_of (taken_of ss)) (holding_of (taken_of ss ++ one ∷ [])) ss (took one) (took r) held (ap (λ x. took x ∷ []) is) step)
+
   -- none came
   pub so_far_nobody : (first now next : A) (places : L) (book : Book (Visit G P R W)) (any : Bool) (failures : ℕ) (ended : Option Bool)
       → SoFar first now places book any failures None → waits now next → EndsByIdleness terms (any && (length book.visits == 0)) ended → SoFar first next places book any 0 ended
-  so_far_nobody first now next places book any failures ended far waited ends =
-      so_far_step first now next places book (standing book any failures None) (standing book any 0 ended) nobody nobody refl refl waited (refl, ends, refl) far
+  unfolding so_far_step
+  so_far_nobody first now next places book any failures ended far waited ends = (
+    so_far_step first now next places book (standing book any failures None) (standing book any 0 ended) nobody nobody refl refl waited (refl, ends, refl) far.0,
+    still_held far.0.states nobody nobody refl refl (λ h. refl) far.1,
+  )
 
   -- an accept failed
   pub so_far_failed : (first now next : A) (places : L) (book : Book (Visit G P R W)) (any : Bool) (failures : ℕ) (ended : Option Bool)
-      → SoFar first now places book any failures None → fails now next → EndsByFailure terms failures ended → SoFar first next places book any (failures + 1) ended
-  so_far_failed first now next places book any failures ended far fault ends =
-      so_far_step first now next places book (standing book any failures None) (standing book any (failures + 1) ended) failed failed refl refl fault (refl, ends, refl) far
+      → SoFar first now places book any failures None → fails now next × (next ≡ now) → EndsByFailure terms failures ended → SoFar first next places book any (failures + 1) ended
+  unfolding so_far_step
+  so_far_failed first now next places book any failures ended far fault ends = (
+    so_far_step first now next places book (standing book any failures None) (standing book any (failures + 1) ended) failed failed refl refl fault (refl, ends, refl) far.0,
+    still_held far.0.states failed failed refl refl (λ h. refl) far.1,
+  )
 
   -- one connection more, of which this came at once
   so_far_past : (first now next : A) (places : L) (old new : Book (Visit G P R W)) (stand stand' : Standing) (r : R) (w : W) (o : Outcome P)
@@ -380,67 +478,86 @@ module _ {G P R W A L : Type 0} (gate : G) (gives : P → Type 0) (refuses : Fau
 
   -- one more that is refused
   pub so_far_refused : (first now next : A) (places : L) (old new : Book (Visit G P R W)) (any : Bool) (failures : ℕ) (r : R) (w : W) (fault : Fault)
-      → SoFar first now places old any failures None → takes now r w next → IsRefused refuses terms.threads old fault → new.visits ≡ old.visits → IsAdded old.totals (ending.Refused fault) new.totals
+      → SoFar first now places old any failures None → takes now r w next → IsRefused refuses terms.threads old fault → told w fault → new.visits ≡ old.visits → IsAdded old.totals (ending.Refused fault) new.totals
       → new.free ≡ old.free → new.counted ≡ old.counted → SoFar first next places new true 0 None
-  so_far_refused first now next places old new any failures r w fault far taken why visits added free_is counted_is =
-      let long = ap length visits in
-      so_far_past first now next places old new (standing old any failures None) (standing new true 0 None) r w (Refused fault) far taken (without_for old fault why) visits added free_is (omega (arith, counted_is))
-      (refl, full_for first now places old (standing old any failures None) fault far why, ap (λ n. record { there = n; any = true; failures = 0; ended = None }) long)
+  unfolding so_far_past
+  so_far_refused first now next places old new any failures r w fault far taken why was visits added free_is counted_is =
+      let long = ap length visits in (
+        so_far_past first now next places old new (standing old any failures None) (standing new true 0 None) r w (Refused fault) far.0 taken (without_for old fault why, was) visits added free_is (omega (arith, counted_is))
+            (refl, full_for first now places old (standing old any failures None) fault far.0 why, ap (λ n. record { there = n; any = true; failures = 0; ended = None }) long),
+        more_held far.0.states (past (Refused fault)) (Some fault) refl (held_refused (taken_of far.0.states) (Refused fault) fault) far.1,
+      )
 
   -- one more that got a place, and none was there of it any more at once
   pub so_far_called_off : (first now next : A) (places : L) (old new : Book (Visit G P R W)) (any : Bool) (failures : ℕ) (r : R) (w : W) (o : Outcome P)
       → SoFar first now places old any failures None → takes now r w next → Was r w o → refusal_of o ≡ None → length old.visits < terms.threads → new.visits ≡ old.visits
       → IsAdded old.totals (ending_of o) new.totals → new.free ≡ old.free → new.counted ≡ old.counted + sum_by answered (places_of (o ∷ [])) → SoFar first next places new true 0 None
+  unfolding so_far_past so_far_step
   so_far_called_off first now next places old new any failures r w o far taken was placed few visits added free_is counted_is =
       let long = ap length visits in
       let mid : Standing = record { there = length old.visits + 1; any = true; failures = 0; ended = None } in
-      so_far_step first next next places new mid (standing new true 0 None) freed freed refl refl refl (omega (arith, long), refl)
-      (so_far_past first now next places old new (standing old any failures None) mid r w o far taken was visits added free_is counted_is
-      (subst (λ x. IsStep refuses terms (free places) (standing old any failures None) (took x) mid) (sym placed) (refl, few, refl)))
+      let number = length (taken_of far.0.states) in
+      let held : Holding = record { by = numbers_of 0 (taken_of far.0.states) ++ number ∷ []; taken = number + 1 } in
+      let begun = far.0.states ++ took (past o) ∷ [] in
+      let one : taken_of begun ≡ taken_of far.0.states ++ past o ∷ [] = taken_last far.0.states (took (past o)) in
+      let all : taken_of (begun ++ freed number ∷ []) ≡ taken_of far.0.states ++ past o ∷ [] = taken_last begun (freed number) ∙ (append-nil (taken_of begun) ∙ one) in (
+        so_far_step first next next places new mid (standing new true 0 None) (freed number) (freed number) refl refl refl (omega (arith, long), refl)
+            (so_far_past first now next places old new (standing old any failures None) mid r w o far.0 taken was visits added free_is counted_is
+            (subst (λ x. IsStep refuses terms (free places) (standing old any failures None) (took x) mid) (sym placed) (refl, few, refl))),
+        subst (λ os. Goes IsHeld nothing_held (steps_by refusal_in (begun ++ freed number ∷ [])) (holding_of os)) (sym all)
+            (steps_more IsHeld refusal_in nothing_held held (holding_of (taken_of far.0.states ++ past o ∷ [])) begun (freed number) (freed number)
+            (steps_more IsHeld refusal_in nothing_held (holding_of (taken_of far.0.states)) held far.0.states (took (past o)) (took None) far.1 (ap (λ x. took x ∷ []) placed) refl)
+            refl (held_over (taken_of far.0.states) o)),
+      )
 
   -- one more, whose thread runs at a place that was free
   pub so_far_present : (first now next : A) (places : L) (old new : Book (Visit G P R W)) (any : Bool) (failures : ℕ) (r : R) (w : W) (v : Visit G P R W)
       → SoFar first now places old any failures None → takes now r w next → Meets r w v → length old.visits < terms.threads → new.visits ≡ old.visits ++ v ∷ [] → new.totals ≡ old.totals
       → new.free + 1 ≡ old.free → new.counted ≡ old.counted → SoFar first next places new true 0 None
   so_far_present first now next places old new any failures r w v far taken meets few visits totals free_is counted_is =
-      let states = far.states ++ took (present v) ∷ [] in
-      let more : taken_of states ≡ taken_of far.states ++ present v ∷ [] = taken_last far.states (took (present v)) in
-      let gone : outcomes_of (taken_of states) ≡ outcomes_of (taken_of far.states) = ap outcomes_of more ∙ (outcomes_last (taken_of far.states) (present v) ∙ append-nil (outcomes_of (taken_of far.states))) in
-      let there : visits_of (taken_of states) ≡ visits_of (taken_of far.states) ++ v ∷ [] = ap visits_of more ∙ visits_last (taken_of far.states) (present v) in
-      let long = ap length there ∙ length-append (visits_of (taken_of far.states)) (v ∷ []) in
+      let states = far.0.states ++ took (present v) ∷ [] in
+      let more : taken_of states ≡ taken_of far.0.states ++ present v ∷ [] = taken_last far.0.states (took (present v)) in
+      let gone : outcomes_of (taken_of states) ≡ outcomes_of (taken_of far.0.states) = ap outcomes_of more ∙ (outcomes_last (taken_of far.0.states) (present v) ∙ append-nil (outcomes_of (taken_of far.0.states))) in
+      let there : visits_of (taken_of states) ≡ visits_of (taken_of far.0.states) ++ v ∷ [] = ap visits_of more ∙ visits_last (taken_of far.0.states) (present v) in
+      let long = ap length there ∙ length-append (visits_of (taken_of far.0.states)) (v ∷ []) in
       let longer = ap length visits ∙ length-append old.visits (v ∷ []) in
-      let free_are = far.free_are in let counted_are = far.counted_are in
-      let sums : sum_by answered (places_of (outcomes_of (taken_of states))) ≡ sum_by answered (places_of (outcomes_of (taken_of far.states))) = ap (λ os. sum_by answered (places_of os)) gone in
-      record {
-        states = states;
-        looks = goes_more Looked first now next far.states (took (present v)) far.looks (r, w, taken, meets);
-        stands = stands_more refusal_in refuses terms (free places) beginning (standing old any failures None) (standing new true 0 None) far.states (took (present v)) (took None) far.stands refl
-            (refl, few, ap (λ n. record { there = n; any = true; failures = 0; ended = None }) longer);
-        there = there ∙ (ap (λ vs. vs ++ v ∷ []) far.there ∙ sym visits);
-        sum = subst (λ os. IsSum (map ending_of os) new.totals) (sym gone) (subst (λ t. IsSum (map ending_of (outcomes_of (taken_of far.states))) t) (sym totals) far.sum);
-        free_are = omega (arith, long, free_are, free_is);
-        counted_are = omega (arith, counted_is, counted_are, sums);
-      }
+      let free_are = far.0.free_are in let counted_are = far.0.counted_are in
+      let sums : sum_by answered (places_of (outcomes_of (taken_of states))) ≡ sum_by answered (places_of (outcomes_of (taken_of far.0.states))) = ap (λ os. sum_by answered (places_of os)) gone in (
+        record {
+          states = states;
+          looks = goes_more Looked first now next far.0.states (took (present v)) far.0.looks (r, w, taken, meets);
+          stands = stands_more refusal_in refuses terms (free places) beginning (standing old any failures None) (standing new true 0 None) far.0.states (took (present v)) (took None) far.0.stands refl
+              (refl, few, ap (λ n. record { there = n; any = true; failures = 0; ended = None }) longer);
+          there = there ∙ (ap (λ vs. vs ++ v ∷ []) far.0.there ∙ sym visits);
+          sum = subst (λ os. IsSum (map ending_of os) new.totals) (sym gone) (subst (λ t. IsSum (map ending_of (outcomes_of (taken_of far.0.states))) t) (sym totals) far.0.sum);
+          free_are = omega (arith, long, free_are, free_is);
+          counted_are = omega (arith, counted_is, counted_are, sums);
+        },
+        more_held far.0.states (present v) None refl (held_present (taken_of far.0.states) v) far.1,
+      )
 
   -- nothing was taken yet
   pub so_far_none : (first : A) (places : L) (book : Book (Visit G P R W)) → book.visits ≡ [] → IsSum [] book.totals → book.free ≡ free places → book.counted ≡ counted places
       → SoFar first first places book false 0 None
-  so_far_none first places book visits sum free_is counted_is = record {
-    states = [];
-    looks = refl;
-    stands = ap (λ vs. record { there = length vs; any = false; failures = 0; ended = None }) visits;
-    there = sym visits;
-    sum = sum;
-    free_are = omega (arith, free_is);
-    counted_are = omega (arith, counted_is);
-  }
+  so_far_none first places book visits sum free_is counted_is = (
+    record {
+      states = [];
+      looks = refl;
+      stands = ap (λ vs. record { there = length vs; any = false; failures = 0; ended = None }) visits;
+      there = sym visits;
+      sum = sum;
+      free_are = omega (arith, free_is);
+      counted_are = omega (arith, counted_is);
+    },
+    refl,
+  )
 
   -- where none is there, of each something came
   abbrev pub pasts : List (Step (State G P R W)) → List (Step (Outcome P))
   pasts [] = []
   pasts (took (present v) ∷ ss) = pasts ss
   pasts (took (past o) ∷ ss) = took o ∷ pasts ss
-  pasts (freed ∷ ss) = freed ∷ pasts ss
+  pasts (freed k ∷ ss) = freed k ∷ pasts ss
   pasts (nobody ∷ ss) = nobody ∷ pasts ss
   pasts (failed ∷ ss) = failed ∷ pasts ss
 
@@ -448,7 +565,7 @@ module _ {G P R W A L : Type 0} (gate : G) (gives : P → Type 0) (refuses : Fau
   all_looks first now [] looks empty = looks
   all_looks first now (took (present v) ∷ ss) looks empty = absurd empty
   all_looks first now (took (past o) ∷ ss) looks empty = (looks.0, looks.1, all_looks looks.0 now ss looks.2 empty)
-  all_looks first now (freed ∷ ss) looks empty = (looks.0, looks.1, all_looks looks.0 now ss looks.2 empty)
+  all_looks first now (freed k ∷ ss) looks empty = (looks.0, looks.1, all_looks looks.0 now ss looks.2 empty)
   all_looks first now (nobody ∷ ss) looks empty = (looks.0, looks.1, all_looks looks.0 now ss looks.2 empty)
   all_looks first now (failed ∷ ss) looks empty = (looks.0, looks.1, all_looks looks.0 now ss looks.2 empty)
 
@@ -456,7 +573,7 @@ module _ {G P R W A L : Type 0} (gate : G) (gives : P → Type 0) (refuses : Fau
   all_stands [] empty = refl
   all_stands (took (present v) ∷ ss) empty = absurd empty
   all_stands (took (past o) ∷ ss) empty = ap (λ l. took (refusal_of o) ∷ l) (all_stands ss empty)
-  all_stands (freed ∷ ss) empty = ap (λ l. freed ∷ l) (all_stands ss empty)
+  all_stands (freed k ∷ ss) empty = ap (λ l. freed k ∷ l) (all_stands ss empty)
   all_stands (nobody ∷ ss) empty = ap (λ l. nobody ∷ l) (all_stands ss empty)
   all_stands (failed ∷ ss) empty = ap (λ l. failed ∷ l) (all_stands ss empty)
 
@@ -464,9 +581,24 @@ module _ {G P R W A L : Type 0} (gate : G) (gives : P → Type 0) (refuses : Fau
   all_past [] empty = refl
   all_past (took (present v) ∷ ss) empty = absurd empty
   all_past (took (past o) ∷ ss) empty = ap (λ l. o ∷ l) (all_past ss empty)
-  all_past (freed ∷ ss) empty = all_past ss empty
+  all_past (freed k ∷ ss) empty = all_past ss empty
   all_past (nobody ∷ ss) empty = all_past ss empty
   all_past (failed ∷ ss) empty = all_past ss empty
+
+  all_long : (ss : List (Step (State G P R W))) → IsNone (visits_of (taken_of ss)) → length (taken_of (pasts ss)) ≡ length (taken_of ss)
+  all_long [] empty = refl
+  all_long (took (present v) ∷ ss) empty = absurd empty
+  all_long (took (past o) ∷ ss) empty = ap suc (all_long ss empty)
+  all_long (freed k ∷ ss) empty = all_long ss empty
+  all_long (nobody ∷ ss) empty = all_long ss empty
+  all_long (failed ∷ ss) empty = all_long ss empty
+
+  -- none has a place at the end
+  pub all_held : (ss : List (Step (State G P R W))) → IsNone (visits_of (taken_of ss)) → Goes IsHeld nothing_held (steps_by refusal_in ss) (holding_of (taken_of ss))
+      → Goes IsHeld nothing_held (steps_by refusal_of (pasts ss)) (record { by = []; taken = length (taken_of (pasts ss)) })
+  all_held ss empty held =
+      subst (λ l. Goes IsHeld nothing_held l (record { by = []; taken = length (taken_of (pasts ss)) })) (sym (all_stands ss empty))
+      (subst (λ h. Goes IsHeld nothing_held (steps_by refusal_in ss) h) (holding_at _ _ _ _ (numbers_none 0 (taken_of ss) empty) (sym (all_long ss empty))) held)
 
   if_none : {X : Type 0} (ended : Option Bool) → X → IfNone ended X
   if_none None x = x
@@ -480,7 +612,7 @@ module _ {G P R W A L : Type 0} (gate : G) (gives : P → Type 0) (refuses : Fau
   pub so_far_looked : (first now next : A) (places : L) (old new : Book (Visit G P R W)) (any any' : Bool) (failures failures' : ℕ) (seen : Look) (idle : Bool) (ended : Option Bool)
       → (seen ≡ look.Taken → SoFar first now places old any failures None → SoFar first next places new any' 0 None)
       → (seen ≢ look.Taken → SoFar first now places old any failures None → SoFar first now places new any' failures None)
-      → (seen ≡ look.Nobody → waits now next) → (seen ≡ look.Failed → fails now next) → idle ≡ (any' && (length new.visits == 0))
+      → (seen ≡ look.Nobody → waits now next) → (seen ≡ look.Failed → fails now next × (next ≡ now)) → idle ≡ (any' && (length new.visits == 0))
       → (seen ≡ look.Taken → (ended ≡ None) × (failures' ≡ 0)) → (seen ≡ look.Nobody → EndsByIdleness terms idle ended × (failures' ≡ 0))
       → (seen ≡ look.Failed → EndsByFailure terms failures ended × IfNone ended (failures' ≡ failures + 1))
       → SoFar first now places old any failures None → (n : ℕ) × SoFar first next places new any' n ended × IfNone ended (n ≡ failures')

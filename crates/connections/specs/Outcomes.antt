@@ -1,24 +1,37 @@
 -- What came of the connections that were taken.
-use Rattle.std.specs.Prelude.{◌≡◌, ℕ, ◌<◌, Bool, true, false, List, [], ◌∷◌, Option, Result}
+use Rattle.std.specs.Io.KnownBytes.{Appends}
+use Rattle.std.specs.Prelude.{◌≡◌, ◌⊎◌, ℕ, ◌<◌, Bool, true, false, List, [], ◌∷◌, Option, Result}
 use Rattle.wire.specs.declared.answers.Fault.{Fault}
 use Rattle.wire.specs.declared.answers.Tally.{Tally}
 use Rattle.wire.specs.declared.engine.End.{End}
 use Rattle.wire.specs.declared.engine.WireError.{WireError}
+use Rattle.wire.specs.Replies.{fault_text}
 use Rattle.connections.specs.declared.outcome.Outcome.{Outcome}
 use Rattle.connections.specs.declared.outcome.Outcome.TheVariants.{Over, Refused, NotStarted}
 use Rattle.connections.specs.declared.outcome.Ending.{Ending}
 use Rattle.connections.specs.declared.outcome.Ending.TheVariants as ending
 
--- For a gate that gives these places, refuses one for these faults, and serves a connection so.
+-- A connection with this writer was sent this fault as its only line, and the line was handed on; or a write to it failed.
+abbrev pub WasTold : {W : Type 0} → (W → Option (List ℕ)) → (W → Type 0) → (W → ℕ) → W → Fault → Type 0
+WasTold {W} contents has_handed_on failures old fault =
+    (new : W) × ((Appends (contents old) (contents new) (fault_text fault) × has_handed_on new) ⊎ (failures old < failures new))
+
+-- A connection was closed while its reader knew these bytes.
+abbrev pub WasClosed : {R : Type 0} → (R → Option (List ℕ)) → (R → Type 0) → Option (List ℕ) → Type 0
+WasClosed {R} left is_closed rest = (last : R) × (left last ≡ rest) × is_closed last
+
+-- For a gate that gives these places, refuses one for these faults, and serves a connection so; and for a connection that is closed so, and told
+-- a fault so.
 module _ {P : Type 0} (gives : P → Type 0) (refuses : Fault → Type 0)
-    (serves : P → P → Tally → Option (List ℕ) → Option (List ℕ) → Option (List ℕ) → Option (List ℕ) → Result End WireError → Type 0) where
+    (serves : P → P → Tally → Option (List ℕ) → Option (List ℕ) → Option (List ℕ) → Option (List ℕ) → Result End WireError → Type 0)
+    (closed : Option (List ℕ) → Type 0) (told : Fault → Type 0) where
   -- What came of a connection whose reader and writer knew these bytes as it was taken: it was served to its end at a place that the
-  -- gate gave; or the gate gave no place for this fault; or no thread could be started.
+  -- gate gave, and closed then; or the gate gave no place for this fault, which it was told; or it gave one, and no thread could be started.
   abbrev pub IsOutcome : Option (List ℕ) → Option (List ℕ) → Outcome P → Type 0
   IsOutcome left written (Over over) =
-      (place : P) × (rest : Option (List ℕ)) × (new : Option (List ℕ)) × gives place × serves place over.place over.tally left rest written new over.end
-  IsOutcome left written (Refused fault) = refuses fault
-  IsOutcome left written NotStarted = Unit {0}
+      (place : P) × (rest : Option (List ℕ)) × (new : Option (List ℕ)) × gives place × serves place over.place over.tally left rest written new over.end × closed rest
+  IsOutcome left written (Refused fault) = refuses fault × told fault
+  IsOutcome left written NotStarted = (place : P) × gives place
 
 -- For what goes on by a connection with this reader and this writer.
 module _ {A R W O : Type 0} (takes : A → R → W → A → Type 0) (came_of : R → W → O → Type 0) where

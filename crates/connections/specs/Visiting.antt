@@ -16,9 +16,9 @@ use Rattle.connections.specs.declared.visits.Running.{Running}
 use Rattle.connections.specs.declared.visits.Visit.{Visit}
 use Rattle.connections.specs.declared.visits.Visited.{Visited}
 use Rattle.connections.specs.declared.visits.Visited.TheVariants as visited
-use Rattle.connections.specs.Outcomes.{IsOutcome, ending_of, places_of}
+use Rattle.connections.specs.Outcomes.{IsOutcome, WasClosed, ending_of, places_of}
 use Rattle.connections.specs.Accounts.{has_rejected, met_limit}
-use Rattle.connections.specs.Services.{Goes, IsLook, IsStep, IsSum, IsWithout, Standing, Step, beginning, capped, refusal_of, steps_by, taken_of, unjudged_of}
+use Rattle.connections.specs.Services.{Goes, Holding, IsHeld, IsLook, IsStep, IsSum, IsWithout, Standing, Step, Without, beginning, capped, nothing_held, refusal_of, steps_by, taken_of, unjudged_of}
 
 -- A connection that was taken: its thread runs, or it is over.
 pub data State (G P R W : Type 0) : Type 0 where
@@ -37,18 +37,28 @@ outcomes_of [] = []
 outcomes_of (present visit ∷ states) = outcomes_of states
 outcomes_of (past came ∷ states) = came ∷ outcomes_of states
 
+-- the numbers of those whose threads run, where the first of them all has this number
+abbrev pub numbers_of : {G P R W : Type 0} → ℕ → List (State G P R W) → List ℕ
+numbers_of number [] = []
+numbers_of number (present visit ∷ states) = number ∷ numbers_of (number + 1) states
+numbers_of number (past came ∷ states) = numbers_of (number + 1) states
+
+-- who has a place, where these were taken
+abbrev pub holding_of : {G P R W : Type 0} → List (State G P R W) → Holding
+holding_of states = record { by = numbers_of 0 states; taken = length states }
+
 -- the fault for which one got no place, if it got none
 abbrev pub refusal_in : {G P R W : Type 0} → State G P R W → Option Fault
 refusal_in (present visit) = None
 refusal_in (past came) = refusal_of came
 
--- What comes of a connection at a place of a gate, whose reader and writer know these bytes: it is served; or it was called off, and the
--- place is as it was.
+-- What comes of a connection at a place of a gate, whose reader and writer know these bytes: it is served, and closed; or it was called off,
+-- and the place is as it was.
 abbrev pub Comes : {G P : Type 0} → (G → P → P → Tally → Option (List ℕ) → Option (List ℕ) → Option (List ℕ) → Option (List ℕ) → Result End WireError → Type 0)
-    → G → P → Option (List ℕ) → Option (List ℕ) → Visited P → Type 0
-Comes serves gate place left written (visited.Over over) =
-    (rest : Option (List ℕ)) × (new : Option (List ℕ)) × serves gate place over.place over.tally left rest written new over.end
-Comes serves gate place left written (visited.CalledOff last) = last ≡ place
+    → (Option (List ℕ) → Type 0) → G → P → Option (List ℕ) → Option (List ℕ) → Visited P → Type 0
+Comes serves closed gate place left written (visited.Over over) =
+    (rest : Option (List ℕ)) × (new : Option (List ℕ)) × serves gate place over.place over.tally left rest written new over.end × closed rest
+Comes serves closed gate place left written (visited.CalledOff last) = last ≡ place
 
 -- the thread of a connection with this reader and writer begins so, at this place of a gate
 abbrev pub Begins : {G P R W : Type 0} → G → P → R → W → Visit G P R W → Type 0
@@ -57,9 +67,9 @@ Begins gate place reader writer visit =
 
 -- what it promises
 module _ {G P R W : Type 0} (serves : G → P → P → Tally → Option (List ℕ) → Option (List ℕ) → Option (List ℕ) → Option (List ℕ) → Result End WireError → Type 0)
-    (left : R → Option (List ℕ)) (contents : W → Option (List ℕ)) where
+    (left : R → Option (List ℕ)) (closed : R → Type 0) (contents : W → Option (List ℕ)) where
   abbrev pub IsVisited : Visit G P R W → Visited P → Type 0
-  IsVisited visit gone = Comes serves visit.gate.value visit.place.value (left visit.reader.value) (contents visit.writer.value) gone
+  IsVisited visit gone = Comes serves (WasClosed left closed) visit.gate.value visit.place.value (left visit.reader.value) (contents visit.writer.value) gone
 
 -- the place that a thread gives back, and what came of its connection
 abbrev pub place_after : {P : Type 0} → Visited P → P
@@ -90,11 +100,6 @@ promises (running ∷ others) = running.thread.promise ∷ promises others
 
 abbrev pub book_of : {P V L : Type 0} → (L → ℕ) → (L → ℕ) → Hall P V L → Book V
 book_of free counted hall = record { visits = promises hall.running.items; totals = hall.totals; free = free hall.places; counted = counted hall.places }
-
--- the second list is the first one with this taken out of it
-abbrev pub Without : {V : Type 0} → V → List V → List V → Type 0
-Without v [] ys = ⊥
-Without {V} v (x ∷ xs) ys = ((x ≡ v) × (ys ≡ xs)) ⊎ ((zs : List V) × (ys ≡ x ∷ zs) × Without v xs zs)
 
 -- A thread kept its promise, its place was given back, and how its connection ended was added.
 pub record Leaves {V P : Type 0} (kept : V → Visited P → Type 0) (answered : P → ℕ) (old new : Book V) : Type 0 where
@@ -135,7 +140,7 @@ standing book any failures ended = record { there = length book.visits; any = an
 module _ {G P R W A L : Type 0} (gate : G) (gives : P → Type 0) (refuses : Fault → Type 0)
     (serves : G → P → P → Tally → Option (List ℕ) → Option (List ℕ) → Option (List ℕ) → Option (List ℕ) → Result End WireError → Type 0)
     (answered : P → ℕ) (free counted : L → ℕ)
-    (takes : A → R → W → A → Type 0) (fails waits : A → A → Type 0) (left : R → Option (List ℕ)) (contents : W → Option (List ℕ)) (terms : Terms) where
+    (takes : A → R → W → A → Type 0) (fails waits : A → A → Type 0) (left : R → Option (List ℕ)) (closed : R → Type 0) (contents : W → Option (List ℕ)) (told : W → Fault → Type 0) (terms : Terms) where
   -- a thread serves a connection with this reader and writer, at a place that the gate gave
   abbrev pub IsVisit : R → W → Visit G P R W → Type 0
   IsVisit reader writer visit = (place : P) × gives place × (answered place ≡ 0) × Begins gate place reader writer visit
@@ -143,7 +148,7 @@ module _ {G P R W A L : Type 0} (gate : G) (gives : P → Type 0) (refuses : Fau
   -- what was done with a connection with this reader and writer
   abbrev pub IsState : R → W → State G P R W → Type 0
   IsState reader writer (present visit) = IsVisit reader writer visit
-  IsState reader writer (past came) = IsOutcome gives (IsWithout refuses) (serves gate) (left reader) (contents writer) came
+  IsState reader writer (past came) = IsOutcome gives (IsWithout refuses) (serves gate) (WasClosed left closed) (told writer) (left reader) (contents writer) came
 
   -- The service so far, since it began to take connections with these places: its steps, with those that it took, of which these are there, and
   -- what came of the others; and how it stands.
@@ -156,5 +161,7 @@ module _ {G P R W A L : Type 0} (gate : G) (gives : P → Type 0) (refuses : Fau
     pub free_are : book.free + length (visits_of (taken_of states)) ≡ free places
     pub counted_are : book.counted ≡ counted places + sum_by answered (places_of (outcomes_of (taken_of states)))
 
+  -- The same, and which connections have a place.
   abbrev pub IsSoFar : A → A → L → Book (Visit G P R W) → Bool → ℕ → Option Bool → Type 0
-  IsSoFar first now places book any failures ended = IsAt first now places book (standing book any failures ended)
+  IsSoFar first now places book any failures ended =
+      (at : IsAt first now places book (standing book any failures ended)) × Goes IsHeld nothing_held (steps_by refusal_in at.states) (holding_of (taken_of at.states))

@@ -17,8 +17,12 @@ pub struct AcceptFault;
 
 /// What the lines of a connection are read from, as the connection is closed.
 pub trait Close {
+    /// The connection was closed while this was so. Of a type that isn't known, only `close` shows it.
+    ghost is_closed: { Self → Type 0 } = { λ _. Unit {0} };
+
     /// Closes the connection, which is over, so that its peer still gets all that was written.
-    fn close(self);
+    fn close(self)
+        ensures { is_closed self };
 }
 
 /// Where connections come from. It says by relations of its own which connections come.
@@ -83,11 +87,11 @@ pub trait Listen: Accept {
     /// None came within a moment: what it was before, and what it is then.
     ghost waits: { Self → Self → Type 0 } = { λ old new. new ≡ old };
 
-    /// Takes the next connection, or answers within a moment that none came. Where it can't, it may be asked again.
+    /// Takes the next connection, or answers within a moment that none came. Where it can't, it stays as it is, and may be asked again.
     fn accept_soon(&mut self) -> Result<Option<(Self::Reader, Self::Writer)>, AcceptFault>
         ensures taken { IfOk result (λ next. IfSome next (λ connection. Self.takes self.old connection.0 connection.1 self.new)) }
         ensures none { IfOk result (λ next. IfNone next (waits self.old self.new)) }
-        ensures failed { OnErr result (Self.fails self.old self.new) };
+        ensures failed { OnErr result (Self.fails self.old self.new × (self.new ≡ self.old)) };
 }
 
 /// A gate whose places are given back once their connections are over, so that they may be given again. One thread has the free places.

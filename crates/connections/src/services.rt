@@ -1,6 +1,7 @@
 //! Connections without end, each served by a thread of its own, at a place that is given back once it is over.
 
 ghost use Rattle.std.specs.Prelude.{◌≡◌, ◌≢◌, ◌&&◌, ◌==◌, ◌+◌, ◌<◌, ◌≤◌, ℕ, Bool, true, None, Some, [], length, vec_capacity, IfOk, IfErr, IfNone};
+ghost use Rattle.connections.specs.Outcomes.{WasTold};
 ghost use Rattle.connections.specs.Services.{Came, EndsByFailure, EndsByIdleness};
 ghost use Rattle.connections.specs.Visiting.{GoesOn, IsRefused, IsSoFar, before_place, book_of, with_one};
 
@@ -122,8 +123,8 @@ where
     requires given { G.gives gate.now place × (G.answered place ≡ 0) }
     requires room { length hall.old.running.items < vec_capacity hall.old.running }
     ensures so_far { (first now next : A) (places : G.Places) (terms : Terms) (any : Bool) (failures : ℕ) → length hall.old.running.items < terms.threads
-        → IsSoFar gate.now (G.gives gate.now) (G.refuses gate.now) G.serves G.answered G.free G.counted A.takes A.fails A.waits A.Reader.left A.Writer.contents terms first now places (with_one (book_of G.free G.counted hall.old)) any failures None → A.takes now reader writer next
-        → IsSoFar gate.now (G.gives gate.now) (G.refuses gate.now) G.serves G.answered G.free G.counted A.takes A.fails A.waits A.Reader.left A.Writer.contents terms first next places (book_of G.free G.counted hall.new) true 0 None }
+        → IsSoFar gate.now (G.gives gate.now) (G.refuses gate.now) G.serves G.answered G.free G.counted A.takes A.fails A.waits A.Reader.left A.Reader.is_closed A.Writer.contents (WasTold A.Writer.contents A.Writer.has_handed_on A.Writer.failures) terms first now places (with_one (book_of G.free G.counted hall.old)) any failures None → A.takes now reader writer next
+        → IsSoFar gate.now (G.gives gate.now) (G.refuses gate.now) G.serves G.answered G.free G.counted A.takes A.fails A.waits A.Reader.left A.Reader.is_closed A.Writer.contents (WasTold A.Writer.contents A.Writer.has_handed_on A.Writer.failures) terms first next places (book_of G.free G.counted hall.new) true 0 None }
     ensures any { hall.new.any ≡ hall.old.any }
     ensures capacity { vec_capacity hall.new.running ≡ vec_capacity hall.old.running }
 {
@@ -154,8 +155,8 @@ where
     G::Places: 's,
     requires back { G.takes_back gate.now }
     requires room { terms.threads ≤ vec_capacity hall.old.running }
-    ensures so_far { (first now next : A) (places : G.Places) (failures : ℕ) → IsSoFar gate.now (G.gives gate.now) (G.refuses gate.now) G.serves G.answered G.free G.counted A.takes A.fails A.waits A.Reader.left A.Writer.contents terms first now places (book_of G.free G.counted hall.old) hall.old.any failures None
-        → A.takes now reader writer next → IsSoFar gate.now (G.gives gate.now) (G.refuses gate.now) G.serves G.answered G.free G.counted A.takes A.fails A.waits A.Reader.left A.Writer.contents terms first next places (book_of G.free G.counted hall.new) hall.new.any 0 None }
+    ensures so_far { (first now next : A) (places : G.Places) (failures : ℕ) → IsSoFar gate.now (G.gives gate.now) (G.refuses gate.now) G.serves G.answered G.free G.counted A.takes A.fails A.waits A.Reader.left A.Reader.is_closed A.Writer.contents (WasTold A.Writer.contents A.Writer.has_handed_on A.Writer.failures) terms first now places (book_of G.free G.counted hall.old) hall.old.any failures None
+        → A.takes now reader writer next → IsSoFar gate.now (G.gives gate.now) (G.refuses gate.now) G.serves G.answered G.free G.counted A.takes A.fails A.waits A.Reader.left A.Reader.is_closed A.Writer.contents (WasTold A.Writer.contents A.Writer.has_handed_on A.Writer.failures) terms first next places (book_of G.free G.counted hall.new) hall.new.any 0 None }
     ensures capacity { vec_capacity hall.new.running ≡ vec_capacity hall.old.running }
 {
     hall.any = true;
@@ -191,13 +192,13 @@ where
     requires back { G.takes_back gate.now }
     requires room { terms.threads ≤ vec_capacity hall.old.running }
     ensures taken { result ≡ Look.Taken → (first : A) (places : G.Places) (failures : ℕ)
-        → IsSoFar gate.now (G.gives gate.now) (G.refuses gate.now) G.serves G.answered G.free G.counted A.takes A.fails A.waits A.Reader.left A.Writer.contents terms first accept.old places (book_of G.free G.counted hall.old) hall.old.any failures None
-        → IsSoFar gate.now (G.gives gate.now) (G.refuses gate.now) G.serves G.answered G.free G.counted A.takes A.fails A.waits A.Reader.left A.Writer.contents terms first accept.new places (book_of G.free G.counted hall.new) hall.new.any 0 None }
+        → IsSoFar gate.now (G.gives gate.now) (G.refuses gate.now) G.serves G.answered G.free G.counted A.takes A.fails A.waits A.Reader.left A.Reader.is_closed A.Writer.contents (WasTold A.Writer.contents A.Writer.has_handed_on A.Writer.failures) terms first accept.old places (book_of G.free G.counted hall.old) hall.old.any failures None
+        → IsSoFar gate.now (G.gives gate.now) (G.refuses gate.now) G.serves G.answered G.free G.counted A.takes A.fails A.waits A.Reader.left A.Reader.is_closed A.Writer.contents (WasTold A.Writer.contents A.Writer.has_handed_on A.Writer.failures) terms first accept.new places (book_of G.free G.counted hall.new) hall.new.any 0 None }
     ensures none { result ≢ Look.Taken → (first : A) (places : G.Places) (failures : ℕ)
-        → IsSoFar gate.now (G.gives gate.now) (G.refuses gate.now) G.serves G.answered G.free G.counted A.takes A.fails A.waits A.Reader.left A.Writer.contents terms first accept.old places (book_of G.free G.counted hall.old) hall.old.any failures None
-        → IsSoFar gate.now (G.gives gate.now) (G.refuses gate.now) G.serves G.answered G.free G.counted A.takes A.fails A.waits A.Reader.left A.Writer.contents terms first accept.old places (book_of G.free G.counted hall.new) hall.new.any failures None }
+        → IsSoFar gate.now (G.gives gate.now) (G.refuses gate.now) G.serves G.answered G.free G.counted A.takes A.fails A.waits A.Reader.left A.Reader.is_closed A.Writer.contents (WasTold A.Writer.contents A.Writer.has_handed_on A.Writer.failures) terms first accept.old places (book_of G.free G.counted hall.old) hall.old.any failures None
+        → IsSoFar gate.now (G.gives gate.now) (G.refuses gate.now) G.serves G.answered G.free G.counted A.takes A.fails A.waits A.Reader.left A.Reader.is_closed A.Writer.contents (WasTold A.Writer.contents A.Writer.has_handed_on A.Writer.failures) terms first accept.old places (book_of G.free G.counted hall.new) hall.new.any failures None }
     ensures nobody { result ≡ Look.Nobody → A.waits accept.old accept.new }
-    ensures failed { result ≡ Look.Failed → A.fails accept.old accept.new }
+    ensures failed { result ≡ Look.Failed → A.fails accept.old accept.new × (accept.new ≡ accept.old) }
     ensures capacity { vec_capacity hall.new.running ≡ vec_capacity hall.old.running }
 {
     match accept.accept_soon() {
@@ -280,8 +281,8 @@ where
     G::Places: 's,
     requires back { G.takes_back gate.now }
     requires room { terms.threads ≤ vec_capacity hall.old.running }
-    ensures { (first : A) (places : G.Places) → IsSoFar gate.now (G.gives gate.now) (G.refuses gate.now) G.serves G.answered G.free G.counted A.takes A.fails A.waits A.Reader.left A.Writer.contents terms first accept.old places (book_of G.free G.counted hall.old) hall.old.any 0 None
-        → (failures : ℕ) × IsSoFar gate.now (G.gives gate.now) (G.refuses gate.now) G.serves G.answered G.free G.counted A.takes A.fails A.waits A.Reader.left A.Writer.contents terms first accept.new places (book_of G.free G.counted hall.new) hall.new.any failures (Some result) }
+    ensures { (first : A) (places : G.Places) → IsSoFar gate.now (G.gives gate.now) (G.refuses gate.now) G.serves G.answered G.free G.counted A.takes A.fails A.waits A.Reader.left A.Reader.is_closed A.Writer.contents (WasTold A.Writer.contents A.Writer.has_handed_on A.Writer.failures) terms first accept.old places (book_of G.free G.counted hall.old) hall.old.any 0 None
+        → (failures : ℕ) × IsSoFar gate.now (G.gives gate.now) (G.refuses gate.now) G.serves G.answered G.free G.counted A.takes A.fails A.waits A.Reader.left A.Reader.is_closed A.Writer.contents (WasTold A.Writer.contents A.Writer.has_handed_on A.Writer.failures) terms first accept.new places (book_of G.free G.counted hall.new) hall.new.any failures (Some result) }
 {
     let mut failures = 0u8;
     for _turn in rt.forever() {
@@ -316,7 +317,7 @@ where
     G::Places: 's,
     requires back { G.takes_back gate.now }
     requires running { (running.items ≡ []) × (terms.threads ≤ vec_capacity running) }
-    ensures { Came (G.gives gate.now) (G.refuses gate.now) (G.serves gate.now) G.answered G.free G.counted A.takes A.fails A.waits A.Reader.left A.Writer.contents accept places terms result }
+    ensures { Came (G.gives gate.now) (G.refuses gate.now) (G.serves gate.now) G.answered G.free G.counted A.takes A.fails A.waits A.Reader.left A.Reader.is_closed A.Writer.contents (WasTold A.Writer.contents A.Writer.has_handed_on A.Writer.failures) accept places terms result }
 {
     let mut hall = Hall {
         running,
@@ -360,7 +361,7 @@ where
     G::Place: 's,
     G::Places: 's,
     requires back { G.takes_back gate.now }
-    ensures served { IfOk result (Came (G.gives gate.now) (G.refuses gate.now) (G.serves gate.now) G.answered G.free G.counted A.takes A.fails A.waits A.Reader.left A.Writer.contents accept places terms) }
+    ensures served { IfOk result (Came (G.gives gate.now) (G.refuses gate.now) (G.serves gate.now) G.answered G.free G.counted A.takes A.fails A.waits A.Reader.left A.Reader.is_closed A.Writer.contents (WasTold A.Writer.contents A.Writer.has_handed_on A.Writer.failures) accept places terms) }
     ensures memory { IfErr result (λ error. (error.1 ≡ accept) × (error.2 ≡ places)) }
 {
     match Vec::with_capacity(alloc, usize::from(terms.threads)) {
@@ -390,7 +391,7 @@ where
     G: Reusable + Sync,
     requires back { G.takes_back gate.now }
     // What came of each connection that was taken, in their order, and of all together; and why the service ended.
-    ensures served { IfOk result (Came (G.gives gate.now) (G.refuses gate.now) (G.serves gate.now) G.answered G.free G.counted A.takes A.fails A.waits A.Reader.left A.Writer.contents accept places terms) }
+    ensures served { IfOk result (Came (G.gives gate.now) (G.refuses gate.now) (G.serves gate.now) G.answered G.free G.counted A.takes A.fails A.waits A.Reader.left A.Reader.is_closed A.Writer.contents (WasTold A.Writer.contents A.Writer.has_handed_on A.Writer.failures) accept places terms) }
     ensures memory { IfErr result (λ error. (error.1 ≡ accept) × (error.2 ≡ places)) }
 {
     thread::scope(

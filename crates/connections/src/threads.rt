@@ -1,7 +1,7 @@
 //! Connections, each served by a thread of its own.
 
 ghost use Rattle.std.specs.Prelude.{◌≡◌, ◌≤◌, ℕ, List, [], Option, length, vec_capacity, IfOk, IfErr, OnErr};
-ghost use Rattle.connections.specs.Outcomes.{InTurn, IsLast, IsOutcome};
+ghost use Rattle.connections.specs.Outcomes.{InTurn, IsLast, IsOutcome, WasClosed, WasTold};
 ghost use Rattle.connections.specs.Starting.{Each, IsJoined, IsTaken};
 
 use crate::gate::{Accept, AcceptFault, Close, Gate, Over};
@@ -31,11 +31,12 @@ struct Begun<G, P, R, W> {
     writer: Snapshot<W>,
 }
 
-impl<G: Gate, R: Source, W: Sink> Promise<Over<G::Place>> for Begun<G, G::Place, R, W> {
+impl<G: Gate, R: Source + Close, W: Sink> Promise<Over<G::Place>> for Begun<G, G::Place, R, W> {
     ghost use Rattle.std.specs.Prelude.{ℕ, List, Option};
+    ghost use Rattle.connections.specs.Outcomes.{WasClosed};
 
     ghost kept_by = { λ begun over. (rest : Option (List ℕ)) × (new : Option (List ℕ))
-        × G.serves begun.gate.value begun.place.value over.place over.tally (R.left begun.reader.value) rest (W.contents begun.writer.value) new over.end };
+        × G.serves begun.gate.value begun.place.value over.place over.tally (R.left begun.reader.value) rest (W.contents begun.writer.value) new over.end × WasClosed R.left R.is_closed rest };
 }
 
 // A connection that was taken.
@@ -55,7 +56,7 @@ fn serve_one<T: Wait, R: Source + Close + Drop, W: Sink + Drop, G: Gate>(
     gate: &G,
     place: G::Place,
 ) -> Over<G::Place>
-    ensures { (rest : Option (List ℕ)) × (new : Option (List ℕ)) × G.serves gate.now place result.place result.tally (R.left reader) rest (W.contents writer) new result.end }
+    ensures { (rest : Option (List ℕ)) × (new : Option (List ℕ)) × G.serves gate.now place result.place result.tally (R.left reader) rest (W.contents writer) new result.end × WasClosed R.left R.is_closed rest }
 {
     let over = gate.serve(rt, alloc, place, &mut reader, &mut writer);
     drop(writer);
@@ -80,7 +81,7 @@ where
     W: Sink + Send + Drop + 's,
     G::Place: 's,
     requires { G.gives gate.now place }
-    ensures { IsTaken gate.now (G.gives gate.now) (G.refuses gate.now) reader writer result }
+    ensures { IsTaken gate.now (G.gives gate.now) (G.refuses gate.now) (WasTold W.contents W.has_handed_on W.failures) reader writer result }
 {
     let begun = Begun {
         gate: Snapshot::of(gate),
@@ -112,7 +113,7 @@ where
     A::Writer: 's,
     G::Place: 's,
     ensures taken { IfOk result (λ t. (reader : _) × (writer : _) × A.takes accept.old reader writer accept.new
-        × IsTaken gate.now (G.gives gate.now) (G.refuses gate.now) reader writer t) }
+        × IsTaken gate.now (G.gives gate.now) (G.refuses gate.now) (WasTold A.Writer.contents A.Writer.has_handed_on A.Writer.failures) reader writer t) }
     ensures failed { OnErr result (A.fails accept.old accept.new) }
 {
     let (reader, mut writer) = match accept.accept() {
@@ -147,7 +148,7 @@ where
     G::Place: 's,
     requires none { threads.old.items ≡ [] }
     requires room { count ≤ vec_capacity threads.old }
-    ensures { (mid : _) × InTurn A.takes (IsTaken gate.now (G.gives gate.now) (G.refuses gate.now)) accept.old threads.new.items mid
+    ensures { (mid : _) × InTurn A.takes (IsTaken gate.now (G.gives gate.now) (G.refuses gate.now) (WasTold A.Writer.contents A.Writer.has_handed_on A.Writer.failures)) accept.old threads.new.items mid
         × IsLast A.fails mid (length threads.new.items) count result }
 {
     for _index in 0..count {
@@ -219,7 +220,7 @@ where
     requires threads { (threads.items ≡ []) × (count ≤ vec_capacity threads) }
     requires outcomes { (outcomes.items ≡ []) × (count ≤ vec_capacity outcomes) }
     ensures { (end : _)
-        × InTurn A.takes (λ reader writer. IsOutcome (G.gives gate.now) (G.refuses gate.now) (G.serves gate.now) (A.Reader.left reader) (A.Writer.contents writer)) accept result.outcomes.items end
+        × InTurn A.takes (λ reader writer. IsOutcome (G.gives gate.now) (G.refuses gate.now) (G.serves gate.now) (WasClosed A.Reader.left A.Reader.is_closed) (WasTold A.Writer.contents A.Writer.has_handed_on A.Writer.failures writer) (A.Reader.left reader) (A.Writer.contents writer)) accept result.outcomes.items end
         × IsLast A.fails end (length result.outcomes.items) count result.accept_failed }
 {
     let accept_failed = take_all(rt, alloc, scope, &mut accept, gate, count, &mut threads);
@@ -247,7 +248,7 @@ where
     A::Writer: 's,
     G::Place: 's,
     ensures served { IfOk result (λ s. (end : _)
-        × InTurn A.takes (λ reader writer. IsOutcome (G.gives gate.now) (G.refuses gate.now) (G.serves gate.now) (A.Reader.left reader) (A.Writer.contents writer)) accept s.outcomes.items end
+        × InTurn A.takes (λ reader writer. IsOutcome (G.gives gate.now) (G.refuses gate.now) (G.serves gate.now) (WasClosed A.Reader.left A.Reader.is_closed) (WasTold A.Writer.contents A.Writer.has_handed_on A.Writer.failures writer) (A.Reader.left reader) (A.Writer.contents writer)) accept s.outcomes.items end
         × IsLast A.fails end (length s.outcomes.items) count s.accept_failed) }
     ensures memory { IfErr result (λ error. error.1 ≡ accept) }
 {
@@ -277,7 +278,7 @@ where
     // One outcome for each connection, in the order in which they were taken: what came of that one. They are as many as were asked for, or
     // fewer where an accept failed after the last of them.
     ensures served { IfOk result (λ s. (end : _)
-        × InTurn A.takes (λ reader writer. IsOutcome (G.gives gate.now) (G.refuses gate.now) (G.serves gate.now) (A.Reader.left reader) (A.Writer.contents writer)) accept s.outcomes.items end
+        × InTurn A.takes (λ reader writer. IsOutcome (G.gives gate.now) (G.refuses gate.now) (G.serves gate.now) (WasClosed A.Reader.left A.Reader.is_closed) (WasTold A.Writer.contents A.Writer.has_handed_on A.Writer.failures writer) (A.Reader.left reader) (A.Writer.contents writer)) accept s.outcomes.items end
         × IsLast A.fails end (length s.outcomes.items) count s.accept_failed) }
     ensures memory { IfErr result (λ error. error.1 ≡ accept) }
 {

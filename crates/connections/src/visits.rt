@@ -1,8 +1,9 @@
 //! Connections in threads of their own, at places that are given back.
 
 ghost use Rattle.std.specs.Prelude.{◌≡◌, ◌+◌, ◌<◌, [], length, vec_capacity, IfOk, IfErr};
-ghost use Rattle.connections.specs.Outcomes.{ending_of};
-ghost use Rattle.connections.specs.Visiting.{Begins, Comes, GoesOn, IsAdded, Without, book_of, outcome_after, place_after, promises};
+ghost use Rattle.connections.specs.Outcomes.{WasClosed, ending_of};
+ghost use Rattle.connections.specs.Services.{Without};
+ghost use Rattle.connections.specs.Visiting.{Begins, Comes, GoesOn, IsAdded, book_of, outcome_after, place_after, promises};
 
 use crate::gate::{Close, Gate, Over, Reusable};
 use crate::outcome::Ending;
@@ -23,10 +24,10 @@ pub(crate) struct Visit<G, P, R, W> {
     writer: Snapshot<W>,
 }
 
-impl<G: Gate, R: Source, W: Sink> Promise<Visited<G::Place>> for Visit<G, G::Place, R, W> {
+impl<G: Gate, R: Source + Close, W: Sink> Promise<Visited<G::Place>> for Visit<G, G::Place, R, W> {
     ghost use Rattle.connections.specs.Visiting.{IsVisited};
 
-    ghost kept_by = { IsVisited G.serves R.left W.contents };
+    ghost kept_by = { IsVisited G.serves R.left R.is_closed W.contents };
 }
 
 /// What a thread comes to.
@@ -65,7 +66,7 @@ fn serve_one<T: Wait, R: Source + Close + Drop, W: Sink + Drop, G: Gate>(
     place: G::Place,
     is_over: Arc<AtomicBool, Global>,
 ) -> Visited<G::Place>
-    ensures { Comes G.serves gate.now place (R.left reader) (W.contents writer) result }
+    ensures { Comes G.serves (WasClosed R.left R.is_closed) gate.now place (R.left reader) (W.contents writer) result }
 {
     if is_over.load(Ordering::SeqCst) {
         return Visited::CalledOff(place);
@@ -101,7 +102,7 @@ where
     W: Sink + Send + Drop + 's,
     G::Place: 's,
     ensures started { IfOk result (λ running. Begins gate.now place reader writer running.thread.promise) }
-    ensures called_off { IfErr result (Comes G.serves gate.now place (R.left reader) (W.contents writer)) }
+    ensures called_off { IfErr result (Comes G.serves (WasClosed R.left R.is_closed) gate.now place (R.left reader) (W.contents writer)) }
 {
     let visit = Visit {
         gate: Snapshot::of(gate),

@@ -8,6 +8,7 @@ ghost use Rattle.shared.specs.Seats.{answers_to};
 ghost use Rattle.shared.specs.SessionView.{IsRecorded};
 ghost use Rattle.shared.specs.View.{PlacesView};
 ghost use Rattle.connections.specs.declared.services.Closed.{Closed as ClosedAt};
+ghost use Rattle.connections.specs.Outcomes.{WasTold};
 ghost use Rattle.connections.specs.Services.{Came};
 ghost use Rattle.serving.specs.Runs.{IsNewSeat, IsRefusal};
 ghost use Rattle.serving.specs.Services.{IsServedAt, Ran};
@@ -62,7 +63,7 @@ fn serve_at<
 ) -> Result<Closed<Places<N>>, (AllocError, L, Places<N>)>
     requires alphabet { alphabet.now ≡ N.spec.alphabet }
     requires ledger { N.all ≡ N.parts }
-    ensures served { IfOk result (Came (IsNewSeat N.opening) IsRefusal (IsServedAt N.spec) answers_to (λ (p : PlacesView). p.free) (λ (p : PlacesView). p.receipts) L.takes L.fails L.waits L.Reader.left L.Writer.contents accept places terms) }
+    ensures served { IfOk result (Came (IsNewSeat N.opening) IsRefusal (IsServedAt N.spec) answers_to (λ (p : PlacesView). p.free) (λ (p : PlacesView). p.receipts) L.takes L.fails L.waits L.Reader.left L.Reader.is_closed L.Writer.contents (WasTold L.Writer.contents L.Writer.has_handed_on L.Writer.failures) accept places terms) }
     ensures memory { IfErr result (λ error. error.1 ≡ accept) }
 {
     // The parts of what lies under the lock: the proof that the whole may go to another thread asks for each.
@@ -181,7 +182,7 @@ fn run<
     requires places { (places.free + 2 ≡ N.all) × (places.receipts ≡ 0) }
     ensures session { IfOk result (λ c. (c.session.spec ≡ N.spec) × StartsWith c.session.history N.opening × Legal (bodies_of N.spec.bodies) c.session.history) }
     ensures kept { IfOk result (λ c. (script : List ℕ) × (root : List ℕ) × IsRecorded J.recording script root c.session) }
-    ensures ran { IfOk result (λ c. Ran L.takes L.fails L.waits L.Reader.left L.Writer.contents accept terms places.free N.spec N.opening c.session.history c.totals c.accept_failed c.answered) }
+    ensures ran { IfOk result (λ c. Ran L.takes L.fails L.waits L.Reader.left L.Reader.is_closed L.Writer.contents (WasTold L.Writer.contents L.Writer.has_handed_on L.Writer.failures) accept terms places.free N.spec N.opening c.session.history c.totals c.accept_failed c.answered) }
     ensures memory { IfErr result (λ error. error.1 ≡ accept) }
 {
     let served = serve_at(rt, alloc, &shared, accept, alphabet, places, terms);
@@ -210,7 +211,7 @@ fn over_places<
     requires alphabet { alphabet.now ≡ N.spec.alphabet }
     ensures session { IfOk result (λ c. (c.session.spec ≡ N.spec) × StartsWith c.session.history N.opening × Legal (bodies_of N.spec.bodies) c.session.history) }
     ensures kept { IfOk result (λ c. (script : List ℕ) × (root : List ℕ) × IsRecorded J.recording script root c.session) }
-    ensures ran { IfOk result (λ c. Ran L.takes L.fails L.waits L.Reader.left L.Writer.contents accept terms 64 N.spec N.opening c.session.history c.totals c.accept_failed c.answered) }
+    ensures ran { IfOk result (λ c. Ran L.takes L.fails L.waits L.Reader.left L.Reader.is_closed L.Writer.contents (WasTold L.Writer.contents L.Writer.has_handed_on L.Writer.failures) accept terms 64 N.spec N.opening c.session.history c.totals c.accept_failed c.answered) }
     ensures memory { IfErr result (λ error. error.1 ≡ accept) }
 {
     match Shared::<J, Global, N>::service(rt, alloc, session, opened, blank, u64::from(PLACES)) {
@@ -241,7 +242,7 @@ pub fn serve_service<J: Recorder + Drop + Send, T: Threads + Wait + Clock + Sync
 
     // What came of each connection, in the order in which they were taken, and of all together; when one was refused by 22; why and when it ended;
     // and how many reports were answered.
-    ensures ran { IfOk result (λ c. Ran L.takes L.fails L.waits L.Reader.left L.Writer.contents accept (record { threads = 64; until_idle = until_idle; retries = retries }) 64 session.spec session.history c.session.history c.totals c.accept_failed c.answered) }
+    ensures ran { IfOk result (λ c. Ran L.takes L.fails L.waits L.Reader.left L.Reader.is_closed L.Writer.contents (WasTold L.Writer.contents L.Writer.has_handed_on L.Writer.failures) accept (record { threads = 64; until_idle = until_idle; retries = retries }) 64 session.spec session.history c.session.history c.totals c.accept_failed c.answered) }
     ensures memory { IfErr result (λ error. error.1 ≡ accept) }
 {
     match copy_of(alloc, session.spec().alphabet()) {

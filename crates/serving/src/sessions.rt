@@ -9,7 +9,7 @@ ghost use Rattle.shared.specs.SessionView.{IsRecorded};
 ghost use Rattle.shared.specs.View.{SeatView};
 ghost use Rattle.connections.specs.declared.outcome.Outcome.{Outcome};
 ghost use Rattle.connections.specs.Accounts.{has_rejected, met_limit};
-ghost use Rattle.connections.specs.Outcomes.{ending_of, places_of};
+ghost use Rattle.connections.specs.Outcomes.{WasTold, ending_of, places_of};
 ghost use Rattle.serving.specs.Runs.{CameTo, Went};
 
 use crate::shared_gate::SharedGate;
@@ -92,7 +92,7 @@ fn serve_at<
     requires shares { (shares.old.items ≡ []) × (count ≤ vec_capacity shares.old) }
     requires endings { (endings.old.items ≡ []) × (count ≤ vec_capacity endings.old) }
     ensures served { IfOk result (λ accept_failed. (outcomes : List (Outcome SeatView))
-        × CameTo L.takes L.fails L.Reader.left L.Writer.contents accept count N.spec N.opening outcomes accept_failed
+        × CameTo L.takes L.fails L.Reader.left L.Reader.is_closed L.Writer.contents (WasTold L.Writer.contents L.Writer.has_handed_on L.Writer.failures) accept count N.spec N.opening outcomes accept_failed
         × (shares.new.items ≡ places_of outcomes) × (endings.new.items ≡ map ending_of outcomes)) }
     ensures memory { IfErr result (λ error. error.1 ≡ accept) }
 {
@@ -143,7 +143,7 @@ fn serve_in<
     requires shares { shares.old.items ≡ [] }
     requires endings { (endings.old.items ≡ []) × (count ≤ vec_capacity endings.old) }
     ensures served { IfOk result (λ accept_failed. (outcomes : List (Outcome SeatView))
-        × CameTo L.takes L.fails L.Reader.left L.Writer.contents accept count N.spec N.opening outcomes accept_failed
+        × CameTo L.takes L.fails L.Reader.left L.Reader.is_closed L.Writer.contents (WasTold L.Writer.contents L.Writer.has_handed_on L.Writer.failures) accept count N.spec N.opening outcomes accept_failed
         × (shares.new.items ≡ places_of outcomes) × (endings.new.items ≡ map ending_of outcomes)) }
     ensures memory { IfErr result (λ error. error.1 ≡ accept) }
 {
@@ -205,7 +205,7 @@ fn over_seats<
     requires endings { (room.endings.items ≡ []) × (count ≤ vec_capacity room.endings) }
     ensures session { IfOk result (λ c. (c.session.spec ≡ N.spec) × StartsWith c.session.history N.opening × Legal (bodies_of N.spec.bodies) c.session.history) }
     ensures kept { IfOk result (λ c. (script : List ℕ) × (root : List ℕ) × IsRecorded J.recording script root c.session) }
-    ensures went { IfOk result (λ c. Went L.takes L.fails L.Reader.left L.Writer.contents accept count N.spec N.opening c.session.history c.endings.items c.account.accept_failed c.answered) }
+    ensures went { IfOk result (λ c. Went L.takes L.fails L.Reader.left L.Reader.is_closed L.Writer.contents (WasTold L.Writer.contents L.Writer.has_handed_on L.Writer.failures) accept count N.spec N.opening c.session.history c.endings.items c.account.accept_failed c.answered) }
     ensures account { IfOk result (λ c. (c.account.rejected ≡ list_any has_rejected c.endings.items) × (c.account.limit ≡ list_any met_limit c.endings.items)) }
     ensures memory { IfErr result (λ error. error.1 ≡ accept) }
 {
@@ -255,7 +255,7 @@ pub fn serve_session<J: Recorder + Drop + Send, T: Threads + Wait + Sync, L: Acc
     ensures kept { IfOk result (λ c. (script : List ℕ) × (root : List ℕ) × IsRecorded J.recording script root c.session) }
 
     // What came of each connection, in the order in which they were taken.
-    ensures went { IfOk result (λ c. Went L.takes L.fails L.Reader.left L.Writer.contents accept connections session.spec session.history c.session.history c.endings.items c.account.accept_failed c.answered) }
+    ensures went { IfOk result (λ c. Went L.takes L.fails L.Reader.left L.Reader.is_closed L.Writer.contents (WasTold L.Writer.contents L.Writer.has_handed_on L.Writer.failures) accept connections session.spec session.history c.session.history c.endings.items c.account.accept_failed c.answered) }
     ensures account { IfOk result (λ c. (c.account.rejected ≡ list_any has_rejected c.endings.items) × (c.account.limit ≡ list_any met_limit c.endings.items)) }
     ensures memory { IfErr result (λ error. error.1 ≡ accept) }
 {

@@ -1,5 +1,6 @@
 use Rattle.std.proofs.Common.{sym, subst}
-use Rattle.connections.specs.Visiting.{Without, book_of, more, promises}
+use Rattle.connections.specs.Services.{Without}
+use Rattle.connections.specs.Visiting.{book_of, more, promises}
 use Rattle.connections.proofs.visits.join_one.Goals as goal
 
 pub returns-clause-goes_on : goal.returns-clause-goes_on

@@ -1,6 +1,7 @@
 use Rattle.std.proofs.Common.{◌≡◌, ◌∷◌, ◌++◌, suc, take, drop, sym, ap, subst, ◌∙◌}
 use Rattle.std.proofs.Math.Seq.{split_at}
-use Rattle.connections.specs.Visiting.{Without, promises}
+use Rattle.connections.specs.Services.{Without}
+use Rattle.connections.specs.Visiting.{promises}
 use Rattle.connections.proofs.SoFar.{without_promise}
 use Rattle.connections.proofs.visits.taken_out.Goals as goal
 
