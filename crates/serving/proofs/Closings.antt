@@ -11,11 +11,11 @@ use Rattle.connections.specs.declared.outcome.Outcome.{Outcome}
 use Rattle.connections.specs.Outcomes.{ending_of, places_of}
 use Rattle.serving.specs.Runs.{CameTo, Went}
 
-module _ {L R W : Type 0} (takes : L → R → W → L → Type 0) (fails : L → L → Type 0) (left : R → Option (List ℕ)) (closed : R → Type 0) (contents : W → Option (List ℕ)) (told : W → Fault → Type 0) where
+module _ {L R W : Type 0} (takes : L → R → W → L → Type 0) (fails : L → L → Type 0) (left : R → Option (List ℕ)) (closed : R → Type 0) (contents : W → Option (List ℕ)) (tells : W → Fault → Type 0) where
   pub went_of : (accept : L) (count : ℕ) (spec : Specified) (opening history : List Entry) (shares : List SeatView) (endings : List Ending) (accept_failed : Bool) (answered : Option ℕ)
-      → (outcomes : List (Outcome SeatView)) × CameTo takes fails left closed contents told accept count spec opening outcomes accept_failed × (shares ≡ places_of outcomes) × (endings ≡ map ending_of outcomes)
+      → (outcomes : List (Outcome SeatView)) × CameTo takes fails left closed contents tells accept count spec opening outcomes accept_failed × (shares ≡ places_of outcomes) × (endings ≡ map ending_of outcomes)
       → IfSome answered (λ n. (length history ≡ length opening + n) × (n ≡ receipts shares)) → IfSome answered (λ n. AllTold history shares)
-      → Went takes fails left closed contents told accept count spec opening history endings accept_failed answered
+      → Went takes fails left closed contents tells accept count spec opening history endings accept_failed answered
   went_of accept count spec opening history shares endings accept_failed answered h counted told = record {
     outcomes = h.0;
     came = h.1;

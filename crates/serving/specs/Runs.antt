@@ -40,13 +40,13 @@ IsAnsweredAt spec first last tally left rest old new end =
 
 -- For an accept that takes such connections, or fails, of readers and writers that know these bytes, where a connection is closed and told a
 -- fault so.
-module _ {L R W : Type 0} (takes : L → R → W → L → Type 0) (fails : L → L → Type 0) (left : R → Option (List ℕ)) (closed : R → Type 0) (contents : W → Option (List ℕ)) (told : W → Fault → Type 0) where
+module _ {L R W : Type 0} (takes : L → R → W → L → Type 0) (fails : L → L → Type 0) (left : R → Option (List ℕ)) (closed : R → Type 0) (contents : W → Option (List ℕ)) (tells : W → Fault → Type 0) where
   -- The connections of a session of this specification that began with this history: what came of each, in the order in which they were
   -- taken, at a seat of its own, and how the accepting ended.
   abbrev pub CameTo : L → ℕ → Specified → List Entry → List (Outcome SeatView) → Bool → Type 0
   CameTo accept count spec opening outcomes accept_failed =
       (last : L)
-      × InTurn takes (λ reader writer. IsOutcome (IsNewSeat opening) IsRefusal (IsAnsweredAt spec) (WasClosed left closed) (told writer) (left reader) (contents writer)) accept outcomes last
+      × InTurn takes (λ reader writer. IsOutcome (IsNewSeat opening) IsRefusal (IsAnsweredAt spec) (WasClosed left closed) (tells writer) (left reader) (contents writer)) accept outcomes last
       × IsLast fails last (length outcomes) count accept_failed
 
   -- The same, with the history at the end, how each connection ended, and how many reports were answered with `OK` or `NO`. Where that is

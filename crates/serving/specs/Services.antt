@@ -28,7 +28,7 @@ IsServedAt spec first last tally left rest old new end =
 
 -- For an accept that takes such connections, fails, or waits for one, of readers and writers that know these bytes, where a connection is closed
 -- and told a fault so.
-module _ {L R W : Type 0} (takes : L → R → W → L → Type 0) (fails waits : L → L → Type 0) (left : R → Option (List ℕ)) (closed : R → Type 0) (contents : W → Option (List ℕ)) (told : W → Fault → Type 0) where
+module _ {L R W : Type 0} (takes : L → R → W → L → Type 0) (fails waits : L → L → Type 0) (left : R → Option (List ℕ)) (closed : R → Type 0) (contents : W → Option (List ℕ)) (tells : W → Fault → Type 0) where
   -- The service, on these terms and with so many places, of a session of this specification that began with the first history, and ended with the
   -- second: its steps, with what came of each connection, at a seat of its own, in the order in which they were taken, and of all together; which had a
   -- place when; how it stood at the end, when none was there any more; and how many reports were answered with `OK` or `NO`, to the seats that left among them.
@@ -38,7 +38,7 @@ module _ {L R W : Type 0} (takes : L → R → W → L → Type 0) (fails waits 
     pub last : L
     pub failures : ℕ
     pub any : Bool
-    pub looks : Goes (IsLook takes fails waits (λ reader writer. IsOutcome (IsNewSeat opening) (IsWithout IsRefusal) (IsServedAt spec) (WasClosed left closed) (told writer) (left reader) (contents writer))) accept steps last
+    pub looks : Goes (IsLook takes fails waits (λ reader writer. IsOutcome (IsNewSeat opening) (IsWithout IsRefusal) (IsServedAt spec) (WasClosed left closed) (tells writer) (left reader) (contents writer))) accept steps last
     pub stands : Goes (IsStep IsRefusal terms room) beginning (steps_by refusal_of steps) (record { there = 0; any = any; failures = failures; ended = Some accept_failed })
     pub held : Goes IsHeld nothing_held (steps_by refusal_of steps) (record { by = []; taken = length (taken_of steps) })
     pub sum : IsSum (map ending_of (taken_of steps)) totals
