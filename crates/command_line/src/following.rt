@@ -3,6 +3,7 @@
 use crate::evidence::{Stamp, bytes_of, files_of, is_large, stamp_of};
 use crate::limits::PART_SIZE;
 use crate::telling::{tell_fault, tell_journal};
+use file_disk::FileSystem;
 use memory_disks::MemoryDisk;
 use program::{Exit, FollowError, Options};
 use std::alloc::Global;
@@ -36,7 +37,7 @@ fn tell_follow<R: Files<File = File>, E: Write + IsTerminal>(
 }
 
 // `look`, at the files of a large journal.
-fn look_at_parts<R: Files<File = File> + AllocGlobal, O: Write, E: Write + IsTerminal>(
+fn look_at_parts<R: Files<File = File> + FileSystem + AllocGlobal, O: Write, E: Write + IsTerminal>(
     rt: &R,
     name: &str,
     options: Options,
@@ -59,7 +60,7 @@ fn look_at_parts<R: Files<File = File> + AllocGlobal, O: Write, E: Write + IsTer
 
 // Looks at the file as it stands in this moment, and writes what is shown of it beyond what was shown before. The answer is all of it, or
 // the status of the fault that was reported.
-fn look<R: Files<File = File> + AllocGlobal, O: Write, E: Write + IsTerminal>(
+fn look<R: Files<File = File> + FileSystem + AllocGlobal, O: Write, E: Write + IsTerminal>(
     rt: &R,
     name: &str,
     options: Options,
@@ -88,7 +89,7 @@ fn look<R: Files<File = File> + AllocGlobal, O: Write, E: Write + IsTerminal>(
 /// is looked at each half second, and judged again where it has changed since the look before, and once more after that: a server
 /// opens the gate of a record some time after it wrote its line.
 pub(crate) fn follow<
-    R: Files<File = File> + AllocGlobal + Clock + Wait,
+    R: Files<File = File> + FileSystem + AllocGlobal + Clock + Wait,
     O: Write,
     E: Write + IsTerminal,
 >(rt: &R, name: &str, options: Options, output: &mut O, errors: &mut E) -> Exit {

@@ -262,6 +262,16 @@ pub(crate) fn show_header<R: Files<File = File>, E: Write + IsTerminal>(
     }
 }
 
+/// Shows, where the errors go to a terminal, what is wrong with the file of this part of the journal.
+pub(crate) fn show_part<E: Write + IsTerminal>(errors: &mut E, name: &str, part: usize) {
+    if errors.is_terminal() {
+        let _ = writeln!(
+            errors,
+            "        {name}.{part} is missing, is damaged, or isn't the part that follows the ones before it",
+        );
+    }
+}
+
 /// Shows, where the errors go to a terminal, an example of the command, if there is one.
 pub(crate) fn show_example<E: Write + IsTerminal>(errors: &mut E, example: Option<&str>) {
     if let Some(example) = example {

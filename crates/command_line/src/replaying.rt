@@ -15,7 +15,7 @@ use crate::journal_files::{hold_streams, journal_there};
 use crate::limits::PART_SIZE;
 use crate::telling::tell_journal;
 use disk::{Disk, Folder};
-use file_disk::{FileDisk, FileFolder};
+use file_disk::{FileDisk, FileFolder, FileSystem};
 use memory_disks::MemoryDisk;
 use program::{Exit, Replayed, ReplayedParts, Replaying, SessionError};
 use std::alloc::Global;
@@ -55,10 +55,7 @@ fn line_of_parts<F: Folder + Drop>(
 }
 
 // The same, once what comes after the last gate is cut off.
-fn line_of_cut<F: Folder + Drop>(
-    alloc: Global,
-    folder: F,
-) -> Result<(Vec<u8>, Exit), SessionError>
+fn line_of_cut<F: Folder + Drop>(alloc: Global, folder: F) -> Result<(Vec<u8>, Exit), SessionError>
     ensures { IfOk result (λ r. (h : List Entry) × (r.0.items ≡ status_text (status_of h false)) × (r.1 ≡ replay_exit h)) }
 {
     let (line, exit, replaying) = line_of_parts(alloc, folder)?;
@@ -75,7 +72,7 @@ fn line_of_cut<F: Folder + Drop>(
 }
 
 // Judges the records of a large journal in the files again, and writes their summary.
-fn replay_large<R: Files<File = File> + AllocGlobal, O: Write, E: Write + IsTerminal>(
+fn replay_large<R: Files<File = File> + FileSystem + AllocGlobal, O: Write, E: Write + IsTerminal>(
     rt: &R,
     name: &str,
     file: File,
@@ -95,7 +92,7 @@ fn replay_large<R: Files<File = File> + AllocGlobal, O: Write, E: Write + IsTerm
 
 /// Judges the records of the journal in the file again, writes their summary, and answers the exit status. What stands past
 /// the first closed gate is cut off. A large journal may have further files.
-pub fn replay<R: Files<File = File> + AllocGlobal, O: Write, E: Write + IsTerminal>(
+pub fn replay<R: Files<File = File> + FileSystem + AllocGlobal, O: Write, E: Write + IsTerminal>(
     rt: &R,
     name: &str,
     output: &mut O,
@@ -110,7 +107,7 @@ pub fn replay<R: Files<File = File> + AllocGlobal, O: Write, E: Write + IsTermin
 }
 
 // The same, while standard streams that are closed are held.
-fn replay_held<R: Files<File = File> + AllocGlobal, O: Write, E: Write + IsTerminal>(
+fn replay_held<R: Files<File = File> + FileSystem + AllocGlobal, O: Write, E: Write + IsTerminal>(
     rt: &R,
     name: &str,
     output: &mut O,
@@ -132,7 +129,7 @@ fn replay_held<R: Files<File = File> + AllocGlobal, O: Write, E: Write + IsTermi
 }
 
 // Judges the records of a large journal in the files again, which are only read, and writes their summary.
-fn read_large<R: Files<File = File> + AllocGlobal, O: Write, E: Write + IsTerminal>(
+fn read_large<R: Files<File = File> + FileSystem + AllocGlobal, O: Write, E: Write + IsTerminal>(
     rt: &R,
     name: &str,
     output: &mut O,
@@ -155,12 +152,11 @@ fn read_large<R: Files<File = File> + AllocGlobal, O: Write, E: Write + IsTermin
 
 /// Judges the records of the journal in the file again, writes their summary, and answers the exit status. The file is only read: what
 /// stands past the first closed gate is reported. A large journal may have further files.
-pub fn replay_read_only<R: Files<File = File> + AllocGlobal, O: Write, E: Write + IsTerminal>(
-    rt: &R,
-    name: &str,
-    output: &mut O,
-    errors: &mut E,
-) -> Exit
+pub fn replay_read_only<
+    R: Files<File = File> + FileSystem + AllocGlobal,
+    O: Write,
+    E: Write + IsTerminal,
+>(rt: &R, name: &str, output: &mut O, errors: &mut E) -> Exit
     ensures { (result ≡ Done) ⊎ (result ≡ Rejected) → Counted (O.contents output.old) (O.contents output.new) result }
 {
     if is_large(rt, name) {

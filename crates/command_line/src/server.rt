@@ -12,7 +12,7 @@ use crate::logged::{Known, LoggedAccept};
 use crate::logging::{log_of, start};
 use crate::scripts::{Script, tell_read, text_of};
 use crate::telling::{tell_fault, tell_journal, tell_open};
-use file_disk::{FileDisk, FileFolder};
+use file_disk::{FileDisk, FileFolder, FileSystem};
 use journal::Journal;
 use program::{Exit, Session, SessionError};
 use serving::{
@@ -289,23 +289,25 @@ fn tell_unopened<R: Files<File = File> + AllocGlobal, E: Write + IsTerminal>(
 }
 
 // The same session with names kept as their bodies, on a journal in parts, the first of which is the file.
-fn session_in_parts<'a, R: Files<File = File> + AllocGlobal, E: Write + IsTerminal>(
-    rt: &'a R,
+fn session_in_parts<'a, S: FileSystem, R: Files<File = File> + AllocGlobal, E: Write + IsTerminal>(
+    rt: &R,
+    system: &'a S,
     service: &'a Service<'_>,
     script: &[u8],
     errors: &mut E,
-) -> Result<(SessionOn<Parts<FileFolder<'a, R, Global>, Global>, Global>, bool), Exit>
+) -> Result<
+    (
+        SessionOn<Parts<FileFolder<'a, S, Global>, Global>, Global>,
+        bool,
+    ),
+    Exit,
+>
     ensures { IfOk result (λ r. r.0.offered ≡ []) }
 {
     let (file, is_made) = journal_at(rt, service.journal, errors)?;
-    let Ok(folder) = FileFolder::new(rt, rt.alloc(), service.journal, file) else {
+    let Ok(folder) = FileFolder::new(system, rt.alloc(), service.journal, file) else {
         take_away(rt, service.journal, is_made);
-        return Err(tell_journal(
-            rt,
-            errors,
-            service.journal,
-            SessionError::Device,
-        ));
+        return Err(tell_journal(rt, errors, service.journal, SessionError::Device));
     };
     let root = service.process.as_bytes();
     match open_parts(rt.alloc(), folder, script, root, PART_SIZE) {
@@ -362,7 +364,7 @@ fn serve_held<
         Err(exit) => return exit,
     };
     if service.large {
-        return serve_in_parts(rt, service, &script, output, errors);
+        return serve_in_parts(rt, rt, service, &script, output, errors);
     }
     journal_crosses();
     match session_at(rt, service, &script, errors) {
@@ -373,6 +375,7 @@ fn serve_held<
 
 // The same, with names kept as their bodies, on a journal in parts.
 fn serve_in_parts<
+    S: FileSystem + Sync,
     R: Files<File = File>
         + Net<Stream = TcpStream, Listener = TcpListener>
         + AllocGlobal
@@ -388,12 +391,13 @@ fn serve_in_parts<
     E: Write + IsTerminal,
 >(
     rt: &R,
+    system: &S,
     service: &Service<'_>,
     script: &[u8],
     output: &mut O,
     errors: &mut E,
 ) -> Exit {
-    match session_in_parts(rt, service, script, errors) {
+    match session_in_parts(rt, system, service, script, errors) {
         Ok((session, is_made)) => serve_at(rt, service, session, is_made, output, errors),
         Err(exit) => exit,
     }

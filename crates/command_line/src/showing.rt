@@ -8,6 +8,7 @@ use crate::evidence::{bytes_of, files_of, is_large, tell_after};
 use crate::limits::PART_SIZE;
 use crate::telling::{tell_fault, tell_journal};
 use disk::{Disk, Folder};
+use file_disk::FileSystem;
 use memory_disks::MemoryDisk;
 use program::{DisplayError, Displayed, DisplayedParts, Exit, Options};
 use std::alloc::Global;
@@ -42,8 +43,9 @@ fn display_parts<F: Folder + Drop, O: Write>(
 ) -> Result<(Exit, usize), DisplayError>
     ensures { IfOk result (λ r. Shown options (O.contents output.old) (O.contents output.new) r.0) }
 {
-    let DisplayedParts { replaying, exit } =
-        program::show_parts(alloc, folder, PART_SIZE, options, output)?;
+    let DisplayedParts { replaying, exit } = program::show_parts(
+        alloc, folder, PART_SIZE, options, output,
+    )?;
     let after = replaying.bytes_after();
     drop(replaying);
     Ok((exit, after))
@@ -65,7 +67,7 @@ fn tell_display<R: Files<File = File>, E: Write + IsTerminal>(
 }
 
 // `show`, of a large journal.
-fn show_large<R: Files<File = File> + AllocGlobal, O: Write, E: Write + IsTerminal>(
+fn show_large<R: Files<File = File> + FileSystem + AllocGlobal, O: Write, E: Write + IsTerminal>(
     rt: &R,
     name: &str,
     options: Options,
@@ -90,7 +92,7 @@ fn show_large<R: Files<File = File> + AllocGlobal, O: Write, E: Write + IsTermin
 /// Judges the records of the journal in the file again, writes what is asked for of them, and answers the exit status. The file is only
 /// read, as it stands in this moment: another run may have it open. What stands past the first closed gate is reported. A large
 /// journal may have further files.
-pub fn show<R: Files<File = File> + AllocGlobal, O: Write, E: Write + IsTerminal>(
+pub fn show<R: Files<File = File> + FileSystem + AllocGlobal, O: Write, E: Write + IsTerminal>(
     rt: &R,
     name: &str,
     options: Options,

@@ -4,7 +4,7 @@ ghost use Rattle.program.specs.Exits.{script_exit, journal_exit, exit_code};
 ghost use Rattle.program.specs.declared.exit.Exit.TheVariants.{Limit};
 ghost use Rattle.command_line.specs.Statuses.{open_exit};
 
-use crate::hints::{show_example, show_fault, show_header, show_limit, show_other};
+use crate::hints::{show_example, show_fault, show_header, show_limit, show_other, show_part};
 use crate::scripts::Script;
 use clap::Error;
 use clap::error::ErrorKind;
@@ -106,7 +106,7 @@ pub(crate) fn tell_use<O: Write, E: Write + IsTerminal>(
 }
 
 /// Reports why the journal gives no session, and answers the status; on a terminal, where its header is refused, with what the file
-/// begins with.
+/// begins with, and where a part is, with that one's file.
 pub(crate) fn tell_journal<R: Files<File = File>, E: Write + IsTerminal>(
     rt: &R,
     errors: &mut E,
@@ -116,8 +116,10 @@ pub(crate) fn tell_journal<R: Files<File = File>, E: Write + IsTerminal>(
     ensures { result ≡ journal_exit error }
 {
     let _ = writeln!(errors, "{name}: {error}");
-    if error == SessionError::BadHeader {
-        show_header(rt, errors, name);
+    match error {
+        SessionError::BadHeader => show_header(rt, errors, name),
+        SessionError::Part(part) => show_part(errors, name, part),
+        _ => {}
     }
     Exit::of_journal(&error)
 }
