@@ -1,8 +1,8 @@
 #!/usr/bin/env python3
 """Journals in parts, by a program whose parts take 50 records (`tests/variant.py` builds it): real files, real servers.
 
-    tests/small_parts.py --program FILE [--only reports reading follow beside damage kills calls] [--kills 100] [--seed 1] [--jobs 4]
-        [--keep DIR] [--folder DIR] [--seconds 10]
+    tests/small_parts.py --program FILE [--only reports reading follow beside damage kills calls] [--kills 100] [--every 1] [--seed 1]
+        [--jobs 4] [--keep DIR] [--folder DIR] [--seconds 10]
 
 What is wanted comes from `tests/reference/parts.py`, which is written from docs/PARTS.md, and from the few lines of Python of `sweeping.py`
 that judge the reports; SHA-256 is that of hashlib.
@@ -46,7 +46,7 @@ from sweeping import (  # noqa: E402
 
 sys.path.insert(0, os.path.join(os.path.dirname(HERE), "clients", "python"))
 
-from cspwatch_client import Client, Fault  # noqa: E402
+from cspwatch_client import Client, Fault, Status  # noqa: E402
 from reference import parts as reference  # noqa: E402
 from reference import program as answers  # noqa: E402
 from reference.faults import JournalFault  # noqa: E402
@@ -65,6 +65,9 @@ WAYS = [(rejected, coverage, as_json) for rejected in (False, True) for coverage
 
 SOON = 10.0
 """Within so many seconds a line is shown that came."""
+
+LOOKS = 40
+"""So often `show` is called at least while reports come."""
 
 PAUSE = 0.0003
 """The longest pause between a reply and the signal, in seconds: some reports' time."""
@@ -237,7 +240,7 @@ def one_by_one(options, folder):
             if (reply := asked(client, line)) != wanted:
                 yield "%s was answered %s, wanted %s" % (line, reply, wanted)
             yield from held_problems(folder, history.entries)
-        if (status := client.status()) != (len(history.entries), history.events, history.refusals, history.rejected, False):
+        if (status := client.status()) != Status(len(history.entries), history.events, history.refusals, history.rejected, False):
             yield "the status is %s" % (status,)
     yield from ended_problems(server.end(), history)
     yield from held_problems(folder, history.entries)
@@ -548,7 +551,9 @@ def while_reports_come(options, folder):
     for watcher in watchers:
         watcher.start()
     link = Link(server.port)
-    for line in reports(20 * SIZE + 7):
+    for line in reports(60 * SIZE):
+        if len(seen) >= LOOKS and len(answered) > 6 * SIZE:
+            break
         history.answer(line)
         answered.append(link.ask(line))
         time.sleep(0.001)
@@ -563,8 +568,8 @@ def while_reports_come(options, folder):
         lines = text.decode().splitlines()
         if lines[:-1] != whole[:len(lines) - 1]:
             yield "show printed %d lines that aren't the first ones" % len(lines)
-    if len({len(text) for text in seen}) < 5:
-        yield "only %d different looks" % len(seen)
+    if len({len(text) for text in seen}) < LOOKS / 8:
+        yield "only %d looks were different" % len({len(text) for text in seen})
 
 
 def try_beside(options, book):
@@ -650,7 +655,8 @@ def damage_problems(options, damage, is_sample):
 def try_damage(options, book):
     rng = random.Random("%d sample" % options.seed)
     with concurrent.futures.ThreadPoolExecutor(options.jobs) as pool:
-        waiting = [(damage, pool.submit(damage_problems, options, damage, rng.random() < 0.1 or " is " in damage[0])) for damage in damages(options)]
+        chosen = list(damages(options))[::options.every]
+        waiting = [(damage, pool.submit(damage_problems, options, damage, rng.random() < 0.1)) for damage in chosen]
         for damage, future in waiting:
             problems, wanted = future.result()
             told = wanted.read_only.err.decode("latin-1").split(" ")
@@ -972,6 +978,7 @@ def main():
     add_options(parser, "parts")
     parser.add_argument("--only", nargs="+", choices=KINDS, default=KINDS)
     parser.add_argument("--kills", type=int, default=100)
+    parser.add_argument("--every", type=int, default=1, help="of the damaged journals each so-manieth")
     parser.add_argument("--jobs", type=int, default=os.cpu_count() or 1, help="how many damaged journals are tried side by side")
     options = parser.parse_args()
     if not begin(options):
