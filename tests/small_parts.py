@@ -1,7 +1,7 @@
 #!/usr/bin/env python3
-"""Journals in parts, by a program whose parts take 50 records (`tests/variant.py` builds it): real files, real servers.
+"""Journals in parts, by a program whose parts take 50 records, which `tests/variant.py` builds where none is named: real files, real servers.
 
-    tests/small_parts.py --program FILE [--only reports reading follow beside damage kills calls] [--kills 100] [--every 1] [--seed 1]
+    tests/small_parts.py [--program FILE] [--only reports reading follow beside damage kills calls] [--kills 100] [--every 1] [--seed 1]
         [--jobs 4] [--keep DIR] [--folder DIR] [--seconds 10]
 
 What is wanted comes from `tests/reference/parts.py`, which is written from docs/PARTS.md, and from the few lines of Python of `sweeping.py`
@@ -39,6 +39,7 @@ import time
 
 sys.dont_write_bytecode = True
 
+import variant  # noqa: E402
 from failing_calls import ALWAYS, ERRORS, built, failing  # noqa: E402
 from sweeping import (  # noqa: E402
     HERE, NAMES, SCRIPT, Book, History, Link, Run, Server, add_options, begin, mark_of, name_of, read_file, report_of, run, shown, summary_of,
@@ -980,7 +981,14 @@ def main():
     parser.add_argument("--kills", type=int, default=100)
     parser.add_argument("--every", type=int, default=1, help="of the damaged journals each so-manieth")
     parser.add_argument("--jobs", type=int, default=os.cpu_count() or 1, help="how many damaged journals are tried side by side")
+    parser.set_defaults(program=None)
     options = parser.parse_args()
+    try:
+        options.program = options.program or variant.built(SIZE)
+    except variant.Unbuilt as why:
+        print("there is no variant: %s" % why)
+        print("0 passed, 1 failed")
+        return 1
     if not begin(options):
         return 1
     print("seed %d" % options.seed, flush=True)
