@@ -9,7 +9,7 @@ that judge the reports; SHA-256 is that of hashlib.
 
 - `reports`: `serve --large` is sent reports over more than three parts: one by one by the client for Python, many ahead, by several connections
   at once, and by runs that go on at each end of a part. Each reply has its place, and after each reply the files are those that docs/PARTS.md
-  asks for, byte for byte. Another script is refused, and so is a second run.
+  asks for, byte for byte. Another script is refused, and so is a second run; the log of a service says when a part is begun.
 - `reading`: `replay`, `replay --read-only` and `show`, in all its ways, of journals that end around the end of a part.
 - `follow`: `show --follow` beside a server goes on over the ends of parts; what becomes another journal or gets a fault ends it.
 - `beside`: `show` and `replay --read-only` while reports come: a beginning of the history, with all that was answered before.
@@ -27,6 +27,7 @@ import argparse
 import concurrent.futures
 import contextlib
 import errno
+import json
 import os
 import random
 import re
@@ -375,6 +376,41 @@ def refused(options, folder):
         yield "the files were changed"
 
 
+def without_first(options, folder):
+    """Further parts where the first one is gone: nothing is begun, and no file is left."""
+    write_files(folder, [None, *files_with(history_of(reports(2 * SIZE + 3)).entries)[1:]])
+    before = state_of(folder)
+    for words, told, status in ((["serve", "p.csp", "P", "j", "--listen", "127.0.0.1:0", *LARGE], b"j: 50 header\n", 4),
+                                (["replay", "j"], b"j: cannot read\n", 5), (["show", "j"], b"j: cannot read\n", 5)):
+        if (done := run([options.program, *words], folder)) != Run(b"", told, status):
+            yield "%s without the first part: %s" % (words[0], done)
+    if state_of(folder) != before:
+        yield "the files were changed"
+
+
+def logged(options, folder):
+    """The log of a service says of each part but the first when it has its first report."""
+    history, seat = History(), 1001
+    write_files(folder, [])
+    server = Server(options.program, folder, connections=0, more=[*LARGE, "--until-idle", "--log", "log"])
+    if not server.listening():
+        yield "it ended with %s" % (server.end(),)
+        return
+    link = Link(server.port)
+    lines = reports(3 * SIZE + 1)
+    link.send(b"".join(line + b"\n" for line in lines[:-1]))
+    replies = [link.reply() for _ in lines[:-1]] + [link.ask(lines[-1])]
+    if replies != [history.answer(line, seat) for line in lines]:
+        yield "the replies are %s" % (replies,)
+    link.ask(b"Q")
+    link.close()
+    yield from ended_problems(server.end(), history)
+    yield from held_problems(folder, history.entries)
+    told = [json.loads(line) for line in (read_file(os.path.join(folder, "log")) or b"").splitlines()]
+    if (begun := [line.get("part") for line in told if line["what"] == "part"]) != [2, 3, 4]:
+        yield "the log says that the parts %s were begun" % begun
+
+
 def each_test(options, book, kind, tests):
     """Runs these tests, each in a folder of its own."""
     for test in tests:
@@ -393,7 +429,7 @@ def state_of_files(folder):
 
 
 def try_reports(options, book):
-    each_test(options, book, "reports", [one_by_one, going_on, ahead, at_once, elsewhere, refused])
+    each_test(options, book, "reports", [one_by_one, going_on, ahead, at_once, elsewhere, refused, without_first, logged])
 
 
 # --- Reading ---
