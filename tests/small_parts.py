@@ -31,6 +31,7 @@ import json
 import os
 import random
 import re
+import shutil
 import signal
 import subprocess
 import sys
@@ -70,6 +71,9 @@ SOON = 10.0
 
 LOOKS = 40
 """So often `show` is called at least while reports come."""
+
+LATE = 100_000
+"""By so many microseconds a slow read is late."""
 
 PAUSE = 0.0003
 """The longest pause between a reply and the signal, in seconds: some reports' time."""
@@ -553,7 +557,8 @@ def other_journal(options, folder):
         follower = Follower(options, folder)
         if not follower.reaches(wanted):
             yield "%d lines of the whole journal are shown" % len(follower.lines())
-        write_file(os.path.join(folder, "j.3"), changed)
+        write_file(os.path.join(folder, "new"), changed)
+        os.replace(os.path.join(folder, "new"), os.path.join(folder, "j.3"))
         if (found := follower.told()) != (4, told):
             yield "%s, wanted %s" % (found, told)
 
@@ -609,8 +614,39 @@ def while_reports_come(options, folder):
         yield "only %d looks were different" % len({len(text) for text in seen})
 
 
+def read_slowly(options, folder):
+    """Readers of which each read begins late, so that reports come after the file's size was asked for."""
+    if shutil.which("strace") is None or run(["strace", "-f", "true"], folder).status != 0:
+        print("left out: readers that are slow: there is no strace, or it may not be used", flush=True)
+        return
+    entries = history_of(reports(2 * SIZE + 3)).entries
+    write_files(folder, files_with(entries))
+    server = Server(options.program, folder, seconds=60, more=LARGE)
+    if not server.listening():
+        yield "it ended with %s" % (server.end(),)
+        return
+    slow = ["strace", "-f", "-o", os.path.join(folder, "trace"), "-e", "trace=pread64,read", "-e", "inject=pread64,read:delay_enter=%d" % LATE]
+    link, history = Link(server.port), history_with(entries)
+    for words in (["show", "j"], ["replay", "--read-only", "j"]):
+        least = len(history.entries)
+        with tempfile.TemporaryFile() as output, tempfile.TemporaryFile() as told:
+            reader = subprocess.Popen([*slow, options.program, *words], cwd=folder, stdout=output, stderr=told)
+            while reader.poll() is None:
+                line = reports(1, len(history.entries))[0]
+                if (reply := link.ask(line)) != (wanted := history.answer(line, 2)):
+                    yield "%s was answered %s, wanted %s" % (line, reply, wanted)
+                time.sleep(0.005)
+            out, errors = (file.seek(0) or file.read() for file in (output, told))
+        found = re.fullmatch(rb"((?s:.*)\n)?S ([0-9]+) [0-9]+ [0-9]+ [0-9]+ open\n", out)
+        if not found or int(found.group(2)) < least:
+            yield "%s while reports come, with slow reads: %s, %s" % (words[0], shown(out[-100:]), errors)
+    link.close()
+    yield from ended_problems(server.end(), history, history_with(entries).rejected)
+    yield from held_problems(folder, history.entries)
+
+
 def try_beside(options, book):
-    each_test(options, book, "beside", [while_reports_come])
+    each_test(options, book, "beside", [while_reports_come, read_slowly])
 
 
 # --- Damage ---
