@@ -75,8 +75,14 @@ LOOKS = 40
 LATE = 100_000
 """By so many microseconds a slow read is late."""
 
-PAUSE = 0.0003
-"""The longest pause between a reply and the signal, in seconds: some reports' time."""
+PAUSE, LONG_PAUSE = 0.0003, 0.003
+"""The longest pause between a reply and the signal, in seconds: some reports' time, also where syncs take long."""
+
+SYNC = 500_000
+"""So many nanoseconds a sync takes in most runs that are killed, so that kills come between the calls that begin a part."""
+
+EARLY = 0.02
+"""The longest time before a server is killed that has hardly begun."""
 
 
 # --- What is wanted ---
@@ -745,9 +751,9 @@ def try_damage(options, book):
 class Stopped:
     """One journal, on which a server is started and killed again and again. `entries` are those that the files held after the last kill."""
 
-    def __init__(self, options, folder, book):
-        self.options, self.folder, self.book = options, folder, book
-        self.entries, self.boundaries = [], 0
+    def __init__(self, options, folder, book, slow):
+        self.options, self.folder, self.book, self.slow = options, folder, book, slow
+        self.entries = []
         write_files(folder, [])
 
     def count_of(self, rng):
@@ -763,6 +769,8 @@ class Stopped:
             wanted = b"I 1 %d" % len(self.entries)
             replies, count = [], self.count_of(rng)
             if is_ahead:
+                # They are answered together, so that most kills come before the first reply.
+                count = 0 if rng.random() < 0.7 else count
                 link.send(b"".join(line + b"\n" for line in lines))
             while len(replies) < min(count, len(lines)):
                 reply = link.reply() if is_ahead else link.ask(lines[len(replies)])
@@ -771,7 +779,7 @@ class Stopped:
                 replies.append(reply)
             if not is_ahead and len(replies) < len(lines):
                 link.send(lines[len(replies)] + b"\n")
-            wait(rng.random() * PAUSE)
+            wait(rng.random() * (LONG_PAUSE if self.slow else PAUSE))
             server.kill()
             replies += link.rest()
             link.close()
@@ -781,11 +789,12 @@ class Stopped:
 
     def one_round(self, rng, number):
         lines = [random_report(rng) for _ in range(2 * SIZE + 10)]
-        server = Server(self.options.program, self.folder, connections=0, seconds=60, more=LARGE)
-        replies, problems, is_ahead = [], [], rng.random() < 0.4
-        is_early = number % 4 == 3
+        is_early, is_ahead = number % 4 == 3, rng.random() < 0.4
+        environment = self.slow if rng.random() < 0.7 else None
+        server = Server(self.options.program, self.folder, connections=0, seconds=60, environment=environment, more=LARGE)
+        replies, problems = [], []
         if is_early:
-            wait(rng.random() * 0.01)
+            wait(rng.random() * EARLY)
             server.kill()
         elif server.listening():
             replies, problems = self.talk(server, rng, lines, is_ahead)
@@ -843,10 +852,22 @@ def wait(seconds):
         pass
 
 
+def slow_syncs(folder):
+    """The environment in which a sync takes long; None where there is no C compiler."""
+    compiler = shutil.which("cc") or shutil.which("gcc")
+    if compiler is None:
+        print("left out: kills while syncs take long: there is no C compiler", flush=True)
+        return None
+    library = os.path.join(folder, "slow_sync.so")
+    source = os.path.join(os.path.dirname(HERE), "bench", "slow_sync.c")
+    subprocess.run([compiler, "-O2", "-shared", "-fPIC", "-o", library, source], check=True)
+    return {**os.environ, "LD_PRELOAD": library, "SYNC_NANOSECONDS": str(SYNC)}
+
+
 def try_kills(options, book):
     rng = random.Random("%d kills" % options.seed)
-    with tempfile.TemporaryDirectory(prefix="parts-", dir=options.folder) as folder:
-        stopped = Stopped(options, folder, book)
+    with tempfile.TemporaryDirectory(prefix="parts-", dir=options.folder) as folder, tempfile.TemporaryDirectory(prefix="parts-") as made:
+        stopped = Stopped(options, folder, book, slow_syncs(made))
         for number in range(options.kills):
             problems = stopped.one_round(rng, number)
             files = {name: data for name, (data, _) in state_of(folder).items()} if problems else {}
