@@ -905,13 +905,14 @@ class Beginning:
             return Talk(self, folder, environment)
 
     def attempt(self, kind, call, last, how, fault=errno.EIO):
+        """A run: what is counted, what is wrong, and the files that it left."""
         told = self.talk(failing(self.library, call, last, how, fault, FAILING_FILE=COUNTED))
         name = self.full.calls[call - 1][0] if call <= len(self.full.calls) else "none"
         what = "%s, %s, call %d (%s) %s %s%s" % (self.name, kind, call, name, how, errno.errorcode[fault], " from there on" if last > call else "")
         problems = self.stopped(told, call) if kind == "stops" else self.failed(told, call, how, fault)
         problems += self.held(told, call, how)
-        self.book.count("calls", "%s %s" % (kind, how))
-        self.book.note("calls", ["%s: %s" % (what, problem) for problem in problems], {name_at(place): data for place, data in enumerate(told.left, 1)})
+        left = {name_at(place): data for place, data in enumerate(told.left, 1)}
+        return "%s %s" % (kind, how), ["%s: %s" % (what, problem) for problem in problems], left
 
     def is_opening(self, call):
         return call <= self.full.by_line[0]
@@ -960,16 +961,23 @@ class Beginning:
         problems = [] if good else ["after %d answers the files hold %d reports more: %s" % (len(told.answered), more, [shown(one) for one in told.left])]
         return problems + told.problems
 
-    def all(self):
+    def ways(self):
+        """In which ways each call fails, as words of `attempt`."""
         for call in range(1, len(self.full.calls) + 1):
             for how in ERRORS:
-                self.attempt("device", call, call, how)
-                self.attempt("device", call, ALWAYS, how)
-            self.attempt("device", call, call, "nothing", errno.ENOSPC)
-            self.attempt("device", call, call, "nothing", errno.EINTR)
-            self.attempt("device", call, call, "short")
+                yield "device", call, call, how
+                yield "device", call, ALWAYS, how
+            yield "device", call, call, "nothing", errno.ENOSPC
+            yield "device", call, call, "nothing", errno.EINTR
+            yield "device", call, call, "short"
             for how in ("stop_before", "stop_in", "stop_after"):
-                self.attempt("stops", call, call, how)
+                yield "stops", call, call, how
+
+    def all(self):
+        with concurrent.futures.ThreadPoolExecutor(self.options.jobs) as pool:
+            for what, problems, left in pool.map(lambda way: self.attempt(*way), self.ways()):
+                self.book.count("calls", what)
+                self.book.note("calls", problems, left)
 
 
 class Talk:
@@ -1076,7 +1084,7 @@ def main():
     parser.add_argument("--only", nargs="+", choices=KINDS, default=KINDS)
     parser.add_argument("--kills", type=int, default=100)
     parser.add_argument("--every", type=int, default=1, help="of the damaged journals each so-manieth")
-    parser.add_argument("--jobs", type=int, default=os.cpu_count() or 1, help="how many damaged journals are tried side by side")
+    parser.add_argument("--jobs", type=int, default=os.cpu_count() or 1, help="how many of the short runs are made side by side")
     parser.set_defaults(program=None)
     options = parser.parse_args()
     try:
