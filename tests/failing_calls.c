@@ -1,6 +1,7 @@
 /* Makes calls of a program fail. tests/failing_calls.py builds it, and loads it with LD_PRELOAD; it says by the environment which calls:
  *
- * FAILING_FILE   the name of the file whose calls count: opening it by this name, and reading, writing, cutting and syncing it;
+ * FAILING_FILE   the names of the files whose calls count, with ':' between them: opening one by this name, taking it away, and reading,
+ *                writing, cutting and syncing it; a folder is one of them too;
  * FAILING_FD     in place of a file, the number of the descriptor whose reads and writes count;
  * FAILING_SOCKETS   in place of a file, which calls on sockets count: `recv`, `send` or `accept`;
  * FAILING_FROM, FAILING_TO   the first and the last call that fails, counted from 1;
@@ -40,8 +41,13 @@ enum how {
 
 static const char *HOWS[] = {"nothing", "part", "all", "short", "zero", "stop_before", "stop_in", "stop_after"};
 
-static int ready;
-static const char *file, *sockets, *calls_file, *refused_file;
+/* How many names of files there may be, and how long they may be together. */
+#define NAMES 8
+#define NAME_BYTES 256
+
+static int ready, file_count;
+static char file_names[NAME_BYTES], *files[NAMES];
+static const char *sockets, *calls_file, *refused_file;
 static long descriptor = -1, from, to, memory_from, memory_to;
 static int fault;
 static enum how how;
@@ -58,10 +64,19 @@ static long number(const char *name, long otherwise)
     return text ? strtol(text, NULL, 10) : otherwise;
 }
 
+static void take_names(const char *given)
+{
+    char *rest = file_names;
+    snprintf(file_names, sizeof file_names, "%s", given ? given : "");
+    for (char *name; file_count < NAMES && (name = strsep(&rest, ":")) != NULL;)
+        if (*name)
+            files[file_count++] = name;
+}
+
 __attribute__((constructor)) static void begin(void)
 {
     const char *name = getenv("FAILING_HOW");
-    file = getenv("FAILING_FILE");
+    take_names(getenv("FAILING_FILE"));
     sockets = getenv("FAILING_SOCKETS");
     calls_file = getenv("FAILING_CALLS");
     refused_file = getenv("FAILING_REFUSED");
@@ -89,7 +104,16 @@ static void tell(const char *name, const char *call, long what, long size)
     }
 }
 
-/* Whether this is the descriptor of the file whose calls count. */
+/* Whether this is the name of a file whose calls count. */
+static int is_named(const char *path)
+{
+    for (int i = 0; ready && i < file_count; i++)
+        if (strcmp(path, files[i]) == 0)
+            return 1;
+    return 0;
+}
+
+/* Whether this is the descriptor of a file whose calls count. */
 static int counts(int fd)
 {
     struct stat ours, its;
@@ -97,8 +121,12 @@ static int counts(int fd)
         return 0;
     if (descriptor >= 0)
         return fd == descriptor;
-    return file && syscall(SYS_newfstatat, AT_FDCWD, file, &its, 0) == 0 && syscall(SYS_fstat, fd, &ours) == 0
-        && ours.st_dev == its.st_dev && ours.st_ino == its.st_ino;
+    if (file_count == 0 || syscall(SYS_fstat, fd, &ours) != 0)
+        return 0;
+    for (int i = 0; i < file_count; i++)
+        if (syscall(SYS_newfstatat, AT_FDCWD, files[i], &its, 0) == 0 && ours.st_dev == its.st_dev && ours.st_ino == its.st_ino)
+            return 1;
+    return 0;
 }
 
 /* Counts a call, and answers whether it is one that fails. */
@@ -217,7 +245,7 @@ int statx(int fd, const char *path, int flags, unsigned mask, struct statx *into
 static int caught_open(int folder, const char *path, int flags, int mode)
 {
     int done = -1;
-    if (!ready || !file || strcmp(path, file) != 0 || !is_turn("open", flags, 0))
+    if (!is_named(path) || !is_turn("open", flags, 0))
         return (int)syscall(SYS_openat, folder, path, flags, mode);
     if (is_done_first())
         done = (int)syscall(SYS_openat, folder, path, flags, mode);
@@ -255,6 +283,18 @@ OPEN(open)
 OPEN(open64)
 OPEN_AT(openat)
 OPEN_AT(openat64)
+
+int unlinkat(int folder, const char *path, int flags)
+{
+    long done = 0;
+    if (!is_named(path) || !is_turn("unlink", flags, 0))
+        return (int)syscall(SYS_unlinkat, folder, path, flags);
+    if (is_done_first())
+        done = syscall(SYS_unlinkat, folder, path, flags);
+    return (int)ended(done);
+}
+
+int unlink(const char *path) { return unlinkat(AT_FDCWD, path, 0); }
 
 /* Whether calls of this name on sockets count. */
 static int counts_socket(const char *call)

@@ -19,6 +19,7 @@ The comparers in `tests/compare_*.py` hold the program's answers against it. Fro
     states       the processes reached by a trace, and the limits
     journal      files of records
     session      reports judged and recorded
+    parts        files of journals in parts
     protocol     lines and replies
     showing      what `show` prints of a journal
     program      the command line

@@ -21,6 +21,7 @@ from . import trees
 from .elaboration import read
 from .faults import GivesUp, JournalFault, JudgeFault, ScriptFault
 from .journal import opened
+from .parts import PartFault, opened_parts, replayed_parts
 from .printing import printed
 from .protocol import COMMAND, EVENT, LINE, Conversation
 from .session import Session, replayed
@@ -78,11 +79,11 @@ def check(text: bytes, root: str, lines: bytes, large: bool = False, name: str =
     return Answer(output, b"", BAD_USE if conversation.outcomes else DONE)
 
 
-def with_journal(file: bytes, name: str, output: Callable[[Session], str]) -> Answer:
-    """What is made of the session of a journal, or the fault that it has."""
+def with_session(call: Callable[[], Session], name: str, output: Callable[[Session], str]) -> Answer:
+    """What is made of the session of a journal that the call gives, or the fault that the journal has."""
     try:
-        session = replayed(opened(file), watches=True)
-    except JournalFault as fault:
+        session = call()
+    except (JournalFault, PartFault) as fault:
         return failed(f"{name}: {fault}", BAD_JOURNAL)
     except ScriptFault as fault:
         return failed(f"{name}: script {fault}", BAD_JOURNAL)
@@ -91,22 +92,37 @@ def with_journal(file: bytes, name: str, output: Callable[[Session], str]) -> An
     return Answer(output(session).encode(), b"", REJECTED if session.counts()[3] else DONE)
 
 
+def with_journal(file: bytes, name: str, output: Callable[[Session], str]) -> Answer:
+    """What is made of the session of a journal, or the fault that it has."""
+    return with_session(lambda: replayed(opened(file), watches=True), name, output)
+
+
 def replay(file: bytes, name: str = "j") -> Answer:
     """What `replay` answers for the bytes of a journal."""
     return with_journal(file, name, lambda session: session.summary() + "\n")
 
 
-def after_last_record(file: bytes, name: str = "j") -> bytes:
-    """What `show` reports of the bytes after the last record of a journal; nothing where there are none."""
-    count = len(file) - opened(file).length
+def told_after(count: int, name: str) -> bytes:
+    """What is reported of so many bytes after the last record; nothing where there are none."""
     what = b"byte" if count == 1 else b"bytes"
     return b"%s: %d %s after the last record\n" % (name.encode(), count, what) if count else b""
+
+
+def after_last_record(file: bytes, name: str = "j") -> bytes:
+    """What `show` reports of the bytes after the last record of a journal; nothing where there are none."""
+    return told_after(len(file) - opened(file).length, name)
 
 
 def show(file: bytes, name: str = "j", rejected: bool = False, coverage: bool = False, as_json: bool = False) -> Answer:
     """What `show` answers for the bytes of a journal."""
     answer = with_journal(file, name, lambda session: shown(session, rejected, coverage, as_json))
     return answer if answer.errors else Answer(answer.output, after_last_record(file, name), answer.status)
+
+
+def of_parts(files: list[bytes], size: int, output: Callable[[Session], str], name: str = "j") -> Answer:
+    """What is made of the session that these files of a journal in parts hold, which are only read."""
+    answer = with_session(lambda: replayed_parts(files, size, watches=True), name, output)
+    return answer if answer.errors else Answer(answer.output, told_after(opened_parts(files, size).after, name), answer.status)
 
 
 def with_deep_stack(call: Callable[[], Result]) -> Result:
