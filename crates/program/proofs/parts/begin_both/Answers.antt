@@ -1,10 +1,11 @@
-use Rattle.std.proofs.Common.{◌≡◌, ◌∙◌, List, ℕ, inr, refl, sym, subst}
+use Rattle.std.proofs.Common.{◌∙◌, List, ℕ, sym, subst}
 use Rattle.term.specs.Specs.{Specified}
 use Rattle.term.specs.declared.names.Names.{Names}
 use Rattle.shared.specs.Records.{names_of}
 use Rattle.shared.specs.Scripts.{IsReadAs}
 use Rattle.shared.specs.Entry.{Entry}
 use Rattle.shared.specs.Legal.{IsJudged}
+use Rattle.program.proofs.InParts.{no_display}
 use Rattle.program.proofs.parts.begin_both.Goals as goal
 
 pub begin-requires-2 : goal.begin-requires-2
@@ -28,3 +29,6 @@ returns-in-Ok-begin-2-clause-showing g c =
     (subst (λ (r : List ℕ). IsReadAs (names_of header.version) header.script.items r spec) (sym c.deref-2.ensures.value) c.in-Ok.ensures.read)) in
     let e = c.in-Ok-begin-2.ensures in
     (e.spec ∙ c.in-Ok-read_as.ensures.only spec read, e.options, e.history, e.written)
+
+pub returns-in-Err-begin-2-clause-fault : goal.returns-in-Err-begin-2-clause-fault
+returns-in-Err-begin-2-clause-fault g c claims = no_display c.args.size (g.F.Folder.state c.args.folder).bytes c.into.result c.into.ensures

@@ -1,11 +1,15 @@
-use Rattle.std.proofs.Common.{◌≡◌, ◌++◌, List, ℕ, [], length, refl, sym, ap, subst, ◌∙◌}
-use Rattle.session.specs.Resumed.{Resumed}
+use Rattle.std.proofs.Common.{◌≡◌, ◌<◌, ◌++◌, IsTrue, List, ℕ, [], length, sym, ap, subst, ◌∙◌}
+use Rattle.std.proofs.lemmas.Bool.{false≢true}
 use Rattle.shared.specs.Entry.{Entry}
-use Rattle.large_sessions.proofs.Going.{fewer_left}
+use Rattle.large_sessions.specs.Opening.{IsDone, Opened}
+use Rattle.large_sessions.proofs.Going.{fewer_left, parts_left}
 use Rattle.large_sessions.proofs.Went.{Went, failed_fault, failed_only, went_gone, went_none, went_on}
 use Rattle.shown.specs.Shows.{Sends}
 use Rattle.shown.proofs.Sending.{sends_more}
-use Rattle.program.proofs.InParts.{AreShown, IsFrom, ends_at, judged_on, replay_from, shown_first, shown_on}
+use Rattle.program.proofs.InParts.{AreShown, IsFrom, ends_at, err_and, err_match, judged_on, let_go_of, no_display, replay_from, shown_first, shown_on}
+use Rattle.program.specs.Parts.{HaveNoDisplay}
+use Rattle.program.specs.Showings.{IsBeyond}
+use Rattle.program.specs.declared.showing.DisplayError.{DisplayError}
 use Rattle.program.proofs.parts.show_each.Goals as goal
 
 pub take-requires : goal.take-requires
@@ -34,15 +38,15 @@ pub take-requires-2 : goal.take-requires-2
 take-requires-2 g c =
     let i = c.loop-replaying.invariant in
     let s = c.loop-replaying.showing in
-    let taken = c.let_go.ensures.taken in
+    let taken = let_go_of c.loop-replaying.replaying c.let_go.new.self c.let_go.ensures.taken in
     let e = c.in-Ok.ensures in
     let t = c.in-Ok.next.taken in
     let go = c.let_go.new.self.taken in
     judged_on t.spec s.spec t.entries (s.history ++ c.entries-2.result.now)
-    (i.spec_is ∙ sym (ap (λ (r : Resumed). r.spec) taken) ∙ sym e.spec)
+    (i.spec_is ∙ sym taken.0 ∙ sym e.spec)
     (ap (λ (l : List Entry). s.history ++ l) c.entries-2.ensures.entries
-        ∙ shown_on s.history go.entries t.entries t.gone (i.history_is ∙ sym (ap (λ (r : Resumed). r.entries) taken))
-        (e.gone ∙ ap (λ (r : Resumed). r.gone) taken ∙ sym (ap (λ (r : Resumed). length r.entries) taken)) e.longer)
+        ∙ shown_on s.history go.entries t.entries t.gone (i.history_is ∙ sym taken.1)
+        (e.gone ∙ taken.2 ∙ sym (ap length taken.1)) e.longer)
     c.entries-2.ensures.judged
 
 pub loop-replaying-preserved : goal.loop-replaying-preserved
@@ -51,38 +55,65 @@ loop-replaying-preserved g c =
     let contents = g.W.Write.contents in
     let i = c.loop-replaying.invariant in
     let s = c.loop-replaying.showing in
-    let taken = c.let_go.ensures.taken in
+    let taken = let_go_of c.loop-replaying.replaying c.let_go.new.self c.let_go.ensures.taken in
     let e = c.in-Ok.ensures in
     let t = c.in-Ok.next.taken in
     let go = c.let_go.new.self in
-    let w = went_gone state c.args.replaying c.loop-replaying.replaying go i.went c.let_go.ensures.opened (ap (λ (r : Resumed). r.spec) taken) (ap (λ (r : Resumed). r.entries) taken) in
+    let w = went_gone state c.args.replaying c.loop-replaying.replaying go i.went c.let_go.ensures.opened taken.0 taken.1 in
     let n : Went state go c.in-Ok.next = record { alike = e.alike; spec_is = e.spec; longer = e.longer; goes = e.continues; bytes = e.untouched; moment = e.any_moment; only = e.only } in
     let f = c.in_ok-take-2.ensures in
     record {
       went = went_on state c.args.replaying go w c.in-Ok.next n;
-      spec_is = c.take-2.ensures.spec ∙ i.spec_is ∙ sym (ap (λ (r : Resumed). r.spec) taken) ∙ sym e.spec;
+      spec_is = c.take-2.ensures.spec ∙ i.spec_is ∙ sym taken.0 ∙ sym e.spec;
       same = c.take-2.ensures.spec ∙ i.same;
       options_are = c.take-2.ensures.options ∙ i.options_are;
       history_is = f.history ∙ ap (λ (l : List Entry). s.history ++ l) c.entries-2.ensures.entries
-          ∙ shown_on s.history go.taken.entries t.entries t.gone (i.history_is ∙ sym (ap (λ (r : Resumed). r.entries) taken))
-          (e.gone ∙ ap (λ (r : Resumed). r.gone) taken ∙ sym (ap (λ (r : Resumed). length r.entries) taken)) e.longer;
+          ∙ shown_on s.history go.taken.entries t.entries t.gone (i.history_is ∙ sym taken.1)
+          (e.gone ∙ taken.2 ∙ sym (ap length taken.1)) e.longer;
       sends = sends_more (contents c.args.output.now) (contents c.loop-replaying.output) (contents c.take-2.new.output) [] s.written c.take-2.new.self.written i.sends f.sends;
     }
+
+pub loop-replaying-smaller : goal.loop-replaying-smaller
+loop-replaying-smaller g c =
+    let go = c.let_go.new.self in
+    let next = c.in-Ok.next in
+    let opened = c.let_go.ensures.opened in
+    let e = c.in-Ok.ensures in
+    let going : IsDone go.opened → ⊥ = λ done. false≢true (sym c.loop-replaying-test.true ∙ c.is_done.ensures.done.1 (subst (λ (o : Opened _). IsDone o) opened done)) in
+    subst (λ (o : Opened _). parts_left next.opened < parts_left o) opened (fewer_left go.opened next.opened c.in-Ok.field-0-1 going (λ none. (e.none none).0) e.further)
+
+pub returns-in_err-take-clause-fault : goal.returns-in_err-take-clause-fault
+returns-in_err-take-clause-fault g c =
+    let held = c.args.replaying.opened.held in
+    let s = g.F.Folder.state held.folder in
+    err_and c.from_residual.result IsBeyond (λ (e : DisplayError). IsTrue s.claims_bytes → HaveNoDisplay held.size s.bytes e) c.from_residual.ensures.1 (λ e beyond claims. no_display held.size s.bytes e beyond)
+
+pub returns-in_err-take-clause-only : goal.returns-in_err-take-clause-only
+returns-in_err-take-clause-only g c claims script root spec h is small start = err_match c.from_residual.result IsBeyond _ IsBeyond c.from_residual.ensures.1 (λ e beyond. beyond)
+
+pub returns-in_err-take-2-clause-fault : goal.returns-in_err-take-2-clause-fault
+returns-in_err-take-2-clause-fault g c =
+    let held = c.args.replaying.opened.held in
+    let s = g.F.Folder.state held.folder in
+    err_and c.from_residual-in_err-take-2.result IsBeyond (λ (e : DisplayError). IsTrue s.claims_bytes → HaveNoDisplay held.size s.bytes e) c.from_residual-in_err-take-2.ensures.1 (λ e beyond claims. no_display held.size s.bytes e beyond)
+
+pub returns-in_err-take-2-clause-only : goal.returns-in_err-take-2-clause-only
+returns-in_err-take-2-clause-only g c claims script root spec h is small start = err_match c.from_residual-in_err-take-2.result IsBeyond _ IsBeyond c.from_residual-in_err-take-2.ensures.1 (λ e beyond. beyond)
 
 pub returns-in-Err-clause-fault : goal.returns-in-Err-clause-fault
 returns-in-Err-clause-fault g c claims =
     let state = g.F.Folder.state in
-    let taken = c.let_go.ensures.taken in
+    let taken = let_go_of c.loop-replaying.replaying c.let_go.new.self c.let_go.ensures.taken in
     let go = c.let_go.new.self in
-    let w = went_gone state c.args.replaying c.loop-replaying.replaying go c.loop-replaying.invariant.went c.let_go.ensures.opened (ap (λ (r : Resumed). r.spec) taken) (ap (λ (r : Resumed). r.entries) taken) in
+    let w = went_gone state c.args.replaying c.loop-replaying.replaying go c.loop-replaying.invariant.went c.let_go.ensures.opened taken.0 taken.1 in
     failed_fault state c.args.replaying go w c.in-Err.error c.in-Err.ensures.fault claims
 
 pub returns-in-Err-clause-only : goal.returns-in-Err-clause-only
 returns-in-Err-clause-only g c claims script root spec h is small start =
     let state = g.F.Folder.state in
-    let taken = c.let_go.ensures.taken in
+    let taken = let_go_of c.loop-replaying.replaying c.let_go.new.self c.let_go.ensures.taken in
     let go = c.let_go.new.self in
-    let w = went_gone state c.args.replaying c.loop-replaying.replaying go c.loop-replaying.invariant.went c.let_go.ensures.opened (ap (λ (r : Resumed). r.spec) taken) (ap (λ (r : Resumed). r.entries) taken) in
+    let w = went_gone state c.args.replaying c.loop-replaying.replaying go c.loop-replaying.invariant.went c.let_go.ensures.opened taken.0 taken.1 in
     failed_only state c.args.replaying go w c.in-Err.error c.in-Err.ensures.only claims script root spec h is small start
 
 pub returns-clause-held : goal.returns-clause-held
@@ -92,7 +123,7 @@ returns-clause-held g c claims =
     let r = c.loop-replaying.replaying in
     let o = c.args.replaying.opened.held in
     let f : IsFrom state (state o.folder) o.size r = record { size_is = i.went.alike.size; goes = i.went.goes; bytes = i.went.bytes } in
-    replay_from state (state o.folder) o.size r f r.opened.held.script r.opened.held.root r.taken.spec r.taken.entries (c.is_done.ensures.hold c.while-is_done.false) claims
+    replay_from state (state o.folder) o.size r f r.opened.held.script r.opened.held.root r.taken.spec r.taken.entries (c.is_done.ensures.hold c.loop-replaying-test.false) claims
 
 pub returns-clause-only : goal.returns-clause-only
 returns-clause-only g c claims script root spec h is small start =
@@ -101,5 +132,5 @@ returns-clause-only g c claims script root spec h is small start =
     let r = c.loop-replaying.replaying in
     let o = c.args.replaying.opened.held in
     let f : IsFrom state (state o.folder) o.size r = record { size_is = i.went.alike.size; goes = i.went.goes; bytes = i.went.bytes } in
-    let all = ends_at state (state o.folder) o.size r f (c.is_done.ensures.all c.while-is_done.false) claims script root spec h is (i.went.only claims script root spec h is small start) in
+    let all = ends_at state (state o.folder) o.size r f (c.is_done.ensures.all c.loop-replaying-test.false) claims script root spec h is (i.went.only claims script root spec h is small start) in
     all.1
