@@ -3,7 +3,7 @@ use Rattle.shown.proofs.Sending.{writes_whole}
 use Rattle.program.proofs.InParts.{IsFrom, claims_at, display_from, err_and, err_match, no_display, replay_at, replay_from}
 use Rattle.program.specs.Parts.{HaveNoDisplay}
 use Rattle.program.specs.Showings.{IsBeyond}
-use Rattle.program.proofs.parts.lines_of_parts.Goals as goal
+use Rattle.program.proofs.in_parts.lines_of_parts.Goals as goal
 
 pub returns-in_err-begin_both-clause-fault : goal.returns-in_err-begin_both-clause-fault
 returns-in_err-begin_both-clause-fault g c =

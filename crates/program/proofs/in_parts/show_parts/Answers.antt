@@ -6,7 +6,7 @@ use Rattle.program.specs.Exits.{replay_exit, rejected_exit}
 use Rattle.program.specs.Showings.{IsBeyond, WritesAll}
 use Rattle.program.specs.Parts.{HaveNoDisplay}
 use Rattle.program.proofs.InParts.{err_and, err_match, no_display, written_all}
-use Rattle.program.proofs.parts.show_parts.Goals as goal
+use Rattle.program.proofs.in_parts.show_parts.Goals as goal
 
 pub returns-in_err-lines_of_parts-clause-fault : goal.returns-in_err-lines_of_parts-clause-fault
 returns-in_err-lines_of_parts-clause-fault g c =
@@ -33,7 +33,7 @@ returns-in-Ok-clause-only g c claims script root spec h is small =
     let new = g.W.Write.contents c.write_end-written.new.output in
     let same = c.in_ok-lines_of_parts.ensures.only claims script root spec h is small in
     let all = written_all r.taken.spec r.taken.entries c.args.options old (g.W.Write.contents c.lines_of_parts.new.output) new
-        c.in_ok-lines_of_parts.left.items c.summary-summary.result c.summary-summary.ensures c.in_ok-lines_of_parts.ensures.text c.in-Ok.ensures in (
+    c.in_ok-lines_of_parts.left.items c.summary-summary.result c.summary-summary.ensures c.in_ok-lines_of_parts.ensures.text c.in-Ok.ensures in (
       same.1,
       subst (λ (l : List Entry). WritesAll spec l c.args.options old new) same.1 (subst (λ (s : Specified). WritesAll s r.taken.entries c.args.options old new) same.0 all),
       c.exit_of.ensures ∙ ap (λ (n : Summary). rejected_exit n.rejected) c.summary-summary.ensures ∙ ap replay_exit same.1,

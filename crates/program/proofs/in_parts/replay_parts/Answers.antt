@@ -2,7 +2,7 @@ use Rattle.std.proofs.Common.{◌≡◌, IsTrue, sym, subst}
 use Rattle.shared.specs.Scripts.{IsOutside}
 use Rattle.large_sessions.specs.Sessions.{HaveNoSession}
 use Rattle.program.proofs.InParts.{err_and, err_match}
-use Rattle.program.proofs.parts.replay_parts.Goals as goal
+use Rattle.program.proofs.in_parts.replay_parts.Goals as goal
 
 pub returns-in-Ok-clause-only : goal.returns-in-Ok-clause-only
 returns-in-Ok-clause-only g c claims script root spec h is small = c.in_ok-replaying.ensures.only claims script root spec h is small
