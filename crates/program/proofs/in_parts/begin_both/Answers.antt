@@ -5,7 +5,6 @@ use Rattle.shared.specs.Records.{names_of}
 use Rattle.shared.specs.Scripts.{IsReadAs}
 use Rattle.shared.specs.Entry.{Entry}
 use Rattle.shared.specs.Legal.{IsJudged}
-use Rattle.program.proofs.InParts.{no_display}
 use Rattle.program.proofs.in_parts.begin_both.Goals as goal
 
 pub begin-requires-2 : goal.begin-requires-2
@@ -29,6 +28,3 @@ returns-in-Ok-begin-clause-showing g c =
     (subst (λ (r : List ℕ). IsReadAs (names_of header.version) header.script.items r spec) (sym c.deref-2.ensures.value) c.in-Ok.ensures.read)) in
     let e = c.in-Ok-begin.ensures in
     (e.spec ∙ c.in-Ok-read_as.ensures.only spec read, e.options, e.history, e.written)
-
-pub returns-in-Err-begin-clause-fault : goal.returns-in-Err-begin-clause-fault
-returns-in-Err-begin-clause-fault g c claims = no_display c.args.size (g.F.Folder.state c.args.folder).bytes c.into.result c.into.ensures

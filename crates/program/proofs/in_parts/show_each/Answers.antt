@@ -34,20 +34,20 @@ loop-alloc-init g c =
       sends = subst (λ (w : List ℕ). Sends (g.W.Write.contents c.args.output.now) (g.W.Write.contents c.take.new.output) w c.take.new.self.written) c.requires.none.1 e.sends;
     }
 
-pub take-requires-2 : goal.take-requires-2
-take-requires-2 g c =
+pub take-requires-in-loop-alloc : goal.take-requires-in-loop-alloc
+take-requires-in-loop-alloc g c =
     let i = c.loop-alloc.invariant in
     let s = c.loop-alloc.showing in
     let taken = let_go_of c.loop-alloc.replaying c.let_go.new.self c.let_go.ensures.taken in
     let e = c.in-Ok.ensures in
     let t = c.in-Ok.next.taken in
     let go = c.let_go.new.self.taken in
-    judged_on t.spec s.spec t.entries (s.history ++ c.entries-2.result.now)
+    judged_on t.spec s.spec t.entries (s.history ++ c.entries-in-loop-alloc.result.now)
     (i.spec_is ∙ sym taken.0 ∙ sym e.spec)
-    (ap (λ (l : List Entry). s.history ++ l) c.entries-2.ensures.entries
+    (ap (λ (l : List Entry). s.history ++ l) c.entries-in-loop-alloc.ensures.entries
     ∙ shown_on s.history go.entries t.entries t.gone (i.history_is ∙ sym taken.1)
     (e.gone ∙ taken.2 ∙ sym (ap length taken.1)) e.longer)
-    c.entries-2.ensures.judged
+    c.entries-in-loop-alloc.ensures.judged
 
 pub loop-alloc-preserved : goal.loop-alloc-preserved
 loop-alloc-preserved g c =
@@ -64,13 +64,13 @@ loop-alloc-preserved g c =
     let f = c.in_ok-take-2.ensures in
     record {
       went = went_on state c.args.replaying go w c.in-Ok.next n;
-      spec_is = c.take-2.ensures.spec ∙ i.spec_is ∙ sym taken.0 ∙ sym e.spec;
-      same = c.take-2.ensures.spec ∙ i.same;
-      options_are = c.take-2.ensures.options ∙ i.options_are;
-      history_is = f.history ∙ ap (λ (l : List Entry). s.history ++ l) c.entries-2.ensures.entries
+      spec_is = c.take-in-loop-alloc.ensures.spec ∙ i.spec_is ∙ sym taken.0 ∙ sym e.spec;
+      same = c.take-in-loop-alloc.ensures.spec ∙ i.same;
+      options_are = c.take-in-loop-alloc.ensures.options ∙ i.options_are;
+      history_is = f.history ∙ ap (λ (l : List Entry). s.history ++ l) c.entries-in-loop-alloc.ensures.entries
           ∙ shown_on s.history go.taken.entries t.entries t.gone (i.history_is ∙ sym taken.1)
           (e.gone ∙ taken.2 ∙ sym (ap length taken.1)) e.longer;
-      sends = sends_more (contents c.args.output.now) (contents c.loop-alloc.output) (contents c.take-2.new.output) [] s.written c.take-2.new.self.written i.sends f.sends;
+      sends = sends_more (contents c.args.output.now) (contents c.loop-alloc.output) (contents c.take-in-loop-alloc.new.output) [] s.written c.take-in-loop-alloc.new.self.written i.sends f.sends;
     }
 
 pub loop-alloc-smaller : goal.loop-alloc-smaller
