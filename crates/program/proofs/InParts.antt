@@ -1,5 +1,5 @@
 -- What is shown of a journal in parts.
-use Rattle.std.proofs.Common.{◌≡◌, ◌<◌, ◌^◌, ℕ, IsTrue, List, [], ◌∷◌, ◌++◌, Option, Result, Ok, Err, IsErrAnd, MatchResult, length, drop, inl, refl, sym, ◌∙◌, ap, subst}
+use Rattle.std.proofs.Common.{◌≡◌, ◌<◌, ◌^◌, ℕ, IsTrue, List, [], ◌∷◌, ◌++◌, Option, Result, Ok, Err, IfErr, IsErrAnd, MatchResult, length, drop, inl, refl, sym, ◌∙◌, ap, subst}
 use Rattle.disk.specs.State.{FolderState}
 use Rattle.disk.specs.Calls.{Continues}
 use Rattle.disk.proofs.Moments.{continues_on}
@@ -94,6 +94,11 @@ shown_first shown new gone none zero = ap (λ (l : List Entry). l ++ drop gone n
 pub judged_on : (spec now : Specified) (h all : List Entry) → now ≡ spec → all ≡ h → IsJudged spec h → IsJudged now all
 judged_on spec now h all same is judged = subst (λ (s : Specified). IsJudged s all) (sym same) (subst (λ (l : List Entry). IsJudged spec l) (sym is) judged)
 
+-- all entries that were taken over were let go, and nothing else changed
+pub let_go_of : {F : Type 0} (old new : Replayed F) → new.taken ≡ record old.taken { gone = length old.taken.entries }
+    → (new.taken.spec ≡ old.taken.spec) × (new.taken.entries ≡ old.taken.entries) × (new.taken.gone ≡ length old.taken.entries)
+let_go_of old new taken = (λ i. (taken i).spec, λ i. (taken i).entries, λ i. (taken i).gone)
+
 -- what was read so far is shown, and its text was written but for an end
 pub record AreShown {F : Type 0} (state : F → FolderState) (first now : Replayed F) (begun showing : Begun) (old new : Option (List ℕ)) : Type 0 where
   pub went : Went state first now
@@ -108,8 +113,11 @@ pub written_all : (spec : Specified) (h : List Entry) (options : Options) (old m
     → Appends mid new (left ++ summary_text options.format counts) → WritesAll spec h options old new
 written_all spec h options old mid new left counts same lines written = all_written {T = Unit {0}} {E = Unit {0}} (Ok tt) spec h options old mid new left counts same lines written
 
-
--- an error of either kind
+-- what is known of an error
 pub err_match : {T E : Type 0} (r : Result T E) (P : E → Type 0) (Q : T → Type 0) (R : E → Type 0) → IsErrAnd r P → ((e : E) → P e → R e) → MatchResult r Q R
 err_match (Ok x) P Q R has step = absurd has
 err_match (Err e) P Q R has step = step e has
+
+pub err_and : {T E : Type 0} (r : Result T E) (P R : E → Type 0) → IsErrAnd r P → ((e : E) → P e → R e) → IfErr r R
+err_and (Ok x) P R has step = absurd has
+err_and (Err e) P R has step = step e has

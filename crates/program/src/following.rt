@@ -27,7 +27,10 @@ pub enum FollowError {
 }
 
 // One text after the other.
-pub(crate) fn joined<A: Allocator>(text: Vec<u8, A>, left: Vec<u8, A>) -> Result<Vec<u8, A>, AllocError>
+pub(crate) fn joined<A: Allocator>(
+    text: Vec<u8, A>,
+    left: Vec<u8, A>,
+) -> Result<Vec<u8, A>, AllocError>
     ensures { IfOk result (λ whole. whole.items ≡ text.items ++ left.items) }
 {
     let mut text = text;

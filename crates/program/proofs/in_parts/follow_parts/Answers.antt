@@ -1,7 +1,7 @@
 use Rattle.std.proofs.Common.{Vec, List, ℕ, Ok, sym, subst, IfOk}
 use Rattle.std.proofs.lemmas.Result.{IfOk-weaker}
 use Rattle.shown.specs.Shows.{Shows}
-use Rattle.program.proofs.parts.follow_parts.Goals as goal
+use Rattle.program.proofs.in_parts.follow_parts.Goals as goal
 
 pub returns-in-Ok : goal.returns-in-Ok
 returns-in-Ok g c =

@@ -1,6 +1,6 @@
 use Rattle.large_sessions.proofs.Went.{Went}
 use Rattle.program.proofs.InParts.{IsFrom, claims_at, ends_at, fault_from, from_on, replay_at, replay_from}
-use Rattle.program.proofs.parts.whole_of.Goals as goal
+use Rattle.program.proofs.in_parts.whole_of.Goals as goal
 
 pub returns-in-Ok-whole-clause-replayed : goal.returns-in-Ok-whole-clause-replayed
 returns-in-Ok-whole-clause-replayed g c claims =

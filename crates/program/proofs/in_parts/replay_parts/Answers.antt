@@ -1,0 +1,20 @@
+use Rattle.std.proofs.Common.{◌≡◌, IsTrue, sym, subst}
+use Rattle.shared.specs.Scripts.{IsOutside}
+use Rattle.large_sessions.specs.Sessions.{HaveNoSession}
+use Rattle.program.proofs.InParts.{err_and, err_match}
+use Rattle.program.proofs.in_parts.replay_parts.Goals as goal
+
+pub returns-in-Ok-clause-only : goal.returns-in-Ok-clause-only
+returns-in-Ok-clause-only g c claims script root spec h is small = c.in_ok-replaying.ensures.only claims script root spec h is small
+
+pub returns-in_err-replaying-clause-fault : goal.returns-in_err-replaying-clause-fault
+returns-in_err-replaying-clause-fault g c =
+    let s = g.F.Folder.state c.args.folder in
+    let failed = c.in_err-replaying.field-0.0 in
+    err_and c.from_residual.result (λ e. e ≡ failed) (λ e. IsTrue s.claims_bytes → HaveNoSession c.args.size s.bytes e) c.from_residual.ensures.1
+    (λ e same. subst (λ (x : _). IsTrue s.claims_bytes → HaveNoSession c.args.size s.bytes x) (sym same) c.in_err-replaying.ensures.fault)
+
+pub returns-in_err-replaying-clause-only : goal.returns-in_err-replaying-clause-only
+returns-in_err-replaying-clause-only g c claims script root spec h is small =
+    let failed = c.in_err-replaying.field-0.0 in
+    err_match c.from_residual.result (λ e. e ≡ failed) _ IsOutside c.from_residual.ensures.1 (λ e same. subst IsOutside (sym same) (c.in_err-replaying.ensures.only claims script root spec h is small))
