@@ -445,20 +445,18 @@ def try_reports(options, book):
 
 # --- Reading ---
 
-def reading_problems(options, folder, files, ways):
-    """What is wrong with what reads these files: the answers, and what is written."""
-    wanted = Wanted(files, ways)
+def reading_problems(options, folder, wanted):
+    """What is wrong with what reads the files: the answers, and what is written."""
     before = state_of(folder)
-    for words, answer in [(["replay", "--read-only", "j"], wanted.read_only)] + [(show_words(*way), wanted.shows[way]) for way in ways]:
+    for words, answer in [(["replay", "--read-only", "j"], wanted.read_only)] + [(show_words(*way), answer) for way, answer in wanted.shows.items()]:
         if (done := run([options.program, *words], folder)) != answer:
             yield "%s: %s, wanted %s" % (" ".join(words), done, answer)
     if state_of(folder) != before:
         yield "the files were changed by what only reads them"
 
 
-def replay_problems(options, folder, files):
+def replay_problems(options, folder, wanted):
     """What is wrong with `replay`, and with the files that it leaves."""
-    wanted = Wanted(files)
     before = state_of(folder)
     if (done := run([options.program, "replay", "j"], folder)) != wanted.replay:
         yield "replay: %s, wanted %s" % (done, wanted.replay)
@@ -475,8 +473,8 @@ def try_reading(options, book):
             files[-1] += after
             with tempfile.TemporaryDirectory(prefix="parts-", dir=options.folder) as folder:
                 write_files(folder, files)
-                problems = list(reading_problems(options, folder, files, WAYS))
-                problems += replay_problems(options, folder, files)
+                wanted = Wanted(files, WAYS)
+                problems = [*reading_problems(options, folder, wanted), *replay_problems(options, folder, wanted)]
             book.count("reading", "journals")
             book.note("reading", ["%d reports and %s: %s" % (count, after, problem) for problem in problems], dict(zip(map(name_at, range(1, 9)), files)))
 
@@ -705,9 +703,8 @@ def wrong_parts(files, entries):
     yield from lines
 
 
-def served_problems(options, folder, files):
+def served_problems(options, folder, wanted):
     """What is wrong with a server on files that are refused."""
-    wanted = Wanted(files)
     before = state_of(folder)
     done = run([options.program, "serve", "p.csp", "P", "j", "--listen", "127.0.0.1:0", "--connections", "1", *LARGE], folder)
     if done != wanted.replay:
@@ -722,15 +719,15 @@ def damage_problems(options, damage, is_sample):
     with tempfile.TemporaryDirectory(prefix="parts-", dir=options.folder) as folder:
         write_files(folder, files)
         there = [data or b"" for data in files]
-        problems = list(reading_problems(options, folder, there, [WAYS[0]]))
         wanted = Wanted(there)
+        problems = list(reading_problems(options, folder, wanted))
         if is_seen and not wanted.is_refused:
             problems.append("the reference doesn't see it")
         # An empty first file is that of a new journal.
         if wanted.is_refused and is_sample and there[0]:
-            problems += served_problems(options, folder, there)
+            problems += served_problems(options, folder, wanted)
         if is_sample or not wanted.is_refused:
-            problems += replay_problems(options, folder, there)
+            problems += replay_problems(options, folder, wanted)
     return ["%s: %s" % (what, problem) for problem in problems], wanted
 
 
@@ -833,9 +830,8 @@ class Stopped:
 
     def at_end(self):
         """What is wrong with `replay` and `show` in the end."""
-        files = files_in(self.folder)
-        problems = list(reading_problems(self.options, self.folder, files, [WAYS[0]]))
-        problems += replay_problems(self.options, self.folder, files)
+        wanted = Wanted(files_in(self.folder))
+        problems = [*reading_problems(self.options, self.folder, wanted), *replay_problems(self.options, self.folder, wanted)]
         return problems + held_problems(self.folder, self.entries) if len(self.entries) % SIZE else problems
 
 
