@@ -161,7 +161,7 @@ def measured(options, folder):
     for place, (seconds, peak) in enumerate(tenths, 1):
         print("serve, %d reports: %.3f s for the last %d, at most %.1f MB" % (
             options.reports * place // TENTHS, seconds, options.reports // TENTHS, peak), flush=True)
-        lines += [("serve, %d tenths" % place, "time", seconds, "s"), ("serve, %d tenths" % place, "peak memory", peak, "MB")]
+        lines += [("serve, tenth %d" % place, "time", seconds, "s"), ("serve, tenth %d" % place, "peak memory", peak, "MB")]
     check = checked(options, folder)
     whole, alone = replays(options, folder)
     parts = options.reports / options.size

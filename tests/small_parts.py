@@ -19,7 +19,8 @@ that judge the reports; SHA-256 is that of hashlib.
 - `kills`: the server is killed at random moments, most of them around the end of a part, and started again on the same files: they hold each
   report that was answered, once, at its place.
 - `calls`: each call on a file or on the folder fails once, and from there on, while a part is begun, and is the last one of a killed program
-  (`failing_calls.c`): the reply is `ERR 30 journal`, and the files hold each report that was answered.
+  (`failing_calls.c`): the reply is `ERR 30 journal`, and the files hold each report that was answered. And each call of what reads three
+  parts fails: all of them are shown, or a fault is reported.
 
 The last line is `N passed, M failed`.
 """
@@ -445,20 +446,18 @@ def try_reports(options, book):
 
 # --- Reading ---
 
-def reading_problems(options, folder, files, ways):
-    """What is wrong with what reads these files: the answers, and what is written."""
-    wanted = Wanted(files, ways)
+def reading_problems(options, folder, wanted):
+    """What is wrong with what reads the files: the answers, and what is written."""
     before = state_of(folder)
-    for words, answer in [(["replay", "--read-only", "j"], wanted.read_only)] + [(show_words(*way), wanted.shows[way]) for way in ways]:
+    for words, answer in [(["replay", "--read-only", "j"], wanted.read_only)] + [(show_words(*way), answer) for way, answer in wanted.shows.items()]:
         if (done := run([options.program, *words], folder)) != answer:
             yield "%s: %s, wanted %s" % (" ".join(words), done, answer)
     if state_of(folder) != before:
         yield "the files were changed by what only reads them"
 
 
-def replay_problems(options, folder, files):
+def replay_problems(options, folder, wanted):
     """What is wrong with `replay`, and with the files that it leaves."""
-    wanted = Wanted(files)
     before = state_of(folder)
     if (done := run([options.program, "replay", "j"], folder)) != wanted.replay:
         yield "replay: %s, wanted %s" % (done, wanted.replay)
@@ -475,8 +474,8 @@ def try_reading(options, book):
             files[-1] += after
             with tempfile.TemporaryDirectory(prefix="parts-", dir=options.folder) as folder:
                 write_files(folder, files)
-                problems = list(reading_problems(options, folder, files, WAYS))
-                problems += replay_problems(options, folder, files)
+                wanted = Wanted(files, WAYS)
+                problems = [*reading_problems(options, folder, wanted), *replay_problems(options, folder, wanted)]
             book.count("reading", "journals")
             book.note("reading", ["%d reports and %s: %s" % (count, after, problem) for problem in problems], dict(zip(map(name_at, range(1, 9)), files)))
 
@@ -705,9 +704,8 @@ def wrong_parts(files, entries):
     yield from lines
 
 
-def served_problems(options, folder, files):
+def served_problems(options, folder, wanted):
     """What is wrong with a server on files that are refused."""
-    wanted = Wanted(files)
     before = state_of(folder)
     done = run([options.program, "serve", "p.csp", "P", "j", "--listen", "127.0.0.1:0", "--connections", "1", *LARGE], folder)
     if done != wanted.replay:
@@ -722,15 +720,15 @@ def damage_problems(options, damage, is_sample):
     with tempfile.TemporaryDirectory(prefix="parts-", dir=options.folder) as folder:
         write_files(folder, files)
         there = [data or b"" for data in files]
-        problems = list(reading_problems(options, folder, there, [WAYS[0]]))
         wanted = Wanted(there)
+        problems = list(reading_problems(options, folder, wanted))
         if is_seen and not wanted.is_refused:
             problems.append("the reference doesn't see it")
         # An empty first file is that of a new journal.
         if wanted.is_refused and is_sample and there[0]:
-            problems += served_problems(options, folder, there)
+            problems += served_problems(options, folder, wanted)
         if is_sample or not wanted.is_refused:
-            problems += replay_problems(options, folder, there)
+            problems += replay_problems(options, folder, wanted)
     return ["%s: %s" % (what, problem) for problem in problems], wanted
 
 
@@ -833,9 +831,8 @@ class Stopped:
 
     def at_end(self):
         """What is wrong with `replay` and `show` in the end."""
-        files = files_in(self.folder)
-        problems = list(reading_problems(self.options, self.folder, files, [WAYS[0]]))
-        problems += replay_problems(self.options, self.folder, files)
+        wanted = Wanted(files_in(self.folder))
+        problems = [*reading_problems(self.options, self.folder, wanted), *replay_problems(self.options, self.folder, wanted)]
         return problems + held_problems(self.folder, self.entries) if len(self.entries) % SIZE else problems
 
 
@@ -1043,6 +1040,49 @@ class Talk:
         return problems + held_problems(folder, history.entries)
 
 
+READERS = [["replay", "j"], ["replay", "--read-only", "j"], ["show", "j"], ["show", "--format", "json", "j"]]
+
+
+class Reading:
+    """Runs of a command that reads three parts, in which calls on files fail: it answers all of them, or reports that it can't."""
+
+    def __init__(self, options, library, words):
+        self.options, self.library, self.words = options, library, words
+        self.files = files_with(history_of(reports(2 * SIZE + 3)).entries)
+        self.full, self.calls, _ = self.run(0, 0, "nothing")
+
+    def run(self, call, last, how):
+        with tempfile.TemporaryDirectory(prefix="parts-", dir=self.options.folder) as folder:
+            calls_file = os.path.join(folder, "calls")
+            write_files(folder, [*self.files[:-1], self.files[-1] + b"junk"])
+            environment = failing(self.library, call, last, how, errno.EIO, FAILING_FILE=COUNTED, FAILING_CALLS=calls_file)
+            done = run([self.options.program, *self.words], folder, environment=environment)
+            calls = [line.split(b" ")[0].decode() for line in (read_file(calls_file) or b"").splitlines()]
+            return done, calls, files_in(folder)
+
+    def attempt(self, way):
+        """A run: what is counted, what is wrong, and the files that it left."""
+        call, last, how = way
+        done, _, left = self.run(call, last, how)
+        what = "%s, call %d (%s) %s%s" % (" ".join(self.words), call, self.calls[call - 1], how, " from there on" if last > call else "")
+        good = done == self.full or how != "short" and (done.out, done.status) == (b"", 5) and done.err in (b"j: 30 journal\n", b"j: cannot read\n")
+        problems = [] if good else ["%s, wanted %s or a fault" % (done, self.full)]
+        if left not in (self.files, [*self.files[:-1], self.files[-1] + b"junk"]):
+            problems.append("the files are %s" % ([shown(one) for one in left],))
+        return "reading %s" % how, ["%s: %s" % (what, problem) for problem in problems], {}
+
+    def all(self, book):
+        wanted = Wanted([*self.files[:-1], self.files[-1] + b"junk"], WAYS)
+        answer = wanted.replay if self.words == ["replay", "j"] else wanted.read_only if self.words[0] == "replay" else wanted.shows[WAYS["json" in self.words]]
+        book.note("calls", [] if self.full == answer else ["%s: %s, wanted %s" % (" ".join(self.words), self.full, answer)], {})
+        print("%s: calls: %s" % (" ".join(self.words), " ".join(self.calls)), flush=True)
+        ways = [(call, last, how) for call in range(1, len(self.calls) + 1) for how in (*ERRORS, "short") for last in (call, ALWAYS)]
+        with concurrent.futures.ThreadPoolExecutor(self.options.jobs) as pool:
+            for what, problems, left in pool.map(self.attempt, ways):
+                book.count("calls", what)
+                book.note("calls", problems, left)
+
+
 def beginnings():
     """The ways to a part that is begun: a name, the files before, the lines, and whether they are sent ahead."""
     near = history_of(reports(SIZE - 1)).entries
@@ -1074,6 +1114,8 @@ def try_calls(options, book):
         if library is None:
             book.note("calls", ["there is no C compiler"], {})
             return
+        for words in READERS:
+            Reading(options, library, words).all(book)
         for name, files, lines, is_ahead in beginnings():
             Beginning(options, library, book, name, files, lines, is_ahead).all()
 
