@@ -11,11 +11,11 @@ returns-in-Ok-clause-at g c options =
     let counts = c.in-Ok.counts in
     record {
       spec_is = c.in_ok-monitor.ensures.spec;
-      said = c.new-3.ensures options.format spec.alphabet;
-      count_is = ap length (sym c.new-2.ensures);
-      shown = nothing_shown options spec c.new-2.result.items c.len.result (joined c.new-4.result.items ++ c.new-5.result.items) m.trace
+      said = c.new-in-Ok-2.ensures options.format spec.alphabet;
+      count_is = ap length (sym c.new-in-Ok.ensures);
+      shown = nothing_shown options spec c.new-in-Ok.result.items c.len.result (joined c.new-in-Ok-3.result.items ++ c.new-in-Ok-4.result.items) m.trace
           counts.accepted.items counts.rejected.items counts.possible
           (c.len.ensures.count ∙ ap event_count (c.alphabet.ensures ∙ ap (λ s. s.alphabet) (c.spec.ensures ∙ c.in_ok-monitor.ensures.spec)))
-          c.new-2.ensures (ap₂ (λ texts text. joined texts ++ text) c.new-4.ensures c.new-5.ensures.items) c.in_ok-monitor.ensures.trace
+          c.new-in-Ok.ensures (ap₂ (λ texts text. joined texts ++ text) c.new-in-Ok-3.ensures c.new-in-Ok-4.ensures.items) c.in_ok-monitor.ensures.trace
           c.in-Ok.ensures.accepted c.in-Ok.ensures.rejected c.in-Ok.ensures.possible;
     }
