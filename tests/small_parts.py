@@ -1,7 +1,7 @@
 #!/usr/bin/env python3
 """Journals in parts, by a program whose parts take 50 records, which `tests/variant.py` builds where none is named: real files, real servers.
 
-    tests/small_parts.py [--program FILE] [--only reports reading follow beside damage kills calls] [--kills 100] [--every 1] [--seed 1]
+    tests/small_parts.py [--program FILE] [--only reports reading follow beside damage kills calls] [--kills 200] [--every 1] [--seed 1]
         [--jobs 4] [--keep DIR] [--folder DIR] [--seconds 10]
 
 What is wanted comes from `tests/reference/parts.py`, which is written from docs/PARTS.md, and from the few lines of Python of `sweeping.py`
@@ -777,7 +777,10 @@ class Stopped:
                 replies.append(reply)
             if not is_ahead and len(replies) < len(lines):
                 link.send(lines[len(replies)] + b"\n")
-            wait(rng.random() * (LONG_PAUSE if self.slow else PAUSE))
+            if self.slow:
+                time.sleep(rng.random() * LONG_PAUSE)
+            else:
+                wait(rng.random() * PAUSE)
             server.kill()
             replies += link.rest()
             link.close()
@@ -1124,7 +1127,7 @@ def main():
     parser = argparse.ArgumentParser(description=__doc__.split("\n")[0])
     add_options(parser, "parts")
     parser.add_argument("--only", nargs="+", choices=KINDS, default=KINDS)
-    parser.add_argument("--kills", type=int, default=100)
+    parser.add_argument("--kills", type=int, default=200)
     parser.add_argument("--every", type=int, default=1, help="of the damaged journals each so-manieth")
     parser.add_argument("--jobs", type=int, default=os.cpu_count() or 1, help="how many of the short runs are made side by side")
     parser.set_defaults(program=None)
