@@ -68,8 +68,13 @@ fn look<R: Files<File = File> + FileSystem + AllocGlobal, O: Write, E: Write + I
     output: &mut O,
     errors: &mut E,
 ) -> Result<Vec<u8, Global>, Exit> {
-    if is_large(rt, name) {
-        return look_at_parts(rt, name, options, before, output, errors);
+    match is_large(rt, name, errors) {
+        Ok(true) => return look_at_parts(rt, name, options, before, output, errors),
+        Ok(false) => {}
+        Err(exit) => {
+            drop(before);
+            return Err(exit);
+        }
     }
     let bytes = match bytes_of(rt, name, errors) {
         Ok(bytes) => bytes,

@@ -119,8 +119,10 @@ fn replay_held<R: Files<File = File> + FileSystem + AllocGlobal, O: Write, E: Wr
         Ok(file) => file,
         Err(exit) => return exit,
     };
-    if is_large(rt, name) {
-        return replay_large(rt, name, file, output, errors);
+    match is_large(rt, name, errors) {
+        Ok(true) => return replay_large(rt, name, file, output, errors),
+        Ok(false) => {}
+        Err(exit) => return exit,
     }
     match line_of(rt.alloc(), FileDisk::new(file)) {
         Ok((line, exit, _)) => write(&line, exit, output, errors),
@@ -159,8 +161,10 @@ pub fn replay_read_only<
 >(rt: &R, name: &str, output: &mut O, errors: &mut E) -> Exit
     ensures { (result ≡ Done) ⊎ (result ≡ Rejected) → Counted (O.contents output.old) (O.contents output.new) result }
 {
-    if is_large(rt, name) {
-        return read_large(rt, name, output, errors);
+    match is_large(rt, name, errors) {
+        Ok(true) => return read_large(rt, name, output, errors),
+        Ok(false) => {}
+        Err(exit) => return exit,
     }
     let bytes = match bytes_of(rt, name, errors) {
         Ok(bytes) => bytes,

@@ -101,8 +101,10 @@ pub fn show<R: Files<File = File> + FileSystem + AllocGlobal, O: Write, E: Write
 ) -> Exit
     ensures { (result ≡ Done) ⊎ (result ≡ Rejected) → Shown options (O.contents output.old) (O.contents output.new) result }
 {
-    if is_large(rt, name) {
-        return show_large(rt, name, options, output, errors);
+    match is_large(rt, name, errors) {
+        Ok(true) => return show_large(rt, name, options, output, errors),
+        Ok(false) => {}
+        Err(exit) => return exit,
     }
     let bytes = match bytes_of(rt, name, errors) {
         Ok(bytes) => bytes,
