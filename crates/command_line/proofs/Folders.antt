@@ -7,7 +7,7 @@ use denote.Param.Send.{IsSend, IsSync, sendable}
 use Rattle.std.proofs.Crossing.{crosses}
 use Rattle.std.proofs.alloc.Global.TheSendSync as global
 use Rattle.std.below.std_heap.proofs.GlobalAllocator.TheSendSync as heap
-use Rattle.core.specs.contracts.clone.Clone+copy.TheImpl as copies
+use Rattle.std.below.core.specs.contracts.clone.Clone+copy.TheImpl as copies
 use Rattle.std.specs.contracts.alloc.Global as Global
 use Rattle.std.specs.contracts.impls.GlobalAllocator.TheImpl as allocator
 use Rattle.file_disk.specs.declared.system.FileSystem as FileSystem

@@ -130,6 +130,19 @@ fn replay_held<R: Files<File = File> + FileSystem + AllocGlobal, O: Write, E: Wr
     }
 }
 
+// The line and the exit status, where the files are only read, and how many bytes stand after the last record.
+fn line_of_read<F: Folder + Drop>(
+    alloc: Global,
+    folder: F,
+) -> Result<(Vec<u8>, Exit, usize), SessionError>
+    ensures { IfOk result (λ r. (h : List Entry) × (r.0.items ≡ status_text (status_of h false)) × (r.1 ≡ replay_exit h)) }
+{
+    let (line, exit, replaying) = line_of_parts(alloc, folder)?;
+    let after = replaying.bytes_after();
+    drop(replaying);
+    Ok((line, exit, after))
+}
+
 // Judges the records of a large journal in the files again, which are only read, and writes their summary.
 fn read_large<R: Files<File = File> + FileSystem + AllocGlobal, O: Write, E: Write + IsTerminal>(
     rt: &R,
@@ -143,9 +156,9 @@ fn read_large<R: Files<File = File> + FileSystem + AllocGlobal, O: Write, E: Wri
         Ok(folder) => folder,
         Err(exit) => return exit,
     };
-    match line_of_parts(rt.alloc(), folder) {
-        Ok((line, exit, replaying)) => {
-            tell_after(errors, name, replaying.bytes_after());
+    match line_of_read(rt.alloc(), folder) {
+        Ok((line, exit, after)) => {
+            tell_after(errors, name, after);
             write(&line, exit, output, errors)
         }
         Err(error) => tell_journal(rt, errors, name, error),
