@@ -130,7 +130,6 @@ fn set_apart(
     Ok(text)
 }
 
-/// Where on its line the fault is that the script has for the process, if that is found: the text before the line, the line, and the text
 /// How many lines after the first of these positions of a script the second one is.
 fn lines_between(first: Position, second: Position) -> Option<usize> {
     match (first, second) {
@@ -141,6 +140,7 @@ fn lines_between(first: Position, second: Position) -> Option<usize> {
     }
 }
 
+/// Where on its line the fault is that the script has for the process, if that is found: the text before the line, the line, and the text
 /// after it are given.
 pub(crate) fn place_of_fault(
     alloc: Global,
