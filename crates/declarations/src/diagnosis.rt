@@ -254,7 +254,11 @@ pub fn fault_of_channel<'a, A: Allocator>(
 
 /// What is wrong with a call on this line of a name that is no definition with so many parameters: what is reported of a name that
 /// isn't declared, else `Expected`.
-pub fn fault_of_call<'a, A: Allocator>(entries: &Entries<'a, A>, name: &[u8], line: Position) -> Unread {
+pub fn fault_of_call<'a, A: Allocator>(
+    entries: &Entries<'a, A>,
+    name: &[u8],
+    line: Position,
+) -> Unread {
     match entries.get(name) {
         Some(_) => fault(line, ScriptErrorKind::Expected),
         None => undeclared(name, line),

@@ -47,7 +47,10 @@ pub fn only_part<A: Allocator>(parts: &[Tree<A>], line: Position) -> Result<&Tre
 }
 
 /// The two parts; `Expected` on this line where there is another number of parts.
-pub fn two_parts<A: Allocator>(parts: &[Tree<A>], line: Position) -> Result<(&Tree<A>, &Tree<A>), Unread>
+pub fn two_parts<A: Allocator>(
+    parts: &[Tree<A>],
+    line: Position,
+) -> Result<(&Tree<A>, &Tree<A>), Unread>
     ensures { Gives {Y = Syntax × Syntax} (λ p. (shape p.0.now, shape p.1.now)) result (two_of (syntaxes (shapes parts.now))) }
 {
     match parts {

@@ -1,7 +1,12 @@
 //! Laws of reading. Each function does nothing: its contract is the law.
-ghost use Rattle.std.specs.Prelude.{◌≡◌, ◌≢◌, ◌≤◌, ℕ, List, [], length};
-ghost use Rattle.term.specs.Specs.{Specified};
+ghost use Rattle.std.specs.Prelude.{◌≡◌, ◌≢◌, ◌≤◌, ℕ, List, [], ◌∷◌, true, length};
 ghost use Rattle.std.specs.List.{All};
+ghost use Rattle.term.specs.Specs.{Specified};
+ghost use Rattle.tokens.specs.Lexeme.{Name};
+ghost use Rattle.tokens.specs.Text.{HasTokens};
+ghost use Rattle.syntax.specs.Grammar.{Syntax};
+ghost use Rattle.syntax.specs.Script.{HasTree, is_one_line};
+ghost use Rattle.denotation.specs.Denotes.{Denotes, named};
 ghost use Rattle.script.specs.Reading.{IsRead};
 
 use denotation::one_specification;
@@ -14,6 +19,16 @@ pub fn one_reading()
     one_tree();
     one_phrase();
     one_specification();
+}
+
+/// A root that is a name alone is the process with that name: the text is read for it as what its tree denotes for that process, and
+/// as nothing else.
+pub fn names_are_processes()
+    ensures found { (text root name : List ℕ) (script : Syntax) (spec : Specified) → HasTree text script → HasTokens root (Name name ∷ []) → IsRead text root spec → Denotes script (named name) spec }
+    ensures only { (text root name : List ℕ) (script : Syntax) (spec : Specified) → HasTree text script → is_one_line root ≡ true → HasTokens root (Name name ∷ []) → Denotes script (named name) spec → IsRead text root spec }
+{
+    one_tree();
+    one_phrase();
 }
 
 /// A text is read for a root that is one line: one byte or more, and no line feed; and is no larger than a script may be.

@@ -119,7 +119,10 @@ fn range_with<A: Allocator + Clone>(
 }
 
 #[tactic(auto, unfolding(crate::specs::Worths::union_with))]
-fn union_with<A: Allocator + Clone>(worths: Vec<Worth<A>, A>, line: Position) -> Result<Worth<A>, Unread>
+fn union_with<A: Allocator + Clone>(
+    worths: Vec<Worth<A>, A>,
+    line: Position,
+) -> Result<Worth<A>, Unread>
     ensures { Gives worth_of result (union_with_of (map worth_of worths.items)) }
 {
     let (first, second) = two_sets(worths, line)?;
@@ -129,7 +132,10 @@ fn union_with<A: Allocator + Clone>(worths: Vec<Worth<A>, A>, line: Position) ->
 }
 
 #[tactic(auto, unfolding(crate::specs::Worths::intersection_with))]
-fn intersection_with<A: Allocator>(worths: Vec<Worth<A>, A>, line: Position) -> Result<Worth<A>, Unread>
+fn intersection_with<A: Allocator>(
+    worths: Vec<Worth<A>, A>,
+    line: Position,
+) -> Result<Worth<A>, Unread>
     ensures { Gives worth_of result (intersection_with_of (map worth_of worths.items)) }
 {
     let (first, second) = two_sets(worths, line)?;
@@ -138,7 +144,10 @@ fn intersection_with<A: Allocator>(worths: Vec<Worth<A>, A>, line: Position) -> 
 }
 
 #[tactic(auto, unfolding(crate::specs::Worths::difference_with))]
-fn difference_with<A: Allocator>(worths: Vec<Worth<A>, A>, line: Position) -> Result<Worth<A>, Unread>
+fn difference_with<A: Allocator>(
+    worths: Vec<Worth<A>, A>,
+    line: Position,
+) -> Result<Worth<A>, Unread>
     ensures { Gives worth_of result (difference_with_of (map worth_of worths.items)) }
 {
     let (first, second) = two_sets(worths, line)?;

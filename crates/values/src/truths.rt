@@ -100,7 +100,11 @@ fn is_less<A: Allocator>(first: Worth<A>, second: Worth<A>, line: Position) -> R
 
 /// Whether the first of two numbers is at most the second.
 #[tactic(auto, unfolding(crate::specs::Worths::is_at_most))]
-fn is_at_most<A: Allocator>(first: Worth<A>, second: Worth<A>, line: Position) -> Result<bool, Unread>
+fn is_at_most<A: Allocator>(
+    first: Worth<A>,
+    second: Worth<A>,
+    line: Position,
+) -> Result<bool, Unread>
     ensures { Gives (λ b. b) result (is_at_most_of (worth_of first) (worth_of second)) }
 {
     let first = the_number(first, line)?;
