@@ -28,7 +28,7 @@ returns-clause-found g c =
     declares_so t (entries c.in_ok-declared.declared.entries) (table c.in_ok-declared.declared.known) c.in_ok-declared.declared.alphabet c.in_ok-declared.ensures.found (entries n.entries) (table n.known) n.sigma.alphabet
     (ap entries c.in_ok-names.ensures.entries) (ap table c.in_ok-names.ensures.known) c.in_ok-names.ensures.alphabet in
     IfOk-weaker c.specified_for.result _ (λ spec. (u : Syntax) × HasPhrase c.args.root.now u × Denotes t (root_of u) spec)
-    (λ spec a. (a.2, a.3, bodies_denote t (root_of a.2) (entries n.entries) (table n.known) n.sigma.alphabet so spec spec.bodies a.4 a.0 refl)) c.specified_for.ensures.found
+    (λ spec a. (a.2.0, a.2.1, bodies_denote t (root_of a.2.0) (entries n.entries) (table n.known) n.sigma.alphabet so spec spec.bodies a.2.2 a.0 refl)) c.specified_for.ensures.found
 
 pub returns-clause-only : goal.returns-clause-only
 returns-clause-only g c = λ spec u h d steps.

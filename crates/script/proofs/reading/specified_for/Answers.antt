@@ -22,7 +22,7 @@ pub returns-clause-found : goal.returns-clause-found
 returns-clause-found g c =
     let n = c.args.names in
     IfOk-weaker c.specified.result _ _
-    (λ spec a. (a.0, a.1, shape c.in_ok-phrase.phrase, c.in_ok-phrase.ensures.found, subst (λ (r : Root). AreBodies n.sigma.alphabet (table n.known) (entries n.entries) r spec.bodies) c.of.ensures a.2)) c.specified.ensures.found
+    (λ spec a. (a.0, a.1, (shape c.in_ok-phrase.phrase, c.in_ok-phrase.ensures.found, subst (λ (r : Root). AreBodies n.sigma.alphabet (table n.known) (entries n.entries) r spec.bodies) c.of.ensures a.2))) c.specified.ensures.found
 
 pub returns-clause-only : goal.returns-clause-only
 returns-clause-only g c = λ spec u h same steps a.
