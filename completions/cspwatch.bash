@@ -46,11 +46,12 @@ _cspwatch() {
             mapfile -t COMPREPLY < <(compgen -f -- "$current")
             ;;
         check:1 | serve:1 | print:1)
-            # The names that the script defines. They may end in primes, which compgen would take for quotes.
+            # The names that the script defines, with `(` where it has parameters. They may end in primes, which compgen would take for quotes.
             local name
             while read -r name; do
                 [[ $name != "$current"* ]] || COMPREPLY+=("$(printf '%q' "$name")")
-            done < <(sed -n "s/^[[:space:]]*\([A-Za-z][A-Za-z0-9_]*'*\)[[:space:]]*=.*/\1/p" "$script" 2>/dev/null)
+            done < <(sed -n -e "s/^[[:space:]]*\([A-Za-z][A-Za-z0-9_]*'*\)[[:space:]]*=.*/\1/p" -e "s/^[[:space:]]*\([A-Za-z][A-Za-z0-9_]*'*\)[[:space:]]*(.*)[[:space:]]*=.*/\1(/p" "$script" 2>/dev/null)
+            [[ ${COMPREPLY[0]} != *\( ]] || compopt -o nospace 2>/dev/null
             ;;
     esac
 }

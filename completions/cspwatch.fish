@@ -21,10 +21,10 @@ function __cspwatch_place
     count (__cspwatch_words)
 end
 
-# The names that the script, which is the first word after the command, defines.
+# The names that the script, which is the first word after the command, defines; with `(` where it has parameters.
 function __cspwatch_processes
     set -l words (__cspwatch_words)
-    test (count $words) -ge 2; and sed -n "s/^[[:space:]]*\([A-Za-z][A-Za-z0-9_]*'*\)[[:space:]]*=.*/\1/p" $words[2] 2>/dev/null
+    test (count $words) -ge 2; and sed -n -e "s/^[[:space:]]*\([A-Za-z][A-Za-z0-9_]*'*\)[[:space:]]*=.*/\1/p" -e "s/^[[:space:]]*\([A-Za-z][A-Za-z0-9_]*'*\)[[:space:]]*(.*)[[:space:]]*=.*/\1(/p" $words[2] 2>/dev/null
 end
 
 complete -c cspwatch -f

@@ -4,8 +4,9 @@
     compare_scripts.py [SEED] [COUNT] [--program FILE] [--reference PATH] [--jobs N] [--seconds S] [--plain]
 
 The scripts are made at random: they declare channels, datatypes, numbers, truths, sets and processes with and without
-parameters, have conditions, guards and replicated forms, and most are at fault somewhere or other. The printed text, or
-the line, the number and the word of the fault, have to be the same. The last line is `N passed, M failed`.
+parameters, have conditions, guards and replicated forms, and most are at fault somewhere or other. The process is mostly
+a name, else another phrase. The printed text, or the line or column, the number and the word of the fault, have to be
+the same. The last line is `N passed, M failed`.
 """
 from __future__ import annotations
 
@@ -319,9 +320,17 @@ class Scripts:
         rng = self.rng
         if self.chance(0.5):
             rng.shuffle(self.lines)
-        root = "P" if self.chance(0.95) else rng.choice(["Q", "N", "S", "a", "X", "x", "D", "A", "B1", "Q1"])
         text = "\n".join(self.lines) + "\n"
-        return (self.broken(text) if self.chance(0.3) else text).encode("ascii"), root
+        return (self.broken(text) if self.chance(0.3) else text).encode("ascii"), self.root()
+
+    def root(self):
+        """Mostly a name; else another phrase for a process, of which some are cut off."""
+        if self.chance(0.75):
+            return "P"
+        if self.chance(0.2):
+            return self.rng.choice(["Q", "N", "S", "a", "X", "x", "D", "A", "B1", "Q1"])
+        phrase = self.process([], self.rng.randint(0, 3))
+        return phrase[:self.rng.randrange(len(phrase))] if self.chance(self.wild * 4) else phrase
 
     def broken(self, text):
         """The text with some of its blanks made ends of lines, since a fault is reported with its line."""

@@ -43,7 +43,7 @@ def journal_of(case: Case, large: bool) -> bytes | None:
     """A journal with the reports of a case, at random seats; None where the opening meets a limit."""
     script = case.script.encode()
     try:
-        session = Session(read(script, "P"), large)
+        session = Session(read(script, b"P"), large)
     except JudgeFault:
         return None
     file = journal.header(script, b"P", large)

@@ -31,6 +31,7 @@ sys.dont_write_bytecode = True
 
 import generated  # noqa: E402
 from contents import octets  # noqa: E402
+from reference.tokens import REFUSED_WORDS, WORDS  # noqa: E402
 from sweeping import (  # noqa: E402
     HERE, NAMES, REPLY, SCRIPT, SCRIPT_WORDS, Book, History, Link, Run, Server, add_options, begin, journal_bytes, journal_of,
     read_file, report_of, run, shown, status_of_check, summary_of, write_file)
@@ -364,7 +365,8 @@ def try_connection(options, number, rng):
 JOURNAL_PIECES = [b"+", b".", b"\n", b" ", b"x", b"E+", b"E-", b"R+", b"R-", b"1", b"0", b"65535", b"65536", b"1000001", b" a", b" b", b" c.1",
                   b" _tick", b" 1", b" 4", b" 6", b" 7", b" 01", b"root ", b"script ",
                   b"\n+1 1 E+ a\n.", b"\n+1 1 E+ 1\n.", b"cspwatch journal 1\n", b"cspwatch journal 2\n", b"cspwatch journal 3\n", b"\xff", b"\0"]
-REFUSED = re.compile(rb"j: (script [1-9][0-9]*: ([0-9]+) ([a-z]+)|(20 depth|21 states)|52 record ([1-9][0-9]*)|53 verdict ([1-9][0-9]*))\n")
+NAME = re.compile(rb"[A-Za-z][A-Za-z0-9_]*'*")
+REFUSED = re.compile(rb"j: ((?:script|root) [1-9][0-9]*: ([0-9]+) ([a-z]+)|(20 depth|21 states)|52 record ([1-9][0-9]*)|53 verdict ([1-9][0-9]*))\n")
 
 
 def a_journal(rng):
@@ -376,8 +378,13 @@ def a_journal(rng):
     return journal_bytes(history.entries, version=rng.choice((1, 2))) + (b"" if rng.random() < 0.7 else rng.randbytes(rng.randint(1, 30)))
 
 
+def is_judged(held):
+    """Whether the journal is one of SCRIPT and of a process by its name."""
+    return held.script == SCRIPT and NAME.fullmatch(held.root) and held.root.decode() not in WORDS | REFUSED_WORDS | {"assert"}
+
+
 def judged(held):
-    """What `replay` answers to a journal of SCRIPT."""
+    """What `replay` answers to such a journal."""
     if held.root not in (b"P", b"Q"):
         return Run(b"", b"j: script 1: 12 process\n", 4)
     history = History(held.root.decode())
@@ -393,7 +400,7 @@ def judged(held):
 
 
 def is_possible(done, held):
-    """Whether `replay` may answer so to a journal of another script."""
+    """Whether `replay` may answer so to a journal of another script, or of another phrase."""
     if not done.err:
         return (done.out, done.status) == summary_of(held.records)
     found = REFUSED.fullmatch(done.err)
@@ -414,7 +421,7 @@ def replay_problems(program, folder, data):
     if isinstance(held, str):
         wanted, after = Run(b"", b"j: %s\n" % held.encode(), 4), data
     else:
-        wanted, after = judged(held) if held.script == SCRIPT else None, data[:held.length]
+        wanted, after = judged(held) if is_judged(held) else None, data[:held.length]
     problems = []
     if wanted is not None and done != wanted or wanted is None and not is_possible(done, held):
         problems.append("replay: %s, wanted %s" % (done, wanted))
@@ -456,7 +463,7 @@ def try_journal(options, number, rng):
         if number % 20 == 0:
             problems += serve_problems(options.program, folder, data, done)
     outcome = re.sub(rb"[0-9]+$", b"n", done.err[3:-1]).decode("latin-1") if done.err else "opened"
-    return problems, {re.sub("script [0-9]+: .*", "fault of the script", outcome): 1}, {"j": data, "p.csp": SCRIPT}
+    return problems, {re.sub("(script|root) [0-9]+: .*", r"fault of the \1", outcome): 1}, {"j": data, "p.csp": SCRIPT}
 
 
 def journals_to_cut(seed):

@@ -115,6 +115,12 @@ ROWS_WITH_MARKS = [
      ["    2 | P = a -> ?[2J STOP", "      |          ^", "        a control character, or one that is not ASCII"], 3),
     ("two hundred bytes of a long line", CHECK, b"channel a\nP = $" + b" " * 300 + b"STOP\n", ["p.csp:2: 2 token"],
      ["    2 | P = $" + " " * 195, "      |     ^", NO_TOKEN], 3),
+    ("a name in a phrase for the process", ["check", "p.csp", "P [] Q"], GOOD, ["P [] Q:6: 4 unknown"], ["      | P [] Q", "      |      ^", UNKNOWN], 3),
+    ("where a phrase ends", ["print", "p.csp", "P ["], GOOD, ["P [:4: 3 expected"],
+     ["      | P [", "      |    ^", "        something else is expected here"], 3),
+    ("a control character in a phrase", ["check", "p.csp", "P\x1b[2J"], GOOD, ["P\x1b[2J:2: 1 byte"],
+     ["      | P?[2J", "      |  ^", "        a control character, or one that is not ASCII"], 3),
+    ("a line of the script that a phrase reaches", ["check", "p.csp", "(P)"], UNDECLARED, ["p.csp:2: 4 unknown"], UNDECLARED_SHOWN, 3),
 ]
 
 

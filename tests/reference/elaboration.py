@@ -9,7 +9,7 @@ from .alphabet import Alphabet, Value, Values, in_order
 from .events import EventEvaluator
 from .faults import DEPTH, EVENTS, EXPECTED, LARGE, PROCESS, RANGE, UNSUPPORTED, ScriptFault
 from .names import Definition, Names, names_of
-from .syntax import parse
+from .syntax import parse, parse_phrase
 from .terms import SKIP, STOP, Relation, Spec, Term
 from .trees import Tree, mentions
 from .values import Evaluator, Scope, kinds_of_form
@@ -61,9 +61,14 @@ class Elaborator:
         self.present = 1
         """The line of the definition whose body is being made."""
 
-    def bodies(self, root: str) -> list[Term]:
-        self.check_root(root)
-        self.number_of((root, ()))
+    def bodies(self, root: Tree) -> list[Term]:
+        """The bodies of what is reached from a process by its name, or from another phrase, which is the first body."""
+        if root.is_bare_name():
+            self.check_root(root.name)
+            self.number_of((root.name, ()))
+        else:
+            self.names.definitions[""] = Definition("", root.line, root)
+            self.number_of(("", ()))
         made: list[Term] = []
         while len(made) < len(self.order):
             name, values = self.order[len(made)]
@@ -267,9 +272,9 @@ class Elaborator:
             self.gone_through(generators[1:], body, {**scope, generators[0].name: value}, parts)
 
 
-def read(text: bytes, root: str) -> Spec:
-    """The specification that a script denotes for a root; the first fault is raised."""
+def read(text: bytes, root: bytes) -> Spec:
+    """The specification that a script denotes for a root, a phrase for a process; the first fault is raised."""
     script = parse(text)
     names = names_of(script)
     alphabet = alphabet_of(script, names)
-    return Spec(alphabet, Elaborator(names, alphabet).bodies(root))
+    return Spec(alphabet, Elaborator(names, alphabet).bodies(parse_phrase(root)))

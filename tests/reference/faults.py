@@ -12,8 +12,13 @@ JOURNAL_WORDS = {50: "header", 51: "truncated", 52: "record", 53: "verdict"}
 HEADER, TRUNCATED, RECORD, VERDICT = 50, 51, 52, 53
 
 
+class Column(int):
+    """The place of a byte in a phrase by itself, counted from 1, where of a script there is a line."""
+
+
 class ScriptFault(Exception):
-    """A text isn't a script, or has no such process: the line, counted from 1, and the number."""
+    """A text isn't a script, or has no such process: the line, counted from 1, and the number. A fault of a phrase by
+    itself has its column in place of a line."""
 
     def __init__(self, line: int, code: int) -> None:
         super().__init__(line, code)

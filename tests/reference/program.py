@@ -12,6 +12,7 @@ The calls below work on bytes, and answer what the program would write and its e
 from __future__ import annotations
 
 import argparse
+import os
 import sys
 import threading
 from collections.abc import Callable
@@ -19,7 +20,7 @@ from typing import NamedTuple, TypeVar
 
 from . import trees
 from .elaboration import read
-from .faults import GivesUp, JournalFault, JudgeFault, ScriptFault
+from .faults import Column, GivesUp, JournalFault, JudgeFault, ScriptFault
 from .journal import opened
 from .parts import PartFault, opened_parts, replayed_parts
 from .printing import printed
@@ -46,12 +47,24 @@ def failed(message: str, status: int) -> Answer:
     return Answer(b"", message.encode("latin-1") + b"\n", status)
 
 
-def print_script(text: bytes, root: str, name: str = "p.csp") -> Answer:
+def process_bytes(word: str) -> bytes:
+    """The process that a word of the call is: what is no UTF-8 in it is replaced."""
+    return os.fsencode(word).decode("utf-8", "replace").encode()
+
+
+def refused(fault: ScriptFault, root: bytes, name: str) -> Answer:
+    """That the script is refused, or the phrase for the process."""
+    whose = root.decode("latin-1") if isinstance(fault.line, Column) else name
+    return failed(f"{whose}:{fault}", BAD_SCRIPT)
+
+
+def print_script(text: bytes, process: str, name: str = "p.csp") -> Answer:
     """What `print` answers for a script."""
+    root = process_bytes(process)
     try:
         return Answer(printed(read(text, root)).encode(), b"", DONE)
     except ScriptFault as fault:
-        return failed(f"{name}:{fault}", BAD_SCRIPT)
+        return refused(fault, root, name)
 
 
 def tree(text: bytes, name: str = "p.csp") -> Answer:
@@ -62,12 +75,13 @@ def tree(text: bytes, name: str = "p.csp") -> Answer:
         return failed(f"{name}:{fault}", BAD_SCRIPT)
 
 
-def check(text: bytes, root: str, lines: bytes, large: bool = False, name: str = "p.csp") -> Answer:
+def check(text: bytes, process: str, lines: bytes, large: bool = False, name: str = "p.csp") -> Answer:
     """What `check` answers for a script and the lines of a conversation."""
+    root = process_bytes(process)
     try:
         conversation = Conversation(Session(read(text, root), large))
     except ScriptFault as fault:
-        return failed(f"{name}:{fault}", BAD_SCRIPT)
+        return refused(fault, root, name)
     except JudgeFault as fault:
         return failed(f"{name}: {fault}", LIMIT)
     output = "".join(reply + "\n" for reply in conversation.replies(lines)).encode()
@@ -86,7 +100,8 @@ def with_session(call: Callable[[], Session], name: str, output: Callable[[Sessi
     except (JournalFault, PartFault) as fault:
         return failed(f"{name}: {fault}", BAD_JOURNAL)
     except ScriptFault as fault:
-        return failed(f"{name}: script {fault}", BAD_JOURNAL)
+        what = "root" if isinstance(fault.line, Column) else "script"
+        return failed(f"{name}: {what} {fault}", BAD_JOURNAL)
     except JudgeFault as fault:
         return failed(f"{name}: {fault}", LIMIT)
     return Answer(output(session).encode(), b"", REJECTED if session.counts()[3] else DONE)

@@ -372,3 +372,12 @@ class Reader:
 def parse(text: bytes) -> Tree:
     """The tree of a script; the first fault up to the grammar, its heights and its brackets is raised."""
     return Reader(scan(text)).script()
+
+
+def parse_phrase(text: bytes) -> Tree:
+    """The tree of a phrase by itself, in one line; its faults have columns."""
+    reader = Reader(scan(text, by_columns=True))
+    phrase = reader.phrase()
+    if reader.here.kind != "end":
+        raise reader.fault()
+    return phrase

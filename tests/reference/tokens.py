@@ -2,7 +2,7 @@
 
 from dataclasses import dataclass
 
-from .faults import BYTE, LARGE, RANGE, TOKEN, UNSUPPORTED, ScriptFault
+from .faults import BYTE, LARGE, RANGE, TOKEN, UNSUPPORTED, Column, ScriptFault
 
 LARGEST_TEXT = 65_536
 LARGEST_NUMBER = 1_000_000
@@ -23,7 +23,8 @@ LF = 10
 
 @dataclass(frozen=True)
 class Token:
-    """A token: `kind` is "name", "number", "end", or the word or sign itself. A number has its value."""
+    """A token: `kind` is "name", "number", "end", or the word or sign itself. A number has its value. Of a phrase by
+    itself the line is a column."""
 
     kind: str
     line: int
@@ -32,12 +33,17 @@ class Token:
 
 
 class Scanner:
-    """Reads tokens from the left; the first fault is raised."""
+    """Reads tokens from the left; the first fault is raised. Places are lines, or columns."""
 
-    def __init__(self, text: bytes) -> None:
+    def __init__(self, text: bytes, by_columns: bool) -> None:
         self.text = text
+        self.by_columns = by_columns
         self.at = 0
-        self.line = 1
+        self.lines = 1
+
+    @property
+    def line(self) -> int:
+        return Column(self.at + 1) if self.by_columns else self.lines
 
     def tokens(self) -> list[Token]:
         """All tokens, the last of which is the end."""
@@ -48,7 +54,7 @@ class Scanner:
             if token is not None:
                 found.append(token)
             self.skip_blanks()
-        found.append(Token("end", 1 + self.text.count(b"\n")))
+        found.append(Token("end", Column(1 + len(self.text)) if self.by_columns else 1 + self.text.count(b"\n")))
         return found
 
     def skip_blanks(self) -> None:
@@ -63,7 +69,7 @@ class Scanner:
                 return
 
     def step(self) -> None:
-        self.line += self.text[self.at] == LF
+        self.lines += self.text[self.at] == LF
         self.at += 1
 
     def skip_line(self) -> None:
@@ -96,8 +102,9 @@ class Scanner:
             if self.text.startswith(sign.encode(), self.at):
                 if sign in REFUSED_SIGNS:
                     raise ScriptFault(self.line, UNSUPPORTED)
+                token = Token(sign, self.line)
                 self.at += len(sign)
-                return Token(sign, self.line)
+                return token
         raise ScriptFault(self.line, BYTE if first < 32 or first >= 127 else TOKEN)
 
     def word(self) -> Token | None:
@@ -112,8 +119,9 @@ class Scanner:
             return None
         if name in REFUSED_WORDS:
             raise ScriptFault(self.line, UNSUPPORTED)
+        token = Token(name, self.line) if name in WORDS else Token("name", self.line, name)
         self.at = end
-        return Token(name, self.line) if name in WORDS else Token("name", self.line, name)
+        return token
 
     def number(self) -> Token:
         end = self.at
@@ -122,12 +130,13 @@ class Scanner:
         digits = self.text[self.at:end].lstrip(b"0") or b"0"
         if len(digits) > len(str(LARGEST_NUMBER)) or int(digits) > LARGEST_NUMBER:
             raise ScriptFault(self.line, RANGE)
+        token = Token("number", self.line, value=int(digits))
         self.at = end
-        return Token("number", self.line, value=int(digits))
+        return token
 
 
-def scan(text: bytes) -> list[Token]:
-    """The tokens of a script of at most 65,536 bytes."""
+def scan(text: bytes, by_columns: bool = False) -> list[Token]:
+    """The tokens of a text of at most 65,536 bytes, with their lines, or with columns."""
     if len(text) > LARGEST_TEXT:
-        raise ScriptFault(1, LARGE)
-    return Scanner(text).tokens()
+        raise ScriptFault(Column(1) if by_columns else 1, LARGE)
+    return Scanner(text, by_columns).tokens()

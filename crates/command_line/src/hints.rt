@@ -10,7 +10,7 @@ use std::fs::File;
 use std::io::{self, IsTerminal, Write};
 use std::rt::Files;
 use term::Names;
-use tokens::{ScriptError, ScriptErrorKind};
+use tokens::{Position, ScriptError, ScriptErrorKind};
 
 /// The most bytes of a line that are shown.
 const MOST_SHOWN: usize = 200;
@@ -147,13 +147,14 @@ fn write_on_line<E: Write>(
     alloc: Global,
     script: &Script<'_>,
     fault: &ScriptError,
+    number: u32,
 ) -> io::Result<()> {
-    let (before, line, after) = parts_at(script.text, fault.line);
-    write!(errors, " {:>4} | ", fault.line)?;
+    let (before, line, after) = parts_at(script.text, number);
+    write!(errors, " {number:>4} | ")?;
     write_line(errors, line)?;
     match place_of_fault(alloc, before, line, after, script.process, fault) {
         Some(place) if place < MOST_SHOWN => {
-            write_mark(errors, fault.line, place)?;
+            write_mark(errors, number, place)?;
             write_about(
                 errors,
                 alloc,
@@ -166,18 +167,38 @@ fn write_on_line<E: Write>(
     }
 }
 
-/// Shows the line of the script that the fault is on, where on it, and what the fault means, on lines that begin with a blank. Where
-/// that fails there is nobody to tell.
+/// Writes the phrase for the process, a mark below the column of the fault, and what the fault means.
+fn write_on_phrase<E: Write>(
+    errors: &mut E,
+    alloc: Global,
+    script: &Script<'_>,
+    kind: ScriptErrorKind,
+    column: u32,
+) -> io::Result<()> {
+    errors.write_all(b"      | ")?;
+    write_line(errors, script.process)?;
+    let place = column.saturating_sub(1) as usize;
+    match script.process.get(place..) {
+        Some(rest) if place < MOST_SHOWN => {
+            write_mark(errors, 0, place)?;
+            write_about(errors, alloc, script, kind, first_word(rest))
+        }
+        _ => writeln!(errors, "        {}", meaning_of(kind)),
+    }
+}
+
+/// Shows the line of the script that the fault is on, or the phrase for the process that it is in, where on it, and what the fault means, on
+/// lines that begin with a blank. Where that fails there is nobody to tell.
 pub(crate) fn show_fault<E: Write>(
     errors: &mut E,
     alloc: Global,
     script: &Script<'_>,
     fault: &ScriptError,
 ) {
-    let _ = if is_on_its_line(fault.kind) {
-        write_on_line(errors, alloc, script, fault)
-    } else {
-        writeln!(errors, "        {}", meaning_of(fault.kind))
+    let _ = match fault.line {
+        _ if !is_on_its_line(fault.kind) => writeln!(errors, "        {}", meaning_of(fault.kind)),
+        Position::Line(number) => write_on_line(errors, alloc, script, fault, number),
+        Position::Column(column) => write_on_phrase(errors, alloc, script, fault.kind, column),
     };
 }
 

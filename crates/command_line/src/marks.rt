@@ -9,7 +9,7 @@ ghost use Rattle.tokens.specs.Text.{is_name_byte, is_prime};
 
 use script::read;
 use std::alloc::{AllocError, Global};
-use tokens::{ScriptError, ScriptErrorKind};
+use tokens::{Position, ScriptError, ScriptErrorKind};
 
 /// What a byte of a script belongs to. Where the class changes, a token ends.
 #[derive(Clone, Copy, PartialEq, Eq)]
@@ -130,6 +130,16 @@ fn set_apart(
     Ok(text)
 }
 
+/// How many lines after the first of these positions of a script the second one is.
+fn lines_between(first: Position, second: Position) -> Option<usize> {
+    match (first, second) {
+        (Position::Line(first), Position::Line(second)) => {
+            Some(second.checked_sub(first)? as usize)
+        }
+        _ => None,
+    }
+}
+
 /// Where on its line the fault is that the script has for the process, if that is found: the text before the line, the line, and the text
 /// after it are given.
 pub(crate) fn place_of_fault(
@@ -150,7 +160,7 @@ pub(crate) fn place_of_fault(
         Some(found) if found.kind == fault.kind => place_of_piece(
             line,
             clear_len(line),
-            found.line.checked_sub(fault.line)? as usize,
+            lines_between(fault.line, found.line)?,
         ),
         _ => None,
     }

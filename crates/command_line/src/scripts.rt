@@ -11,7 +11,7 @@ use std::alloc::Global;
 use std::fs::OpenOptions;
 use std::io::{self, ErrorKind, IsTerminal, Read, Write};
 use std::rt::Files;
-use tokens::{ScriptError, ScriptErrorKind};
+use tokens::{Position, ScriptError, ScriptErrorKind};
 
 /// A script, and the process that is wanted of it.
 #[derive(Clone, Copy)]
@@ -27,7 +27,7 @@ const TOO_MANY: u64 = 65_537;
 
 /// That there is no memory for a script, which is read from its first line on.
 const NO_MEMORY: ScriptError = ScriptError {
-    line: 1,
+    line: Position::Line(1),
     kind: ScriptErrorKind::Memory,
 };
 

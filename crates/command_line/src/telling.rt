@@ -12,10 +12,10 @@ use program::{Exit, SessionError};
 use serving::OpenError;
 use std::alloc::Global;
 use std::fs::File;
-use std::io::{IsTerminal, Write};
+use std::io::{self, IsTerminal, Write};
 use std::rt::Files;
 use term::Names;
-use tokens::ScriptError;
+use tokens::{Position, ScriptError};
 
 /// Writes one line on the errors, and answers the status. Where that fails there is nobody to tell.
 pub(crate) fn tell_fault<E: Write>(errors: &mut E, name: &str, fault: &str, exit: Exit) -> Exit
@@ -41,7 +41,20 @@ pub fn tell_no_memory<E: Write>(errors: &mut E) -> u8
     Exit::Limit.code()
 }
 
-/// Reports why the script is refused, on a terminal, or where it is to be explained, with its line.
+/// Writes what a fault of the script is on: its file, or the phrase for the process.
+fn write_whose<E: Write>(
+    errors: &mut E,
+    script: &Script<'_>,
+    position: Position,
+) -> io::Result<()> {
+    match position {
+        Position::Line(_) => errors.write_all(script.name.as_bytes()),
+        Position::Column(_) => errors.write_all(script.process),
+    }
+}
+
+/// Reports why the script is refused for the process, on a terminal, or where it is to be explained, with its line: a fault of the phrase for
+/// the process by that, with a column.
 pub(crate) fn explain_script<E: Write + IsTerminal>(
     errors: &mut E,
     alloc: Global,
@@ -51,7 +64,8 @@ pub(crate) fn explain_script<E: Write + IsTerminal>(
 ) -> Exit
     ensures { result ≡ script_exit fault.now }
 {
-    let _ = writeln!(errors, "{}:{fault}", script.name);
+    let _ = write_whose(errors, script, fault.line);
+    let _ = writeln!(errors, ":{fault}");
     if explain || errors.is_terminal() {
         show_fault(errors, alloc, script, fault);
     }

@@ -18,7 +18,7 @@ use alphabet::Alphabet;
 use declared_names::{Entries, Meaning, Part, part_of, worth_alone};
 use std::alloc::Allocator;
 use syntax::{Form, Tree};
-use tokens::{ScriptError, ScriptErrorKind, Unread, fault};
+use tokens::{Position, ScriptError, ScriptErrorKind, Unread, fault};
 use values::{Input, Known, is_value, the_set};
 
 /// What is reported of the phrase, which is to be a set of values for a channel's field and which evaluation refuses.
@@ -144,7 +144,7 @@ pub fn fault_of_name<'a, A: Allocator + Copy>(
     entries: &Entries<'a, A>,
     known: &Known<A>,
     name: &[u8],
-    line: u32,
+    line: Position,
 ) -> Unread {
     match kind_by_definitions(alloc, entries, known, name, line) {
         Ok(_) => fault(line, ScriptErrorKind::Expected),
@@ -158,7 +158,7 @@ fn kind_by_definitions<'a, A: Allocator + Copy>(
     entries: &Entries<'a, A>,
     known: &Known<A>,
     name: &[u8],
-    line: u32,
+    line: Position,
 ) -> Result<Kind, Unread> {
     let Some(entry) = entries.get(name) else {
         return Err(undeclared(name, line));
@@ -254,7 +254,11 @@ pub fn fault_of_channel<'a, A: Allocator>(
 
 /// What is wrong with a call on this line of a name that is no definition with so many parameters: what is reported of a name that
 /// isn't declared, else `Expected`.
-pub fn fault_of_call<'a, A: Allocator>(entries: &Entries<'a, A>, name: &[u8], line: u32) -> Unread {
+pub fn fault_of_call<'a, A: Allocator>(
+    entries: &Entries<'a, A>,
+    name: &[u8],
+    line: Position,
+) -> Unread {
     match entries.get(name) {
         Some(_) => fault(line, ScriptErrorKind::Expected),
         None => undeclared(name, line),

@@ -10,7 +10,7 @@ use crate::sight::{
 use declared_names::is_process_form;
 use std::alloc::Allocator;
 use syntax::{Form, Tree};
-use tokens::{ScriptErrorKind, Unread, fault};
+use tokens::{Position, ScriptErrorKind, Unread, fault};
 
 /// What a phrase is that means a set of values, or the fault of one that means nothing.
 fn ended(own: Option<Unread>) -> Result<Kind, Unread> {
@@ -21,7 +21,7 @@ fn ended(own: Option<Unread>) -> Result<Kind, Unread> {
 }
 
 /// The kind, where it is wanted of a phrase on this line.
-fn as_wanted(wanted: Wanted, kind: Kind, line: u32) -> Result<Kind, Unread> {
+fn as_wanted(wanted: Wanted, kind: Kind, line: Position) -> Result<Kind, Unread> {
     if takes(wanted, kind) {
         Ok(kind)
     } else {
@@ -78,7 +78,7 @@ fn evaluation_as_wanted<A: Allocator + Copy>(
     sight: &Sight<'_, '_, A>,
     phrase: &Tree<A>,
     wanted: Wanted,
-    line: u32,
+    line: Position,
 ) -> Result<Evaluation, Unread> {
     match evaluation_of(sight, phrase)? {
         Evaluation::Is(kind) => Ok(Evaluation::Is(as_wanted(wanted, kind, line)?)),
@@ -111,7 +111,7 @@ fn as_wanted_of<A: Allocator + Copy>(
     phrase: &Tree<A>,
     wanted: Wanted,
     kind: Kind,
-    line: u32,
+    line: Position,
 ) -> Result<Kind, Unread> {
     match as_wanted(wanted, kind, line) {
         Ok(kind) => Ok(kind),
@@ -143,7 +143,7 @@ fn kind_alone<A: Allocator + Copy>(
     sight: &Sight<'_, '_, A>,
     form: Form,
     parts: &[Tree<A>],
-    line: u32,
+    line: Position,
 ) -> Result<Kind, Unread> {
     match form {
         Form::Event => kind_of_event(sight, parts, line),
@@ -163,7 +163,7 @@ pub(crate) fn kind_of<A: Allocator + Copy>(
     sight: &Sight<'_, '_, A>,
     phrase: &Tree<A>,
     wanted: Wanted,
-    line: u32,
+    line: Position,
 ) -> Result<Kind, Unread> {
     let phrase = without_conditions(sight, phrase)?;
     match evaluation_as_wanted(sight, phrase, wanted, line)? {
@@ -230,7 +230,7 @@ fn as_before(
     wanted: Wanted,
     before: Option<Kind>,
     kind: Kind,
-    line: u32,
+    line: Position,
 ) -> Result<Option<Kind>, Unread> {
     match (wanted, before) {
         (Wanted::Comparable, Some(before)) if before != kind => {
@@ -262,7 +262,7 @@ fn is_event_as_first<A: Allocator>(
     sight: &Sight<'_, '_, A>,
     kind: Kind,
     first: Option<bool>,
-    line: u32,
+    line: Position,
 ) -> Result<bool, Unread> {
     let is_event = kind == Kind::Event;
     if first.unwrap_or(is_event) != is_event {
@@ -316,7 +316,7 @@ fn sets_of_event<'a, A: Allocator + Copy>(
     name: &Tree<A>,
     fields: &[Tree<A>],
     is_member: bool,
-    line: u32,
+    line: Position,
 ) -> Result<&'a [Tree<A>], Unread> {
     let sets = field_sets(sight, name, line)?;
     if fields.iter().any(is_input) {

@@ -4,7 +4,7 @@ use crate::kinds::Kind;
 use declared_names::{Entries, Meaning, Part, part_of, worth_alone};
 use std::alloc::{AllocError, Allocator};
 use syntax::Tree;
-use tokens::{ScriptErrorKind, Unread, fault};
+use tokens::{Position, ScriptErrorKind, Unread, fault};
 use values::{Input, Known, Value, Worth, is_value, stands_for};
 
 /// What was found of a definition.
@@ -34,7 +34,7 @@ pub(crate) struct Sight<'s, 'a, A: Allocator> {
 const BUILT_IN: [&str; 8] = ["CHAOS", "RUN", "DIV", "WAIT", "Int", "Bool", "Char", "Proc"];
 
 /// What is reported of a name that isn't declared.
-pub(crate) fn undeclared(name: &[u8], line: u32) -> Unread {
+pub(crate) fn undeclared(name: &[u8], line: Position) -> Unread {
     for word in &BUILT_IN {
         if word.as_bytes() == name {
             return fault(line, ScriptErrorKind::Unsupported);
@@ -111,7 +111,7 @@ pub(crate) fn truth_behind<A: Allocator + Copy>(
 fn kind_found<A: Allocator>(
     sight: &Sight<'_, '_, A>,
     name: &[u8],
-    line: u32,
+    line: Position,
 ) -> Result<Kind, Unread> {
     let Some(place) = sight.entries.place(name) else {
         return Err(undeclared(name, line));
@@ -128,7 +128,7 @@ fn kind_found<A: Allocator>(
 pub(crate) fn kind_of_name<A: Allocator + Copy>(
     sight: &Sight<'_, '_, A>,
     name: &[u8],
-    line: u32,
+    line: Position,
 ) -> Result<Kind, Unread> {
     let Some(entry) = sight.entries.get(name) else {
         return Err(undeclared(name, line));
@@ -146,7 +146,7 @@ pub(crate) fn kind_of_name<A: Allocator + Copy>(
 pub(crate) fn kind_of_event<A: Allocator + Copy>(
     sight: &Sight<'_, '_, A>,
     parts: &[Tree<A>],
-    line: u32,
+    line: Position,
 ) -> Result<Kind, Unread> {
     let [first, fields @ ..] = parts else {
         return Err(fault(line, ScriptErrorKind::Expected));
@@ -165,7 +165,7 @@ pub(crate) fn kind_of_event<A: Allocator + Copy>(
 pub(crate) fn kind_of_call<A: Allocator + Copy>(
     sight: &Sight<'_, '_, A>,
     parts: &[Tree<A>],
-    line: u32,
+    line: Position,
 ) -> Result<Kind, Unread> {
     let [first, arguments @ ..] = parts else {
         return Err(fault(line, ScriptErrorKind::Expected));
@@ -190,7 +190,7 @@ pub(crate) fn kind_of_call<A: Allocator + Copy>(
 /// What a set of events on this line is.
 pub(crate) fn kind_of_events<A: Allocator>(
     sight: &Sight<'_, '_, A>,
-    line: u32,
+    line: Position,
 ) -> Result<Kind, Unread> {
     if sight.has_events {
         Ok(Kind::Events)
@@ -203,7 +203,7 @@ pub(crate) fn kind_of_events<A: Allocator>(
 pub(crate) fn field_sets<'a, A: Allocator + Copy>(
     sight: &Sight<'_, 'a, A>,
     name: &Tree<A>,
-    line: u32,
+    line: Position,
 ) -> Result<&'a [Tree<A>], Unread> {
     let Part::Name(name) = part_of(name) else {
         return Err(fault(line, ScriptErrorKind::Expected));

@@ -19,7 +19,7 @@ use declared_names::{
 };
 use std::alloc::{AllocError, Allocator};
 use syntax::{Form, Tree};
-use tokens::{ScriptErrorKind, Unread, fault};
+use tokens::{Position, ScriptErrorKind, Unread, fault};
 use values::{Known, Value, Values, the_set};
 
 /// The value as one of a field.
@@ -83,7 +83,7 @@ fn fields_of<A: Allocator + Copy>(
 fn add_channel<A: Allocator + Copy>(
     alphabet: &mut Alphabet<A>,
     name: &[u8],
-    line: u32,
+    line: Position,
     fields: &[Field<A>],
 ) -> Result<(), Unread>
     requires named { IsTrue (is_name name.now) }
@@ -188,7 +188,7 @@ fn add_form<A: Allocator + Copy>(
     alphabet: &mut Alphabet<A>,
     form: Form,
     parts: &[Tree<A>],
-    line: u32,
+    line: Position,
 ) -> Result<(), Unread>
     requires { KeepParts (table known.now) alphabet.old form (syntaxes (shapes parts.now)) }
     ensures { Gives (λ _. alphabet.new) result (enter_form (table known.now) alphabet.old form (syntaxes (shapes parts.now))) }

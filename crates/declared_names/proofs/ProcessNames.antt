@@ -1,5 +1,6 @@
 -- Which names are those of processes.
 use Rattle.std.proofs.Common.{◌≡◌, ◌≢◌, ℕ, zero, suc, ◌+◌, ◌<◌, ◌≤◌, List, [], ◌∷◌, length, get_or, Bool, true, false, None, Vec, refl, sym, ap, ◌∙◌, arith}
+use Rattle.tokens.specs.declared.position.Position.{Position}
 use Rattle.syntax.specs.declared.form.Form.{Form}
 use Rattle.syntax.specs.declared.form.Form.TheVariants as forms
 use Rattle.syntax.specs.declared.tree.Tree.{Tree, Node as TreeNode}
@@ -45,7 +46,7 @@ not_one name (u ∷ v ∷ us) n = by (shape u)
 -- ---- a phrase
 
 -- a phrase in brackets
-pub inside : {A : Type 0} (name : Name → Bool) (tree : Tree A) (line : ℕ) (v : Vec (Tree A) A) (ts : List (Tree A)) (t : Tree A) (b : Bool) → tree ≡ TreeNode line forms.Brackets v → ts ≡ v.items → length ts ≡ 1 → t ≡ get_or ts 0 t → is_process_by name (shape t) ≡ b → is_process_by name (shape tree) ≡ b
+pub inside : {A : Type 0} (name : Name → Bool) (tree : Tree A) (line : Position) (v : Vec (Tree A) A) (ts : List (Tree A)) (t : Tree A) (b : Bool) → tree ≡ TreeNode line forms.Brackets v → ts ≡ v.items → length ts ≡ 1 → t ≡ get_or ts 0 t → is_process_by name (shape t) ≡ b → is_process_by name (shape tree) ≡ b
 unfolding is_process_by
 inside {A = A} name tree line v ts t b h is one at e = ap (is_process_by name) (node_part tree line forms.Brackets v ts h is) ∙ by ts one at
   where
@@ -54,7 +55,7 @@ inside {A = A} name tree line v ts t b h is one at e = ap (is_process_by name) (
     by (u ∷ []) n k = ap (λ s. is_process_by name (shape s)) (sym k) ∙ e
     by (u ∷ w ∷ us) n k = absurd (omega (arith, n))
 
-pub not_inside : {A : Type 0} (name : Name → Bool) (tree : Tree A) (line : ℕ) (v : Vec (Tree A) A) (ts : List (Tree A)) → tree ≡ TreeNode line forms.Brackets v → ts ≡ v.items → (length ts ≢ 1) → is_process_by name (shape tree) ≡ false
+pub not_inside : {A : Type 0} (name : Name → Bool) (tree : Tree A) (line : Position) (v : Vec (Tree A) A) (ts : List (Tree A)) → tree ≡ TreeNode line forms.Brackets v → ts ≡ v.items → (length ts ≢ 1) → is_process_by name (shape tree) ≡ false
 unfolding is_process_by is_process_form
 not_inside {A = A} name tree line v ts h is n = ap (is_process_by name) (node_part tree line forms.Brackets v ts h is) ∙ by ts n
   where
@@ -63,7 +64,7 @@ not_inside {A = A} name tree line v ts h is n = ap (is_process_by name) (node_pa
     by (u ∷ []) n = absurd (n refl)
     by (u ∷ w ∷ us) n = refl
 
-pub by_event : {A : Type 0} (name : Name → Bool) (tree : Tree A) (line : ℕ) (v : Vec (Tree A) A) (ts : List (Tree A)) (b : Bool) → tree ≡ TreeNode line forms.Event v → ts ≡ v.items → is_process_by name (Node forms.Event (syntaxes (shapes ts))) ≡ b → is_process_by name (shape tree) ≡ b
+pub by_event : {A : Type 0} (name : Name → Bool) (tree : Tree A) (line : Position) (v : Vec (Tree A) A) (ts : List (Tree A)) (b : Bool) → tree ≡ TreeNode line forms.Event v → ts ≡ v.items → is_process_by name (Node forms.Event (syntaxes (shapes ts))) ≡ b → is_process_by name (shape tree) ≡ b
 by_event name tree line v ts b h is e = ap (is_process_by name) (node_part tree line forms.Event v ts h is) ∙ e
 
 -- what a form says, where it isn't one of those above
@@ -73,7 +74,7 @@ form_says name forms.Brackets us n m = absurd (n refl)
 form_says name forms.Event us n m = absurd (m refl)
 form_says name f us n m = refl
 
-pub by_form : {A : Type 0} (name : Name → Bool) (tree : Tree A) (line : ℕ) (form : Form) (v : Vec (Tree A) A) (b : Bool) → tree ≡ TreeNode line form v → (form ≡ forms.Brackets → ⊥) → (form ≡ forms.Event → ⊥) → b ≡ is_process_form form → is_process_by name (shape tree) ≡ b
+pub by_form : {A : Type 0} (name : Name → Bool) (tree : Tree A) (line : Position) (form : Form) (v : Vec (Tree A) A) (b : Bool) → tree ≡ TreeNode line form v → (form ≡ forms.Brackets → ⊥) → (form ≡ forms.Event → ⊥) → b ≡ is_process_form form → is_process_by name (shape tree) ≡ b
 by_form name tree line form v b h n m e = ap (is_process_by name) (node_part tree line form v v.items h refl) ∙ form_says name form (syntaxes (shapes v.items)) n m ∙ sym e
 
 -- ---- names that lead to names

@@ -15,13 +15,13 @@ use crate::part::{Part, no_parts, part_of};
 use indexmap::IndexMap;
 use std::alloc::Allocator;
 use syntax::{Form, Tree};
-use tokens::{ScriptErrorKind, Unread, fault};
+use tokens::{Position, ScriptErrorKind, Unread, fault};
 
 /// Enters the name after the others; `Redeclared` where it is among them.
 pub(crate) fn enter<'a, A: Allocator + Copy>(
     table: &mut Table<'a, A>,
     name: &[u8],
-    line: u32,
+    line: Position,
     meaning: Meaning<'a, A>,
 ) -> Result<(), Unread>
     ensures { Gives (λ _. listed table.new.entries) result (put (listed table.old.entries) (name.now, meaning_of meaning.entry)) }
@@ -160,7 +160,7 @@ fn enter_datatype<'a, A: Allocator + Copy>(
     alloc: A,
     table: &mut Table<'a, A>,
     name: &[u8],
-    line: u32,
+    line: Position,
     constants: &'a [Tree<A>],
 ) -> Result<(), Unread>
     ensures { Gives (λ _. listed table.new.entries) result (put_datatype (listed table.old.entries) name.now (syntaxes (shapes constants.now))) }
@@ -231,7 +231,7 @@ fn enter_two<'a, A: Allocator + Copy>(
     alloc: A,
     table: &mut Table<'a, A>,
     form: Form,
-    line: u32,
+    line: Position,
     first: &'a Tree<A>,
     second: &'a Tree<A>,
 ) -> Result<(), Unread>
@@ -251,7 +251,7 @@ fn enter_form<'a, A: Allocator + Copy>(
     table: &mut Table<'a, A>,
     form: Form,
     parts: &'a [Tree<A>],
-    line: u32,
+    line: Position,
 ) -> Result<(), Unread>
     ensures { Gives (λ _. listed table.new.entries) result (put_form (listed table.old.entries) form (syntaxes (shapes parts.now))) }
 {

@@ -6,6 +6,7 @@ use indexmap::IndexMap;
 use std::alloc::Allocator;
 use std::hash::{BuildHasherDefault, FoldHasher};
 use syntax::Tree;
+use tokens::Position;
 
 pub(crate) type Hashing = BuildHasherDefault<FoldHasher>;
 
@@ -37,7 +38,7 @@ pub enum Meaning<'a, A: Allocator> {
 #[derive(Drop)]
 pub struct Entry<'a, A: Allocator> {
     /// The line of the name in its declaration.
-    pub line: u32,
+    pub line: Position,
     pub meaning: Meaning<'a, A>,
 }
 

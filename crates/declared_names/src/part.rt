@@ -11,7 +11,7 @@ ghost use Rattle.declared_names.specs.View.{part_shape};
 
 use std::alloc::Allocator;
 use syntax::{Form, Tree};
-use tokens::{ScriptErrorKind, Unread, fault};
+use tokens::{Position, ScriptErrorKind, Unread, fault};
 use values::{Known, Worth, stands_for};
 
 /// What a tree is, one level of it.
@@ -37,7 +37,7 @@ pub fn part_of<A: Allocator>(tree: &Tree<A>) -> Part<'_, A>
 }
 
 /// The only part; `Expected` on this line where there is another number of parts.
-pub fn only_part<A: Allocator>(parts: &[Tree<A>], line: u32) -> Result<&Tree<A>, Unread>
+pub fn only_part<A: Allocator>(parts: &[Tree<A>], line: Position) -> Result<&Tree<A>, Unread>
     ensures { Gives (λ t. shape t.now) result (only_of (syntaxes (shapes parts.now))) }
 {
     match parts {
@@ -47,7 +47,10 @@ pub fn only_part<A: Allocator>(parts: &[Tree<A>], line: u32) -> Result<&Tree<A>,
 }
 
 /// The two parts; `Expected` on this line where there is another number of parts.
-pub fn two_parts<A: Allocator>(parts: &[Tree<A>], line: u32) -> Result<(&Tree<A>, &Tree<A>), Unread>
+pub fn two_parts<A: Allocator>(
+    parts: &[Tree<A>],
+    line: Position,
+) -> Result<(&Tree<A>, &Tree<A>), Unread>
     ensures { Gives {Y = Syntax × Syntax} (λ p. (shape p.0.now, shape p.1.now)) result (two_of (syntaxes (shapes parts.now))) }
 {
     match parts {

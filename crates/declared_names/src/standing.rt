@@ -10,7 +10,7 @@ use crate::entries::{Entries, Entry, Meaning};
 use crate::part::worth_alone;
 use crate::search::{Learner, learn_names};
 use std::alloc::{AllocError, Allocator};
-use tokens::{ScriptErrorKind, Unread, fault};
+use tokens::{Position, ScriptErrorKind, Unread, fault};
 use values::{Known, Value, Worth, constant_set};
 
 /// What a declared name means, where names mean what the table says.
@@ -47,7 +47,7 @@ fn next_worth<'a, A: Allocator + Copy>(
 {
     match entries.get(name) {
         Some(entry) => worth_of_entry(alloc, known, name, entry),
-        None => Err(fault(1, ScriptErrorKind::UnknownName)),
+        None => Err(fault(Position::Line(1), ScriptErrorKind::UnknownName)),
     }
 }
 

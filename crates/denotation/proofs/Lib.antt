@@ -19,3 +19,4 @@ pub mod Steps
 pub mod Definitions
 pub mod Progress
 pub mod Seen
+pub mod Roots

@@ -8,8 +8,7 @@ use Rattle.term.specs.Proc as procs
 use Rattle.term.specs.Sizes as terms
 use Rattle.values.specs.Values.{◌>>=◌}
 use Rattle.denotation.specs.Bodies.{Key, Body, stop, skip, prefix, ext, int, seq, par, hide, ren, intr, name, names, numbered, size, sizes, depth}
-use Rattle.event_phrases.specs.Scopes.{Scope}
-use Rattle.denotation.specs.Denotes.{body_of, place, with_keys, met, nodes, Reached, Gathered}
+use Rattle.denotation.specs.Denotes.{place, with_keys, met, nodes, Reached, Gathered}
 use Rattle.denotation.specs.Rooms.{fit, fits, shallow, within_limits}
 use Rattle.denotation.proofs.Keys.{keys_append}
 use Rattle.denotation.proofs.Numbered.{then_more, same_depth, same_nodes}
@@ -116,47 +115,47 @@ only_one p h (suc k) d l = absurd (omega (arith, l))
 -- ---- the work on its way
 
 -- where these processes were made, these definitions met, and so many nodes may still be made
-pub record Progress (s : Scope) (root : Key) (ps : List Proc) (keys : List Key) (room : ℕ) : Type 0 where
+pub record Progress (f : Key → Option Body) (root : Key) (ps : List Proc) (keys : List Key) (room : ℕ) : Type 0 where
   pub bodies : List Body
   pub numbers : (more : List Key) → ps ≡ map (numbered (place (with_keys keys more))) bodies
   pub keyed : keys ≡ met root bodies
-  pub each : map (body_of s) (take (length bodies) keys) ≡ map Some bodies
+  pub each : map f (take (length bodies) keys) ≡ map Some bodies
   pub low : length bodies ≤ length keys
   pub left : room + sizes bodies ≡ 65536
   pub deep : All (λ p. terms.depth p ≤ 200) ps
   pub below : (j : ℕ) → j < length bodies → j < length (met root (take j bodies))
   -- they are the first of whatever is reached
-  pub only : (ks : List Key) (cs : List Body) → Reached s root ks cs → bodies ≡ take (length bodies) cs
+  pub only : (ks : List Key) (cs : List Body) → Reached f root ks cs → bodies ≡ take (length bodies) cs
 
-pub as_many : {s : Scope} {root : Key} {ps : List Proc} {keys : List Key} {room : ℕ} (p : Progress s root ps keys room) → length ps ≡ length p.bodies
+pub as_many : {f : Key → Option Body} {root : Key} {ps : List Proc} {keys : List Key} {room : ℕ} (p : Progress f root ps keys room) → length ps ≡ length p.bodies
 as_many p = ap length (p.numbers []) ∙ length-map p.bodies _
 
-pub start : (s : Scope) (root : Key) → Progress s root [] (root ∷ []) 65536
+pub start : (f : Key → Option Body) (root : Key) → Progress f root [] (root ∷ []) 65536
 unfolding met with_keys sizes
-start s root = record { bodies = []; numbers = λ more. refl; keyed = refl; each = refl; low = omega arith; left = omega arith; deep = λ k d h. absurd (omega (arith, h)); below = λ j h. absurd (omega (arith, h)); only = λ ks cs r. refl }
+start f root = record { bodies = []; numbers = λ more. refl; keyed = refl; each = refl; low = omega arith; left = omega arith; deep = λ k d h. absurd (omega (arith, h)); below = λ j h. absurd (omega (arith, h)); only = λ ks cs r. refl }
 
-module _ (s : Scope) (root : Key) (ps : List Proc) (keys : List Key) (room : ℕ) (p : Progress s root ps keys room) where
+module _ (f : Key → Option Body) (root : Key) (ps : List Proc) (keys : List Key) (room : ℕ) (p : Progress f root ps keys room) where
   -- the next body of what is reached
-  next_of : length ps < length keys → (ks : List Key) (cs : List Body) → Reached s root ks cs → (length ps < length cs) × (body_of s (get_or keys (length ps) root) ≡ Some (get_or cs (length ps) stop))
+  next_of : length ps < length keys → (ks : List Key) (cs : List Body) → Reached f root ks cs → (length ps < length cs) × (f (get_or keys (length ps) root) ≡ Some (get_or cs (length ps) stop))
   next_of h ks cs r =
       let n = length ps in
       let m : n ≡ length p.bodies = as_many p in
       let t : p.bodies ≡ take n cs = p.only ks cs r ∙ ap (λ i. take i cs) (sym m) in
-      let (rest, f) = met_front root n cs in
-      let k : ks ≡ keys ++ rest = sym r.first ∙ f ∙ ap (λ xs. xs ++ rest) (ap (met root) (sym t) ∙ sym p.keyed) in
-      let l : length ks ≡ length cs = sym (length-map ks (body_of s)) ∙ ap length r.each ∙ length-map cs _ in
+      let (rest, e) = met_front root n cs in
+      let k : ks ≡ keys ++ rest = sym r.first ∙ e ∙ ap (λ xs. xs ++ rest) (ap (met root) (sym t) ∙ sym p.keyed) in
+      let l : length ks ≡ length cs = sym (length-map ks f) ∙ ap length r.each ∙ length-map cs _ in
       let g : length ks ≡ length keys + length rest = ap length k ∙ length-append keys rest in
       let a : n < length ks = omega (arith, g, h) in
       let b : n < length cs = omega (arith, a, l) in
-      (b, ap (λ i. body_of s i) (sym (ap (λ xs. get_or xs n root) k ∙ get_front keys rest n root h)) ∙ sym (get_or_view (body_of s) ks n None root a) ∙ ap (λ xs. get_or xs n None) r.each ∙ get_or_view (λ x. Some x) cs n None stop b)
+      (b, ap (f) (sym (ap (λ xs. get_or xs n root) k ∙ get_front keys rest n root h)) ∙ sym (get_or_view f ks n None root a) ∙ ap (λ xs. get_or xs n None) r.each ∙ get_or_view (λ x. Some x) cs n None stop b)
 
-  pub one_more : (x : Body × ℕ) (q : Proc) (after : List Key) → length ps < length keys → (fits room (body_of s (get_or keys (length ps) root)) >>= shallow) ≡ Some x → with_keys keys (names x.0) ≡ after → q ≡ numbered (place after) x.0 → Progress s root (ps ++ q ∷ []) after x.1
+  pub one_more : (x : Body × ℕ) (q : Proc) (after : List Key) → length ps < length keys → (fits room (f (get_or keys (length ps) root)) >>= shallow) ≡ Some x → with_keys keys (names x.0) ≡ after → q ≡ numbered (place after) x.0 → Progress f root (ps ++ q ∷ []) after x.1
   unfolding met
   one_more x q after h e k z =
       let n = length ps in
       let m : n ≡ length p.bodies = as_many p in
       let b = x.0 in
-      let (d, left, low) = sound room (body_of s (get_or keys n root)) x e in
+      let (d, left, low) = sound room (f (get_or keys n root)) x e in
       let deep : terms.depth q ≤ 200 = let w = ap terms.depth z ∙ same_depth (place after) b in omega (arith, w, low) in
       let l : length (p.bodies ++ b ∷ []) ≡ suc n = length-append p.bodies (b ∷ []) ∙ omega (arith, m) in
       let (rest, g) = keys_grow (names b) keys in
@@ -167,10 +166,10 @@ module _ (s : Scope) (root : Key) (ps : List Proc) (keys : List Key) (room : ℕ
         bodies = p.bodies ++ b ∷ [];
         numbers = λ more. ap₂ (λ ps q. ps ++ q ∷ []) (p.numbers (names b ++ more) ∙ ap (λ ks. map (numbered (place ks)) p.bodies) (later more)) (z ∙ sym (then_more b keys after more k)) ∙ sym (map-append (numbered (place (with_keys after more))) p.bodies (b ∷ []));
         keyed = sym k ∙ ap (λ ks. with_keys ks (names b)) p.keyed ∙ sym (keys_append (root ∷ []) (flat_map names p.bodies) (names b)) ∙ ap (with_keys (root ∷ [])) (sym (names_push p.bodies b));
-        each = ap (λ i. map (body_of s) (take i after)) l ∙ ap (λ ks. map (body_of s) (take (suc n) ks)) grown
-            ∙ ap (map (body_of s)) (take_front keys rest (suc n) (omega (arith, h)) ∙ take-suc keys n root h)
-            ∙ map-append (body_of s) (take n keys) (get_or keys n root ∷ [])
-            ∙ ap₂ (λ xs y. xs ++ y ∷ []) (ap (λ i. map (body_of s) (take i keys)) m ∙ p.each) d
+        each = ap (λ i. map f (take i after)) l ∙ ap (λ ks. map f (take (suc n) ks)) grown
+            ∙ ap (map f) (take_front keys rest (suc n) (omega (arith, h)) ∙ take-suc keys n root h)
+            ∙ map-append f (take n keys) (get_or keys n root ∷ [])
+            ∙ ap₂ (λ xs y. xs ++ y ∷ []) (ap (λ i. map f (take i keys)) m ∙ p.each) d
             ∙ sym (map-append (λ x. Some x) p.bodies (b ∷ []));
         low = omega (arith, l, longer, h);
         left = omega (arith, p.left, left, sizes_push p.bodies b);
@@ -183,7 +182,7 @@ module _ (s : Scope) (root : Key) (ps : List Proc) (keys : List Key) (room : ℕ
       }
 
   -- where each definition that was met has its body, these are the bodies of what is reached
-  pub finish : length keys ≤ length ps → Gathered s root ps
+  pub finish : length keys ≤ length ps → Gathered f root ps
   unfolding with_keys
   finish h =
       let m = as_many p in
@@ -191,21 +190,21 @@ module _ (s : Scope) (root : Key) (ps : List Proc) (keys : List Key) (room : ℕ
       record {
         keys = keys;
         bodies = p.bodies;
-        reached = record { each = ap (map (body_of s)) (sym (take_whole (length p.bodies) keys (omega (arith, h, m)))) ∙ p.each; first = sym p.keyed; below = λ i a. p.below i (omega (arith, a, h, m)) };
+        reached = record { each = ap (map f) (sym (take_whole (length p.bodies) keys (omega (arith, h, m)))) ∙ p.each; first = sym p.keyed; below = λ i a. p.below i (omega (arith, a, h, m)) };
         numbers = p.numbers [];
         deep = p.deep;
         large = omega (arith, p.left, z);
       }
 
   -- and no others are
-  pub unique : length keys ≤ length ps → (qs : List Proc) → Gathered s root qs → qs ≡ ps
+  pub unique : length keys ≤ length ps → (qs : List Proc) → Gathered f root qs → qs ≡ ps
   unique h qs d =
       let g = finish h in
-      let (ks, bs) = one_reached s root d.keys g.keys d.bodies g.bodies d.reached g.reached in
+      let (ks, bs) = one_reached f root d.keys g.keys d.bodies g.bodies d.reached g.reached in
       d.numbers ∙ ap₂ (λ ks bs. map (numbered (place ks)) bs) ks bs ∙ sym g.numbers
 
   -- a body that isn't made is missing, or there is no room for it, or it is too deep
-  pub stuck : length ps < length keys → (qs : List Proc) → Gathered s root qs → (fits room (body_of s (get_or keys (length ps) root)) >>= shallow) ≡ None → ⊥
+  pub stuck : length ps < length keys → (qs : List Proc) → Gathered f root qs → (fits room (f (get_or keys (length ps) root)) >>= shallow) ≡ None → ⊥
   stuck h qs d e =
       let n = length ps in
       let (a, c) = next_of h d.keys d.bodies d.reached in
@@ -218,4 +217,4 @@ module _ (s : Scope) (root : Key) (ps : List Proc) (keys : List Key) (room : ℕ
       let deep : terms.depth (get_or qs n procs.stop) ≤ 200 = All-get_or (λ p. terms.depth p ≤ 200) qs n procs.stop (omega (arith, a, l)) d.deep in
       let it : get_or qs n procs.stop ≡ numbered (place d.keys) b = ap (λ xs. get_or xs n procs.stop) d.numbers ∙ get_or_view (numbered (place d.keys)) d.bodies n procs.stop stop a in
       let same : terms.depth (get_or qs n procs.stop) ≡ depth b = ap terms.depth it ∙ same_depth (place d.keys) b in
-      no_some (sym e ∙ complete room (body_of s (get_or keys n root)) b c (omega (arith, z, all, k, d.large, p.left)) (omega (arith, deep, same)))
+      no_some (sym e ∙ complete room (f (get_or keys n root)) b c (omega (arith, z, all, k, d.large, p.left)) (omega (arith, deep, same)))

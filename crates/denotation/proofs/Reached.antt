@@ -1,10 +1,9 @@
 -- What is reached from a root is one list of definitions with one list of bodies.
-use Rattle.std.proofs.Common.{◌≡◌, ℕ, zero, suc, ◌+◌, ◌<◌, ◌≤◌, List, [], ◌∷◌, ◌++◌, length, take, drop, map, get_or, Some, None, cond, true, false, refl, sym, ap, ap₂, ◌∙◌, arith, append_assoc, append-nil, take-suc}
+use Rattle.std.proofs.Common.{◌≡◌, ℕ, zero, suc, ◌+◌, ◌<◌, ◌≤◌, List, [], ◌∷◌, ◌++◌, length, take, drop, map, get_or, Option, Some, None, cond, true, false, refl, sym, ap, ap₂, ◌∙◌, arith, append_assoc, append-nil, take-suc}
 use Rattle.std.specs.List.{flat_map}
 use Rattle.std.proofs.lemmas.List.{length-map, length-append}
 use Rattle.denotation.specs.Bodies.{Key, Body, stop, names}
-use Rattle.event_phrases.specs.Scopes.{Scope}
-use Rattle.denotation.specs.Denotes.{body_of, has_key, with_key, with_keys, met, Reached}
+use Rattle.denotation.specs.Denotes.{has_key, with_key, with_keys, met, Reached}
 use Rattle.event_phrases.proofs.Options.{some_is}
 use Rattle.event_phrases.proofs.Scopes.{take_whole}
 
@@ -53,38 +52,38 @@ met_front root n bs =
 
 -- ---- one answer
 
-module _ (s : Scope) (root : Key) where
-  as_many : (ks : List Key) (cs : List Body) → Reached s root ks cs → length ks ≡ length cs
-  as_many ks cs r = sym (length-map ks (body_of s)) ∙ ap length r.each ∙ length-map cs _
+module _ (f : Key → Option Body) (root : Key) where
+  as_many : (ks : List Key) (cs : List Body) → Reached f root ks cs → length ks ≡ length cs
+  as_many ks cs r = sym (length-map ks f) ∙ ap length r.each ∙ length-map cs _
 
-  nth_body : (ks : List Key) (cs : List Body) (n : ℕ) → Reached s root ks cs → n < length cs → body_of s (get_or ks n root) ≡ Some (get_or cs n stop)
+  nth_body : (ks : List Key) (cs : List Body) (n : ℕ) → Reached f root ks cs → n < length cs → f (get_or ks n root) ≡ Some (get_or cs n stop)
   nth_body ks cs n r h =
       let l = as_many ks cs r in
-      sym (get_or_view (body_of s) ks n None root (omega (arith, h, l))) ∙ ap (λ xs. get_or xs n None) r.each ∙ get_or_view (λ x. Some x) cs n None stop h
+      sym (get_or_view f ks n None root (omega (arith, h, l))) ∙ ap (λ xs. get_or xs n None) r.each ∙ get_or_view (λ x. Some x) cs n None stop h
 
   -- those met from the first n bodies come first
-  first_keys : (ks : List Key) (cs : List Body) (n : ℕ) → Reached s root ks cs → (rest : List Key) × (ks ≡ met root (take n cs) ++ rest)
+  first_keys : (ks : List Key) (cs : List Body) (n : ℕ) → Reached f root ks cs → (rest : List Key) × (ks ≡ met root (take n cs) ++ rest)
   first_keys ks cs n r =
-      let (rest, f) = met_front root n cs in
-      (rest, sym r.first ∙ f)
+      let (rest, e) = met_front root n cs in
+      (rest, sym r.first ∙ e)
 
-  begins : (ks ls : List Key) (cs ds : List Body) → Reached s root ks cs → Reached s root ls ds → (n : ℕ) → n ≤ length cs → (n ≤ length ds) × (take n cs ≡ take n ds)
+  begins : (ks ls : List Key) (cs ds : List Body) → Reached f root ks cs → Reached f root ls ds → (n : ℕ) → n ≤ length cs → (n ≤ length ds) × (take n cs ≡ take n ds)
   begins ks ls cs ds r q zero h = (omega arith, refl)
   begins ks ls cs ds r q (suc n) h =
       let (low, same) = begins ks ls cs ds r q n (omega (arith, h)) in
       let l = as_many ks cs r in
       let m = as_many ls ds q in
       let below : n < length (met root (take n cs)) = r.below n (omega (arith, l, h)) in
-      let (rest, f) = first_keys ks cs n r in
+      let (rest, e) = first_keys ks cs n r in
       let (others, g) = first_keys ls ds n q in
       let g' : ls ≡ met root (take n cs) ++ others = g ∙ ap (λ bs. met root bs ++ others) (sym same) in
       let long : length ls ≡ length (met root (take n cs)) + length others = ap length g' ∙ length-append (met root (take n cs)) others in
       let less : n < length ds = omega (arith, below, long, m) in
-      let at : get_or ks n root ≡ get_or ls n root = ap (λ xs. get_or xs n root) f ∙ get_front (met root (take n cs)) rest n root below ∙ sym (get_front (met root (take n cs)) others n root below) ∙ ap (λ xs. get_or xs n root) (sym g') in
-      let body : get_or cs n stop ≡ get_or ds n stop = some_is (sym (nth_body ks cs n r (omega (arith, h))) ∙ ap (body_of s) at ∙ nth_body ls ds n q less) in
+      let at : get_or ks n root ≡ get_or ls n root = ap (λ xs. get_or xs n root) e ∙ get_front (met root (take n cs)) rest n root below ∙ sym (get_front (met root (take n cs)) others n root below) ∙ ap (λ xs. get_or xs n root) (sym g') in
+      let body : get_or cs n stop ≡ get_or ds n stop = some_is (sym (nth_body ks cs n r (omega (arith, h))) ∙ ap f at ∙ nth_body ls ds n q less) in
       (omega (arith, less), take-suc cs n stop (omega (arith, h)) ∙ ap₂ (λ xs x. xs ++ x ∷ []) same body ∙ sym (take-suc ds n stop less))
 
-  pub one_reached : (ks ls : List Key) (cs ds : List Body) → Reached s root ks cs → Reached s root ls ds → (ks ≡ ls) × (cs ≡ ds)
+  pub one_reached : (ks ls : List Key) (cs ds : List Body) → Reached f root ks cs → Reached f root ls ds → (ks ≡ ls) × (cs ≡ ds)
   one_reached ks ls cs ds r q =
       let (low, same) = begins ks ls cs ds r q (length cs) (omega arith) in
       let (high, other) = begins ls ks ds cs q r (length ds) (omega arith) in

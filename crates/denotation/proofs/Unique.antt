@@ -1,16 +1,15 @@
 -- A script denotes one specification at most.
-use Rattle.std.proofs.Common.{◌≡◌, ℕ, List, [], map, Option, Some, None, refl, sym, ap₂, subst, ◌∙◌, ◌↔◌}
+use Rattle.std.proofs.Common.{◌≡◌, ℕ, List, map, Option, Some, None, refl, sym, ap₂, subst, ◌∙◌, ◌↔◌}
 use Rattle.alphabet.specs.Channels.{Channel}
 use Rattle.term.specs.Specs.{Specified}
 use Rattle.syntax.specs.Grammar.{Syntax}
-use Rattle.values.specs.Values.{Name}
 use Rattle.values.specs.Worths.{Known}
 use Rattle.values.specs.Names.{Entry, known_in, Stands}
 use Rattle.values.specs.Channels.{Declares, channels_of}
 use Rattle.event_phrases.specs.Events.{KnownEvents, events_in, EventsStand}
 use Rattle.denotation.specs.Bodies.{numbered}
 use Rattle.event_phrases.specs.Scopes.{Scope}
-use Rattle.denotation.specs.Denotes.{Reached, Denotes, place}
+use Rattle.denotation.specs.Denotes.{Root, root_key, body_under, Reached, Denotes, place}
 use Rattle.event_phrases.proofs.Options.{some_is}
 use Rattle.denotation.proofs.Reached.{one_reached}
 
@@ -37,7 +36,7 @@ one_declared t es fs f g cs ds r q =
     let k : f ≡ g = one_known es f g r.stands (subst (λ (xs : List Entry). Stands xs g) (sym e) q.stands) in
     (e, k, some_is (sym r.fielded ∙ ap₂ channels_of k e ∙ q.fielded))
 
-pub one_spec : (t : Syntax) (root : Name) (a b : Specified) → Denotes t root a → Denotes t root b → a.names ≡ b.names → a ≡ b
+pub one_spec : (t : Syntax) (root : Root) (a b : Specified) → Denotes t root a → Denotes t root b → a.names ≡ b.names → a ≡ b
 one_spec t root a b r q n =
     let (e, k, c) = one_declared t r.entries q.entries r.known q.known a.alphabet b.alphabet r.declares q.declares in
     let all : (b.alphabet, q.known, q.entries) ≡ (a.alphabet, r.known, r.entries) = λ i. (sym c i, sym k i, sym e i) in
@@ -45,6 +44,6 @@ one_spec t root a b r q n =
     let here : Scope = record { entries = r.entries; channels = a.alphabet; known = r.known; sets = r.sets } in
     let there : Scope = record { entries = q.entries; channels = b.alphabet; known = q.known; sets = q.sets } in
     let scopes : there ≡ here = λ i. record { entries = sym e i; channels = sym c i; known = sym k i; sets = sym sets i } in
-    let (ks, bs) = one_reached here (root, []) r.keys q.keys r.bodies q.bodies r.reached (subst (λ (s : Scope). Reached s (root, []) q.keys q.bodies) scopes q.reached) in
+    let (ks, bs) = one_reached (body_under root here) (root_key root) r.keys q.keys r.bodies q.bodies r.reached (subst (λ (s : Scope). Reached (body_under root s) (root_key root) q.keys q.bodies) scopes q.reached) in
     let bodies : a.bodies ≡ b.bodies = r.numbers ∙ ap₂ (λ ks bs. map (numbered (place ks)) bs) ks bs ∙ sym q.numbers in
     λ i. record { alphabet = c i; bodies = bodies i; names = n i }

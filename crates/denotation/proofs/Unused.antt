@@ -2,6 +2,7 @@
 use Rattle.std.proofs.Common.{◌≡◌, ℕ, ◌+◌, ◌<◌, ◌≤◌, List, [], ◌∷◌, ◌++◌, length, map, take, drop, get_or, Bool, true, false, ◌||◌, cond, Option, Some, None, Vec, refl, sym, ap, subst, ◌∙◌}
 use Rattle.std.proofs.lemmas.List.{map-append, take_more}
 use Rattle.event_phrases.proofs.EventNumbers.{drop_item, drop_none}
+use Rattle.tokens.specs.declared.position.Position.{Position}
 use Rattle.syntax.specs.declared.tree.Tree.{Tree, Node as TreeNode}
 use Rattle.syntax.specs.Parsing.{syntaxes}
 use Rattle.syntax.specs.View.{shape, shapes}
@@ -146,7 +147,7 @@ module _ (s : Scope) (before : List Syntax) (g : Syntax) (x : Name) (set : Synta
 -- ---- over lists in memory
 
 -- a node uses what its parts use
-pub node_uses : {A : Type 0} (tree : Tree A) (line : ℕ) (form : Form) (v : Vec (Tree A) A) (ts : List (Tree A)) (gs : List Syntax) (b : Bool) → tree ≡ TreeNode line form v → ts ≡ v.items → b ≡ some_uses gs (syntaxes (shapes ts)) → b ≡ uses gs (shape tree)
+pub node_uses : {A : Type 0} (tree : Tree A) (line : Position) (form : Form) (v : Vec (Tree A) A) (ts : List (Tree A)) (gs : List Syntax) (b : Bool) → tree ≡ TreeNode line form v → ts ≡ v.items → b ≡ some_uses gs (syntaxes (shapes ts)) → b ≡ uses gs (shape tree)
 unfolding uses
 node_uses tree line form v ts gs b h is e = e ∙ sym (ap (uses gs) (node_is tree line form v ts h is))
 

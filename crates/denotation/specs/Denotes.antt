@@ -13,7 +13,7 @@ use Rattle.values.specs.Channels.{Declares}
 use Rattle.event_phrases.specs.Events.{KnownEvents, EventsStand}
 use Rattle.denotation.specs.Bodies.{Key, same_key, Body, names, numbered}
 use Rattle.event_phrases.specs.Scopes.{Scope, within}
-use Rattle.denotation.specs.Phrases.{phrase_of, denoted}
+use Rattle.denotation.specs.Phrases.{Phrase, called, phrase_of, denoted}
 
 -- ---- the body of a definition
 
@@ -41,6 +41,41 @@ unfoldable pub body_of : Scope → Key → Option Body
 body_of s (n, []) = if is_process s.entries n then body_by s (meaning s.entries n) else None
 body_of s (n, v ∷ vs) = called_by s (meaning s.entries n) (v ∷ vs)
 
+-- ---- the root
+
+-- what is reached from: a process of the script by its name, or a phrase for a process, which is like the body of a definition without a
+-- name
+pub data Root : Type 0 where
+  named : Name → Root
+  phrased : Syntax → Root
+
+-- the name that a phrase is
+unfoldable pub name_called : Phrase → Option Name
+name_called (called n) = Some n
+name_called p = None
+
+unfoldable pub root_by : Syntax → Option Name → Root
+root_by t None = phrased t
+root_by t (Some n) = named n
+
+-- the root that a phrase is: a name alone is that process
+abbrev pub root_of : Syntax → Root
+root_of t = root_by t (name_called (phrase_of t))
+
+-- the definition that a root is
+unfoldable pub root_key : Root → Key
+root_key (named n) = (n, [])
+root_key (phrased t) = ([], [])
+
+unfoldable pub is_nameless : Key → Bool
+is_nameless ([], []) = true
+is_nameless k = false
+
+-- the body of a definition, where the one without a name is the root's phrase
+unfoldable pub body_under : Root → Scope → Key → Option Body
+body_under (named n) s k = body_of s k
+body_under (phrased t) s k = if is_nameless k then denoted (phrase_of t) s else body_of s k
+
 -- ---- numbers of definitions
 
 -- the first place of a definition
@@ -65,9 +100,9 @@ unfoldable pub met : Key → List Body → List Key
 met root bodies = with_keys (root ∷ []) (flat_map names bodies)
 
 -- These are the definitions that are reached, by their numbers, and their bodies.
-pub record Reached (s : Scope) (root : Key) (keys : List Key) (bodies : List Body) : Type 0 where
+pub record Reached (body : Key → Option Body) (root : Key) (keys : List Key) (bodies : List Body) : Type 0 where
   -- each has a body
-  pub each : map (body_of s) keys ≡ map Some bodies
+  pub each : map body keys ≡ map Some bodies
   -- they are numbered by their first place
   pub first : met root bodies ≡ keys
   -- each but the root stands in a body of a smaller number
@@ -81,16 +116,16 @@ nodes [] = 0
 nodes (p ∷ ps) = terms.size p + nodes ps
 
 -- These are the bodies of what is reached from a root, by their numbers, and they keep the limits.
-pub record Gathered (s : Scope) (root : Key) (ps : List Proc) : Type 0 where
+pub record Gathered (body : Key → Option Body) (root : Key) (ps : List Proc) : Type 0 where
   pub keys : List Key
   pub bodies : List Body
-  pub reached : Reached s root keys bodies
+  pub reached : Reached body root keys bodies
   pub numbers : ps ≡ map (numbered (place keys)) bodies
   pub deep : All (λ p. terms.depth p ≤ 200) ps
   pub large : nodes ps ≤ 65536
 
 -- The script with this tree denotes the alphabet and the bodies of this specification for a root.
-pub record Denotes (t : Syntax) (root : Name) (spec : Specified) : Type 0 where
+pub record Denotes (t : Syntax) (root : Root) (spec : Specified) : Type 0 where
   pub entries : List Entry
   pub known : Known
   pub sets : KnownEvents
@@ -100,7 +135,7 @@ pub record Denotes (t : Syntax) (root : Name) (spec : Specified) : Type 0 where
   -- what is reached from the root
   pub keys : List Key
   pub bodies : List Body
-  pub reached : Reached (record { entries = entries; channels = spec.alphabet; known = known; sets = sets }) (root, []) keys bodies
+  pub reached : Reached (body_under root (record { entries = entries; channels = spec.alphabet; known = known; sets = sets })) (root_key root) keys bodies
   pub numbers : spec.bodies ≡ map (numbered (place keys)) bodies
   -- the limits of bodies
   pub deep : All (λ p. terms.depth p ≤ 200) spec.bodies

@@ -16,7 +16,7 @@ use crate::room::spend_nodes;
 use event_phrases::{GlobalScope, Scope, wanted_value};
 use std::alloc::Allocator;
 use syntax::Tree;
-use tokens::{ScriptErrorKind, Unread, fault};
+use tokens::{Position, ScriptErrorKind, Unread, fault};
 use values::Value;
 
 /// The values that these phrases mean, from the left; the fault of the first that means none.
@@ -38,7 +38,7 @@ fn argument_values<A: Allocator + Copy, G: GlobalScope<A>>(
 pub(crate) fn refer<A: Allocator>(
     call: Call<A>,
     room: &mut usize,
-    line: u32,
+    line: Position,
 ) -> Result<Draft<A>, Unread>
     ensures { Gives (λ b. (body b, room.new)) result (spare 1 (name_of (key call)) room.old) }
 {
@@ -52,7 +52,7 @@ pub(crate) fn called_with<A: Allocator + Copy, G: GlobalScope<A>>(
     scope: &Scope<'_, A, G>,
     name: &[u8],
     arguments: &[Tree<A>],
-    line: u32,
+    line: Position,
     room: &mut usize,
 ) -> Result<Draft<A>, Unread>
     ensures { Gives (λ b. (body b, room.new)) result (fits room.old (call name.now (shapes arguments.now) (within (G.scope scope.now.global.now) (map input scope.now.inputs.items)))) }

@@ -11,7 +11,7 @@ use crate::forms::Join;
 use crate::joining::joined;
 use crate::room::spend_nodes;
 use std::alloc::{AllocError, Allocator};
-use tokens::Unread;
+use tokens::{Position, Unread};
 
 /// What a list without bodies is, joined so.
 #[tactic(auto, unfolding(crate::specs::Phrases::none_of))]
@@ -64,7 +64,7 @@ pub(crate) fn halved_within<A: Allocator + Copy>(
     join: Join,
     drafts: Vec<Draft<A>, A>,
     room: &mut usize,
-    line: u32,
+    line: Position,
 ) -> Result<Draft<A>, Unread>
     ensures { Gives (λ b. (body b, room.new)) result (spare (halved_nodes (map body drafts.items)) (halved_over (join_of join) (none_of join) (map body drafts.items)) room.old) }
 {
@@ -80,7 +80,7 @@ pub(crate) fn chosen<A: Allocator + Copy>(
     alloc: A,
     drafts: Vec<Draft<A>, A>,
     room: &mut usize,
-    line: u32,
+    line: Position,
 ) -> Result<Draft<A>, Unread>
     ensures { Gives (λ b. (body b, room.new)) result (spare (halved_nodes (map body drafts.items)) (choice_of (map body drafts.items)) room.old) }
 {

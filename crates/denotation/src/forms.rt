@@ -35,6 +35,7 @@ pub(crate) enum Between<'a, A: Allocator> {
 }
 
 /// A phrase for a process, by what it is made of.
+#[derive(Drop)]
 pub(crate) enum Phrase<'a, A: Allocator> {
     Stop,
     Skip,

@@ -3,14 +3,15 @@ ghost use Rattle.std.specs.Prelude.{◌≡◌, ◌∷◌, ◌<◌, Some, List, I
 ghost use Rattle.term.specs.Proc.{Proc, proc};
 ghost use Rattle.values.specs.View.{Gives};
 ghost use Rattle.denotation.specs.Bodies.{Key};
-ghost use Rattle.denotation.specs.Denotes.{Gathered, body_of};
+ghost use Rattle.denotation.specs.Denotes.{Gathered, body_under, root_key};
 ghost use Rattle.denotation.specs.Rooms.{within_limits};
-ghost use Rattle.denotation.specs.View.{body as body_of_draft, key};
+ghost use Rattle.denotation.specs.View.{body as body_of_draft, key, root as root_view};
 
 use crate::call::Call;
 use crate::draft::Draft;
-use crate::maker::body;
+use crate::maker::body_under;
 use crate::numbering::{Met, numbered};
+use crate::root::Root;
 use event_phrases::GlobalScope;
 use indexmap::IndexSet;
 use std::alloc::{AllocError, Allocator};
@@ -21,11 +22,11 @@ use tokens::Unread;
 const NODE_LIMIT: usize = 65_536;
 
 /// Nothing but the root is met.
-fn begun<A: Allocator + Copy>(alloc: A, root: &[u8]) -> Result<Met<A>, AllocError>
-    ensures { IfOk result (λ met. map key met.keys ≡ (root.now, []) ∷ []) }
+fn begun<A: Allocator + Copy>(alloc: A, root: &Root<'_, A>) -> Result<Met<A>, AllocError>
+    ensures { IfOk result (λ met. map key met.keys ≡ root_key (root_view root.now) ∷ []) }
 {
     let first = Call {
-        name: Vec::from_slice(alloc, root)?,
+        name: Vec::from_slice(alloc, root.name())?,
         arguments: Vec::new(alloc),
     };
     let mut met = IndexSet::new(alloc);
@@ -37,29 +38,31 @@ fn begun<A: Allocator + Copy>(alloc: A, root: &[u8]) -> Result<Met<A>, AllocErro
 fn numbered_body<A: Allocator + Copy, G: GlobalScope<A>>(
     alloc: A,
     global: &G,
+    root: &Root<'_, A>,
     number: usize,
     met: &Met<A>,
     room: &mut usize,
 ) -> Result<Draft<A>, Unread>
     requires { number < length met.now.keys }
-    ensures { (k : Key) → Gives (λ b. (body_of_draft b, room.new)) result (within_limits room.old (body_of (G.scope global.now) (get_or (map key met.now.keys) number k))) }
+    ensures { (k : Key) → Gives (λ b. (body_of_draft b, room.new)) result (within_limits room.old (body_under (root_view root.now) (G.scope global.now) (get_or (map key met.now.keys) number k))) }
 {
-    body(alloc, global, &met[number], room)
+    body_under(alloc, global, root, &met[number], room)
 }
 
 /// The bodies of what is reached, where nothing but the root is met yet.
 fn bodies<A: Allocator + Copy, G: GlobalScope<A>>(
     alloc: A,
     global: &G,
+    root: &Root<'_, A>,
     met: &mut Met<A>,
 ) -> Result<Vec<Term<A>, A>, Unread>
-    ensures found { (root : Key) → map key met.old.keys ≡ root ∷ [] → IfOk result (λ v. Gathered (G.scope global.now) root (map proc v.items)) }
-    ensures only { (root : Key) → map key met.old.keys ≡ root ∷ [] → (ps : List Proc) → Gathered (G.scope global.now) root ps → Gives (λ v. map proc v.items) result (Some ps) }
+    ensures found { (first : Key) → map key met.old.keys ≡ first ∷ [] → IfOk result (λ v. Gathered (body_under (root_view root.now) (G.scope global.now)) first (map proc v.items)) }
+    ensures only { (first : Key) → map key met.old.keys ≡ first ∷ [] → (ps : List Proc) → Gathered (body_under (root_view root.now) (G.scope global.now)) first ps → Gives (λ v. map proc v.items) result (Some ps) }
 {
     let mut room = NODE_LIMIT;
     let mut terms = Vec::new(alloc);
     while terms.len() < met.len() {
-        let draft = numbered_body(alloc, global, terms.len(), met, &mut room)?;
+        let draft = numbered_body(alloc, global, root, terms.len(), met, &mut room)?;
         let term = numbered(alloc, draft, met)?;
         terms.push(term)?;
     }
@@ -76,13 +79,13 @@ fn bodies<A: Allocator + Copy, G: GlobalScope<A>>(
 pub fn gathered<A: Allocator + Copy, G: GlobalScope<A>>(
     alloc: A,
     global: &G,
-    root: &[u8],
+    root: &Root<'_, A>,
 ) -> Result<Vec<Term<A>, A>, Unread>
     // What is given are the bodies of what is reached.
-    ensures found { IfOk result (λ v. Gathered (G.scope global.now) (root.now, []) (map proc v.items)) }
+    ensures found { IfOk result (λ v. Gathered (body_under (root_view root.now) (G.scope global.now)) (root_key (root_view root.now)) (map proc v.items)) }
     // These are given, unless memory runs out, and no others are bodies of what is reached.
-    ensures only { (ps : List Proc) → Gathered (G.scope global.now) (root.now, []) ps → Gives (λ v. map proc v.items) result (Some ps) }
+    ensures only { (ps : List Proc) → Gathered (body_under (root_view root.now) (G.scope global.now)) (root_key (root_view root.now)) ps → Gives (λ v. map proc v.items) result (Some ps) }
 {
     let mut met = begun(alloc, root)?;
-    bodies(alloc, global, &mut met)
+    bodies(alloc, global, root, &mut met)
 }

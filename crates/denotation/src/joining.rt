@@ -23,7 +23,7 @@ use alphabet::EventSet;
 use event_phrases::{GlobalScope, Scope, ordered, pairs_of, two_sets, wanted_events};
 use std::alloc::{AllocError, Allocator};
 use syntax::Tree;
-use tokens::Unread;
+use tokens::{Position, Unread};
 
 /// Two bodies joined so.
 pub(crate) fn joined<A: Allocator + Copy>(
@@ -46,7 +46,7 @@ fn joined_within<A: Allocator + Copy>(
     first: Draft<A>,
     second: Draft<A>,
     room: &mut usize,
-    line: u32,
+    line: Position,
 ) -> Result<Draft<A>, Unread>
     ensures { Gives (λ b. (body b, room.new)) result (spare 1 (joint_of joint (body first) (body second)) room.old) }
 {
@@ -61,7 +61,7 @@ pub(crate) fn behind_event<A: Allocator + Copy>(
     number: usize,
     then: Draft<A>,
     room: &mut usize,
-    line: u32,
+    line: Position,
 ) -> Result<Draft<A>, Unread>
     requires { number < 256 }
     ensures { Gives (λ b. (body b, room.new)) result (spare 1 (prefix number (body then)) room.old) }
@@ -77,7 +77,7 @@ pub(crate) fn hidden<A: Allocator + Copy>(
     set: EventSet,
     draft: Draft<A>,
     room: &mut usize,
-    line: u32,
+    line: Position,
 ) -> Result<Draft<A>, Unread>
     ensures { Gives (λ b. (body b, room.new)) result (spare 1 (hide set (body draft)) room.old) }
 {
@@ -108,7 +108,7 @@ pub(crate) fn renamed<A: Allocator + Copy>(
     pairs: &[(u8, u8)],
     draft: Draft<A>,
     room: &mut usize,
-    line: u32,
+    line: Position,
 ) -> Result<Draft<A>, Unread>
     requires { events ≤ 256 }
     ensures { Gives (λ b. (body b, room.new)) result (spare (renaming_nodes pairs.now) (renamed_of events pairs.now (body draft)) room.old) }

@@ -16,6 +16,7 @@ mod making;
 mod numbering;
 mod replicated;
 mod room;
+mod root;
 mod simple;
 mod walk;
 
@@ -23,3 +24,4 @@ pub use draft::{Joint, Operation};
 pub use forms::Join;
 pub use gathering::gathered;
 pub use law::one_specification;
+pub use root::Root;

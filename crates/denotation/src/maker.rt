@@ -1,5 +1,5 @@
 //! The bodies of a script's definitions.
-ghost use Rattle.std.specs.Prelude.{◌≡◌, ℕ, [], IfOk, map};
+ghost use Rattle.std.specs.Prelude.{◌≡◌, ◌&&◌, ℕ, [], IfOk, length, map, nat_eq};
 ghost use Rattle.std.specs.Option.{option_map};
 ghost use Rattle.syntax.specs.View.{shape};
 ghost use Rattle.values.specs.Names.{meaning};
@@ -7,25 +7,26 @@ ghost use Rattle.values.specs.Tables.{input};
 ghost use Rattle.values.specs.View.{Gives};
 ghost use Rattle.event_phrases.specs.Scopes.{within};
 ghost use Rattle.event_phrases.specs.View.{listed};
-ghost use Rattle.denotation.specs.Denotes.{body_of, called_by, paired};
+ghost use Rattle.denotation.specs.Denotes.{body_of, body_under as body_below, called_by, paired};
 ghost use Rattle.denotation.specs.Rooms.{shallow, within_limits};
 ghost use Rattle.denotation.specs.Phrases.{denoted, phrase_of};
-ghost use Rattle.denotation.specs.View.{body as body_of_draft, key};
+ghost use Rattle.denotation.specs.View.{body as body_of_draft, key, root as root_view};
 
 use crate::call::Call;
 use crate::draft::Draft;
 use crate::making::process;
+use crate::root::Root;
 use event_phrases::{GlobalScope, Scope};
 use std::alloc::{AllocError, Allocator};
 use syntax::Tree;
-use tokens::{ScriptErrorKind, Unread, fault};
+use tokens::{Position, ScriptErrorKind, Unread, fault};
 use values::{Input, Value};
 
 /// The greatest depth of a body.
 const DEEPEST: u64 = 200;
 
 /// The same, unless it is too deep.
-fn unless_deep<A: Allocator>(draft: Draft<A>, line: u32) -> Result<Draft<A>, Unread>
+fn unless_deep<A: Allocator>(draft: Draft<A>, line: Position) -> Result<Draft<A>, Unread>
     ensures { (room : ℕ) → Gives (λ b. (body_of_draft b, room)) result (shallow (body_of_draft draft, room)) }
 {
     if draft.depth() > DEEPEST {
@@ -59,10 +60,10 @@ fn plain_body<A: Allocator + Copy, G: GlobalScope<A>>(
     ensures { Gives (λ b. (body_of_draft b, room.new)) result (within_limits room.old (body_of (G.scope global.now) (name.now, []))) }
 {
     if !global.is_process(name) {
-        return Err(fault(1, ScriptErrorKind::NoSuchProcess));
+        return Err(fault(Position::Line(1), ScriptErrorKind::NoSuchProcess));
     }
     match global.definition(name) {
-        None => Err(fault(1, ScriptErrorKind::NoSuchProcess)),
+        None => Err(fault(Position::Line(1), ScriptErrorKind::NoSuchProcess)),
         Some(tree) => {
             let scope = Scope {
                 global,
@@ -107,9 +108,9 @@ fn called_body<A: Allocator + Copy, G: GlobalScope<A>>(
     ensures { Gives (λ b. (body_of_draft b, room.new)) result (within_limits room.old (called_by (G.scope global.now) (meaning (G.scope global.now).entries name.now) (listed arguments.now))) }
 {
     match global.with_parameters(name) {
-        None => Err(fault(1, ScriptErrorKind::NoSuchProcess)),
+        None => Err(fault(Position::Line(1), ScriptErrorKind::NoSuchProcess)),
         Some((parameters, tree)) => match parameter_inputs(alloc, parameters, arguments)? {
-            None => Err(fault(1, ScriptErrorKind::NoSuchProcess)),
+            None => Err(fault(Position::Line(1), ScriptErrorKind::NoSuchProcess)),
             Some(inputs) => {
                 let scope = Scope {
                     global,
@@ -136,5 +137,51 @@ pub(crate) fn body<A: Allocator + Copy, G: GlobalScope<A>>(
         plain_body(alloc, global, &call.name, room)
     } else {
         called_body(alloc, global, &call.name, &call.arguments, room)
+    }
+}
+
+/// The draft made of a phrase for a process that stands beside the script.
+fn phrase_body<A: Allocator + Copy, G: GlobalScope<A>>(
+    alloc: A,
+    global: &G,
+    phrase: &Tree<A>,
+    room: &mut usize,
+) -> Result<Draft<A>, Unread>
+    ensures { Gives (λ b. (body_of_draft b, room.new)) result (within_limits room.old (denoted (phrase_of (shape phrase.now)) (G.scope global.now))) }
+{
+    let scope = Scope {
+        global,
+        inputs: Vec::new(alloc),
+        line: phrase.line(),
+    };
+    body_within(alloc, &scope, phrase, room)
+}
+
+/// Whether what is called has no name, and no values.
+fn is_nameless<A: Allocator>(call: &Call<A>) -> bool
+    ensures { result ≡ (nat_eq (length call.now.name.items) 0 && nat_eq (length call.now.arguments.items) 0) }
+{
+    call.name.is_empty() && call.arguments.is_empty()
+}
+
+/// The draft made of the body of the definition that is called, where the one without a name is the root's phrase.
+pub(crate) fn body_under<A: Allocator + Copy, G: GlobalScope<A>>(
+    alloc: A,
+    global: &G,
+    root: &Root<'_, A>,
+    call: &Call<A>,
+    room: &mut usize,
+) -> Result<Draft<A>, Unread>
+    ensures { Gives (λ b. (body_of_draft b, room.new)) result (within_limits room.old (body_below (root_view root.now) (G.scope global.now) (key call.now))) }
+{
+    match root {
+        Root::Named(_) => body(alloc, global, call, room),
+        Root::Phrase(phrase) => {
+            if is_nameless(call) {
+                phrase_body(alloc, global, phrase, room)
+            } else {
+                body(alloc, global, call, room)
+            }
+        }
     }
 }

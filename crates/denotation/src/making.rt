@@ -31,7 +31,7 @@ use event_phrases::{
 };
 use std::alloc::Allocator;
 use syntax::Tree;
-use tokens::{ScriptErrorKind, Unread, fault};
+use tokens::{Position, ScriptErrorKind, Unread, fault};
 
 /// The first branch of a prefix from the event with this number on, with its event's number.
 #[cycle(making)]
@@ -222,7 +222,7 @@ fn replicated_phrase<'a, A: Allocator + Copy, G: GlobalScope<A>>(
     scope: &Scope<'a, A, G>,
     join: Join,
     form: (&'a [Tree<A>], &'a Tree<A>),
-    line: u32,
+    line: Position,
     room: &mut usize,
 ) -> Result<Draft<A>, Unread>
     ensures { Gives (λ b. (body b, room.new)) result (fits room.old (denoted (replicated join (shapes form.entry.0.now) (phrase_of (shape form.entry.1.now))) (within (G.scope scope.now.global.now) (map input scope.now.inputs.items)))) }
@@ -238,7 +238,7 @@ fn made<'a, A: Allocator + Copy, G: GlobalScope<A>>(
     alloc: A,
     scope: &Scope<'a, A, G>,
     phrase: Phrase<'a, A>,
-    line: u32,
+    line: Position,
     room: &mut usize,
 ) -> Result<Draft<A>, Unread>
     ensures { Gives (λ b. (body b, room.new)) result (fits room.old (denoted (plain phrase.entry) (within (G.scope scope.now.global.now) (map input scope.now.inputs.items)))) }

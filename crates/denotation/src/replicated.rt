@@ -14,7 +14,7 @@ use crate::forms::Join;
 use event_phrases::{GlobalScope, Scope, wanted_values};
 use std::alloc::Allocator;
 use syntax::Tree;
-use tokens::{ScriptErrorKind, Unread, fault};
+use tokens::{Position, ScriptErrorKind, Unread, fault};
 use values::Values;
 
 /// The values of a generator with this name and this set, on this line.
@@ -24,7 +24,7 @@ pub(crate) fn values_of<A: Allocator + Copy, G: GlobalScope<A>>(
     scope: &Scope<'_, A, G>,
     name: &[u8],
     set: &Tree<A>,
-    line: u32,
+    line: Position,
 ) -> Result<Values<A>, Unread>
     ensures { Gives values result (generator_values (within (G.scope scope.now.global.now) (map input scope.now.inputs.items)) name.now (shape set.now)) }
 {
@@ -40,8 +40,8 @@ pub(crate) fn all_joined<A: Allocator + Copy>(
     join: Join,
     drafts: Vec<Draft<A>, A>,
     room: &mut usize,
-    definition: u32,
-    line: u32,
+    definition: Position,
+    line: Position,
 ) -> Result<Draft<A>, Unread>
     ensures { Gives (λ b. (body b, room.new)) result (spare_joined join (map body drafts.items) room.old) }
 {

@@ -14,11 +14,11 @@ use crate::draft::Draft;
 use crate::room::spend_nodes;
 use event_phrases::{GlobalScope, Scope};
 use std::alloc::Allocator;
-use tokens::{ScriptErrorKind, Unread, fault};
+use tokens::{Position, ScriptErrorKind, Unread, fault};
 
 /// `STOP`, where there is room for it.
 #[tactic(auto, unfolding(crate::specs::Phrases::denoted, crate::specs::Bodies::size, crate::specs::Rooms::fit))]
-pub(crate) fn stop<A: Allocator>(room: &mut usize, line: u32) -> Result<Draft<A>, Unread>
+pub(crate) fn stop<A: Allocator>(room: &mut usize, line: Position) -> Result<Draft<A>, Unread>
     ensures { Gives (λ b. (body b, room.new)) result (spare 1 stop_of room.old) }
 {
     spend_nodes(room, 1, line)?;
@@ -26,7 +26,7 @@ pub(crate) fn stop<A: Allocator>(room: &mut usize, line: u32) -> Result<Draft<A>
 }
 
 /// `SKIP`, where there is room for it.
-pub(crate) fn skip<A: Allocator>(room: &mut usize, line: u32) -> Result<Draft<A>, Unread>
+pub(crate) fn skip<A: Allocator>(room: &mut usize, line: Position) -> Result<Draft<A>, Unread>
     ensures { Gives (λ b. (body b, room.new)) result (spare 1 skip_of room.old) }
 {
     spend_nodes(room, 1, line)?;
@@ -39,7 +39,7 @@ pub(crate) fn called<A: Allocator + Copy, G: GlobalScope<A>>(
     alloc: A,
     scope: &Scope<'_, A, G>,
     name: &[u8],
-    line: u32,
+    line: Position,
     room: &mut usize,
 ) -> Result<Draft<A>, Unread>
     ensures { Gives (λ b. (body b, room.new)) result (fits room.old (denoted (called_by name.now) (within (G.scope scope.now.global.now) (map input scope.now.inputs.items)))) }

@@ -1,6 +1,7 @@
 -- Phrases for sets of events by their forms: how they are read from trees, and that their parts are smaller.
 use Rattle.std.proofs.Common.{◌≡◌, ℕ, ◌+◌, ◌<◌, ◌≤◌, List, [], ◌∷◌, Option, Some, None, Vec, refl, sym, ap, ◌∙◌, arith}
 use Rattle.std.specs.Option.{option_map, IfSome}
+use Rattle.tokens.specs.declared.position.Position.{Position}
 use Rattle.syntax.specs.declared.tree.Tree.{Tree, Node as TreeNode}
 use Rattle.syntax.specs.declared.form.Form.{Form}
 use Rattle.syntax.specs.declared.form.Form.TheVariants as forms
@@ -25,7 +26,7 @@ list_forth (MoreSyntax t ts) = ap (MoreSyntax t) (list_forth ts)
 abbrev pub node_with : Form → List Syntax → Option (Form × List Syntax)
 node_with f ts = Some (f, ts)
 
-pub node_parts : {A : Type 0} (tree : Tree A) (line : ℕ) (form : Form) (v : Vec (Tree A) A) (ts : List (Tree A)) → tree ≡ TreeNode line form v → ts ≡ v.items → node_with form (shapes ts) ≡ node_of (shape tree)
+pub node_parts : {A : Type 0} (tree : Tree A) (line : Position) (form : Form) (v : Vec (Tree A) A) (ts : List (Tree A)) → tree ≡ TreeNode line form v → ts ≡ v.items → node_with form (shapes ts) ≡ node_of (shape tree)
 unfolding node_of
 node_parts tree line form v ts h is =
     ap (λ xs. node_with form (shapes xs)) is ∙ ap (node_with form) (sym (list_back (shapes v.items)))

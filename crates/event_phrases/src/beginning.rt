@@ -18,7 +18,7 @@ use crate::row::Row;
 use crate::scope::{Scope, reported_fault, truth};
 use std::alloc::Allocator;
 use syntax::Tree;
-use tokens::{ScriptErrorKind, Unread, fault};
+use tokens::{Position, ScriptErrorKind, Unread, fault};
 use values::{Input, Known, Value, stands_for, the_value};
 
 /// Whether the value is one of the set.
@@ -39,7 +39,7 @@ fn given_by<A: Allocator + Copy>(
     known: &Known<A>,
     inputs: &[Input<A>],
     phrase: FieldPhrase<'_, A>,
-    line: u32,
+    line: Position,
 ) -> Result<Value<A>, Unread>
     ensures { Gives value_of result (given_value (behind (table known.now) (map input inputs.now)) (plain_field phrase.entry)) }
 {
@@ -94,7 +94,7 @@ fn more_values<A: Allocator + Copy>(
     fields: &[Tree<A>],
     sets: &[Set<A>],
     values: &mut Vec<Value<A>, A>,
-    line: u32,
+    line: Position,
 ) -> Result<(), Unread>
     ensures { Gives (λ u. listed values.new.items) result (values_behind (listed values.old.items) (within_by (behind (table known.now) (map input inputs.now)) (shapes fields.now) (map (λ v. listed v.items) sets.now))) }
 {
@@ -118,7 +118,7 @@ fn begun<A: Allocator + Copy>(
     channel: &[u8],
     fields: &[Tree<A>],
     sets: &[Set<A>],
-    line: u32,
+    line: Position,
 ) -> Result<Row<A>, Unread>
     ensures { Gives (λ r. beginning_of r) result (option_map (λ vs. (channel.now, vs)) (within_by (behind (table known.now) (map input inputs.now)) (shapes fields.now) (map (λ v. listed v.items) sets.now))) }
 {

@@ -26,7 +26,7 @@ use crate::scope::{Scope, copies, push_input, wanted_worth};
 use crate::uses::mentions;
 use std::alloc::{AllocError, Allocator};
 use syntax::Tree;
-use tokens::{ScriptErrorKind, Unread, fault};
+use tokens::{Position, ScriptErrorKind, Unread, fault};
 use values::{Input, Value, Values, the_set, the_value};
 
 /// Whether the name is in one of the fields up to the first without values.
@@ -129,7 +129,7 @@ fn passing<'a, A: Allocator + Copy, G: GlobalScope<A>>(
     phrase: FieldPhrase<'a, A>,
     set: &Set<A>,
     rest: (&[Tree<A>], &[Set<A>]),
-    line: u32,
+    line: Position,
 ) -> Result<Option<(&'a [u8], Vec<Value<A>, A>)>, Unread>
     ensures { MatchResult result (λ o. (field_passes (shapes rest.entry.0.now) (map (λ v. listed v.items) rest.entry.1.now) (within (G.scope global.now) (map input inputs.now)) (plain_field phrase.entry) (listed set.now.items)) ≡ passes_after (shapes rest.entry.0.now) (map (λ v. listed v.items) rest.entry.1.now) (within (G.scope global.now) (map input inputs.now)) (option_map (λ p. (p.0.now, listed p.1.items)) o)) (λ e. Fails e (field_passes (shapes rest.entry.0.now) (map (λ v. listed v.items) rest.entry.1.now) (within (G.scope global.now) (map input inputs.now)) (plain_field phrase.entry) (listed set.now.items))) }
 {

@@ -18,7 +18,7 @@ use crate::row::Row;
 use alphabet::EventSet;
 use std::alloc::Allocator;
 use syntax::Tree;
-use tokens::Unread;
+use tokens::{Position, Unread};
 use values::{Input, Known, Value};
 
 /// The values of a field, in order.
@@ -84,13 +84,13 @@ pub trait GlobalScope<A: Allocator>: Drop {
         ensures { MatchOption result ((xs : List Name) (t : Syntax) → meaning (scope self.now).entries name.now ≡ Some (parametric_by xs t) → ⊥) (λ p. meaning (scope self.now).entries name.now ≡ Some (parametric_by (map (λ x. x.items) p.0.now) (shape p.1.now))) };
 
     /// The line of the name of a definition.
-    fn line(&self, name: &[u8]) -> u32;
+    fn line(&self, name: &[u8]) -> Position;
 
     /// What is wrong with a name on this line that is no process.
-    fn fault(&self, name: &[u8], line: u32) -> Unread;
+    fn fault(&self, name: &[u8], line: Position) -> Unread;
 
     /// What is wrong with a call on this line of a name that is no definition with so many parameters.
-    fn call_fault(&self, name: &[u8], line: u32) -> Unread;
+    fn call_fault(&self, name: &[u8], line: Position) -> Unread;
 
     /// What is wrong with a phrase after these inputs that isn't what is wanted.
     fn phrase_fault(&self, inputs: &[Input<A>], phrase: &Tree<A>, wanted: Wanted) -> Unread;

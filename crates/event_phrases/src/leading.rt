@@ -17,7 +17,7 @@ use crate::row::{Row, is_equal};
 use crate::scope::{Scope, copies};
 use std::alloc::Allocator;
 use syntax::Tree;
-use tokens::{ScriptErrorKind, Unread, fault};
+use tokens::{Position, ScriptErrorKind, Unread, fault};
 use values::{Input, Known, Value};
 
 /// The value that a field gives, if it is one of the field's set. A fault isn't reported here.
@@ -86,7 +86,7 @@ fn led_fitting<A: Allocator + Copy, G: GlobalScope<A>>(
     fields: &[Tree<A>],
     sets: &[Set<A>],
     values: &[Value<A>],
-    line: u32,
+    line: Position,
 ) -> Result<Option<Vec<Input<A>, A>>, Unread>
     ensures { Gives (option_map (λ v. within (G.scope scope.now.global.now) (map input v.items))) result (led_fitting_of (listed leading.now) (shapes fields.now) (map (λ v. listed v.items) sets.now) (listed values.now) (within (G.scope scope.now.global.now) (map input scope.now.inputs.items))) }
 {

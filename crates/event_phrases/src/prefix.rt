@@ -19,7 +19,7 @@ use crate::row::is_equal;
 use crate::scope::{push_input, wanted_worth};
 use std::alloc::Allocator;
 use syntax::Tree;
-use tokens::{ScriptErrorKind, Unread, fault};
+use tokens::{Position, ScriptErrorKind, Unread, fault};
 use values::{Input, Value, Values, the_set, the_value};
 
 /// A prefix: the channel of its event, the fields with the sets of their values, and the process after its arrow.
@@ -36,7 +36,7 @@ pub struct Prefix<'a, A: Allocator> {
     /// The process after the arrow.
     pub then: &'a Tree<A>,
     /// The line of the event phrase.
-    pub line: u32,
+    pub line: Position,
 }
 
 /// Whether the value is one of the set.
@@ -90,7 +90,7 @@ fn fits_phrase<A: Allocator + Copy, G: GlobalScope<A>>(
     phrase: FieldPhrase<'_, A>,
     set: &Set<A>,
     value: &Value<A>,
-    line: u32,
+    line: Position,
 ) -> Result<bool, Unread>
     ensures { Gives (λ fits. if fits then Some (within (G.scope global.now) (map input inputs.new.items)) else None) result (fits_by (plain_field phrase.entry) (listed set.now.items) (value_of value.now) (within (G.scope global.now) (map input inputs.old.items))) }
 {
@@ -141,7 +141,7 @@ pub(crate) fn fitting<A: Allocator + Copy, G: GlobalScope<A>>(
     fields: &[Tree<A>],
     sets: &[Set<A>],
     values: &[Value<A>],
-    line: u32,
+    line: Position,
 ) -> Result<bool, Unread>
     ensures { Gives (λ fits. if fits then Some (within (G.scope global.now) (map input inputs.new.items)) else None) result (fitting_of (syntaxes (shapes fields.now)) (map (λ v. listed v.items) sets.now) (listed values.now) (within (G.scope global.now) (map input inputs.old.items))) }
 {

@@ -18,7 +18,7 @@ use crate::row::{Row, begins_so, extended};
 use crate::scope::Scope;
 use std::alloc::{AllocError, Allocator};
 use syntax::Tree;
-use tokens::{ScriptErrorKind, Unread, fault};
+use tokens::{Position, ScriptErrorKind, Unread, fault};
 use values::Value;
 
 /// The values after so many.
@@ -58,7 +58,7 @@ fn pairs_from<A: Allocator + Copy>(
     left: &Row<A>,
     right: &Row<A>,
     before: Vec<(u8, u8), A>,
-    line: u32,
+    line: Position,
 ) -> Result<Vec<(u8, u8), A>, Unread>
     requires { length events.now ≤ 256 }
     ensures { (channels : List Channel) → map row events.now ≡ events_of channels → Gives (λ v. v.items) result (behind_pairs before.items (pairs_from_events channels (beginning_of left.now) (beginning_of right.now) 0 (events_of channels))) }

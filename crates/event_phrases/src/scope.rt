@@ -13,7 +13,7 @@ ghost use Rattle.event_phrases.specs.View.{listed};
 use crate::global_scope::{GlobalScope, Set, Wanted};
 use std::alloc::{AllocError, Allocator};
 use syntax::Tree;
-use tokens::Unread;
+use tokens::{Position, Unread};
 use values::{
     Input, Known, Value, Values, Worth, is_value, stands_for, the_set, the_truth, the_value,
 };
@@ -26,7 +26,7 @@ pub struct Scope<'a, A: Allocator, G: GlobalScope<A>> {
     /// The inputs before the phrase, the last one last.
     pub inputs: Vec<Input<A>, A>,
     /// The line of the name of the definition that the phrase stands in.
-    pub line: u32,
+    pub line: Position,
 }
 
 /// A copy of the inputs.

@@ -19,7 +19,7 @@ use crate::scope::{Scope, reported_fault, truth};
 use alphabet::EventSet;
 use std::alloc::Allocator;
 use syntax::Tree;
-use tokens::{ScriptErrorKind, Unread, fault};
+use tokens::{Position, ScriptErrorKind, Unread, fault};
 
 /// What is made of two sets.
 #[tactic(auto, unfolding(crate::specs::EventForms::is_in_both))]
@@ -87,7 +87,7 @@ fn set_of_phrase<A: Allocator + Copy, G: GlobalScope<A>>(
     alloc: A,
     scope: &Scope<'_, A, G>,
     phrase: SetPhrase<'_, A>,
-    line: u32,
+    line: Position,
 ) -> Result<EventSet, Unread>
     ensures { Gives (λ s. s) result (masked (G.scope scope.now.global.now).channels (set_by (G.scope scope.now.global.now).channels (within (G.scope scope.now.global.now) (map input scope.now.inputs.items)).known (G.scope scope.now.global.now).sets (plain_set phrase.entry))) }
 {

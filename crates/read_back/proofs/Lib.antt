@@ -24,4 +24,5 @@ pub mod ProperNames
 pub mod Origins
 pub mod PairsInOrder
 pub mod Written
+pub mod Roots
 pub mod Law

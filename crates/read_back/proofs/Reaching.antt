@@ -12,8 +12,7 @@ use Rattle.term.specs.Proc as procs
 use Rattle.term.specs.Proc.{Proc, bodies_of}
 use Rattle.values.specs.Names.{same_name}
 use Rattle.denotation.specs.Bodies.{Key, same_key, Body, stop, skip, prefix, ext, int, seq, par, hide, ren, intr, name, names, numbered}
-use Rattle.event_phrases.specs.Scopes.{Scope}
-use Rattle.denotation.specs.Denotes.{body_of, place, has_key, with_keys, met, Reached}
+use Rattle.denotation.specs.Denotes.{place, has_key, with_keys, met, Reached}
 use Rattle.denotation.proofs.Keys.{key_is, key_same}
 use Rattle.denotation.proofs.Reached.{get_or_view}
 use Rattle.printing.specs.Names.{body_name}
@@ -100,12 +99,12 @@ take_map f zero xs = refl
 take_map f (suc i) [] = refl
 take_map f (suc i) (x ∷ xs) = ap (λ ys. f x ∷ ys) (take_map f i xs)
 
-pub reached_many : (s : Scope) (root : Key) (keys : List Key) (bodies : List Body) → Reached s root keys bodies → length keys ≡ length bodies
-reached_many s root keys bodies r = sym (length-map keys (body_of s)) ∙ ap length r.each ∙ length-map bodies (λ b. Some b)
+pub reached_many : (f : Key → Option Body) (root : Key) (keys : List Key) (bodies : List Body) → Reached f root keys bodies → length keys ≡ length bodies
+reached_many f root keys bodies r = sym (length-map keys f) ∙ ap length r.each ∙ length-map bodies (λ b. Some b)
 
 -- ---- what is reached in the printed script
 
-module _ (s : Scope) (root : Key) (keys : List Key) (bodies : List Body) (reached : Reached s root keys bodies) (primes : ℕ) (few : length keys ≤ 65536) where
+module _ (f : Key → Option Body) (root : Key) (keys : List Key) (bodies : List Body) (reached : Reached f root keys bodies) (primes : ℕ) (few : length keys ≤ 65536) where
   abbrev pub other : Key → Key
   other k = printed_key primes (place keys k)
 
@@ -145,7 +144,7 @@ module _ (s : Scope) (root : Key) (keys : List Key) (bodies : List Body) (reache
   each_placed = subst Placed reached.first (placed root bodies)
 
   as_many : length keys ≡ length bodies
-  as_many = reached_many s root keys bodies reached
+  as_many = reached_many f root keys bodies reached
 
   met_so : (bs : List Body) → AllHave keys (flat_map names bs) → met (printed_key primes 0) (map (referred primes) (map (numbered (place keys)) bs)) ≡ map other (met root bs)
   unfolding met
@@ -180,26 +179,26 @@ module _ (s : Scope) (root : Key) (keys : List Key) (bodies : List Body) (reache
   printed_numbers = all_again keys (place printed_keys) (place keys) primes (λ k h. place_so keys k all_keys h) bodies all_there
 
   -- where each printed name has its body, they are what is reached
-  module _ (t : Scope) (given : (k : ℕ) → k < length found → body_of t (printed_key primes k) ≡ Some (referred primes (bodies_of found k))) where
-    nth : (i : ℕ) → i < length printed_keys → body_of t (get_or printed_keys i (other root)) ≡ Some (get_or printed_bodies i stop)
+  module _ (g : Key → Option Body) (given : (k : ℕ) → k < length found → g (printed_key primes k) ≡ Some (referred primes (bodies_of found k))) where
+    nth : (i : ℕ) → i < length printed_keys → g (get_or printed_keys i (other root)) ≡ Some (get_or printed_bodies i stop)
     nth i l =
         let long : length printed_keys ≡ length keys = length-map keys other in
         let more : length found ≡ length bodies = length-map bodies (numbered (place keys)) in
         let m = as_many in
         let a : i < length keys = omega (arith, l, long) in
         let b : i < length found = omega (arith, a, m, more) in
-        ap (body_of t) (get_or_view other keys i (other root) root a ∙ ap (printed_key primes) (each_placed i root a))
+        ap g (get_or_view other keys i (other root) root a ∙ ap (printed_key primes) (each_placed i root a))
         ∙ given i b
         ∙ ap (λ q. Some q) (sym (get_or_view (referred primes) found i stop procs.stop b))
 
-    pub printed_reached : Reached t (printed_key primes 0) printed_keys printed_bodies
+    pub printed_reached : Reached g (printed_key primes 0) printed_keys printed_bodies
     printed_reached =
         let long : length printed_keys ≡ length keys = length-map keys other in
         let more : length printed_bodies ≡ length found = length-map found (referred primes) in
         let most : length found ≡ length bodies = length-map bodies (numbered (place keys)) in
         let m = as_many in
         record {
-          each = each_is (body_of t) printed_keys printed_bodies (other root) stop (omega (arith, long, more, most, m)) nth;
+          each = each_is g printed_keys printed_bodies (other root) stop (omega (arith, long, more, most, m)) nth;
           first = printed_first;
           below = printed_below;
         }

@@ -1,5 +1,5 @@
 -- The printed form of a specification that some script denotes is a script that denotes it.
-use Rattle.std.proofs.Common.{◌≡◌, ℕ, ◌<◌, ◌≤◌, pos, negsuc, List, [], ◌∷◌, map, length, true, cond, Some, None, sym, ap, ◌∙◌, subst, arith}
+use Rattle.std.proofs.Common.{◌≡◌, ℕ, ◌<◌, ◌≤◌, pos, negsuc, List, [], ◌∷◌, map, length, true, cond, Option, Some, None, sym, ap, ◌∙◌, subst, arith}
 use Rattle.std.proofs.lemmas.List.{length-map}
 use Rattle.std.specs.List.{list_all}
 use Rattle.alphabet.specs.Channels.{FieldValue, number, constant, Values, Channel, IsAlphabet, event_count, is_value, is_rising, is_field}
@@ -13,9 +13,9 @@ use Rattle.syntax.specs.Grammar.{Syntax, flat}
 use Rattle.syntax.specs.Script.{HasTree}
 use Rattle.values.specs.Names.{meaning}
 use Rattle.values.specs.Channels.{Declares}
-use Rattle.denotation.specs.Bodies.{numbered}
+use Rattle.denotation.specs.Bodies.{Key, Body, numbered}
 use Rattle.event_phrases.specs.Scopes.{Scope}
-use Rattle.denotation.specs.Denotes.{body_by, body_of, place, nodes, Denotes}
+use Rattle.denotation.specs.Denotes.{Root, named, root_key, body_by, body_of, body_under, place, nodes, Denotes}
 use Rattle.printing.specs.Names.{Name, constants}
 use Rattle.printing.specs.Printed.{reference, printed}
 use Rattle.read_back.proofs.Trees.{printed_primes, script_tree, printed_entries}
@@ -60,7 +60,7 @@ pub record IsPrintable (spec : Specified) : Type 0 where
   pub shown : IsShownAlphabet spec.alphabet
   pub written : (k : ℕ) → k < length spec.bodies → IsWritten (event_count spec.alphabet) (length spec.bodies) (bodies_of spec.bodies k)
 
-module _ (t : Syntax) (root : Name) (spec : Specified) (d : Denotes t root spec) (p : IsPrintable spec) (fits : length (printed spec) ≤ 65536) where
+module _ (t : Syntax) (root : Root) (spec : Specified) (d : Denotes t root spec) (p : IsPrintable spec) (fits : length (printed spec) ≤ 65536) where
   few : length spec.bodies ≤ 65536
   few = omega (arith, some_nodes spec.bodies, d.large)
 
@@ -110,12 +110,12 @@ module _ (t : Syntax) (root : Name) (spec : Specified) (d : Denotes t root spec)
       let proper = all_proper (constants cs) (λ n i. let (c, vs, j, k, l) = of_fields cs n i in p.shown.valued c vs (constant n) j k l) in
       record { tokens = flat (script_tree spec); read = whole_read spec p.shown proper few p.written fits; is = whole_is spec (λ k l. (p.written k l, d.deep k procs.stop l)) }
 
-  abbrev given_scope : Scope
-  given_scope = record { entries = d.entries; channels = spec.alphabet; known = d.known; sets = d.sets }
+  abbrev given : Key → Option Body
+  given = body_under root (record { entries = d.entries; channels = spec.alphabet; known = d.known; sets = d.sets })
 
   few_keys : length d.keys ≤ 65536
   few_keys =
-      let a = reached_many given_scope (root, []) d.keys d.bodies d.reached in
+      let a = reached_many given (root_key root) d.keys d.bodies d.reached in
       let b : length spec.bodies ≡ length d.bodies = ap length d.numbers ∙ length-map d.bodies (numbered (place d.keys)) in
       omega (arith, a, b, few)
 
@@ -132,17 +132,18 @@ module _ (t : Syntax) (root : Name) (spec : Specified) (d : Denotes t root spec)
     small = d.declares.small;
   }
 
-  pub denotes : Denotes (script_tree spec) (reference primes 0) spec
+  pub denotes : Denotes (script_tree spec) (named (reference primes 0)) spec
+  unfolding body_under root_key
   denotes = record {
     entries = printed_entries spec;
     known = printed_known spec p.sound few p.written;
     sets = no_sets spec p.sound few p.written;
     declares = printed_declares;
     events = sets_stand spec p.sound few p.written;
-    keys = printed_keys given_scope (root, []) d.keys d.bodies d.reached primes few_keys;
-    bodies = printed_bodies given_scope (root, []) d.keys d.bodies d.reached primes few_keys;
-    reached = printed_reached given_scope (root, []) d.keys d.bodies d.reached primes few_keys scope their_bodies;
-    numbers = d.numbers ∙ sym (printed_numbers given_scope (root, []) d.keys d.bodies d.reached primes few_keys);
+    keys = printed_keys given (root_key root) d.keys d.bodies d.reached primes few_keys;
+    bodies = printed_bodies given (root_key root) d.keys d.bodies d.reached primes few_keys;
+    reached = printed_reached given (root_key root) d.keys d.bodies d.reached primes few_keys (body_of scope) their_bodies;
+    numbers = d.numbers ∙ sym (printed_numbers given (root_key root) d.keys d.bodies d.reached primes few_keys);
     deep = d.deep;
     large = d.large;
   }

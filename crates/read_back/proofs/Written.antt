@@ -29,7 +29,7 @@ use Rattle.denotation.specs.declared.draft.Operation.TheVariants as operations
 use Rattle.denotation.specs.declared.forms.Join.{Join}
 use Rattle.denotation.specs.declared.forms.Join.TheVariants as joins
 use Rattle.denotation.specs.Phrases.{Between, with_join, with_set, with_sets, Phrase, stops, skips, called, inside, prefixed, joined, hiding, renaming, conditional, calling, replicated, other, phrase_of, generator_of, branch_on, branches, prefixed_by, takes, arguments, called_with, generator_values, for_each, over, join_of, joint_of, none_of, all_joined, renamed, operation_of, composed, denoted}
-use Rattle.denotation.specs.Denotes.{body_by, paired, called_by, body_of, place, Reached}
+use Rattle.denotation.specs.Denotes.{Root, named, phrased, body_by, paired, called_by, body_of, is_nameless, body_under, place, Reached}
 use Rattle.event_phrases.proofs.SetsBelow.{member_is}
 use Rattle.declared_names.proofs.Chains.{bind_some, some_same}
 use Rattle.read_back.proofs.Readable.{IsRenaming, IsWritten}
@@ -411,14 +411,27 @@ body_lies s (c, []) b e = by (is_process s.entries c) e
     by false e = absurd cc
 body_lies s (c, v ∷ vs) b e = called_lies s.channels s (meaning s.entries c) (v ∷ vs) b refl e
 
-bodies_lie : (s : Scope) (ks : List Key) (bs : List Body) → map (body_of s) ks ≡ map Some bs → AllLie (event_count s.channels) bs
-bodies_lie s [] [] e = tt
-bodies_lie s [] (b ∷ bs) e = absurd cc
-bodies_lie s (k ∷ ks) [] e = absurd cc
-bodies_lie s (k ∷ ks) (b ∷ bs) e =
-    let h : body_of s k ≡ Some b = cc in
-    let t : map (body_of s) ks ≡ map Some bs = cc in
-    (body_lies s k b h, bodies_lie s ks bs t)
+phrase_lies : (t : Syntax) (s : Scope) (k : Key) (b : Body) → body_under (phrased t) s k ≡ Some b → Lies (event_count s.channels) b
+unfolding body_under
+phrase_lies t s k b e = by (is_nameless k) e
+  where
+    by : (n : Bool) → cond n (denoted (phrase_of t) s) (body_of s k) ≡ Some b → Lies (event_count s.channels) b
+    by true e = lies s.channels (phrase_of t) s b refl e
+    by false e = body_lies s k b e
+
+under_lies : (root : Root) (s : Scope) (k : Key) (b : Body) → body_under root s k ≡ Some b → Lies (event_count s.channels) b
+unfolding body_under
+under_lies (named n) s k b e = body_lies s k b e
+under_lies (phrased t) s k b e = phrase_lies t s k b e
+
+bodies_lie : (root : Root) (s : Scope) (ks : List Key) (bs : List Body) → map (body_under root s) ks ≡ map Some bs → AllLie (event_count s.channels) bs
+bodies_lie root s [] [] e = tt
+bodies_lie root s [] (b ∷ bs) e = absurd cc
+bodies_lie root s (k ∷ ks) [] e = absurd cc
+bodies_lie root s (k ∷ ks) (b ∷ bs) e =
+    let h : body_under root s k ≡ Some b = cc in
+    let t : map (body_under root s) ks ≡ map Some bs = cc in
+    (under_lies root s k b h, bodies_lie root s ks bs t)
 
 to_written : (n : ℕ) (keys : List Key) (b : Body) → Lies n b → AllHave keys (names b) → IsWritten n (length keys) (numbered (place keys) b)
 unfolding names numbered
@@ -440,11 +453,11 @@ all_written n keys (b ∷ bs) h a zero l = to_written n keys b h.0 (all_left key
 all_written n keys (b ∷ bs) h a (suc k) l = all_written n keys bs h.1 (all_right keys (names b) (flat_map names bs) a) k (omega (arith, l))
 
 -- what is reached has a text
-pub reached_written : (s : Scope) (root : Key) (keys : List Key) (bodies : List Body) (Ps : List Proc) → Reached s root keys bodies → Ps ≡ map (numbered (place keys)) bodies → (k : ℕ) → k < length Ps → IsWritten (event_count s.channels) (length Ps) (bodies_of Ps k)
-reached_written s root keys bodies Ps r e k l =
-    let there = subst (λ ks. AllHave ks (flat_map names bodies)) r.first (all_named root bodies) in
-    let a = reached_many s root keys bodies r in
+pub reached_written : (s : Scope) (root : Root) (first : Key) (keys : List Key) (bodies : List Body) (Ps : List Proc) → Reached (body_under root s) first keys bodies → Ps ≡ map (numbered (place keys)) bodies → (k : ℕ) → k < length Ps → IsWritten (event_count s.channels) (length Ps) (bodies_of Ps k)
+reached_written s root first keys bodies Ps r e k l =
+    let there = subst (λ ks. AllHave ks (flat_map names bodies)) r.first (all_named first bodies) in
+    let a = reached_many (body_under root s) first keys bodies r in
     let long : length keys ≡ length Ps = a ∙ sym (length-map bodies (numbered (place keys))) ∙ sym (ap length e) in
     let h : (k : ℕ) → k < length Ps → IsWritten (event_count s.channels) (length keys) (bodies_of Ps k) =
-    subst (λ Qs. (k : ℕ) → k < length Qs → IsWritten (event_count s.channels) (length keys) (bodies_of Qs k)) (sym e) (all_written (event_count s.channels) keys bodies (bodies_lie s keys bodies r.each) there) in
+    subst (λ Qs. (k : ℕ) → k < length Qs → IsWritten (event_count s.channels) (length keys) (bodies_of Qs k)) (sym e) (all_written (event_count s.channels) keys bodies (bodies_lie root s keys bodies r.each) there) in
     subst (λ m. IsWritten (event_count s.channels) m (bodies_of Ps k)) long (h k l)

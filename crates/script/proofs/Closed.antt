@@ -9,7 +9,7 @@ use Rattle.term.specs.Specs.{LiesIn, IsClosed}
 use Rattle.term.specs.declared.names.Names.TheVariants.{Steps}
 use Rattle.denotation.specs.Bodies.{Key, names, numbered}
 use Rattle.event_phrases.specs.Scopes.{Scope}
-use Rattle.denotation.specs.Denotes.{place, met, Gathered}
+use Rattle.denotation.specs.Denotes.{Root, body_under, place, met, Gathered}
 use Rattle.denotation.proofs.Reached.{keys_grow}
 use Rattle.read_back.proofs.Readable.{IsWritten}
 use Rattle.read_back.proofs.Reaching.{reached_many}
@@ -32,10 +32,10 @@ lies n m (procs.name k) h = h
 all_lie : (n m : ℕ) (ps : List Proc) → ((k : ℕ) → k < length ps → IsWritten n m (bodies_of ps k)) → All (LiesIn n m) ps
 all_lie n m ps h k d l = subst (LiesIn n m) (get_or_default ps k procs.stop d l) (lies n m (bodies_of ps k) (h k l))
 
-pub is_closed : (s : Scope) (root : Key) (ps : List Proc) → Gathered s root ps → IsClosed (record { alphabet = s.channels; bodies = ps; names = Steps })
+pub is_closed : (s : Scope) (root : Root) (first : Key) (ps : List Proc) → Gathered (body_under root s) first ps → IsClosed (record { alphabet = s.channels; bodies = ps; names = Steps })
 unfolding met
-is_closed s root ps g =
-    let count : length ps ≡ length g.keys = ap length g.numbers ∙ length-map g.bodies (numbered (place g.keys)) ∙ sym (reached_many s root g.keys g.bodies g.reached) in
-    let (rest, grown) = keys_grow (flat_map names g.bodies) (root ∷ []) in
-    let long : length g.keys ≡ 1 + length rest = ap length (sym g.reached.first ∙ grown) ∙ length-append (root ∷ []) rest in
-    (omega (arith, count, long), all_lie (event_count s.channels) (length ps) ps (reached_written s root g.keys g.bodies ps g.reached g.numbers))
+is_closed s root first ps g =
+    let count : length ps ≡ length g.keys = ap length g.numbers ∙ length-map g.bodies (numbered (place g.keys)) ∙ sym (reached_many (body_under root s) first g.keys g.bodies g.reached) in
+    let (rest, grown) = keys_grow (flat_map names g.bodies) (first ∷ []) in
+    let long : length g.keys ≡ 1 + length rest = ap length (sym g.reached.first ∙ grown) ∙ length-append (first ∷ []) rest in
+    (omega (arith, count, long), all_lie (event_count s.channels) (length ps) ps (reached_written s root first g.keys g.bodies ps g.reached g.numbers))

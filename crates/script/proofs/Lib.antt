@@ -1,3 +1,4 @@
+pub mod Lines
 pub mod Closed
 pub mod Denoting
 pub mod Tables
@@ -5,4 +6,3 @@ pub mod Copies
 pub mod Masks
 pub mod Learning
 pub mod NamedSets
-pub mod RootNames

@@ -13,6 +13,6 @@ mod sigma;
 mod standing;
 mod table;
 
-pub use law::{one_reading, roots_are_names};
+pub use law::{names_are_processes, one_reading, roots_are_lines};
 pub use printed::print;
 pub use reading::read;

@@ -1,6 +1,5 @@
 //! The printed form.
 ghost use Rattle.std.specs.Prelude.{◌≡◌, ◌≤◌, ◌++◌, ℕ, List, OnErr, OnOk, length};
-ghost use Rattle.values.specs.Values.{Name};
 ghost use Rattle.printing.specs.Names.{body_primes};
 ghost use Rattle.printing.specs.Printed.{printed, reference};
 ghost use Rattle.script.specs.Reading.{IsRead};
@@ -24,7 +23,7 @@ pub fn print<A: Allocator, B: Allocator + Clone>(
     ensures appended { OnOk result (into.new.items ≡ into.old.items ++ printed spec.now) }
     ensures unchanged { OnErr result (into.new.items ≡ into.old.items) }
     // Where some text is read as the specification, its printed form is read as it too, if it is no larger than a script may be.
-    ensures reads_back { (text : List ℕ) (root : Name) → IsRead text root spec.now → length (printed spec.now) ≤ 65536
+    ensures reads_back { (text root : List ℕ) → IsRead text root spec.now → length (printed spec.now) ≤ 65536
         → IsRead (printed spec.now) (reference (body_primes spec.now.alphabet (length spec.now.bodies)) 0) spec.now }
 {
     printed_scripts_read_back();

@@ -1,11 +1,15 @@
 //! What a text is read as.
 ghost use Rattle.std.specs.Prelude.{◌≡◌, IfOk, IsTrue, List, MatchResult, Some, map};
-ghost use Rattle.denotation.specs.Denotes.{Denotes};
+ghost use Rattle.denotation.specs.Denotes.{Denotes, named, root_of};
+ghost use Rattle.denotation.specs.View.{root as root_view};
+ghost use Rattle.syntax.specs.Grammar.{Syntax};
+ghost use Rattle.syntax.specs.Script.{HasPhrase};
 ghost use Rattle.syntax.specs.View.{shape};
 ghost use Rattle.term.specs.Proc.{Proc, proc};
 ghost use Rattle.term.specs.Specs.{Specified};
 ghost use Rattle.term.specs.declared.names.Names.TheVariants.{Steps};
 ghost use Rattle.tokens.specs.declared.error.ScriptErrorKind.TheVariants.{Memory};
+ghost use Rattle.tokens.specs.Unreads.{reported};
 ghost use Rattle.tokens.specs.declared.unread.Unread.TheVariants as unread;
 ghost use Rattle.values.specs.Tables.{table};
 ghost use Rattle.values.specs.View.{Gives};
@@ -19,34 +23,63 @@ use crate::script::Script;
 use crate::standing::named_sets;
 use declarations::declare;
 use declared_names::trees_have_names;
-use denotation::gathered;
+use denotation::{Root, gathered};
 use std::alloc::Allocator;
-use syntax::{Tree, parse};
+use syntax::{Tree, parse, parse_phrase};
 use term::{Spec, Term};
 use tokens::{ScriptError, Unread};
 
-/// The bodies of what is reached from the root.
-fn bodies_of<'a, A: Allocator + Copy>(
+/// The bodies of what is reached from the root, whatever it is.
+fn bodies_from<'a, A: Allocator + Copy>(
     alloc: A,
     names: &Names<'a, A>,
-    root: &[u8],
+    root: &Root<'_, A>,
 ) -> Result<Vec<Term<A>, A>, Unread>
-    ensures found { IfOk result (λ v. AreBodies names.now.sigma.alphabet (table names.now.known) (entries_of names.now.entries) root.now (map proc v.items)) }
-    ensures only { (ps : List Proc) → AreBodies names.now.sigma.alphabet (table names.now.known) (entries_of names.now.entries) root.now ps → Gives (λ v. map proc v.items) result (Some ps) }
+    ensures found { IfOk result (λ v. AreBodies names.now.sigma.alphabet (table names.now.known) (entries_of names.now.entries) (root_view root.now) (map proc v.items)) }
+    ensures only { (ps : List Proc) → AreBodies names.now.sigma.alphabet (table names.now.known) (entries_of names.now.entries) (root_view root.now) ps → Gives (λ v. map proc v.items) result (Some ps) }
 {
-    if !names.entries.is_process(root) {
-        return Err(root_fault(alloc, names, root, no_process()));
-    }
     let sets = named_sets(alloc, names)?;
     let script = Script {
         names: &*names,
         sets: &sets,
         alloc,
     };
-    match gathered(alloc, &script, root) {
+    gathered(alloc, &script, root)
+}
+
+/// The bodies of what is reached from the process with this name.
+fn bodies_of_process<'a, A: Allocator + Copy>(
+    alloc: A,
+    names: &Names<'a, A>,
+    name: &[u8],
+    root: &Root<'_, A>,
+) -> Result<Vec<Term<A>, A>, Unread>
+    requires { root_view root.now ≡ named name.now }
+    ensures found { IfOk result (λ v. AreBodies names.now.sigma.alphabet (table names.now.known) (entries_of names.now.entries) (root_view root.now) (map proc v.items)) }
+    ensures only { (ps : List Proc) → AreBodies names.now.sigma.alphabet (table names.now.known) (entries_of names.now.entries) (root_view root.now) ps → Gives (λ v. map proc v.items) result (Some ps) }
+{
+    if !names.entries.is_process(name) {
+        return Err(root_fault(alloc, names, name, no_process()));
+    }
+    match bodies_from(alloc, names, root) {
         Ok(bodies) => Ok(bodies),
-        Err(Unread::Fault(error)) => Err(root_fault(alloc, names, root, Unread::Fault(error))),
+        Err(Unread::Fault(error)) => Err(root_fault(alloc, names, name, Unread::Fault(error))),
         Err(Unread::Memory) => Err(Unread::Memory),
+    }
+}
+
+/// The bodies of what is reached from the root.
+fn bodies_of<'a, A: Allocator + Copy>(
+    alloc: A,
+    names: &Names<'a, A>,
+    root: &Root<'_, A>,
+) -> Result<Vec<Term<A>, A>, Unread>
+    ensures found { IfOk result (λ v. AreBodies names.now.sigma.alphabet (table names.now.known) (entries_of names.now.entries) (root_view root.now) (map proc v.items)) }
+    ensures only { (ps : List Proc) → AreBodies names.now.sigma.alphabet (table names.now.known) (entries_of names.now.entries) (root_view root.now) ps → Gives (λ v. map proc v.items) result (Some ps) }
+{
+    match root {
+        Root::Named(name) => bodies_of_process(alloc, names, name, root),
+        Root::Phrase(_) => bodies_from(alloc, names, root),
     }
 }
 
@@ -54,10 +87,10 @@ fn bodies_of<'a, A: Allocator + Copy>(
 fn specified<A: Allocator + Copy>(
     alloc: A,
     names: Names<'_, A>,
-    root: &[u8],
+    root: &Root<'_, A>,
 ) -> Result<Spec<A>, Unread>
-    ensures found { IfOk result (λ spec. (spec.alphabet ≡ names.entry.sigma.alphabet) × (spec.names ≡ Steps) × AreBodies names.entry.sigma.alphabet (table names.entry.known) (entries_of names.entry.entries) root.now spec.bodies) }
-    ensures only { (spec : Specified) → spec.alphabet ≡ names.entry.sigma.alphabet → spec.names ≡ Steps → AreBodies names.entry.sigma.alphabet (table names.entry.known) (entries_of names.entry.entries) root.now spec.bodies
+    ensures found { IfOk result (λ spec. (spec.alphabet ≡ names.entry.sigma.alphabet) × (spec.names ≡ Steps) × AreBodies names.entry.sigma.alphabet (table names.entry.known) (entries_of names.entry.entries) (root_view root.now) spec.bodies) }
+    ensures only { (spec : Specified) → spec.alphabet ≡ names.entry.sigma.alphabet → spec.names ≡ Steps → AreBodies names.entry.sigma.alphabet (table names.entry.known) (entries_of names.entry.entries) (root_view root.now) spec.bodies
         → MatchResult result (λ s. s ≡ spec) (λ e. e ≡ unread.Memory) }
 {
     match bodies_of(alloc, &names, root) {
@@ -66,24 +99,39 @@ fn specified<A: Allocator + Copy>(
     }
 }
 
+/// The specification of what is reached from the root that this text is, where a script has these names.
+fn specified_for<A: Allocator + Copy>(
+    alloc: A,
+    names: Names<'_, A>,
+    root: &[u8],
+) -> Result<Spec<A>, Unread>
+    ensures found { IfOk result (λ spec. (spec.alphabet ≡ names.entry.sigma.alphabet) × (spec.names ≡ Steps) × ((u : Syntax) × HasPhrase root.now u × AreBodies names.entry.sigma.alphabet (table names.entry.known) (entries_of names.entry.entries) (root_of u) spec.bodies)) }
+    ensures only { (spec : Specified) (u : Syntax) → HasPhrase root.now u → spec.alphabet ≡ names.entry.sigma.alphabet → spec.names ≡ Steps → AreBodies names.entry.sigma.alphabet (table names.entry.known) (entries_of names.entry.entries) (root_of u) spec.bodies
+        → MatchResult result (λ s. s ≡ spec) (λ e. (reported e).kind ≡ Memory) }
+{
+    let phrase = parse_phrase(alloc, root)?;
+    specified(alloc, names, &Root::of(&phrase))
+}
+
 /// The specification that the script with this tree denotes for the root.
 fn denoted<A: Allocator + Copy>(alloc: A, tree: &Tree<A>, root: &[u8]) -> Result<Spec<A>, Unread>
     requires { IsTrue (has_names (shape tree.now)) }
-    ensures found { IfOk result (λ spec. Denotes (shape tree.now) root.now spec) }
+    ensures found { IfOk result (λ spec. (u : Syntax) × HasPhrase root.now u × Denotes (shape tree.now) (root_of u) spec) }
     ensures names { IfOk result (λ spec. spec.names ≡ Steps) }
-    ensures only { (spec : Specified) → Denotes (shape tree.now) root.now spec → spec.names ≡ Steps → MatchResult result (λ s. s ≡ spec) (λ e. e ≡ unread.Memory) }
+    ensures only { (spec : Specified) (u : Syntax) → HasPhrase root.now u → Denotes (shape tree.now) (root_of u) spec → spec.names ≡ Steps → MatchResult result (λ s. s ≡ spec) (λ e. (reported e).kind ≡ Memory) }
 {
     let declared = declare(alloc, tree)?;
     let names = names_of(alloc, declared)?;
-    specified(alloc, names, root)
+    specified_for(alloc, names, root)
 }
 
-/// The specification that the text of a script denotes for the root, which is the name of one of its processes; or the first
-/// fault.
+/// The specification that the text of a script denotes for the root, which is the name of one of its processes, or another phrase for a
+/// process, in one line; or the first fault.
 ///
 /// The size is looked at first, then the tokens, then the grammar, as `syntax::parse` reports their faults; then the
-/// declarations, as `declarations::declare` reports theirs; then the root (`NoSuchProcess` on line 1); then the bodies of what is
-/// reached from it, as `denotation::gathered` reports theirs. What isn't reached has to fit the grammar, and no more. `Memory` is
+/// declarations, as `declarations::declare` reports theirs; then the root, as `syntax::parse_phrase` reports its faults, with columns; then
+/// whether a name is a process (`NoSuchProcess` on line 1); then the bodies of what is reached from it, as `denotation::gathered` reports
+/// theirs. What isn't reached has to fit the grammar, and no more. `Memory` is
 /// reported on line 1. `docs/LANGUAGE.md` says which texts are scripts, and `docs/SEMANTICS.md` what they mean.
 ///
 /// Costs the text's length, a turn for each name and each use of one, a copy of each event's values, and a turn for each node

@@ -4,12 +4,12 @@ use declarations::fault_of_name;
 use declared_names::{Meaning, is_process_form, worth_alone};
 use std::alloc::{AllocError, Allocator};
 use syntax::{Form, Tree};
-use tokens::{ScriptErrorKind, Unread, fault};
+use tokens::{Position, ScriptErrorKind, Unread, fault};
 use values::{Known, Worth};
 
 /// The fault of a root that is of another kind, or isn't declared.
 pub(crate) fn no_process() -> Unread {
-    fault(1, ScriptErrorKind::NoSuchProcess)
+    fault(Position::Line(1), ScriptErrorKind::NoSuchProcess)
 }
 
 /// The truth that a condition means; none where the condition is at fault.
@@ -72,7 +72,7 @@ fn name_fault<A: Allocator + Copy>(
     alloc: A,
     names: &Names<'_, A>,
     name: &[u8],
-    line: u32,
+    line: Position,
 ) -> Option<Unread> {
     match names.entries.get(name) {
         Some(entry) => match &entry.meaning {

@@ -13,7 +13,7 @@ use declarations::{
 use event_phrases::{GlobalScope, Row, Set, Wanted};
 use std::alloc::Allocator;
 use syntax::Tree;
-use tokens::Unread;
+use tokens::{Position, Unread};
 use values::{Input, Known};
 
 /// What is known of a script's names, with the named sets of events that were found.
@@ -74,14 +74,14 @@ impl<'a, A: Allocator + Copy> GlobalScope<A> for Script<'a, A> {
         }
     }
 
-    fn line(&self, name: &[u8]) -> u32 {
+    fn line(&self, name: &[u8]) -> Position {
         match self.names.entries.get(name) {
             Some(entry) => entry.line,
-            None => 1,
+            None => Position::Line(1),
         }
     }
 
-    fn fault(&self, name: &[u8], line: u32) -> Unread {
+    fn fault(&self, name: &[u8], line: Position) -> Unread {
         fault_of_name(
             self.alloc,
             &self.names.entries,
@@ -91,7 +91,7 @@ impl<'a, A: Allocator + Copy> GlobalScope<A> for Script<'a, A> {
         )
     }
 
-    fn call_fault(&self, name: &[u8], line: u32) -> Unread {
+    fn call_fault(&self, name: &[u8], line: Position) -> Unread {
         fault_of_call(&self.names.entries, name, line)
     }
 

@@ -17,7 +17,7 @@ use declared_names::{Learner, learn_names};
 use event_phrases::set_of_events;
 use std::alloc::{AllocError, Allocator};
 use syntax::Tree;
-use tokens::{ScriptErrorKind, Unread, fault};
+use tokens::{Position, ScriptErrorKind, Unread, fault};
 
 /// What the body of a definition says, where names mean the sets in the table.
 fn set_of_body<'a, A: Allocator + Copy>(
@@ -46,7 +46,7 @@ fn next_set<'a, A: Allocator + Copy>(
 {
     match names.body(name) {
         Some(body) => set_of_body(alloc, names, sets, body),
-        None => Err(fault(1, ScriptErrorKind::Expected)),
+        None => Err(fault(Position::Line(1), ScriptErrorKind::Expected)),
     }
 }
 

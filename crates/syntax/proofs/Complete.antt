@@ -14,7 +14,7 @@ use Rattle.syntax.specs.Rules.{rule, form_level, is_heavy}
 use Rattle.syntax.specs.Grammar.{Syntax, Called, Numeral, Node, Syntaxes, NoSyntax, MoreSyntax, flat, height_of, highest, nesting, is, is_open, is_event, is_value, is_numeral, is_field, is_generator, is_generators, is_pair, is_called, is_names, is_constants, is_field_sets, is_declaration, is_script, level_in, Fits, FitAll, FitsPart}
 use Rattle.tokens.specs.declared.unread.Unread.{Unread}
 use Rattle.tokens.specs.declared.unread.Unread.TheVariants.{Memory}
-use Rattle.syntax.specs.Script.{IsScript}
+use Rattle.syntax.specs.Script.{IsPhrase, IsScript}
 use Rattle.syntax.specs.Parsing.{◌>>=◌, Found, operand, go_on, read_in, climb, reader, may_open, reads, is_alone, numeral_at, number_at, name_at, may_be_number, ended, whole}
 use Rattle.syntax.specs.Answers.{Fails}
 use Rattle.syntax.proofs.Branches.{some_found}
@@ -23,7 +23,7 @@ use Rattle.syntax.proofs.Steps.{reads_suc}
 use Rattle.syntax.proofs.Table.{operator_row}
 use Rattle.syntax.proofs.CompleteBools.{false_true}
 use Rattle.syntax.proofs.Failing.{only_memory}
-use Rattle.syntax.proofs.CompleteFollow.{Follows}
+use Rattle.syntax.proofs.CompleteFollow.{Follows, quiet, quiet_phrase}
 use Rattle.syntax.proofs.CompleteFirst.{is_operation}
 use Rattle.syntax.proofs.CompleteGoal.{rank, is_read_kind, IsRead, Comes, AllRead, edge, spine, start}
 use Rattle.syntax.proofs.CompleteParts.{first, phrase_read_first, atom_read_first, event_read_first, value_read_first, field_read_first, generator_read_first, generators_read_first, pair_read_first, names_read_first, constants_read_first, field_sets_read_first, declaration_read_first, script_read_first}
@@ -188,16 +188,26 @@ mutual
   complete_all NoSyntax h = tt
   complete_all (MoreSyntax t ts) h = (complete t h.0, complete_all ts h.1)
 
--- ---- whole scripts
+-- ---- whole scripts and phrases
+
+-- the tokens of a tree are read as that tree where they are all
+all_is : (k : Kind) (toks : List Lexeme) (t : Syntax) → is_read_kind k ≡ true → rank k ≤ 4 → Follows k (is_open t) [] → is k t ≡ true → Fits t → height_of t ≤ 250 → nesting t ≤ 250 → toks ≡ flat t → whole k toks ≡ Some t
+unfolding whole ended
+all_is k toks t kind low follows i fits high nested spelled =
+    let read : reads 250 250 4 k (flat t ++ []) ≡ some_found t [] = (complete t fits).0 250 250 4 k [] kind i (omega arith) high nested low follows in
+    ap (whole k) spelled
+    ∙ ap (λ (xs : List Lexeme). reads 250 250 4 k xs >>= ended) (sym (append-nil (flat t)))
+    ∙ ap (λ (o : Option Found). o >>= ended) read
 
 -- the tokens of a script's tree are read as that tree
-pub whole_is : (toks : List Lexeme) (t : Syntax) → IsScript toks t → whole toks ≡ Some t
-unfolding whole ended is is_read_kind rank
-whole_is toks t h =
-    let read : reads 250 250 4 kinds.Script (flat t ++ []) ≡ some_found t [] = (complete t h.fits).0 250 250 4 kinds.Script [] refl h.kind (omega arith) h.high h.nested (omega arith) refl in
-    ap whole h.spelled
-    ∙ ap (λ (xs : List Lexeme). reads 250 250 4 kinds.Script xs >>= ended) (sym (append-nil (flat t)))
-    ∙ ap (λ (o : Option Found). o >>= ended) read
+pub whole_is : (toks : List Lexeme) (t : Syntax) → IsScript toks t → whole kinds.Script toks ≡ Some t
+unfolding is is_read_kind rank
+whole_is toks t h = all_is kinds.Script toks t refl (omega arith) refl h.kind h.fits h.high h.nested h.spelled
+
+-- and those of a phrase's
+pub phrase_is : (toks : List Lexeme) (t : Syntax) → IsPhrase toks t → whole (kinds.Phrase 16) toks ≡ Some t
+unfolding is is_read_kind rank quiet
+phrase_is toks t h = all_is (kinds.Phrase 16) toks t refl (omega arith) (quiet_phrase 16 (is_open t) [] refl) h.kind h.fits h.high h.nested h.spelled
 
 abbrev some_tree : Syntax → Option Syntax
 some_tree t = Some t
@@ -209,12 +219,16 @@ same_tree t u e = cc
 pub one_tree : (toks : List Lexeme) (t u : Syntax) → IsScript toks t → IsScript toks u → t ≡ u
 one_tree toks t u h j = same_tree t u (sym (whole_is toks t h) ∙ whole_is toks u j)
 
--- ---- what a reader of scripts answers
+-- and of one phrase's
+pub one_phrase : (toks : List Lexeme) (t u : Syntax) → IsPhrase toks t → IsPhrase toks u → t ≡ u
+one_phrase toks t u h j = same_tree t u (sym (phrase_is toks t h) ∙ phrase_is toks u j)
 
--- the tree that is read is the script's one tree
-pub tree_is : (toks : List Lexeme) (t u : Syntax) → whole toks ≡ Some u → IsScript toks t → u ≡ t
-tree_is toks t u e h = same_tree u t (sym e ∙ whole_is toks t h)
+-- ---- what a reader answers
 
--- where a script is not read, memory has run out
-pub memory_only : (e : Unread) (toks : List Lexeme) (t : Syntax) → Fails e (whole toks) → IsScript toks t → e ≡ Memory
-memory_only e toks t f h = only_memory e t (subst (λ (o : Option Syntax). Fails e o) (whole_is toks t h) f)
+-- the tree that is read is the one that it is to be
+pub tree_is : (k : Kind) (toks : List Lexeme) (t u : Syntax) → whole k toks ≡ Some u → whole k toks ≡ Some t → u ≡ t
+tree_is k toks t u e h = same_tree u t (sym e ∙ h)
+
+-- where it is not read, memory has run out
+pub memory_only : (k : Kind) (e : Unread) (toks : List Lexeme) (t : Syntax) → Fails e (whole k toks) → whole k toks ≡ Some t → e ≡ Memory
+memory_only k e toks t f h = only_memory e t (subst (λ (o : Option Syntax). Fails e o) h f)

@@ -1,6 +1,7 @@
 -- Parts that grow at their end.
 use Rattle.std.proofs.Common.{◌≡◌, ℕ, List, [], ◌∷◌, ◌++◌, Bool, max, Vec, refl, sym, ap, ◌∙◌, arith}
 use mathlib.Core.Former.{Count}
+use Rattle.tokens.specs.declared.position.Position.{Position}
 use Rattle.syntax.specs.declared.tree.Tree.{Tree, Node as TreeNode, Row_of-Tree, end_of-Tree, more_of-Tree, items-the_row-Tree, items_hidden-the_row-Tree-0}
 use Rattle.syntax.specs.declared.tree.Tree.TheVariants as trees
 use Rattle.syntax.specs.declared.form.Form.{Form}
@@ -47,7 +48,7 @@ row_of (trees.Node' line form n row) = (_, row)
 row_of _ = (_, end_of-Tree)
 
 -- a node that was made of a list has the parts of the list
-pub node_shape : {A : Type 0} (line : ℕ) (form : Form) (v : Vec (Tree A) A) → shape (TreeNode line form v) ≡ Node form (syntaxes (shapes v.items))
+pub node_shape : {A : Type 0} (line : Position) (form : Form) (v : Vec (Tree A) A) → shape (TreeNode line form v) ≡ Node form (syntaxes (shapes v.items))
 node_shape {A = A} line form v =
     let row = row_of (TreeNode line form v) in
     ap (Node form) (shapes_row row.0 row.1 ∙ ap (λ (ts : List (Tree A)). syntaxes (shapes ts)) (items_hidden-the_row-Tree-0 A v))

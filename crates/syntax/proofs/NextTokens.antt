@@ -10,6 +10,7 @@ use Rattle.tokens.specs.declared.keyword.Keyword.{Keyword}
 use Rattle.tokens.specs.declared.keyword.Keyword.TheVariants as keywords
 use Rattle.tokens.specs.declared.symbol.Symbol.{Symbol}
 use Rattle.tokens.specs.declared.symbol.Symbol.TheVariants as symbols
+use Rattle.tokens.specs.declared.position.Position.TheVariants as positions
 use Rattle.syntax.specs.declared.piece.Sign.TheVariants as signs
 use Rattle.syntax.specs.declared.piece.Fields.{Fields}
 use Rattle.syntax.specs.declared.piece.Fields.TheVariants as fields
@@ -49,7 +50,7 @@ pub first_line_is : {A : Type 0} (ts : List (Token A)) (t : Token A) → 1 ≤ l
 first_line_is [] t h is = absurd (omega (arith, h))
 first_line_is (x ∷ xs) t h is = ap (λ y. y.line) is
 
-pub no_line : {A : Type 0} (ts : List (Token A)) → length ts < 1 → 0 ≡ first_line ts
+pub no_line : {A : Type 0} (ts : List (Token A)) → length ts < 1 → positions.Line 0 ≡ first_line ts
 no_line [] h = refl
 no_line (t ∷ ts) h = absurd (omega (arith, h))
 

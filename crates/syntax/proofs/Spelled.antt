@@ -19,7 +19,7 @@ use Rattle.syntax.specs.declared.form.Form.TheVariants as forms
 use Rattle.syntax.specs.Operators.{opening, opens, level, behind}
 use Rattle.syntax.specs.Rules.{rule, is_heavy, form_level}
 use Rattle.syntax.specs.Grammar.{Syntax, Numeral, Node, Syntaxes, flat, spell, spell_signs, spell_part, height_of, highest, nesting, nests, nests_part, level_in, is, is_called, is_numeral, is_value, takes, left_fits, may_stand, Fits, FitAll}
-use Rattle.syntax.specs.Script.{IsScript}
+use Rattle.syntax.specs.Script.{IsPhrase as IsOnePhrase, IsScript}
 use Rattle.syntax.specs.Parsing.{◌>>=◌, Found, Row, Reader, syntaxes, name_at, number_at, numeral_at, may_be_number, is_alone, form_at, fields_of, turned, row, node_of, node, next_operator, may_begin, grown, climb_on, climb, pick, operand_on, operand, go_on, read_in, reads, inside, reader, may_open, ended, whole}
 use Rattle.syntax.proofs.Sound.{bind_some, guard_some, some_is, some_of, name_is, fit_sign, fit_open, spell_sign, spell_open, nests_sign, nests_open, IsPart, IsSound, Rowed, row_sound, tidy}
 use Rattle.syntax.proofs.Climbed.{next_goes}
@@ -273,17 +273,29 @@ sound_inside (suc b) r k toks x e =
 pub reads_sound : (b r t : ℕ) → SoundReads b r t
 reads_sound b r t = sound_rooms b (sound_inside b) r t
 
--- ---- scripts
+-- ---- scripts and phrases
 
-ends : (toks : List Lexeme) (x : Found) (t : Syntax) → ended x ≡ Some t → IsRead 250 250 kinds.Script toks x → IsScript toks t
-unfolding ended is
-ends toks (u, []) t e g =
-    subst (IsScript toks) (some_is u t e) (record { kind = g.kind; fits = g.fits; high = g.high; nested = g.nested; spelled = g.spelled ∙ append-nil (flat u) })
-ends toks (u, x ∷ rest) t e g = absurd cc
+ends : (k : Kind) (toks : List Lexeme) (x : Found) (t : Syntax) → ended x ≡ Some t → IsRead 250 250 k toks x → IsRead 250 250 k toks (t, [])
+unfolding ended
+ends k toks (u, []) t e g = subst (λ (t : Syntax). IsRead 250 250 k toks (t, [])) (some_is u t e) g
+ends k toks (u, x ∷ rest) t e g = absurd cc
+
+all_sound : (k : Kind) (toks : List Lexeme) (t : Syntax) → whole k toks ≡ Some t → IsRead 250 250 k toks (t, [])
+unfolding whole
+all_sound k toks t e =
+    let found = bind_some (reads 250 250 4 k toks) ended t e in
+    ends k toks found.0 t found.2 (reads_sound 250 250 4 k toks found.0 found.1)
 
 -- tokens that are read are a script
-pub whole_sound : (toks : List Lexeme) (t : Syntax) → whole toks ≡ Some t → IsScript toks t
-unfolding whole
+pub whole_sound : (toks : List Lexeme) (t : Syntax) → whole kinds.Script toks ≡ Some t → IsScript toks t
+unfolding is
 whole_sound toks t e =
-    let found = bind_some (reads 250 250 4 kinds.Script toks) ended t e in
-    ends toks found.0 t found.2 (reads_sound 250 250 4 kinds.Script toks found.0 found.1)
+    let g = all_sound kinds.Script toks t e in
+    record { kind = g.kind; fits = g.fits; high = g.high; nested = g.nested; spelled = g.spelled ∙ append-nil (flat t) }
+
+-- or a phrase
+pub phrase_sound : (toks : List Lexeme) (t : Syntax) → whole (kinds.Phrase 16) toks ≡ Some t → IsOnePhrase toks t
+unfolding is
+phrase_sound toks t e =
+    let g = all_sound (kinds.Phrase 16) toks t e in
+    record { kind = g.kind; fits = g.fits; high = g.high; nested = g.nested; spelled = g.spelled ∙ append-nil (flat t) }

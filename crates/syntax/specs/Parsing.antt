@@ -357,6 +357,6 @@ unfoldable pub ended : Found → Option Syntax
 ended (t, []) = Some t
 ended (t, x ∷ rest) = None
 
--- a script that is all of the tokens
-unfoldable pub whole : List Lexeme → Option Syntax
-whole toks = reads 250 250 4 kinds.Script toks >>= ended
+-- a part of this kind that is all of the tokens
+unfoldable pub whole : Kind → List Lexeme → Option Syntax
+whole k toks = reads 250 250 4 k toks >>= ended

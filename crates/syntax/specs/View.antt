@@ -1,5 +1,6 @@
 -- Trees without where they lie in memory and without their lines, and the line of a tree.
-use Rattle.std.specs.Prelude.{ℕ, List, map}
+use Rattle.std.specs.Prelude.{List, map}
+use Rattle.tokens.specs.declared.position.Position.{Position}
 use Rattle.syntax.specs.declared.tree.Tree.{Tree, Row_of-Tree, end_of-Tree, more_of-Tree}
 use Rattle.syntax.specs.declared.tree.Tree.TheVariants as trees
 use Rattle.syntax.specs.Grammar.{Syntax, Called, Numeral, Node, Syntaxes, NoSyntax, MoreSyntax}
@@ -17,8 +18,8 @@ abbrev mutual
 abbrev pub shapes : {A : Type 0} → List (Tree A) → List Syntax
 shapes ts = map shape ts
 
--- the line that a tree keeps, which is that of its first token
-abbrev pub line_of : {A : Type 0} → Tree A → ℕ
+-- the position that a tree keeps, which is that of its first token
+abbrev pub line_of : {A : Type 0} → Tree A → Position
 line_of (trees.Name line text) = line
 line_of (trees.Number line value) = line
 line_of (trees.Node' line form n row) = line

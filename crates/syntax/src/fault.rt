@@ -4,15 +4,15 @@ ghost use Rattle.tokens.specs.declared.error.ScriptErrorKind.TheVariants.{Expect
 ghost use Rattle.syntax.specs.Faults.{fault_at, first_line};
 
 use std::alloc::Allocator;
-use tokens::{ScriptError, ScriptErrorKind, Token, Unread};
+use tokens::{Position, ScriptError, ScriptErrorKind, Token, Unread};
 
-/// The line of the first token; 0 at the end of the text.
-pub(crate) fn line_of<A: Allocator>(tokens: &[Token<A>]) -> u32
+/// Where the first token stands; line 0 at the end of the text.
+pub(crate) fn line_of<A: Allocator>(tokens: &[Token<A>]) -> Position
     ensures { result ≡ first_line tokens.now }
 {
     match tokens {
         [first, ..] => first.line,
-        [] => 0,
+        [] => Position::Line(0),
     }
 }
 

@@ -8,6 +8,7 @@ ghost use Rattle.syntax.specs.View.{shape, shapes};
 use crate::form::{Ending, Form, end_of, heavy};
 use crate::tree::Tree;
 use std::alloc::{AllocError, Allocator};
+use tokens::Position;
 
 /// A tree, its height, and whether it takes all that can follow.
 #[derive(Drop)]
@@ -71,7 +72,7 @@ impl<A: Allocator + Clone + Drop> Parts<A> {
 
     /// The node that has them as its parts.
     #[tactic(auto, unfolding(crate::specs::Grammar::is_open))]
-    pub(crate) fn node(self, form: Form, line: u32) -> Parsed<A>
+    pub(crate) fn node(self, form: Form, line: Position) -> Parsed<A>
         requires { (if is_heavy form then 1 else 0) + self.height ≤ 250 }
         ensures shape { shape result.tree ≡ Node form (syntaxes (shapes self.trees.items)) }
         ensures height { result.height ≡ (if is_heavy form then 1 else 0) + self.height }

@@ -24,7 +24,7 @@ use crate::parts::{Parsed, Parts};
 use crate::piece::{Fields, Kind, Piece, Place, Sign, Start};
 use crate::tree::Tree;
 use std::alloc::Allocator;
-use tokens::{Symbol, Token, Unread, Word};
+use tokens::{Position, Symbol, Token, Unread, Word};
 
 /// A name that must stand first.
 #[tactic(auto, unfolding(crate::specs::Parsing::name_at, crate::specs::Grammar::is_open))]
@@ -383,7 +383,7 @@ fn operand<'t, A: Allocator + Clone + Drop>(
 }
 
 /// The line of a tree's first token. No clause: where trees lie in the text is no part of the proofs here.
-fn first_line<A: Allocator>(tree: &Tree<A>) -> u32 {
+fn first_line<A: Allocator>(tree: &Tree<A>) -> Position {
     tree.line()
 }
 
@@ -471,21 +471,22 @@ pub(crate) fn read<'t, A: Allocator + Clone + Drop>(
     }
 }
 
-/// The script that is all of the tokens.
+/// The part of this kind that is all of the tokens.
 pub(crate) fn whole<A: Allocator + Clone + Drop>(
     alloc: &A,
+    kind: Kind,
     tokens: &[Token<A>],
 ) -> Result<Tree<A>, Unread>
-    ensures { Gives shape result (whole_of (lexemes tokens.now)) }
+    ensures { Gives shape result (whole_of kind (lexemes tokens.now)) }
 {
     let limits = Limits {
         brackets: MAX_BRACKETS,
         room: MAX_HEIGHT,
         layers: LAYERS,
     };
-    let (script, rest) = read(alloc, Kind::Script, tokens, limits)?;
+    let (part, rest) = read(alloc, kind, tokens, limits)?;
     match rest {
-        [] => Ok(script.tree),
+        [] => Ok(part.tree),
         [_, ..] => Err(expected(rest)),
     }
 }

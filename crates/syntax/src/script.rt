@@ -8,18 +8,23 @@ ghost use Rattle.syntax.specs.Script.{HasTree, IsScript};
 ghost use Rattle.syntax.specs.View.{shape};
 
 use crate::left_out::unless_left_out;
+use crate::piece::Kind;
 use crate::reading::whole;
 use crate::tree::Tree;
 use std::alloc::Allocator;
-use tokens::{ScriptError, ScriptErrorKind, Token, Unread, end_line, scan};
+use tokens::{Position, ScriptError, ScriptErrorKind, Token, Unread, end_line, scan};
 
-/// The fault with the line on which the text ends in place of line 0.
-fn at_end(unread: Unread, end: u32) -> Unread
+/// The fault with the place where the text ends in place of line 0.
+pub(crate) fn at_end(unread: Unread, end: Position) -> Unread
     ensures { unread ≡ Memory → result ≡ Memory }
 {
     match unread {
         Unread::Fault(error) => Unread::Fault(ScriptError {
-            line: if error.line == 0 { end } else { error.line },
+            line: if error.line == Position::Line(0) {
+                end
+            } else {
+                error.line
+            },
             kind: error.kind,
         }),
         Unread::Memory => Unread::Memory,
@@ -43,12 +48,12 @@ fn explained<A: Allocator + Clone + Drop>(alloc: &A, tokens: &[Token<A>], unread
 pub(crate) fn read_script<A: Allocator + Clone + Drop>(
     alloc: &A,
     tokens: &[Token<A>],
-    end: u32,
+    end: Position,
 ) -> Result<Tree<A>, Unread>
     ensures found { IfOk result (λ tree. IsScript (lexemes tokens.now) (shape tree)) }
     ensures only { (t : Syntax) → IsScript (lexemes tokens.now) t → MatchResult result (λ tree. shape tree ≡ t) (λ e. e ≡ Memory) }
 {
-    match whole(alloc, tokens) {
+    match whole(alloc, Kind::Script, tokens) {
         Ok(tree) => Ok(tree),
         Err(unread) => Err(at_end(explained(alloc, tokens, unread), end)),
     }
@@ -71,5 +76,6 @@ pub fn parse<A: Allocator + Clone + Drop>(alloc: A, text: &[u8]) -> Result<Tree<
     ensures only { (t : Syntax) → HasTree text.now t → MatchResult result (λ tree. shape tree ≡ t) (λ e. e.kind ≡ kinds.Memory) }
 {
     let tokens = scan(alloc.clone()?, text)?;
-    Ok(read_script(&alloc, &tokens, end_line(text))?)
+    let end = Position::Line(end_line(text));
+    Ok(read_script(&alloc, &tokens, end)?)
 }

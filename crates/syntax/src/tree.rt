@@ -3,21 +3,22 @@ ghost use Rattle.std.specs.Prelude.{◌≡◌};
 
 use crate::form::Form;
 use std::alloc::Allocator;
+use tokens::Position;
 
-/// A part of a script as it is written, with the line of its first token.
+/// A part of a script as it is written, with the line of its first token; or of a phrase by itself, with columns.
 #[derive(Drop)]
 pub enum Tree<A: Allocator> {
     /// A name that stands in a form: of an event, a call, a variable.
     Name {
-        line: u32,
+        line: Position,
         text: Vec<u8, A>,
     },
     Number {
-        line: u32,
+        line: Position,
         value: u32,
     },
     Node {
-        line: u32,
+        line: Position,
         form: Form,
         parts: Vec<Tree<A>, A>,
     },
@@ -26,8 +27,8 @@ pub enum Tree<A: Allocator> {
 impl<A: Allocator> Tree<A> {
     ghost use Rattle.syntax.specs.View.{line_of};
 
-    /// The line of its first token.
-    pub fn line(&self) -> u32
+    /// Where its first token stands.
+    pub fn line(&self) -> Position
         ensures { result ≡ line_of self.now }
     {
         match self {

@@ -7,6 +7,7 @@ ghost use Rattle.tokens.specs.declared.error.ScriptErrorKind.TheVariants.{Memory
 
 use crate::error::{ScriptError, ScriptErrorKind};
 use crate::part::{Found, first_part};
+use crate::position::Position;
 use crate::token::{Token, Word};
 use std::alloc::{AllocError, Allocator};
 
@@ -17,7 +18,7 @@ pub const MAX_SCRIPT_LEN: usize = 65_536;
 fn keep<A: Allocator + Clone>(
     tokens: &mut Vec<Token<A>, A>,
     found: Option<Found<'_>>,
-    line: u32,
+    line: Position,
 ) -> Result<(), AllocError>
     ensures { OnOk result (lexemes tokens.new.items ≡ lexemes tokens.old.items ++ behind (token_found found.entry) []) }
 {
@@ -46,6 +47,65 @@ pub fn end_line(text: &[u8]) -> u32
     1 + line_feeds(text) as u32
 }
 
+/// What places are counted by.
+#[derive(Clone, Copy)]
+enum Counted {
+    Lines,
+    Columns,
+}
+
+impl Counted {
+    /// The place with this number.
+    fn at(self, number: u32) -> Position {
+        match self {
+            Counted::Lines => Position::Line(number),
+            Counted::Columns => Position::Column(number),
+        }
+    }
+
+    /// How many places further it is after these bytes.
+    fn steps(self, bytes: &[u8]) -> usize
+        ensures { result ≤ length bytes.now }
+    {
+        match self {
+            Counted::Lines => line_feeds(bytes),
+            Counted::Columns => bytes.len(),
+        }
+    }
+}
+
+/// The tokens of a text, each with its place.
+fn scanned<A: Allocator + Clone>(
+    alloc: A,
+    text: &[u8],
+    counted: Counted,
+) -> Result<Vec<Token<A>, A>, ScriptError>
+    ensures found { IfOk result (λ tokens. HasTokens text.now (lexemes tokens.items)) }
+    ensures only { (ws : List Lexeme) → HasTokens text.now ws → MatchResult result (λ tokens. lexemes tokens.items ≡ ws) (λ e. e.kind ≡ Memory) }
+{
+    if text.len() > MAX_SCRIPT_LEN {
+        return Err(ScriptError {
+            line: counted.at(1),
+            kind: ScriptErrorKind::TooLarge,
+        });
+    }
+    let mut tokens = Vec::new(alloc);
+    let mut rest = text;
+    let mut number = 1;
+    while !rest.is_empty() {
+        let line = counted.at(number);
+        match first_part(rest) {
+            Ok(part) => {
+                keep(&mut tokens, part.token, line)?;
+                number += counted.steps(&rest[..rest.len() - part.rest.len()]) as u32;
+                rest = part.rest;
+            }
+            Err(kind) => return Err(ScriptError { line, kind }),
+        }
+    }
+    Ok(tokens)
+}
+
 /// The tokens of a script, each with its line.
 ///
 /// The first fault from the left is reported: `TooLarge` on line 1 for a text of more than 65,536 bytes,
@@ -59,24 +119,19 @@ pub fn scan<A: Allocator + Clone>(alloc: A, text: &[u8]) -> Result<Vec<Token<A>,
     // Tokens of the text are read, and no others, unless memory runs out.
     ensures only { (ws : List Lexeme) → HasTokens text.now ws → MatchResult result (λ tokens. lexemes tokens.items ≡ ws) (λ e. e.kind ≡ Memory) }
 {
-    if text.len() > MAX_SCRIPT_LEN {
-        return Err(ScriptError {
-            line: 1,
-            kind: ScriptErrorKind::TooLarge,
-        });
-    }
-    let mut tokens = Vec::new(alloc);
-    let mut rest = text;
-    let mut line = 1;
-    while !rest.is_empty() {
-        match first_part(rest) {
-            Ok(part) => {
-                keep(&mut tokens, part.token, line)?;
-                line += line_feeds(&rest[..rest.len() - part.rest.len()]) as u32;
-                rest = part.rest;
-            }
-            Err(kind) => return Err(ScriptError { line, kind }),
-        }
-    }
-    Ok(tokens)
+    scanned(alloc, text, Counted::Lines)
+}
+
+/// The tokens of a phrase by itself, each with its column. The faults are those of `scan`, with columns; `Memory` is reported on line 1.
+pub fn scan_phrase<A: Allocator + Clone>(
+    alloc: A,
+    text: &[u8],
+) -> Result<Vec<Token<A>, A>, ScriptError>
+    // What is read are tokens of the text.
+    ensures found { IfOk result (λ tokens. HasTokens text.now (lexemes tokens.items)) }
+
+    // Tokens of the text are read, and no others, unless memory runs out.
+    ensures only { (ws : List Lexeme) → HasTokens text.now ws → MatchResult result (λ tokens. lexemes tokens.items ≡ ws) (λ e. e.kind ≡ Memory) }
+{
+    scanned(alloc, text, Counted::Columns)
 }

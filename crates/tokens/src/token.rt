@@ -1,6 +1,7 @@
 //! Tokens.
 
 use crate::keyword::Keyword;
+use crate::position::Position;
 use crate::symbol::Symbol;
 use std::alloc::Allocator;
 
@@ -15,9 +16,9 @@ pub enum Word<A: Allocator> {
     Symbol(Symbol),
 }
 
-/// A token and the line that it stands on, from 1.
+/// A token, and where it stands.
 #[derive(Drop, PartialEq, Eq)]
 pub struct Token<A: Allocator> {
     pub word: Word<A>,
-    pub line: u32,
+    pub line: Position,
 }

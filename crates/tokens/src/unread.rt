@@ -4,6 +4,7 @@ ghost use Rattle.tokens.specs.declared.unread.Unread.TheVariants.{Fault, Memory}
 ghost use Rattle.tokens.specs.Unreads.{reported};
 
 use crate::error::{ScriptError, ScriptErrorKind};
+use crate::position::Position;
 use std::alloc::{AllocError, AllocFailed};
 
 /// Why a part of a script isn't read: something is wrong with it, or memory ran out, which is no fault of the script.
@@ -44,15 +45,15 @@ impl From<Unread> for ScriptError {
         match unread {
             Unread::Fault(error) => error,
             Unread::Memory => ScriptError {
-                line: 1,
+                line: Position::Line(1),
                 kind: ScriptErrorKind::Memory,
             },
         }
     }
 }
 
-/// A fault of this kind on this line.
-pub fn fault(line: u32, kind: ScriptErrorKind) -> Unread
+/// A fault of this kind there.
+pub fn fault(line: Position, kind: ScriptErrorKind) -> Unread
     ensures { result ≡ Fault (record { line = line; kind = kind }) }
 {
     Unread::Fault(ScriptError { line, kind })

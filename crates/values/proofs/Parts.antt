@@ -2,6 +2,7 @@
 use Rattle.std.proofs.Common.{◌≡◌, ℕ, zero, suc, ◌+◌, ◌<◌, ◌≤◌, List, [], ◌∷◌, ◌++◌, false, map, length, drop, get_or, Option, Some, None, Vec, refl, sym, ap, ◌∙◌, arith, append_assoc, append-nil, drop-cons}
 use Rattle.std.proofs.lemmas.List.{map-append}
 use mathlib.Core.Former.{Count}
+use Rattle.tokens.specs.declared.position.Position.{Position}
 use Rattle.syntax.specs.declared.tree.Tree.{Tree, Node as TreeNode, Row_of-Tree, end_of-Tree, more_of-Tree, items-the_row-Tree, items_hidden-the_row-Tree-0}
 use Rattle.syntax.specs.declared.tree.Tree.TheVariants as trees
 use Rattle.syntax.specs.declared.form.Form.{Form}
@@ -26,25 +27,25 @@ row_of (trees.Node' line form n row) = (_, row)
 row_of _ = (_, end_of-Tree)
 
 -- a node that holds a list has the parts of the list
-pub node_shape : {A : Type 0} (line : ℕ) (form : Form) (v : Vec (Tree A) A) → shape (TreeNode line form v) ≡ Node form (syntaxes (shapes v.items))
+pub node_shape : {A : Type 0} (line : Position) (form : Form) (v : Vec (Tree A) A) → shape (TreeNode line form v) ≡ Node form (syntaxes (shapes v.items))
 node_shape {A = A} line form v =
     let row = row_of (TreeNode line form v) in
     ap (Node form) (shapes_row row.0 row.1 ∙ ap (λ (ts : List (Tree A)). syntaxes (shapes ts)) (items_hidden-the_row-Tree-0 A v))
 
 -- a node has the form and the parts that it holds
-pub node_is : {A : Type 0} (tree : Tree A) (line : ℕ) (form : Form) (v : Vec (Tree A) A) (ts : List (Tree A)) → tree ≡ TreeNode line form v → ts ≡ v.items → shape tree ≡ Node form (syntaxes (shapes ts))
+pub node_is : {A : Type 0} (tree : Tree A) (line : Position) (form : Form) (v : Vec (Tree A) A) (ts : List (Tree A)) → tree ≡ TreeNode line form v → ts ≡ v.items → shape tree ≡ Node form (syntaxes (shapes ts))
 node_is tree line form v ts h is = ap shape h ∙ node_shape line form v ∙ ap (λ xs. Node form (syntaxes (shapes xs))) (sym is)
 
-pub node_made : {A : Type 0} (known : Known) (tree : Tree A) (line : ℕ) (form : Form) (v : Vec (Tree A) A) (ts : List (Tree A)) (ws : List Plain) → tree ≡ TreeNode line form v → ts ≡ v.items → is_lazy form ≡ false → worths_in known (syntaxes (shapes ts)) ≡ Some ws → worth_in known (shape tree) ≡ formed form ws
+pub node_made : {A : Type 0} (known : Known) (tree : Tree A) (line : Position) (form : Form) (v : Vec (Tree A) A) (ts : List (Tree A)) (ws : List Plain) → tree ≡ TreeNode line form v → ts ≡ v.items → is_lazy form ≡ false → worths_in known (syntaxes (shapes ts)) ≡ Some ws → worth_in known (shape tree) ≡ formed form ws
 node_made known tree line form v ts ws h is strict got =
     ap (worth_in known) (node_is tree line form v ts h is) ∙ strict_is known form (syntaxes (shapes ts)) strict ∙ ap (λ o. o >>= λ ws. formed form ws) got
 
-pub node_fails : {A : Type 0} (k : Unread) (known : Known) (tree : Tree A) (line : ℕ) (form : Form) (v : Vec (Tree A) A) (ts : List (Tree A)) → tree ≡ TreeNode line form v → ts ≡ v.items → is_lazy form ≡ false → Fails k (worths_in known (syntaxes (shapes ts))) → Fails k (worth_in known (shape tree))
+pub node_fails : {A : Type 0} (k : Unread) (known : Known) (tree : Tree A) (line : Position) (form : Form) (v : Vec (Tree A) A) (ts : List (Tree A)) → tree ≡ TreeNode line form v → ts ≡ v.items → is_lazy form ≡ false → Fails k (worths_in known (syntaxes (shapes ts))) → Fails k (worth_in known (shape tree))
 node_fails k known tree line form v ts h is strict f =
     fails_on k (worths_in known (syntaxes (shapes ts))) (worth_in known (shape tree)) (λ e. ap (worth_in known) (node_is tree line form v ts h is) ∙ strict_is known form (syntaxes (shapes ts)) strict ∙ ap (λ o. o >>= λ ws. formed form ws) e) f
 
 -- the same of a form of which not all parts are looked at
-pub lazy_is : {A : Type 0} (known : Known) (tree : Tree A) (line : ℕ) (form other : Form) (v : Vec (Tree A) A) (ts : List (Tree A)) → tree ≡ TreeNode line form v → ts ≡ v.items → form ≡ other → worth_in known (shape tree) ≡ worth_in known (Node other (syntaxes (shapes ts)))
+pub lazy_is : {A : Type 0} (known : Known) (tree : Tree A) (line : Position) (form other : Form) (v : Vec (Tree A) A) (ts : List (Tree A)) → tree ≡ TreeNode line form v → ts ≡ v.items → form ≡ other → worth_in known (shape tree) ≡ worth_in known (Node other (syntaxes (shapes ts)))
 lazy_is known tree line form other v ts h is same =
     ap (worth_in known) (node_is tree line form v ts h is ∙ ap (λ f. Node f (syntaxes (shapes ts))) same)
 

@@ -8,7 +8,7 @@ use crate::known::Known;
 use crate::value::Value;
 use crate::worth::Worth;
 use std::alloc::Allocator;
-use tokens::Unread;
+use tokens::{Position, Unread};
 
 /// An input: its name, and the value that the name means after it.
 #[derive(Drop)]
@@ -39,7 +39,7 @@ pub(crate) fn worth_behind<A: Allocator + Clone>(
     known: &Known<A>,
     inputs: &[Input<A>],
     name: &[u8],
-    line: u32,
+    line: Position,
 ) -> Result<Worth<A>, Unread>
     ensures { Gives worth_of result (behind (table known.now) (map input inputs.now) name.now) }
 {

@@ -18,11 +18,11 @@ use crate::worth::{Worth, listed, the_number, the_only, the_truth, two_numbers, 
 use std::alloc::Allocator;
 use std::collections::BTreeSet;
 use syntax::{Form, Operator, Tree};
-use tokens::{ScriptErrorKind, Unread, fault};
+use tokens::{Position, ScriptErrorKind, Unread, fault};
 
 /// What `+`, `-`, `*` and `%` make of two numbers.
 #[tactic(auto, unfolding(crate::specs::Worths::calculated))]
-fn calculated(operator: Operator, numbers: (i64, i64), line: u32) -> Result<i64, Unread>
+fn calculated(operator: Operator, numbers: (i64, i64), line: Position) -> Result<i64, Unread>
     ensures { Gives (λ z. z) result (calculated_of operator numbers.0 numbers.1) }
 {
     let (first, second) = numbers;
@@ -40,7 +40,7 @@ fn calculated(operator: Operator, numbers: (i64, i64), line: u32) -> Result<i64,
 fn computed<A: Allocator>(
     operator: Operator,
     worths: Vec<Worth<A>, A>,
-    line: u32,
+    line: Position,
 ) -> Result<Worth<A>, Unread>
     ensures { Gives worth_of result (computed_of operator (map worth_of worths.items)) }
 {
@@ -54,7 +54,7 @@ fn computed<A: Allocator>(
 fn operated<A: Allocator>(
     operator: Operator,
     worths: Vec<Worth<A>, A>,
-    line: u32,
+    line: Position,
 ) -> Result<Worth<A>, Unread>
     ensures { Gives worth_of result (operated_of operator (map worth_of worths.items)) }
 {
@@ -67,7 +67,7 @@ fn operated<A: Allocator>(
 
 /// The number with its sign turned.
 #[tactic(auto, unfolding(crate::specs::Worths::negated))]
-fn negated<A: Allocator>(worths: Vec<Worth<A>, A>, line: u32) -> Result<Worth<A>, Unread>
+fn negated<A: Allocator>(worths: Vec<Worth<A>, A>, line: Position) -> Result<Worth<A>, Unread>
     ensures { Gives worth_of result (negated_of (map worth_of worths.items)) }
 {
     let only = the_only(worths, line)?;
@@ -81,7 +81,7 @@ fn negated<A: Allocator>(worths: Vec<Worth<A>, A>, line: u32) -> Result<Worth<A>
 fn nothing<A: Allocator + Clone>(
     alloc: &A,
     worths: Vec<Worth<A>, A>,
-    line: u32,
+    line: Position,
 ) -> Result<Worth<A>, Unread>
     ensures { Gives worth_of result (nothing_of (map worth_of worths.items)) }
 {
@@ -96,7 +96,7 @@ fn nothing<A: Allocator + Clone>(
 fn set_with<A: Allocator + Clone>(
     alloc: &A,
     worths: Vec<Worth<A>, A>,
-    line: u32,
+    line: Position,
 ) -> Result<Worth<A>, Unread>
     ensures { Gives worth_of result (set_with_of (map worth_of worths.items)) }
 {
@@ -109,7 +109,7 @@ fn set_with<A: Allocator + Clone>(
 fn range_with<A: Allocator + Clone>(
     alloc: &A,
     worths: Vec<Worth<A>, A>,
-    line: u32,
+    line: Position,
 ) -> Result<Worth<A>, Unread>
     ensures { Gives worth_of result (range_with_of (map worth_of worths.items)) }
 {
@@ -119,7 +119,10 @@ fn range_with<A: Allocator + Clone>(
 }
 
 #[tactic(auto, unfolding(crate::specs::Worths::union_with))]
-fn union_with<A: Allocator + Clone>(worths: Vec<Worth<A>, A>, line: u32) -> Result<Worth<A>, Unread>
+fn union_with<A: Allocator + Clone>(
+    worths: Vec<Worth<A>, A>,
+    line: Position,
+) -> Result<Worth<A>, Unread>
     ensures { Gives worth_of result (union_with_of (map worth_of worths.items)) }
 {
     let (first, second) = two_sets(worths, line)?;
@@ -129,7 +132,10 @@ fn union_with<A: Allocator + Clone>(worths: Vec<Worth<A>, A>, line: u32) -> Resu
 }
 
 #[tactic(auto, unfolding(crate::specs::Worths::intersection_with))]
-fn intersection_with<A: Allocator>(worths: Vec<Worth<A>, A>, line: u32) -> Result<Worth<A>, Unread>
+fn intersection_with<A: Allocator>(
+    worths: Vec<Worth<A>, A>,
+    line: Position,
+) -> Result<Worth<A>, Unread>
     ensures { Gives worth_of result (intersection_with_of (map worth_of worths.items)) }
 {
     let (first, second) = two_sets(worths, line)?;
@@ -138,7 +144,10 @@ fn intersection_with<A: Allocator>(worths: Vec<Worth<A>, A>, line: u32) -> Resul
 }
 
 #[tactic(auto, unfolding(crate::specs::Worths::difference_with))]
-fn difference_with<A: Allocator>(worths: Vec<Worth<A>, A>, line: u32) -> Result<Worth<A>, Unread>
+fn difference_with<A: Allocator>(
+    worths: Vec<Worth<A>, A>,
+    line: Position,
+) -> Result<Worth<A>, Unread>
     ensures { Gives worth_of result (difference_with_of (map worth_of worths.items)) }
 {
     let (first, second) = two_sets(worths, line)?;
@@ -152,7 +161,7 @@ fn formed<A: Allocator + Clone>(
     alloc: &A,
     form: Form,
     worths: Vec<Worth<A>, A>,
-    line: u32,
+    line: Position,
 ) -> Result<Worth<A>, Unread>
     ensures { Gives worth_of result (formed_of form (map worth_of worths.items)) }
 {
@@ -216,7 +225,7 @@ fn conditional<A: Allocator + Clone>(
     known: &Known<A>,
     inputs: &[Input<A>],
     parts: &[Tree<A>],
-    line: u32,
+    line: Position,
 ) -> Result<Worth<A>, Unread>
     ensures { Gives worth_of result (worth_in (behind (table known.now) (map input inputs.now)) (Node Form.If (syntaxes (shapes parts.now)))) }
 {
@@ -241,7 +250,7 @@ fn connected<A: Allocator + Clone>(
     inputs: &[Input<A>],
     decisive: bool,
     sides: &[Tree<A>],
-    line: u32,
+    line: Position,
 ) -> Result<Worth<A>, Unread>
     ensures { Gives worth_of result (worth_in (behind (table known.now) (map input inputs.now)) (Node (Form.Operation (connective decisive)) (syntaxes (shapes sides.now)))) }
 {

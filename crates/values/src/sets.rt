@@ -7,7 +7,7 @@ ghost use Rattle.values.specs.View.{Gives, value, values};
 use crate::value::Value;
 use std::alloc::{AllocError, Allocator};
 use std::collections::BTreeSet;
-use tokens::{ScriptErrorKind, Unread, fault};
+use tokens::{Position, ScriptErrorKind, Unread, fault};
 
 /// A set of values, in their order.
 pub type Values<A> = BTreeSet<Value<A>, A>;
@@ -53,7 +53,7 @@ pub(crate) fn difference<A: Allocator>(first: Values<A>, second: &Values<A>) -> 
 }
 
 /// The set, if it has no more values than the limit.
-pub(crate) fn fitting<A: Allocator>(set: Values<A>, line: u32) -> Result<Values<A>, Unread>
+pub(crate) fn fitting<A: Allocator>(set: Values<A>, line: Position) -> Result<Values<A>, Unread>
     ensures { Gives values result (fitting_set (values set)) }
 {
     if set.len() > SET_LIMIT {
@@ -83,7 +83,7 @@ fn numbers<A: Allocator + Clone>(alloc: &A, first: i64, last: i64) -> Result<Val
 pub(crate) fn range<A: Allocator + Clone>(
     alloc: &A,
     ends: (i64, i64),
-    line: u32,
+    line: Position,
 ) -> Result<Values<A>, Unread>
     ensures { Gives values result (range_of ends.0 ends.1) }
 {

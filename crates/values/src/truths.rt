@@ -8,7 +8,7 @@ use crate::value::Value;
 use crate::worth::{Worth, the_number, the_only, the_truth, the_two};
 use std::alloc::Allocator;
 use syntax::{Form, Operator};
-use tokens::{ScriptErrorKind, Unread, fault};
+use tokens::{Position, ScriptErrorKind, Unread, fault};
 
 /// A form of which not all parts are looked at.
 #[derive(Clone, Copy)]
@@ -36,7 +36,7 @@ pub(crate) fn lazy_form(form: Form) -> Option<Lazy>
 pub(crate) fn truth_of<A: Allocator>(
     truth: bool,
     worths: Vec<Worth<A>, A>,
-    line: u32,
+    line: Position,
 ) -> Result<Worth<A>, Unread>
     ensures { Gives worth_of result (truth_of_bool truth (map worth_of worths.items)) }
 {
@@ -50,7 +50,7 @@ pub(crate) fn truth_of<A: Allocator>(
 #[tactic(auto, unfolding(crate::specs::Worths::negated_truth))]
 pub(crate) fn negated_truth<A: Allocator>(
     worths: Vec<Worth<A>, A>,
-    line: u32,
+    line: Position,
 ) -> Result<Worth<A>, Unread>
     ensures { Gives worth_of result (negated_truth_of (map worth_of worths.items)) }
 {
@@ -64,7 +64,7 @@ pub(crate) fn negated_truth<A: Allocator>(
 fn are_same_values<A: Allocator>(
     first: &Value<A>,
     second: &Value<A>,
-    line: u32,
+    line: Position,
 ) -> Result<bool, Unread>
     ensures { Gives (λ b. b) result (are_same_of (one (value_of first.now)) (one (value_of second.now))) }
 {
@@ -78,7 +78,7 @@ fn are_same_values<A: Allocator>(
 
 /// Whether two numbers, two constants or two truths are the same.
 #[tactic(auto, unfolding(crate::specs::Worths::are_same))]
-fn are_same<A: Allocator>(first: Worth<A>, second: Worth<A>, line: u32) -> Result<bool, Unread>
+fn are_same<A: Allocator>(first: Worth<A>, second: Worth<A>, line: Position) -> Result<bool, Unread>
     ensures { Gives (λ b. b) result (are_same_of (worth_of first) (worth_of second)) }
 {
     match (first, second) {
@@ -90,7 +90,7 @@ fn are_same<A: Allocator>(first: Worth<A>, second: Worth<A>, line: u32) -> Resul
 
 /// Whether the first of two numbers is below the second.
 #[tactic(auto, unfolding(crate::specs::Worths::is_less))]
-fn is_less<A: Allocator>(first: Worth<A>, second: Worth<A>, line: u32) -> Result<bool, Unread>
+fn is_less<A: Allocator>(first: Worth<A>, second: Worth<A>, line: Position) -> Result<bool, Unread>
     ensures { Gives (λ b. b) result (is_less_of (worth_of first) (worth_of second)) }
 {
     let first = the_number(first, line)?;
@@ -100,7 +100,11 @@ fn is_less<A: Allocator>(first: Worth<A>, second: Worth<A>, line: u32) -> Result
 
 /// Whether the first of two numbers is at most the second.
 #[tactic(auto, unfolding(crate::specs::Worths::is_at_most))]
-fn is_at_most<A: Allocator>(first: Worth<A>, second: Worth<A>, line: u32) -> Result<bool, Unread>
+fn is_at_most<A: Allocator>(
+    first: Worth<A>,
+    second: Worth<A>,
+    line: Position,
+) -> Result<bool, Unread>
     ensures { Gives (λ b. b) result (is_at_most_of (worth_of first) (worth_of second)) }
 {
     let first = the_number(first, line)?;
@@ -113,7 +117,7 @@ fn is_at_most<A: Allocator>(first: Worth<A>, second: Worth<A>, line: u32) -> Res
 fn compared<A: Allocator>(
     operator: Operator,
     sides: (Worth<A>, Worth<A>),
-    line: u32,
+    line: Position,
 ) -> Result<bool, Unread>
     ensures { Gives (λ b. b) result (compared_of operator (worth_of sides.0) (worth_of sides.1)) }
 {
@@ -147,7 +151,7 @@ pub(crate) fn is_comparison(operator: Operator) -> bool
 pub(crate) fn comparison<A: Allocator>(
     operator: Operator,
     worths: Vec<Worth<A>, A>,
-    line: u32,
+    line: Position,
 ) -> Result<Worth<A>, Unread>
     ensures { Gives worth_of result (comparison_of operator (map worth_of worths.items)) }
 {

@@ -9,7 +9,7 @@ use crate::sets::Values;
 use crate::value::Value;
 use std::alloc::{AllocError, Allocator};
 use std::collections::BTreeSet;
-use tokens::{ScriptErrorKind, Unread, fault};
+use tokens::{Position, ScriptErrorKind, Unread, fault};
 
 /// What a phrase means.
 #[derive(Drop)]
@@ -36,7 +36,7 @@ impl<A: Allocator + Clone> Worth<A> {
 
 /// The value, where it is one; else `Expected`.
 #[tactic(auto, unfolding(crate::specs::Worths::the_value))]
-pub fn the_value<A: Allocator>(worth: Worth<A>, line: u32) -> Result<Value<A>, Unread>
+pub fn the_value<A: Allocator>(worth: Worth<A>, line: Position) -> Result<Value<A>, Unread>
     ensures { Gives value result (the_value_of (worth_of worth)) }
 {
     match worth {
@@ -47,7 +47,7 @@ pub fn the_value<A: Allocator>(worth: Worth<A>, line: u32) -> Result<Value<A>, U
 
 /// The number, where it is one.
 #[tactic(auto, unfolding(crate::specs::Worths::the_number))]
-pub(crate) fn the_number<A: Allocator>(worth: Worth<A>, line: u32) -> Result<i64, Unread>
+pub(crate) fn the_number<A: Allocator>(worth: Worth<A>, line: Position) -> Result<i64, Unread>
     ensures { Gives (λ z. z) result (the_number_of (worth_of worth)) }
 {
     match worth {
@@ -59,7 +59,7 @@ pub(crate) fn the_number<A: Allocator>(worth: Worth<A>, line: u32) -> Result<i64
 
 /// The set, where it is one; else `Expected`.
 #[tactic(auto, unfolding(crate::specs::Worths::the_set))]
-pub fn the_set<A: Allocator>(worth: Worth<A>, line: u32) -> Result<Values<A>, Unread>
+pub fn the_set<A: Allocator>(worth: Worth<A>, line: Position) -> Result<Values<A>, Unread>
     ensures { Gives values result (the_set_of (worth_of worth)) }
 {
     match worth {
@@ -70,7 +70,7 @@ pub fn the_set<A: Allocator>(worth: Worth<A>, line: u32) -> Result<Values<A>, Un
 
 /// The truth, where it is one; else `Expected`.
 #[tactic(auto, unfolding(crate::specs::Worths::the_truth))]
-pub fn the_truth<A: Allocator>(worth: Worth<A>, line: u32) -> Result<bool, Unread>
+pub fn the_truth<A: Allocator>(worth: Worth<A>, line: Position) -> Result<bool, Unread>
     ensures { Gives (λ b. b) result (the_truth_of (worth_of worth)) }
 {
     match worth {
@@ -82,7 +82,7 @@ pub fn the_truth<A: Allocator>(worth: Worth<A>, line: u32) -> Result<bool, Unrea
 /// The only one of the list.
 pub(crate) fn the_only<A: Allocator>(
     worths: Vec<Worth<A>, A>,
-    line: u32,
+    line: Position,
 ) -> Result<Worth<A>, Unread>
     ensures { Gives worth_of result (the_only_of (map worth_of worths.items)) }
 {
@@ -100,7 +100,7 @@ pub(crate) fn the_only<A: Allocator>(
 #[tactic(auto, using(crate::proofs::Lists::only_two))]
 pub(crate) fn the_two<A: Allocator>(
     worths: Vec<Worth<A>, A>,
-    line: u32,
+    line: Position,
 ) -> Result<(Worth<A>, Worth<A>), Unread>
     ensures { Gives (λ p. (worth_of p.0, worth_of p.1)) result (the_two_of (map worth_of worths.items)) }
 {
@@ -121,7 +121,7 @@ pub(crate) fn the_two<A: Allocator>(
 #[tactic(auto, unfolding(crate::specs::Worths::two_numbers))]
 pub(crate) fn two_numbers<A: Allocator>(
     worths: Vec<Worth<A>, A>,
-    line: u32,
+    line: Position,
 ) -> Result<(i64, i64), Unread>
     ensures { Gives (λ p. (p.0, p.1)) result (two_numbers_of (map worth_of worths.items)) }
 {
@@ -135,7 +135,7 @@ pub(crate) fn two_numbers<A: Allocator>(
 #[tactic(auto, unfolding(crate::specs::Worths::two_sets))]
 pub(crate) fn two_sets<A: Allocator>(
     worths: Vec<Worth<A>, A>,
-    line: u32,
+    line: Position,
 ) -> Result<(Values<A>, Values<A>), Unread>
     ensures { Gives (λ p. (values p.0, values p.1)) result (two_sets_of (map worth_of worths.items)) }
 {
@@ -150,7 +150,7 @@ pub(crate) fn two_sets<A: Allocator>(
 pub(crate) fn listed<A: Allocator + Clone>(
     alloc: &A,
     worths: Vec<Worth<A>, A>,
-    line: u32,
+    line: Position,
 ) -> Result<Values<A>, Unread>
     ensures { Gives values result (set_of_all (map worth_of worths.items)) }
 {
@@ -175,5 +175,5 @@ pub fn constant_set<A: Allocator + Clone>(
     for name in names {
         worths.push(Worth::One(Value::Constant(name.clone()?)))?;
     }
-    listed(alloc, worths, 1)
+    listed(alloc, worths, Position::Line(1))
 }

@@ -14,6 +14,9 @@ const VERSION: &str = "0.6.0-dev";
 // How a fault of the address is reported.
 const BAD_ADDRESS: &str = "ADDR is 127.x.y.z:port, in decimals without leading zeros, or unix:PATH";
 
+// How a fault of the process is reported.
+const BAD_PROCESS: &str = "PROCESS is one line";
+
 // What the help of the program ends with.
 const STATUSES: &str = "\
 Exit status: 0 done, 1 a report was rejected, 2 bad use, 3 the script was refused,
@@ -67,7 +70,7 @@ fn check_command<'a>(alloc: Global) -> Result<Command<'a>, AllocError> {
         alloc,
         "check",
         "Judges the reports on standard input, and answers on standard output",
-        "The process of the script to judge by",
+        "The process to judge by: one of the script, or a phrase",
         CHECK_EXAMPLE,
     )?
     .arg(large_option(alloc))?
@@ -85,7 +88,7 @@ fn print_command<'a>(alloc: Global) -> Result<Command<'a>, AllocError> {
         alloc,
         "print",
         "Prints what a process of the script means, with numbers for its definitions",
-        "The process of the script to print",
+        "The process to print: one of the script, or a phrase",
         PRINT_EXAMPLE,
     )
 }
@@ -194,7 +197,7 @@ fn serve_command<'a>(alloc: Global) -> Result<Command<'a>, AllocError> {
         alloc,
         "serve",
         "Judges the reports of connections, and keeps them in a journal",
-        "The process of the script to judge by",
+        "The process to judge by: one of the script, or a phrase",
         SERVE_EXAMPLE,
     )?
     .arg(word(alloc, "JOURNAL", "The file of the journal"))?
@@ -331,11 +334,42 @@ fn wish_in<'a>(alloc: Global, matches: &ArgMatches<'a>) -> Result<Option<Wish<'a
     }
 }
 
+// The process of the wish, if it has one.
+fn process_of<'a>(wish: &Wish<'a>) -> Option<&'a str> {
+    match wish {
+        Wish::Check(check) => Some(check.process),
+        Wish::Print { process, .. } => Some(process),
+        Wish::Serve(service) => Some(service.process),
+        Wish::Replay { .. } | Wish::Show { .. } => None,
+    }
+}
+
+// Whether the process of the wish, if it has one, has no line feed.
+fn has_one_line(wish: &Wish<'_>) -> bool {
+    match process_of(wish) {
+        Some(process) => process.bytes().all(|byte| byte != b'\n'),
+        None => true,
+    }
+}
+
+// The fault of use of a process that has a line feed.
+fn bad_process(alloc: Global, wish: &Wish<'_>) -> Result<Error, AllocError> {
+    let mut command = match wish {
+        Wish::Print { .. } => print_command(alloc)?.bin_name("cspwatch print")?,
+        Wish::Serve(_) => serve_command(alloc)?.bin_name("cspwatch serve")?,
+        _ => check_command(alloc)?.bin_name("cspwatch check")?,
+    };
+    command.error(ErrorKind::ValueValidation, BAD_PROCESS)
+}
+
 /// Reads the words, the first of which is the program's name. What `clap` takes has the words of its command, but no
 /// clause here says so: `Ok(None)` is the answer where one is missing.
 pub fn read_words<'a, S: AsStr>(alloc: Global, words: &'a [S]) -> Result<Option<Wish<'a>>, Error> {
     let matches = command(alloc)?.try_get_matches_from(words)?;
-    wish_in(alloc, &matches)
+    match wish_in(alloc, &matches)? {
+        Some(wish) if !has_one_line(&wish) => Err(bad_process(alloc, &wish)?),
+        wish => Ok(wish),
+    }
 }
 
 /// An example of the command that the words name, if they name one.

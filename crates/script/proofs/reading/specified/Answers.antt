@@ -6,6 +6,7 @@ use Rattle.term.specs.Specs.{Specified, IsClosed}
 use Rattle.term.specs.declared.names.Names.TheVariants.{Steps}
 use Rattle.values.specs.Tables.{table}
 use Rattle.declared_names.specs.View.{entries}
+use Rattle.denotation.specs.View.{root as root_view}
 use Rattle.script.specs.Reading.{AreBodies}
 use Rattle.script.proofs.Denoting.{bodies_closed}
 use Rattle.syntax.proofs.Failing.{only_memory}
@@ -17,12 +18,12 @@ returns-in-Err-clause-only g c = λ spec _ _ a. only_memory c.in-Err.error spec.
 pub new-requires : goal.new-requires
 new-requires g c =
     let n = c.args.names in
-    subst (λ (a : List Channel). IsClosed (record { alphabet = a; bodies = map proc c.in-Ok.bodies.items; names = Steps })) (sym c.into_alphabet.ensures) (bodies_closed n.sigma.alphabet (table n.known) (entries n.entries) c.args.root.now (map proc c.in-Ok.bodies.items) c.in-Ok.ensures.found)
+    subst (λ (a : List Channel). IsClosed (record { alphabet = a; bodies = map proc c.in-Ok.bodies.items; names = Steps })) (sym c.into_alphabet.ensures) (bodies_closed n.sigma.alphabet (table n.known) (entries n.entries) (root_view c.args.root.now) (map proc c.in-Ok.bodies.items) c.in-Ok.ensures.found)
 
 pub returns-in-Ok-clause-found : goal.returns-in-Ok-clause-found
 returns-in-Ok-clause-found g c =
     let n = c.args.names in
-    (c.new.ensures.alphabet ∙ c.into_alphabet.ensures, c.new.ensures.names, subst (λ (ps : List Proc). AreBodies n.sigma.alphabet (table n.known) (entries n.entries) c.args.root.now ps) (sym c.new.ensures.bodies) c.in-Ok.ensures.found)
+    (c.new.ensures.alphabet ∙ c.into_alphabet.ensures, c.new.ensures.names, subst (λ (ps : List Proc). AreBodies n.sigma.alphabet (table n.known) (entries n.entries) (root_view c.args.root.now) ps) (sym c.new.ensures.bodies) c.in-Ok.ensures.found)
 
 pub returns-in-Ok-clause-only : goal.returns-in-Ok-clause-only
 returns-in-Ok-clause-only g c = λ spec same steps a.

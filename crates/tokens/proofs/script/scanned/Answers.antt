@@ -1,12 +1,11 @@
 use Rattle.std.proofs.Common.{arith, ◌≡◌, ◌<◌, ℕ, List, [], ◌++◌, length, ap, subst, sym, ◌∙◌}
 use Rattle.std.proofs.lemmas.List.{length-take}
-use Rattle.std.proofs.lemmas.List.Sums.{count_by-le-length}
 use Rattle.std.proofs.lemmas.Bool.{eqb-false, eqb-true}
 use Rattle.tokens.specs.Found.{step_of}
 use Rattle.tokens.specs.Lexeme.{Lexeme, lexemes}
 use Rattle.tokens.specs.Text.{Holds}
 use Rattle.tokens.proofs.Whole.{tokens_sound, tokens_only, tokens_never, step_shorter, kept_sound, kept_only, end_sound, end_only}
-use Rattle.tokens.proofs.script.scan.Goals as goal
+use Rattle.tokens.proofs.script.scanned.Goals as goal
 
 pub returns-then-text-gt-MAX_SCRIPT_LEN-clause-only : goal.returns-then-text-gt-MAX_SCRIPT_LEN-clause-only
 returns-then-text-gt-MAX_SCRIPT_LEN-clause-only g c = λ ws h. absurd (omega (arith, h.0, c.if-text-gt-MAX_SCRIPT_LEN.true))
@@ -20,11 +19,11 @@ loop-rest-init g c =
       few = omega (arith, c.if-text-gt-MAX_SCRIPT_LEN.false);
     }
 
-pub overflow_cast-line : goal.overflow_cast-line
-overflow_cast-line g c = omega (arith, c.line_feeds.ensures, count_by-le-length {X = ℕ}, length-take {A = ℕ}, c.loop-rest.invariant.few)
+pub overflow_cast-number : goal.overflow_cast-number
+overflow_cast-number g c = omega (arith, c.steps.ensures, length-take {A = ℕ}, c.loop-rest.invariant.few)
 
-pub overflow_add-line : goal.overflow_add-line
-overflow_add-line g c = omega (arith, c.line_feeds.ensures, count_by-le-length {X = ℕ}, length-take {A = ℕ}, c.loop-rest.invariant.few)
+pub overflow_add-number : goal.overflow_add-number
+overflow_add-number g c = omega (arith, c.steps.ensures, length-take {A = ℕ}, c.loop-rest.invariant.few)
 
 pub loop-rest-preserved : goal.loop-rest-preserved
 loop-rest-preserved g c =
@@ -36,11 +35,11 @@ loop-rest-preserved g c =
     record {
       sound = kept_sound part.0 old new c.args.text.now rest part.1 c.in_ok-keep-in-Ok.ensures c.loop-rest.invariant.sound (tokens_sound rest part c.in-Ok.ensures);
       only = kept_only part.0 old new c.args.text.now rest part.1 c.in_ok-keep-in-Ok.ensures c.loop-rest.invariant.only (tokens_only rest part some c.in-Ok.ensures);
-      few = omega (arith, c.line_feeds.ensures, count_by-le-length {X = ℕ}, step_shorter rest part c.in-Ok.ensures, length-take {A = ℕ});
+      few = omega (arith, c.steps.ensures, step_shorter rest part c.in-Ok.ensures, length-take {A = ℕ});
     }
 
-pub slice_bounds-line_feeds-count : goal.slice_bounds-line_feeds-count
-slice_bounds-line_feeds-count g c = omega (arith, step_shorter c.loop-rest.rest.now (step_of c.in-Ok.part) c.in-Ok.ensures)
+pub slice_bounds-steps-count : goal.slice_bounds-steps-count
+slice_bounds-steps-count g c = omega (arith, step_shorter c.loop-rest.rest.now (step_of c.in-Ok.part) c.in-Ok.ensures)
 
 pub loop-rest-smaller : goal.loop-rest-smaller
 loop-rest-smaller g c = step_shorter c.loop-rest.rest.now (step_of c.in-Ok.part) c.in-Ok.ensures

@@ -1,2 +1,0 @@
--- Lemmas.
-mod Folders
