@@ -13,6 +13,7 @@ use crate::replaying::{replay, replay_read_only};
 use crate::server::serve;
 use crate::showing::show;
 use crate::telling::tell_use;
+use file_disk::FileSystem;
 use program::{Exit, Manner};
 use std::convert::AsStr;
 use std::fs::File;
@@ -67,6 +68,7 @@ fn fulfil_check<R: Files + AllocGlobal + Wait, I: Read, O: Write, E: Write + IsT
 // Does what is wished for, and answers the exit status.
 fn fulfil<
     R: Files<File = File>
+        + FileSystem
         + Net<Stream = TcpStream, Listener = TcpListener>
         + AllocGlobal
         + Threads
@@ -110,6 +112,7 @@ fn fulfil<
 fn fulfil_words<
     S: AsStr,
     R: Files<File = File>
+        + FileSystem
         + Net<Stream = TcpStream, Listener = TcpListener>
         + AllocGlobal
         + Threads
@@ -140,6 +143,7 @@ fn fulfil_words<
 pub fn run<
     S: AsStr,
     R: Files<File = File>
+        + FileSystem
         + Net<Stream = TcpStream, Listener = TcpListener>
         + AllocGlobal
         + Threads

@@ -324,6 +324,7 @@ fn session_in_parts<'a, S: FileSystem, R: Files<File = File> + AllocGlobal, E: W
 /// journal is in a file of its own, until the server ends, and answers the exit status.
 pub(crate) fn serve<
     R: Files<File = File>
+        + FileSystem
         + Net<Stream = TcpStream, Listener = TcpListener>
         + AllocGlobal
         + Threads
@@ -346,6 +347,7 @@ pub(crate) fn serve<
 // The same, while standard streams that are closed are held.
 fn serve_held<
     R: Files<File = File>
+        + FileSystem
         + Net<Stream = TcpStream, Listener = TcpListener>
         + AllocGlobal
         + Threads
