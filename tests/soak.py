@@ -1,11 +1,11 @@
 #!/usr/bin/env python3
 """A service for an hour: components that come and go, a server that is killed, and each report judged once.
 
-    tests/soak.py [--program FILE] [--minutes 60] [--components 16] [--pause 0.05] [--kills 20] [--seed 1] [--folder DIR]
+    tests/soak.py [--program FILE] [--large] [--minutes 60] [--components 16] [--pause 0.05] [--kills 20] [--seed 1] [--folder DIR]
 
 Each component is a seat by number, and reports one event or refusal after the other, as fast as the pause lets it. At random it
 loses its connection, with a report on its way or without, and comes back; the server is killed (signal 9) so many times an hour, and
-started again on the same journal. In the end the journal is read, and it is checked that
+started again on the same journal, with --large in parts. In the end the journal is read, and it is checked that
 - the entries of each seat are just its reports, in their order, each once;
 - each reply was the entry's place and verdict; where a component came back it was answered how many entries it has;
 - each entry has the verdict of the process after the accepted events before it;
@@ -14,6 +14,7 @@ started again on the same journal. In the end the journal is read, and it is che
 The last line is `N passed, M failed`.
 """
 import argparse
+import itertools
 import os
 import random
 import subprocess
@@ -113,7 +114,7 @@ class Run:
 
     def start(self):
         """Starts the server, the second time and later at the address that it had."""
-        words = [self.options.program, "serve", "p.csp", "P", "j", "--listen", self.address]
+        words = [self.options.program, "serve", *["--large"] * self.options.large, "p.csp", "P", "j", "--listen", self.address]
         for _ in range(100):
             self.process = subprocess.Popen(words, cwd=self.folder, stdout=subprocess.PIPE, stderr=subprocess.PIPE)
             line = self.process.stdout.readline().decode()
@@ -139,8 +140,13 @@ class Run:
         return self.process.communicate()
 
     def history(self):
-        with open(os.path.join(self.folder, "j"), "rb") as file:
-            return History(file.read())
+        files = []
+        for part in itertools.count(1):
+            path = os.path.join(self.folder, "j" if part == 1 else "j.%d" % part)
+            if not os.path.exists(path):
+                return History(*files)
+            with open(path, "rb") as file:
+                files.append(file.read())
 
 
 def problems_of(component, history):
@@ -177,7 +183,7 @@ def soak(options, folder):
         problems.append("replay says %s" % done.stdout)
     print("%d entries, %d kills, %d connections lost, %d verdicts lost" % (
         len(history.entries), run.kills, sum(one.losses for one in components), sum(one.lost_verdicts for one in components)))
-    if len(history.entries) >= MOST:
+    if len(history.entries) >= MOST and not options.large:
         print("the history was full: a longer pause is needed")
     return problems
 
@@ -185,6 +191,7 @@ def soak(options, folder):
 def main():
     parser = argparse.ArgumentParser(description=__doc__.split("\n")[0])
     parser.add_argument("--program", default=PROGRAM)
+    parser.add_argument("--large", action="store_true", help="a history without an end, in parts")
     parser.add_argument("--minutes", type=float, default=60)
     parser.add_argument("--components", type=int, default=16)
     parser.add_argument("--pause", type=float, default=0.05, help="seconds between two reports of a component, on average")

@@ -90,15 +90,22 @@ class Talker(threading.Thread):
             self.link.close()
 
 
-class History:
-    """The entries of a journal as (seat, number, kind, names, verdict), and of each beginning the counts and the state."""
+HEADER = re.compile(
+    rb"(?:cspwatch journal [12]\nroot P\n|cspwatch large journal 1\nroot P\npart [0-9]+\nbefore [0-9]+\nprevious [0-9a-f-]+\n)script ([0-9]+)\n")
+"""What a journal, or a part of a large one, begins with before its script."""
 
-    def __init__(self, data):
+
+class History:
+    """The entries of a journal as (seat, number, kind, names, verdict), and of each beginning the counts and the state. A large journal
+    may have several files."""
+
+    def __init__(self, *files):
         self.entries, self.problems = [], []
         self.counts, self.states = [(0, 0, 0)], ["P"]
         self.numbers = {}
-        for entry in entries_of(data):
-            self.add(entry)
+        for data in files:
+            for entry in entries_of(data):
+                self.add(entry)
         # The shortest beginning from each length on that is in a state.
         self.soonest = {state: [None] * (len(self.states) + 1) for state in NEXT}
         for at in range(len(self.states) - 1, -1, -1):
@@ -127,8 +134,8 @@ class History:
 
 
 def entries_of(data):
-    """The entries of a journal of either version."""
-    header = re.match(rb"cspwatch journal [12]\nroot P\nscript ([0-9]+)\n", data)
+    """The entries of a journal of any version, of a large one those of a part."""
+    header = HEADER.match(data)
     at = header.end() + int(header.group(1)) + 1
     while data[at:at + 1] == b"+":
         end = data.index(b"\n", at)
