@@ -74,10 +74,14 @@ class Redis:
         self.process = subprocess.Popen(words, stdout=subprocess.DEVNULL)
 
     def add(self, lines, count):
-        """Adds the lines to their partitions, of so many."""
+        """Adds the lines to their partitions of the stream `log`, of so many."""
+        self.add_to("log", lines, count)
+
+    def add_to(self, name, lines, count):
+        """Adds the lines to their partitions of the stream, of so many."""
         commands = []
         for line in lines:
-            words = ["XADD", "log:%d" % partition_of(line.split()[0], count), "*", "line", line]
+            words = ["XADD", "%s:%d" % (name, partition_of(line.split()[0], count)), "*", "line", line]
             commands.append("*%d\r\n" % len(words) + "".join("$%d\r\n%s\r\n" % (len(word), word) for word in words))
         until = time.monotonic() + SECONDS
         while True:
