@@ -1,0 +1,100 @@
+#!/usr/bin/env python3
+"""Plants wrong bodies that no contract refuses, or none can, and wants the rows of a crate to fail with each.
+
+    tests/planted.py [NAME ..]
+
+Each file of tests/planted names what it would hide (`shows`), the crate whose rows show it (`rows`), and its changes: a file, what
+stands there once, and what comes in its place. It is made in a copy of the repository, and the rows are run there without proofs (`rt try`).
+As they stand, the rows have to pass. It needs the kit's `rt`. The last line is `N passed, M failed`.
+"""
+import glob
+import os
+import subprocess
+import sys
+import tempfile
+
+sys.dont_write_bytecode = True
+
+from first_turns import copied  # noqa: E402
+
+HERE = os.path.dirname(os.path.abspath(__file__))
+SECONDS = 600
+"""How long the rows of a crate may take."""
+
+
+class Plant:
+    """A wrong body: what it hides, the crate whose rows show it, and its changes."""
+
+    def __init__(self, path):
+        self.name = os.path.basename(path)[: -len(".edit")]
+        self.rows = self.shows = ""
+        self.changes = []
+        at = old = None
+        with open(path, encoding="utf-8") as file:
+            for line in file.read().split("\n"):
+                word, _, rest = line.partition(":")
+                if word in ("rows", "shows"):
+                    setattr(self, word, rest.strip())
+                at = rest.strip() if word == "file" else at
+                old = rest[1:] if word == "old" else old
+                if word == "new":
+                    self.changes.append((at, old, rest[1:]))
+
+    def put(self, folder):
+        """Makes the changes in the copy; why that can't be done."""
+        for at, old, new in self.changes:
+            path = os.path.join(folder, at)
+            with open(path, encoding="utf-8") as file:
+                text = file.read()
+            if text.count(old) != 1:
+                return "%s has '%s' %d times" % (at, old, text.count(old))
+            with open(path, "w", encoding="utf-8") as file:
+                file.write(text.replace(old, new))
+        return None
+
+
+def played(folder, crate):
+    """What comes of the rows of this crate: whether they were run at all, whether they pass, and the end of what was said."""
+    at = os.path.join(folder, "crates", crate)
+    lines = os.path.join(at, "stdin")
+    words = ["rt", "try", "--seconds", str(SECONDS)] + ([] if os.path.exists(lines) else ["--test"])
+    with open(lines if os.path.exists(lines) else os.devnull, "rb") as given:
+        ran = subprocess.run(words, cwd=at, stdin=given, stdout=subprocess.PIPE, stderr=subprocess.PIPE, check=False)
+    said = (ran.stdout + ran.stderr).decode(errors="replace")
+    passes = ran.returncode == 0
+    if os.path.exists(os.path.join(at, "stdout")):
+        with open(os.path.join(at, "stdout"), "rb") as file:
+            passes = passes and ran.stdout == file.read()
+    return ": error" not in said, passes, said[-600:]
+
+
+def why_not(plant, crate):
+    """Why the rows of the crate don't do with the plant, or without one, what they have to."""
+    with tempfile.TemporaryDirectory(prefix="planted-") as folder:
+        copied(folder)
+        if plant and (why := plant.put(folder)):
+            return why
+        was_run, passes, said = played(folder, crate)
+    if not was_run:
+        return "they aren't built: " + said
+    if passes and plant:
+        return "they pass all the same"
+    return None if plant or passes else "they fail: " + said
+
+
+def main():
+    plants = [Plant(path) for path in sorted(glob.glob(os.path.join(HERE, "planted", "*.edit")))]
+    plants = [plant for plant in plants if plant.name in sys.argv[1:] or len(sys.argv) == 1]
+    checks = [(None, crate) for crate in sorted({plant.rows for plant in plants})] + [(plant, plant.rows) for plant in plants]
+    failed = 0
+    for plant, crate in checks:
+        why = why_not(plant, crate)
+        failed += why is not None
+        what = "%s (%s), by the rows of %s" % (plant.name, plant.shows, crate) if plant else "the rows of %s, without a plant" % crate
+        print("%s: %s" % (what, why or ("seen" if plant else "pass")), flush=True)
+    print("%d passed, %d failed" % (len(checks) - failed, failed))
+    return 1 if failed else 0
+
+
+if __name__ == "__main__":
+    sys.exit(main())
