@@ -339,7 +339,7 @@ class Scripts:
 
 def compared(text: bytes, root: str, given: argparse.Namespace) -> Outcome:
     """Compares both opinions on a script, read for a root."""
-    question = opinions.Question(("print", "p.csp", root), {"p.csp": text})
+    question = opinions.Question(("print", "p.csp", "--", root), {"p.csp": text})
     wanted = opinions.second(question, lambda: reference.print_script(text, root), given.reference, given.seconds)
     if wanted is None:
         return Outcome("passed over")
