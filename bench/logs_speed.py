@@ -1,9 +1,9 @@
 #!/usr/bin/env python3
 """How long `cspwatch-logs` takes for a log, how much memory, and how much faster four partitions of a stream are judged than one.
 
-    logs_speed.py [--program FILE] [--lines 100000] [--turns 5] [--csv VERSION MACHINE LOAD]
+    logs_speed.py [--program FILE] [--lines 100000] [--stream-lines 500000] [--turns 5] [--csv VERSION MACHINE LOAD]
 
-- A log by a map of ten rules, as one session: seconds, and the most memory, also of a log ten times as long.
+- A log by a map of ten rules, as one session: seconds, and the most memory of the command itself, also for a log ten times as long.
 - A stream of Redis whose lines are of a thousand sessions: judged by one worker from one partition, and by four workers, each from one of
   four, by turns. It needs redis-server and a Python 3.11 with the package redis; where one is missing, that is said.
 
@@ -13,6 +13,7 @@ import argparse
 import csv
 import os
 import random
+import re
 import resource
 import statistics
 import subprocess
@@ -31,6 +32,9 @@ PROGRAM = os.path.join(os.path.dirname(HERE), "crates", "cspwatch", "out", "cspw
 TABLE = "logs"
 RULES = 10
 WORKERS = 4
+SESSIONS = 1000
+LOOK = 0.02
+"""The seconds between two looks at the memory of a process."""
 
 SCRIPT = "channel step : {0..%d}\nP = step?x -> P\n" % (RULES - 1)
 SPECIFICATION = '[specification]\nscript = "p.csp"\nprocess = "P"\n'
@@ -56,8 +60,21 @@ def run(python, folder, program, words):
     return subprocess.Popen([python, "-m", "cspwatch_client.logs", *words], cwd=folder, env=around, stdout=subprocess.DEVNULL)
 
 
+def watched(process):
+    """The seconds until the process ends well, and the most memory that it had, in MB."""
+    began, peak = time.monotonic(), 0.0
+    while process.poll() is None:
+        with open("/proc/%d/status" % process.pid, encoding="ascii") as file:
+            if found := re.search(r"VmHWM:\s+([0-9]+) kB", file.read()):
+                peak = int(found.group(1)) * 1024 / 1e6
+        time.sleep(LOOK)
+    if process.returncode != 0:
+        raise SystemExit("cspwatch-logs ended with status %d" % process.returncode)
+    return time.monotonic() - began, peak
+
+
 def log_times(options, folder):
-    """The median of the seconds for the log, and the most MB that a run took of it and of one that is ten times as long."""
+    """The median of the seconds for the log, and the most MB that the command took for it and for one that is ten times as long."""
     write(folder, "p.csp", SCRIPT)
     write(folder, "m.toml", SPECIFICATION + "".join(RULE % (number, number) for number in range(RULES)))
     write_log(folder, "log", options.lines)
@@ -65,14 +82,8 @@ def log_times(options, folder):
     seconds, peaks = [], {}
     for name, turns in ("log", options.turns), ("longer", 1):
         for _ in range(turns):
-            began = time.monotonic()
-            process = run(sys.executable, folder, options.program, ["--quiet", "m.toml", name])
-            _, status, used = os.wait4(process.pid, 0)
-            if os.waitstatus_to_exitcode(status) != 0:
-                raise SystemExit("cspwatch-logs ended with status %d" % os.waitstatus_to_exitcode(status))
-            if name == "log":
-                seconds.append(time.monotonic() - began)
-            peaks[name] = used.ru_maxrss * 1024 / 1e6
+            took, peaks[name] = watched(run(sys.executable, folder, options.program, ["--quiet", "m.toml", name]))
+            seconds += [took] * (name == "log")
     return statistics.median(seconds), peaks["log"], peaks["longer"]
 
 
@@ -99,7 +110,7 @@ def stream_times(options, folder):
         return None
     write(folder, "p.csp", streams.SCRIPT)
     write(folder, "m.toml", streams.MAP)
-    lines = streams.lines_of(options.lines, max(1, options.lines // 100))
+    lines = streams.lines_of(options.stream_lines, SESSIONS)
     redis = streams.Redis(folder)
     try:
         for count in 1, WORKERS:
@@ -118,6 +129,7 @@ def main():
     parser = argparse.ArgumentParser(description=__doc__.split("\n")[0])
     parser.add_argument("--program", default=PROGRAM)
     parser.add_argument("--lines", type=int, default=100_000)
+    parser.add_argument("--stream-lines", type=int, default=500_000)
     parser.add_argument("--turns", type=int, default=5)
     parser.add_argument("--csv", nargs=3, metavar=("VERSION", "MACHINE", "LOAD"))
     options = parser.parse_args()
@@ -131,7 +143,7 @@ def main():
     with tempfile.TemporaryDirectory(prefix="logs-speed-") as folder:
         if (times := stream_times(options, folder)) is not None:
             one, four = times
-            print("%d lines of a stream: one partition %.2f s, four %.2f s: %.2f times" % (options.lines, one, four, one / four))
+            print("%d lines of a stream: one partition %.2f s, four %.2f s: %.2f times" % (options.stream_lines, one, four, one / four))
             figures += [("a stream, one partition / seconds", one, "s"), ("a stream, four partitions / seconds", four, "s"),
                         ("a stream / times", one / four, "ratio")]
     print("%.1f s of a processor in all" % resource.getrusage(resource.RUSAGE_CHILDREN).ru_utime)
