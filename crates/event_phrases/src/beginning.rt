@@ -214,17 +214,19 @@ pub(crate) fn whole_event<A: Allocator + Copy, G: GlobalScope<A>>(
     ensures { Gives (λ r. beginning_of r) result (whole_event_in (G.scope scope.now.global.now).channels (within (G.scope scope.now.global.now) (map input scope.now.inputs.items)).known (event_of (shape tree.now))) }
 {
     match event_phrase(tree) {
-        Some(EventPhrase::Event(channel, fields)) => {
-            event(alloc, scope, channel, fields, tree.line())
-        }
-        Some(EventPhrase::Inside(inner)) => whole_event(alloc, scope, inner),
-        Some(EventPhrase::Chosen(condition, first, second)) => {
-            if truth(alloc, scope.global.known(), &scope.inputs, condition)? {
-                whole_event(alloc, scope, first)
-            } else {
-                whole_event(alloc, scope, second)
-            }
-        }
         None => Err(fault(tree.line(), ScriptErrorKind::Expected)),
+        Some(phrase) => match phrase {
+            EventPhrase::Event(channel, fields) => {
+                event(alloc, scope, channel, fields, tree.line())
+            }
+            EventPhrase::Inside(inner) => whole_event(alloc, scope, inner),
+            EventPhrase::Chosen(condition, first, second) => {
+                if truth(alloc, scope.global.known(), &scope.inputs, condition)? {
+                    whole_event(alloc, scope, first)
+                } else {
+                    whole_event(alloc, scope, second)
+                }
+            }
+        },
     }
 }

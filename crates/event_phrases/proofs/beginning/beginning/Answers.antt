@@ -15,7 +15,7 @@ pub returns-in-None : goal.returns-in-None
 returns-in-None g c =
     let s = g.G.GlobalScope.scope c.args.scope.now.global.now in
     let known = (within s (map input c.args.scope.now.inputs.items)).known in
-    fails_none c.fault.result (beginning s.channels known (event_of (shape c.args.tree.now))) (begins_not s.channels known (event_of (shape c.args.tree.now)) (sym c.in-None.ensures))
+    fails_none c.fault.result (beginning s.channels known (event_of (shape c.args.tree.now))) (begins_not s.channels known (event_of (shape c.args.tree.now)) c.in-None.ensures)
 
 pub returns-in-None-fields : goal.returns-in-None-fields
 returns-in-None-fields g c =

@@ -3,7 +3,7 @@ use Rattle.syntax.specs.View.{shape}
 use Rattle.values.specs.Tables.{input}
 use Rattle.values.specs.View.{Gives, value}
 use Rattle.event_phrases.specs.Fitting.{fits_field}
-use Rattle.event_phrases.specs.Forms.{field_of}
+use Rattle.event_phrases.specs.Forms.{FieldPhrase, field_of}
 use Rattle.event_phrases.specs.Scopes.{within}
 use Rattle.event_phrases.specs.View.{listed}
 use Rattle.syntax.proofs.Failing.{fails_none}
@@ -18,5 +18,5 @@ pub returns-in-None : goal.returns-in-None
 unfolding fits_field
 returns-in-None g c =
     let s = within (g.G.GlobalScope.scope c.args.global.now) (map input c.args.inputs.now.items) in
-    let at = λ f. fits_field f (listed c.args.set.now.items) (value c.args.value.now) s in
+    let at = λ (f : FieldPhrase). fits_field f (listed c.args.set.now.items) (value c.args.value.now) s in
     fails_none c.fault.result (at (field_of (shape c.args.tree.now))) (ap at (sym c.in-None.ensures))

@@ -6,6 +6,7 @@ use Rattle.values.specs.Tables.{input}
 use Rattle.values.specs.Values.{is_among}
 use Rattle.values.specs.View.{Fails, Gives, value}
 use Rattle.event_phrases.specs.Fitting.{against, fits_field}
+use Rattle.event_phrases.specs.Forms.{FieldPhrase}
 use Rattle.event_phrases.specs.Scopes.{value_by, values_by, with_input, within}
 use Rattle.event_phrases.specs.Shapes.{plain_field}
 use Rattle.event_phrases.specs.View.{listed}
@@ -23,17 +24,17 @@ returns-in-Given g c =
     let set = listed c.args.set.now.items in
     let v = value c.args.value.now in
     let t = shape c.in-Given.tree.now in
-    let at = λ q. fits_field (plain_field q) set v s in
+    let at = λ (f : FieldPhrase). fits_field f set v s in
     let here = subst (λ is. Gives (λ b. cond b (Some (within scope (map input is))) None) c.is_given.result (against set v (within scope (map input is)) (value_by (within scope (map input is)) t))) c.deref.ensures.value c.is_given.ensures in
-    subst (λ o. Gives (λ b. cond b (Some s) None) c.is_given.result o) (sym (ap at c.in-Given.is)) here
+    subst (λ o. Gives (λ b. cond b (Some s) None) c.is_given.result o) (sym (ap at (ap plain_field c.in-Given.is))) here
 
 pub returns-then-is_constant : goal.returns-then-is_constant
 returns-then-is_constant g c =
     let s = within (g.G.GlobalScope.scope c.args.global.now) (map input c.args.inputs.now.items) in
     let set = listed c.args.set.now.items in
     let v = value c.args.value.now in
-    let at = λ q. fits_field (plain_field q) set v s in
-    fails_none c.fault.result (at c.args.phrase) (ap at c.in-Input.is ∙ input_refused set v s c.in-Input.name.now (sym c.is_constant.ensures ∙ c.if-is_constant.true))
+    let at = λ (f : FieldPhrase). fits_field f set v s in
+    fails_none c.fault.result (at (plain_field c.args.phrase)) (ap at (ap plain_field c.in-Input.is) ∙ input_refused set v s c.in-Input.name.now (sym c.is_constant.ensures ∙ c.if-is_constant.true))
 
 pub returns-in_ok-push_input-in-Input : goal.returns-in_ok-push_input-in-Input
 returns-in_ok-push_input-in-Input g c =
@@ -44,16 +45,16 @@ returns-in_ok-push_input-in-Input g c =
     let s = within scope is in
     let set = listed c.args.set.now.items in
     let v = value c.args.value.now in
-    let at = λ q. fits_field (plain_field q) set v s in
-    ap at c.in-Input.is ∙ input_fits set v s x (within scope js) (sym c.is_constant.ensures ∙ c.if-is_constant.false) (behind_input scope is js x v c.in_ok-push_input-in-Input.ensures)
+    let at = λ (f : FieldPhrase). fits_field f set v s in
+    ap at (ap plain_field c.in-Input.is) ∙ input_fits set v s x (within scope js) (sym c.is_constant.ensures ∙ c.if-is_constant.false) (behind_input scope is js x v c.in_ok-push_input-in-Input.ensures)
 
 pub returns-then-is_constant-2 : goal.returns-then-is_constant-2
 returns-then-is_constant-2 g c =
     let s = within (g.G.GlobalScope.scope c.args.global.now) (map input c.args.inputs.now.items) in
     let set = listed c.args.set.now.items in
     let v = value c.args.value.now in
-    let at = λ q. fits_field (plain_field q) set v s in
-    fails_none c.fault-then-is_constant-2.result (at c.args.phrase) (ap at c.in-InputFrom.is ∙ part_refused set v s c.in-InputFrom.name.now (shape c.in-InputFrom.tree.now) (sym c.is_constant-in-InputFrom.ensures ∙ c.if-is_constant-2.true))
+    let at = λ (f : FieldPhrase). fits_field f set v s in
+    fails_none c.fault-then-is_constant-2.result (at (plain_field c.args.phrase)) (ap at (ap plain_field c.in-InputFrom.is) ∙ part_refused set v s c.in-InputFrom.name.now (shape c.in-InputFrom.tree.now) (sym c.is_constant-in-InputFrom.ensures ∙ c.if-is_constant-2.true))
 
 pub returns-in_err-is_in_part-in-InputFrom : goal.returns-in_err-is_in_part-in-InputFrom
 returns-in_err-is_in_part-in-InputFrom g c =
@@ -63,10 +64,10 @@ returns-in_err-is_in_part-in-InputFrom g c =
     let v = value c.args.value.now in
     let t = shape c.in-InputFrom.tree.now in
     let k = c.in_err-is_in_part-in-InputFrom.field-0.0 in
-    let at = λ q. fits_field (plain_field q) set v s in
+    let at = λ (f : FieldPhrase). fits_field f set v s in
     let q = err_from_is_err_and c.from_residual-in_err-is_in_part-in-InputFrom.result c.from_residual-in_err-is_in_part-in-InputFrom.ensures.1 in
     let e = subst (λ is. Fails k (option_map (is_among v) (values_by (within scope (map input is)) t))) c.deref-in-InputFrom.ensures.value c.in_err-is_in_part-in-InputFrom.ensures in
-    rw (q.1, q.2) (subst (λ o. Fails k o) (sym (ap at c.in-InputFrom.is)) (part_fails set v s c.in-InputFrom.name.now t k e))
+    rw (q.1, q.2) (subst (λ o. Fails k o) (sym (ap at (ap plain_field c.in-InputFrom.is))) (part_fails set v s c.in-InputFrom.name.now t k e))
 
 pub returns-then-not-branch : goal.returns-then-not-branch
 returns-then-not-branch g c =
@@ -76,9 +77,9 @@ returns-then-not-branch g c =
     let v = value c.args.value.now in
     let x = c.in-InputFrom.name.now in
     let t = shape c.in-InputFrom.tree.now in
-    let at = λ q. fits_field (plain_field q) set v s in
+    let at = λ (f : FieldPhrase). fits_field f set v s in
     let e = ap (λ is. option_map (is_among v) (values_by (within scope (map input is)) t)) (sym c.deref-in-InputFrom.ensures.value) ∙ c.in_ok-is_in_part-in-InputFrom.ensures in
-    ap at c.in-InputFrom.is ∙ part_fits set v s x t false (with_input s x v) (sym c.is_constant-in-InputFrom.ensures ∙ c.if-is_constant-2.false) (e ∙ ap some_truth c.if-not-branch.true) refl
+    ap at (ap plain_field c.in-InputFrom.is) ∙ part_fits set v s x t false (with_input s x v) (sym c.is_constant-in-InputFrom.ensures ∙ c.if-is_constant-2.false) (e ∙ ap some_truth c.if-not-branch.true) refl
 
 pub returns-in_ok-push_input-in-InputFrom : goal.returns-in_ok-push_input-in-InputFrom
 returns-in_ok-push_input-in-InputFrom g c =
@@ -90,6 +91,6 @@ returns-in_ok-push_input-in-InputFrom g c =
     let x = c.in-InputFrom.name.now in
     let v = value c.args.value.now in
     let t = shape c.in-InputFrom.tree.now in
-    let at = λ q. fits_field (plain_field q) set v s in
+    let at = λ (f : FieldPhrase). fits_field f set v s in
     let e = ap (λ is. option_map (is_among v) (values_by (within scope (map input is)) t)) (sym c.deref-in-InputFrom.ensures.value) ∙ c.in_ok-is_in_part-in-InputFrom.ensures in
-    ap at c.in-InputFrom.is ∙ part_fits set v s x t true (within scope js) (sym c.is_constant-in-InputFrom.ensures ∙ c.if-is_constant-2.false) (e ∙ ap some_truth c.if-not-branch.false) (behind_input scope is js x v c.in_ok-push_input-in-InputFrom.ensures)
+    ap at (ap plain_field c.in-InputFrom.is) ∙ part_fits set v s x t true (within scope js) (sym c.is_constant-in-InputFrom.ensures ∙ c.if-is_constant-2.false) (e ∙ ap some_truth c.if-not-branch.false) (behind_input scope is js x v c.in_ok-push_input-in-InputFrom.ensures)
