@@ -34,14 +34,14 @@ module _ {X : Type 0} (part : Syntax → X) where
   one_part (t ∷ u ∷ ts) = refl
 
   pub two_parts : (ts : List Syntax) → two_of (map part ts) ≡ (two_of ts >>= λ p. Some (part p.0, part p.1))
-  unfolding two_of one_of if_none
+  unfolding two_of first_of one_of if_none
   two_parts [] = refl
   two_parts (t ∷ []) = refl
   two_parts (t ∷ u ∷ []) = refl
   two_parts (t ∷ u ∷ v ∷ ts) = refl
 
   pub three_parts : (ts : List Syntax) → three_of (map part ts) ≡ (three_of ts >>= λ p. Some (part p.0, part p.1, part p.2))
-  unfolding three_of two_of one_of if_none
+  unfolding three_of two_of first_of one_of if_none
   three_parts [] = refl
   three_parts (t ∷ []) = refl
   three_parts (t ∷ u ∷ []) = refl
@@ -49,7 +49,7 @@ module _ {X : Type 0} (part : Syntax → X) where
   three_parts (t ∷ u ∷ v ∷ w ∷ ts) = refl
 
   pub four_parts : (ts : List Syntax) → four_of (map part ts) ≡ (four_of ts >>= λ p. Some (part p.0, part p.1, part p.2, part p.3))
-  unfolding four_of three_of two_of one_of if_none
+  unfolding four_of three_of two_of first_of one_of if_none
   four_parts [] = refl
   four_parts (t ∷ []) = refl
   four_parts (t ∷ u ∷ []) = refl

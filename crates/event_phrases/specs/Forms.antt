@@ -42,16 +42,13 @@ one_of [] = None
 one_of (x ∷ xs) = if_none xs x
 
 unfoldable pub two_of : {X : Type 0} → List X → Option (X × X)
-two_of [] = None
-two_of (x ∷ xs) = one_of xs >>= λ y. Some (x, y)
+two_of xs = first_of xs >>= λ p. one_of p.1 >>= λ y. Some (p.0, y)
 
 unfoldable pub three_of : {X : Type 0} → List X → Option (X × X × X)
-three_of [] = None
-three_of (x ∷ xs) = two_of xs >>= λ p. Some (x, p.0, p.1)
+three_of xs = first_of xs >>= λ p. two_of p.1 >>= λ q. Some (p.0, q.0, q.1)
 
 unfoldable pub four_of : {X : Type 0} → List X → Option (X × X × X × X)
-four_of [] = None
-four_of (x ∷ xs) = three_of xs >>= λ p. Some (x, p.0, p.1, p.2)
+four_of xs = first_of xs >>= λ p. three_of p.1 >>= λ q. Some (p.0, q.0, q.1, q.2)
 
 -- ---- phrases of trees
 

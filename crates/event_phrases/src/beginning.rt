@@ -200,7 +200,15 @@ fn event<A: Allocator + Copy, G: GlobalScope<A>>(
             if fields.len() != sets.len() {
                 return Err(fault(line, ScriptErrorKind::WrongFields));
             }
-            begun(alloc, scope.global.known(), &scope.inputs, channel, fields, sets, line)
+            begun(
+                alloc,
+                scope.global.known(),
+                &scope.inputs,
+                channel,
+                fields,
+                sets,
+                line,
+            )
         }
     }
 }

@@ -110,33 +110,32 @@ pub fn one<A: Allocator>(parts: &[Tree<A>]) -> Option<&Tree<A>>
 }
 
 /// The two parts, where there are as many.
+#[tactic(auto, unfolding(crate::specs::Forms::two_of))]
 pub fn two<A: Allocator>(parts: &[Tree<A>]) -> Option<(&Tree<A>, &Tree<A>)>
     ensures { option_map (λ p. (shape p.0.now, shape p.1.now)) result ≡ two_of (shapes parts.now) }
 {
-    match parts {
-        [first, second] => Some((first, second)),
-        _ => None,
-    }
+    let (head, rest) = first(parts)?;
+    Some((head, one(rest)?))
 }
 
 /// The three parts, where there are as many.
+#[tactic(auto, unfolding(crate::specs::Forms::three_of))]
 pub fn three<A: Allocator>(parts: &[Tree<A>]) -> Option<(&Tree<A>, &Tree<A>, &Tree<A>)>
     ensures { option_map (λ p. (shape p.0.now, shape p.1.now, shape p.2.now)) result ≡ three_of (shapes parts.now) }
 {
-    match parts {
-        [first, second, third] => Some((first, second, third)),
-        _ => None,
-    }
+    let (head, rest) = first(parts)?;
+    let (second, third) = two(rest)?;
+    Some((head, second, third))
 }
 
 /// The four parts, where there are as many.
+#[tactic(auto, unfolding(crate::specs::Forms::four_of))]
 pub fn four<A: Allocator>(parts: &[Tree<A>]) -> Option<(&Tree<A>, &Tree<A>, &Tree<A>, &Tree<A>)>
     ensures { option_map (λ p. (shape p.0.now, shape p.1.now, shape p.2.now, shape p.3.now)) result ≡ four_of (shapes parts.now) }
 {
-    match parts {
-        [first, second, third, fourth] => Some((first, second, third, fourth)),
-        _ => None,
-    }
+    let (head, rest) = first(parts)?;
+    let (second, third, fourth) = three(rest)?;
+    Some((head, second, third, fourth))
 }
 
 /// Two sets that are combined so.

@@ -8,7 +8,7 @@ use Rattle.term.specs.Specs.{PairsInSigma}
 use Rattle.term.specs.Traces.{Pairs}
 use Rattle.values.specs.Values.{◌>>=◌, Name}
 use Rattle.event_phrases.specs.Events.{Beginning, beginning, begins_so, number_in, pairs_from, pair_of, pairs_of}
-use Rattle.event_phrases.specs.Forms.{part_list, node_of, if_none, one_of, two_of, event_of, pair_form, sides_of}
+use Rattle.event_phrases.specs.Forms.{part_list, node_of, if_none, first_of, one_of, two_of, event_of, pair_form, sides_of}
 use Rattle.event_phrases.specs.Scopes.{Scope}
 use Rattle.read_back.proofs.Trees.{phrases, tree_of_event, pair_tree}
 use Rattle.read_back.proofs.Readable.{IsPrintedScope}
@@ -60,7 +60,7 @@ nothing_left (v ∷ vs) = nothing_left vs
 module _ (s : Scope) (primes m : ℕ) (h : IsPrintedScope s primes m) where
   -- one pair
   pair_given : (a b : ℕ) → a < event_count s.channels → b < event_count s.channels → pair_of s.channels s.known (pair_tree s.channels (a, b)) ≡ Some ((a, b) ∷ [])
-  unfolding pair_of sides_of node_of part_list pair_form two_of one_of if_none
+  unfolding pair_of sides_of node_of part_list pair_form two_of first_of one_of if_none
   pair_given a b l k =
       let p = parts s primes m h a l in
       let q = parts s primes m h b k in
