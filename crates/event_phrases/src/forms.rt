@@ -10,7 +10,7 @@ use syntax::{Form, Tree};
 
 /// Which events the phrases of a set mean.
 #[derive(Clone, Copy, Debug, PartialEq, Eq)]
-pub(crate) enum Extent {
+pub enum Extent {
     /// All events that begin so: `{|c, d.0|}`
     Beginnings,
     /// One event each: `{c, d.0}`
@@ -19,7 +19,7 @@ pub(crate) enum Extent {
 
 /// What is made of two sets.
 #[derive(Clone, Copy, Debug, PartialEq, Eq)]
-pub(crate) enum Combination {
+pub enum Combination {
     /// `union(A, B)`
     Union,
     /// `inter(A, B)`
