@@ -11,6 +11,7 @@ use Rattle.values.specs.Values.{◌>>=◌, Name}
 use Rattle.values.specs.Worths.{Known}
 use Rattle.values.specs.Names.{Meaning, channel, datatype, constant_name, definition, parametric, Entry, names_of, listed_names, entries_of, declared_by, declared_by_all}
 use Rattle.values.specs.Channels.{fields_of, with_channel, channels_of}
+use Rattle.declared_names.specs.Steps.{only_of, two_of}
 use Rattle.declarations.specs.Sigma.{small, with_names, with_entries, entered, channels_named}
 use Rattle.declared_names.proofs.Chains.{bind_some, some_same}
 use Rattle.declarations.proofs.Constants.{no_some}
@@ -85,6 +86,27 @@ other_channels known forms.DefinitionWithParameters (MoreSyntax (Called n) (More
     let (xs, c, d) = bind_some (listed_names t) (λ xs. Some ((n, parametric xs u) ∷ [])) es h in
     ap (channels_of known) (sym (some_same d))
 other_channels known f ts es a b h = absurd (no_some h)
+
+-- the two forms that have
+only_channels : (ts : Syntaxes) → entries_of forms.Channels ts ≡ (only_of ts >>= λ t. channels_named (listed_names t) NoSyntax)
+unfolding entries_of only_of
+only_channels NoSyntax = refl
+only_channels (MoreSyntax t NoSyntax) = refl
+only_channels (MoreSyntax t (MoreSyntax u us)) = refl
+
+two_channels : (ts : Syntaxes) → entries_of forms.ChannelsWithFields ts ≡ (two_of ts >>= λ p. entries_of forms.ChannelsWithFields (MoreSyntax p.0 (MoreSyntax p.1 NoSyntax)))
+unfolding entries_of two_of
+two_channels NoSyntax = refl
+two_channels (MoreSyntax t NoSyntax) = refl
+two_channels (MoreSyntax t (MoreSyntax u NoSyntax)) = refl
+two_channels (MoreSyntax t (MoreSyntax u (MoreSyntax v vs))) = refl
+
+module _ (f : Form) (ts : Syntaxes) where
+  pub of_only : (o : Option Syntax) → f ≡ forms.Channels → only_of ts ≡ o → entries_of f ts ≡ (o >>= λ t. channels_named (listed_names t) NoSyntax)
+  of_only o h k = ap (λ g. entries_of g ts) h ∙ only_channels ts ∙ ap (λ o. o >>= λ t. channels_named (listed_names t) NoSyntax) k
+
+  pub of_two : (o : Option (Syntax × Syntax)) → f ≡ forms.ChannelsWithFields → two_of ts ≡ o → entries_of f ts ≡ (o >>= λ p. entries_of forms.ChannelsWithFields (MoreSyntax p.0 (MoreSyntax p.1 NoSyntax)))
+  of_two o h k = ap (λ g. entries_of g ts) h ∙ two_channels ts ∙ ap (λ o. o >>= λ p. entries_of forms.ChannelsWithFields (MoreSyntax p.0 (MoreSyntax p.1 NoSyntax))) k
 
 -- ---- at most 256 events
 

@@ -26,7 +26,7 @@ use Rattle.declarations.specs.Sigma.{small, enter, with_names, with_entries, ent
 use Rattle.declared_names.proofs.Chains.{bind_some, some_same, left, right, both}
 use Rattle.declared_names.proofs.Entered.{same_sym, parts_names}
 use Rattle.syntax.proofs.Failing.{fails_on}
-use Rattle.declarations.proofs.Constants.{worth_pass, sets_pass}
+use Rattle.declarations.proofs.Constants.{no_some, worth_pass, sets_pass}
 use Rattle.declarations.proofs.Entire.{some_of, made, both_channels, called, small_same, with_then, found_named, none_found}
 use Rattle.declarations.proofs.Meanings.{In, in_front, in_back, in_either, any_of, means}
 use Rattle.declarations.proofs.Turns.{left_from, first_left, no_left}
@@ -181,9 +181,9 @@ others_follow known cs ds es fs f h = record {
   entered = with_then known [] f.front es ∙ ap (λ o. o >>= λ bs. with_entries known bs es) f.entered ∙ h;
 }
 
-channels_before : (known : Known) (cs : List Channel) (es : List Entry) → Follow known cs es → (f : Follow known cs es) → (channels_of known f.front ≡ Some cs) × (small cs ≡ Some cs)
+channels_before : (known : Known) (cs : List Channel) (es : List Entry) (f : Follow known cs es) → (channels_of known f.front ≡ Some cs) × (small cs ≡ Some cs)
 unfolding with_entries
-channels_before known cs es g f =
+channels_before known cs es f =
     let (ds, a, b) = bind_some (channels_of known f.front) (λ ds. small ds) cs f.entered in
     let same : ds ≡ cs = small_same ds cs b in
     (a ∙ ap some_of same, ap small (sym same) ∙ b)
@@ -191,7 +191,7 @@ channels_before known cs es g f =
 -- names without channels
 pub nothing_more : (known : Known) (cs : List Channel) (es : List Entry) → Follow known cs es → channels_of known es ≡ Some [] → with_entries known cs es ≡ Some cs
 unfolding with_entries
-nothing_more known cs es f h = ap (λ o. o >>= λ ds. small (cs ++ ds)) h ∙ ap small (append-nil cs) ∙ (channels_before known cs es f f).1
+nothing_more known cs es f h = ap (λ o. o >>= λ ds. small (cs ++ ds)) h ∙ ap small (append-nil cs) ∙ (channels_before known cs es f).1
 
 pub no_more : (known : Known) (cs : List Channel) (o : Option (List Entry)) → Follows known cs o → ((es : List Entry) → o ≡ Some es → channels_of known es ≡ Some []) → entered known cs o ≡ Some cs
 no_more known cs o f h = ap (entered known cs) f.1 ∙ nothing_more known cs f.0 f.2 (h f.0 f.1)
@@ -201,13 +201,21 @@ unfolding names_of
 new_channel cs t n fields b h =
     let f = subst (λ u. Follows b.known cs (channels_named (names_of (MoreSyntax u NoSyntax)) b.sets)) h b.follows in
     let one : Follow b.known cs ((n, channel b.sets) ∷ []) = subst (Follow b.known cs) (sym (some_same f.1)) f.2 in
-    is_new b.known cs n b.sets fields one.front one.rest one.all (channels_before b.known cs ((n, channel b.sets) ∷ []) one one).0 b.found b.rising
+    is_new b.known cs n b.sets fields one.front one.rest one.all (channels_before b.known cs ((n, channel b.sets) ∷ []) one).0 b.found b.rising
 
 pub named_one : (cs : List Channel) (t : Syntax) (n : Name) (fields : List Values) → CanBeNamed cs (MoreSyntax t NoSyntax) fields → t ≡ Called n → with_names fields cs (MoreSyntax t NoSyntax) ≡ enter cs (made fields n)
 unfolding with_names names_of enter
 named_one cs t n fields b h =
     ap (λ u. with_names fields cs (MoreSyntax u NoSyntax)) h
     ∙ sym (ap (λ b. cond b None (small (cs ++ made fields n ∷ []))) (new_channel cs t n fields b h).fresh)
+
+no_names : (known : Known) (sets : Syntaxes) (es : List Entry) → channels_named (names_of NoSyntax) sets ≡ Some es → channels_of known es ≡ Some []
+unfolding names_of channels_of
+no_names known sets es e = ap (channels_of known) (sym (some_same e))
+
+no_declarations : (known : Known) (es : List Entry) → declared_by_all NoSyntax ≡ Some es → channels_of known es ≡ Some []
+unfolding declared_by_all channels_of
+no_declarations known es e = ap (channels_of known) (sym (some_same e))
 
 -- ---- what the loops ask
 
@@ -216,13 +224,13 @@ unfolding names_of
 part_named known cs sets (Called n) ts f = by (names_of ts) f
   where
     by : (o : Option (List Name)) → Follows known cs (channels_named (o >>= λ ns. some_of (n ∷ ns)) sets) → Follows known cs (Some ((n, channel sets) ∷ [])) × ((ds : List Channel) → with_entries known cs ((n, channel sets) ∷ []) ≡ Some ds → Follows known ds (channels_named o sets))
-    by None f = absurd (let h = f.1 in cc)
+    by None f = absurd (no_some f.1)
     by (Some ns) f =
         let g = subst (Follow known cs) (sym (some_same f.1)) f.2 in
         let ms = map (λ n. (n, channel sets)) ns in
         (((n, channel sets) ∷ [], refl, first_follows known cs ((n, channel sets) ∷ []) ms g), λ ds h. (ms, refl, others_follow known cs ds ((n, channel sets) ∷ []) ms g h))
-part_named known cs sets (Numeral n) ts f = absurd (let h = f.1 in cc)
-part_named known cs sets (Node g us) ts f = absurd (let h = f.1 in cc)
+part_named known cs sets (Numeral n) ts f = absurd (no_some f.1)
+part_named known cs sets (Node g us) ts f = absurd (no_some f.1)
 
 module _ {A : Type 0} (cs : List Channel) (ts : List (Tree A)) (i : ℕ) (fields : List Values) (b : CanBeNamed cs (left_from ts i) fields) where
   parts_of_named : (t : Tree A) → i < length ts → t ≡ get_or ts i t → Follows b.known cs (channels_named (names_of (MoreSyntax (shape t) (left_from ts (i + 1)))) b.sets)
@@ -241,11 +249,9 @@ module _ {A : Type 0} (cs : List Channel) (ts : List (Tree A)) (i : ℕ) (fields
   }
 
   pub end_named : length ts ≤ i → with_names fields cs (left_from ts i) ≡ Some cs
-  end_named h = sym (found_named b.known b.sets (left_from ts i) cs fields b.found) ∙ no_more b.known cs (channels_named (names_of (left_from ts i)) b.sets) b.follows none
-    where
-      none : (es : List Entry) → channels_named (names_of (left_from ts i)) b.sets ≡ Some es → channels_of b.known es ≡ Some []
-      unfolding names_of channels_of
-      none es e = ap (channels_of b.known) (sym (some_same (sym (ap (λ xs. channels_named (names_of xs) b.sets) (no_left ts i h)) ∙ e)))
+  end_named h =
+      sym (found_named b.known b.sets (left_from ts i) cs fields b.found)
+      ∙ no_more b.known cs (channels_named (names_of (left_from ts i)) b.sets) b.follows (λ es e. no_names b.known b.sets es (sym (ap (λ xs. channels_named (names_of xs) b.sets) (no_left ts i h)) ∙ e))
 
 module _ {A : Type 0} (known : Known) (cs : List Channel) (ts : List (Tree A)) (i : ℕ) (f : Follows known cs (declared_by_all (left_from ts i))) where
   part_declared : (t : Syntax) (us : Syntaxes) → Follows known cs (declared_by_all (MoreSyntax t us)) → Follows known cs (declared_by t) × ((ds : List Channel) → entered known cs (declared_by t) ≡ Some ds → Follows known ds (declared_by_all us))
@@ -266,25 +272,20 @@ module _ {A : Type 0} (known : Known) (cs : List Channel) (ts : List (Tree A)) (
   others_declared t ds h is e = (first_and_others t h is).1 ds e
 
   pub end_declared : length ts ≤ i → entered known cs (declared_by_all (left_from ts i)) ≡ Some cs
-  end_declared h = no_more known cs (declared_by_all (left_from ts i)) f none
-    where
-      none : (es : List Entry) → declared_by_all (left_from ts i) ≡ Some es → channels_of known es ≡ Some []
-      unfolding declared_by_all channels_of
-      none es e = ap (channels_of known) (sym (some_same (sym (ap declared_by_all (no_left ts i h)) ∙ e)))
+  end_declared h = no_more known cs (declared_by_all (left_from ts i)) f (λ es e. no_declarations known es (sym (ap declared_by_all (no_left ts i h)) ∙ e))
 
 -- ---- names of one declaration
 
 pub names_none : {A : Type 0} (known : Known) (sets : Syntaxes) (cs : List Channel) (ns : List (Tree A)) → length ns ≡ 0 → Follows known cs (channels_named (names_of (syntaxes (shapes ns))) sets) → entered known cs (channels_named (names_of (syntaxes (shapes ns))) sets) ≡ Some cs
-names_none known sets cs [] h f = no_more known cs (channels_named (names_of NoSyntax) sets) f none
-  where
-    none : (es : List Entry) → channels_named (names_of NoSyntax) sets ≡ Some es → channels_of known es ≡ Some []
-    unfolding names_of channels_of
-    none es e = ap (channels_of known) (sym (some_same e))
+names_none known sets cs [] h f = no_more known cs (channels_named (names_of NoSyntax) sets) f (no_names known sets)
 names_none known sets cs (n ∷ ns) h f = absurd (omega (arith, h))
+
+not_none : (t : Syntax) (ts : Syntaxes) → MoreSyntax t ts ≡ NoSyntax → ⊥
+not_none t ts e = cc
 
 pub names_fail : {A : Type 0} (k : Unread) (known : Known) (sets : Syntaxes) (cs : List Channel) (ns : List (Tree A)) → (length ns ≡ 0 → ⊥) → Fails k (fields_of known sets) → Fails k (entered known cs (channels_named (names_of (syntaxes (shapes ns))) sets))
 names_fail k known sets cs [] h f = absurd (h refl)
-names_fail k known sets cs (n ∷ ns) h f = fails_on k (fields_of known sets) (entered known cs (channels_named (names_of (syntaxes (shapes (n ∷ ns)))) sets)) (none_found known sets (syntaxes (shapes (n ∷ ns))) cs (λ e. absurd cc)) f
+names_fail k known sets cs (n ∷ ns) h f = fails_on k (fields_of known sets) (entered known cs (channels_named (names_of (syntaxes (shapes (n ∷ ns)))) sets)) (none_found known sets (syntaxes (shapes (n ∷ ns))) cs (not_none (shape n) (syntaxes (shapes ns)))) f
 
 pub can_be_named : {A : Type 0} (known : Known) (cs : List Channel) (sets ts : Syntaxes) (items slice : List (Vec (FieldStored A) A)) → Follows known cs (channels_named (names_of ts) sets) → fields_of known sets ≡ Some (map field_of items) → list_all is_rising (map field_of items) ≡ true → slice ≡ items → CanBeNamed cs ts (map field_of slice)
 can_be_named known cs sets ts items slice f h r same =

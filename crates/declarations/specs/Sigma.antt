@@ -53,7 +53,7 @@ pub record AreDeclared (known : Known) (es : List Entry) : Type 0 where
 pub record Follow (known : Known) (cs : List Channel) (es : List Entry) : Type 0 where
   pub front : List Entry
   pub rest : List Entry
-  pub all : AreDeclared known (front ++ es ++ rest)
+  pub all : AreDeclared known (front ++ (es ++ rest))
   pub entered : with_entries known [] front ≡ Some cs
 
 abbrev pub Follows : Known → List Channel → Option (List Entry) → Type 0
