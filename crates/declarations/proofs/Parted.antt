@@ -219,34 +219,38 @@ no_declarations known es e = ap (channels_of known) (sym (some_same e))
 
 -- ---- what the loops ask
 
-part_named : (known : Known) (cs : List Channel) (sets : Syntaxes) (t : Syntax) (ts : Syntaxes) → Follows known cs (channels_named (names_of (MoreSyntax t ts)) sets) → Follows known cs (channels_named (names_of (MoreSyntax t NoSyntax)) sets) × ((ds : List Channel) → entered known cs (channels_named (names_of (MoreSyntax t NoSyntax)) sets) ≡ Some ds → Follows known ds (channels_named (names_of ts) sets))
+-- the first names, and the others when their channels were entered
+both_follow : (known : Known) (cs : List Channel) (o p : Option (List Entry)) → Follows known cs (o >>= λ es. p >>= λ fs. some_of (es ++ fs)) → Follows known cs o × ((ds : List Channel) → entered known cs o ≡ Some ds → Follows known ds p)
+both_follow known cs None p f = absurd (no_some f.1)
+both_follow known cs (Some es) None f = absurd (no_some f.1)
+both_follow known cs (Some es) (Some fs) f =
+    let g = subst (Follow known cs) (sym (some_same f.1)) f.2 in
+    ((es, refl, first_follows known cs es fs g), λ ds h. (fs, refl, others_follow known cs ds es fs g h))
+
+part_named : (sets : Syntaxes) (t : Syntax) (ts : Syntaxes) → channels_named (names_of (MoreSyntax t ts)) sets ≡ (channels_named (names_of (MoreSyntax t NoSyntax)) sets >>= λ es. channels_named (names_of ts) sets >>= λ fs. some_of (es ++ fs))
 unfolding names_of
-part_named known cs sets (Called n) ts f = by (names_of ts) f
+part_named sets (Called n) ts = by (names_of ts)
   where
-    by : (o : Option (List Name)) → Follows known cs (channels_named (o >>= λ ns. some_of (n ∷ ns)) sets) → Follows known cs (Some ((n, channel sets) ∷ [])) × ((ds : List Channel) → with_entries known cs ((n, channel sets) ∷ []) ≡ Some ds → Follows known ds (channels_named o sets))
-    by None f = absurd (no_some f.1)
-    by (Some ns) f =
-        let g = subst (Follow known cs) (sym (some_same f.1)) f.2 in
-        let ms = map (λ n. (n, channel sets)) ns in
-        (((n, channel sets) ∷ [], refl, first_follows known cs ((n, channel sets) ∷ []) ms g), λ ds h. (ms, refl, others_follow known cs ds ((n, channel sets) ∷ []) ms g h))
-part_named known cs sets (Numeral n) ts f = absurd (no_some f.1)
-part_named known cs sets (Node g us) ts f = absurd (no_some f.1)
+    by : (o : Option (List Name)) → channels_named (o >>= λ ns. some_of (n ∷ ns)) sets ≡ (channels_named o sets >>= λ fs. some_of ((n, channel sets) ∷ fs))
+    by None = refl
+    by (Some ns) = refl
+part_named sets (Numeral n) ts = refl
+part_named sets (Node f us) ts = refl
 
 module _ {A : Type 0} (cs : List Channel) (ts : List (Tree A)) (i : ℕ) (fields : List Values) (b : CanBeNamed cs (left_from ts i) fields) where
-  parts_of_named : (t : Tree A) → i < length ts → t ≡ get_or ts i t → Follows b.known cs (channels_named (names_of (MoreSyntax (shape t) (left_from ts (i + 1)))) b.sets)
-  parts_of_named t h is = subst (λ xs. Follows b.known cs (channels_named (names_of xs) b.sets)) (first_left ts i t h is) b.follows
+  split_named : (t : Tree A) → i < length ts → t ≡ get_or ts i t → Follows b.known cs (channels_named (names_of (MoreSyntax (shape t) NoSyntax)) b.sets) × ((ds : List Channel) → entered b.known cs (channels_named (names_of (MoreSyntax (shape t) NoSyntax)) b.sets) ≡ Some ds → Follows b.known ds (channels_named (names_of (left_from ts (i + 1))) b.sets))
+  split_named t h is =
+      let one = channels_named (names_of (MoreSyntax (shape t) NoSyntax)) b.sets in
+      let others = channels_named (names_of (left_from ts (i + 1))) b.sets in
+      both_follow b.known cs one others (subst (Follows b.known cs) (ap (λ xs. channels_named (names_of xs) b.sets) (first_left ts i t h is) ∙ part_named b.sets (shape t) (left_from ts (i + 1))) b.follows)
 
   pub first_named : (t : Tree A) → i < length ts → t ≡ get_or ts i t → CanBeNamed cs (MoreSyntax (shape t) NoSyntax) fields
-  first_named t h is = record { known = b.known; sets = b.sets; found = b.found; rising = b.rising; follows = (part_named b.known cs b.sets (shape t) (left_from ts (i + 1)) (parts_of_named t h is)).0 }
+  first_named t h is = record { known = b.known; sets = b.sets; found = b.found; rising = b.rising; follows = (split_named t h is).0 }
 
   pub others_named : (t : Tree A) (ds : List Channel) → i < length ts → t ≡ get_or ts i t → with_names fields cs (MoreSyntax (shape t) NoSyntax) ≡ Some ds → CanBeNamed ds (left_from ts (i + 1)) fields
-  others_named t ds h is e = record {
-    known = b.known;
-    sets = b.sets;
-    found = b.found;
-    rising = b.rising;
-    follows = (part_named b.known cs b.sets (shape t) (left_from ts (i + 1)) (parts_of_named t h is)).1 ds (found_named b.known b.sets (MoreSyntax (shape t) NoSyntax) cs fields b.found ∙ e);
-  }
+  others_named t ds h is e =
+      let named = found_named b.known b.sets (MoreSyntax (shape t) NoSyntax) cs fields b.found ∙ e in
+      record { known = b.known; sets = b.sets; found = b.found; rising = b.rising; follows = (split_named t h is).1 ds named }
 
   pub end_named : length ts ≤ i → with_names fields cs (left_from ts i) ≡ Some cs
   end_named h =
@@ -254,22 +258,15 @@ module _ {A : Type 0} (cs : List Channel) (ts : List (Tree A)) (i : ℕ) (fields
       ∙ no_more b.known cs (channels_named (names_of (left_from ts i)) b.sets) b.follows (λ es e. no_names b.known b.sets es (sym (ap (λ xs. channels_named (names_of xs) b.sets) (no_left ts i h)) ∙ e))
 
 module _ {A : Type 0} (known : Known) (cs : List Channel) (ts : List (Tree A)) (i : ℕ) (f : Follows known cs (declared_by_all (left_from ts i))) where
-  part_declared : (t : Syntax) (us : Syntaxes) → Follows known cs (declared_by_all (MoreSyntax t us)) → Follows known cs (declared_by t) × ((ds : List Channel) → entered known cs (declared_by t) ≡ Some ds → Follows known ds (declared_by_all us))
+  split_declared : (t : Tree A) → i < length ts → t ≡ get_or ts i t → Follows known cs (declared_by (shape t)) × ((ds : List Channel) → entered known cs (declared_by (shape t)) ≡ Some ds → Follows known ds (declared_by_all (left_from ts (i + 1))))
   unfolding declared_by_all
-  part_declared t us f =
-      let (es, a, b) = bind_some (declared_by t) (λ es. declared_by_all us >>= λ fs. Some (es ++ fs)) f.0 f.1 in
-      let (fs, c, d) = bind_some (declared_by_all us) (λ fs. Some (es ++ fs)) f.0 b in
-      let g = subst (Follow known cs) (sym (some_same d)) f.2 in
-      ((es, a, first_follows known cs es fs g), λ ds h. (fs, c, others_follow known cs ds es fs g (sym (ap (entered known cs) a) ∙ h)))
-
-  first_and_others : (t : Tree A) → i < length ts → t ≡ get_or ts i t → Follows known cs (declared_by (shape t)) × ((ds : List Channel) → entered known cs (declared_by (shape t)) ≡ Some ds → Follows known ds (declared_by_all (left_from ts (i + 1))))
-  first_and_others t h is = part_declared (shape t) (left_from ts (i + 1)) (subst (λ xs. Follows known cs (declared_by_all xs)) (first_left ts i t h is) f)
+  split_declared t h is = both_follow known cs (declared_by (shape t)) (declared_by_all (left_from ts (i + 1))) (subst (λ xs. Follows known cs (declared_by_all xs)) (first_left ts i t h is) f)
 
   pub first_declared : (t : Tree A) → i < length ts → t ≡ get_or ts i t → Follows known cs (declared_by (shape t))
-  first_declared t h is = (first_and_others t h is).0
+  first_declared t h is = (split_declared t h is).0
 
   pub others_declared : (t : Tree A) (ds : List Channel) → i < length ts → t ≡ get_or ts i t → entered known cs (declared_by (shape t)) ≡ Some ds → Follows known ds (declared_by_all (left_from ts (i + 1)))
-  others_declared t ds h is e = (first_and_others t h is).1 ds e
+  others_declared t ds h is = (split_declared t h is).1 ds
 
   pub end_declared : length ts ≤ i → entered known cs (declared_by_all (left_from ts i)) ≡ Some cs
   end_declared h = no_more known cs (declared_by_all (left_from ts i)) f (λ es e. no_declarations known es (sym (ap declared_by_all (no_left ts i h)) ∙ e))

@@ -3,7 +3,7 @@ use Rattle.std.proofs.Common.{◌≡◌, ◌≤◌, List, [], Bool, true, false,
 use Rattle.std.proofs.lemmas.Bool.{ltb-true, ltb-false}
 use Rattle.std.specs.Prelude.{nat_lt, Result, Ok, Err, IfOk}
 use Rattle.std.specs.List.{list_all}
-use Rattle.alphabet.specs.Channels.{Channel, event_count}
+use Rattle.alphabet.specs.Channels.{Channel, names, event_count}
 use Rattle.tokens.specs.declared.unread.Unread.{Unread}
 use Rattle.syntax.specs.declared.form.Form.TheVariants as forms
 use Rattle.syntax.specs.Grammar.{Syntax, Called, Numeral, Node, Syntaxes}
@@ -79,7 +79,7 @@ module _ (t : Syntax) (ts : Syntaxes) where
       record { named = d.named; once = d.once; parameters = d.parameters; stands = s; fielded = r.0; small = r.1 }
 
   pub all_follow : (es : List Entry) (f : Known) → has_names t ≡ true → script_parts t ≡ Some ts → fitting_entries t ≡ Some es → Stands es f → Follows f [] (declared_by_all ts)
-  unfolding with_entries channels_of small
+  unfolding with_entries channels_of small names
   all_follow es f n p e s =
       let d = are_fitting t es e in
       let whole = are_declared ts es f (all_declared es p e) d.once (parts_named t ts p n) s in
