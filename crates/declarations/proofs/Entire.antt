@@ -1,5 +1,5 @@
 -- Channels behind others: those of all names at once are those that are entered one after the other.
-use Rattle.std.proofs.Common.{◌≡◌, ℕ, ◌+◌, ◌<◌, ◌≤◌, List, [], ◌∷◌, ◌++◌, map, length, Bool, true, false, cond, Option, Some, None, refl, sym, ap, ◌∙◌, arith, append_assoc, append-nil}
+use Rattle.std.proofs.Common.{◌≡◌, ℕ, ◌+◌, ◌<◌, ◌≤◌, List, [], ◌∷◌, ◌++◌, map, length, Bool, true, false, cond, Option, Some, None, refl, sym, ap, ◌∙◌, arith, append_assoc}
 use Rattle.std.proofs.lemmas.List.{length-append, length-map}
 use Rattle.std.proofs.lemmas.Bool.{ltb-true, ltb-false}
 use Rattle.std.specs.Prelude.{nat_lt}
@@ -9,7 +9,7 @@ use Rattle.syntax.specs.declared.form.Form.TheVariants as forms
 use Rattle.syntax.specs.Grammar.{Syntax, Called, Numeral, Node, Syntaxes, NoSyntax, MoreSyntax}
 use Rattle.values.specs.Values.{◌>>=◌, Name}
 use Rattle.values.specs.Worths.{Known}
-use Rattle.values.specs.Names.{Meaning, channel, datatype, constant_name, definition, parametric, Entry, names_of, listed_names, entries_of, declared_by, declared_by_all}
+use Rattle.values.specs.Names.{Meaning, channel, datatype, constant_name, parametric, Entry, names_of, listed_names, entries_of, declared_by, declared_by_all}
 use Rattle.values.specs.Channels.{fields_of, with_channel, channels_of}
 use Rattle.declared_names.specs.Steps.{only_of, two_of}
 use Rattle.declarations.specs.Sigma.{small, with_names, with_entries, entered, channels_named}

@@ -11,7 +11,7 @@ use Rattle.alphabet.specs.Channels.{FieldValue, number, constant, Values, is_bel
 use Rattle.alphabet.specs.Stored.{value_of, field_of}
 use Rattle.tokens.specs.declared.unread.Unread.{Unread}
 use Rattle.syntax.specs.declared.tree.Tree.{Tree}
-use Rattle.syntax.specs.Grammar.{Syntax, Syntaxes, NoSyntax, MoreSyntax}
+use Rattle.syntax.specs.Grammar.{Syntax, Syntaxes, MoreSyntax}
 use Rattle.syntax.specs.Parsing.{syntaxes}
 use Rattle.syntax.specs.View.{shapes}
 use Rattle.syntax.proofs.Failing.{fails_on}

@@ -1,5 +1,5 @@
 -- What the alphabet asks of a channel, and what it answers.
-use Rattle.std.proofs.Common.{◌≡◌, ℕ, ◌+◌, ◌<◌, ◌≤◌, List, [], ◌∷◌, ◌++◌, map, length, get_or, Bool, true, false, not, ◌&&◌, ◌||◌, ◌⊎◌, cond, Option, Some, None, Vec, inl, inr, refl, sym, ap, subst, ◌∙◌, arith, append_assoc, append-nil}
+use Rattle.std.proofs.Common.{◌≡◌, ℕ, ◌+◌, ◌<◌, ◌≤◌, List, [], ◌∷◌, ◌++◌, map, length, get_or, Bool, true, false, not, ◌&&◌, ◌||◌, cond, Option, Some, None, Vec, inl, inr, refl, sym, ap, subst, ◌∙◌, arith, append_assoc, append-nil}
 use Rattle.std.proofs.lemmas.Bool.{ltb-true, ltb-false}
 use Rattle.std.specs.Prelude.{nat_eq, nat_lt}
 use Rattle.std.specs.List.{list_all, list_any}
@@ -8,8 +8,6 @@ use Rattle.alphabet.specs.Channels.{FieldValue, number, constant, Values, Channe
 use Rattle.alphabet.specs.Names.{is_name}
 use Rattle.alphabet.specs.declared.field_value.Value.{Value as FieldStored}
 use Rattle.alphabet.specs.Stored.{field_of}
-use Rattle.syntax.specs.declared.form.Form.{Form}
-use Rattle.syntax.specs.declared.form.Form.TheVariants as forms
 use Rattle.syntax.specs.declared.tree.Tree.{Tree}
 use Rattle.syntax.specs.Grammar.{Syntax, Called, Numeral, Node, Syntaxes, NoSyntax, MoreSyntax}
 use Rattle.syntax.specs.Parsing.{syntaxes}
