@@ -114,7 +114,7 @@ declares_channels t ts es fs f g cs d p e s =
       same,
       table,
       ap (λ x. entered x [] (declared_by_all ts)) table ∙ ap (entered f []) (sym (parts_declared t ts p) ∙ d.named)
-      ∙ ap (λ o. o >>= λ cs. cond (nat_lt 256 (event_count cs)) None (Some cs)) d.fielded ∙ by (nat_lt 256 (event_count cs)) refl d.small,
+          ∙ ap (λ o. o >>= λ cs. cond (nat_lt 256 (event_count cs)) None (Some cs)) d.fielded ∙ by (nat_lt 256 (event_count cs)) refl d.small,
     )
   where
     by : (b : Bool) → nat_lt 256 (event_count cs) ≡ b → event_count cs ≤ 256 → cond b None (Some cs) ≡ Some cs
