@@ -1,7 +1,7 @@
 -- What the calls of a file in memory do to what a crash may leave.
-use Rattle.std.proofs.Common.{◌≡◌, ◌⊎◌, inl, inr, ⊎_elim, ℕ, Vec, ◌≤◌, List, [], ◌∷◌, ◌++◌, length, take, refl, sym, subst, arith}
+use Rattle.std.proofs.Common.{◌≡◌, ◌⊎◌, inl, inr, ⊎_elim, ℕ, Vec, ◌≤◌, List, [], ◌∷◌, ◌++◌, length, take, Result, Ok, Err, OnOk, OnErr, refl, sym, ◌∙◌, ap, subst, arith}
 use Rattle.std.proofs.lemmas.List.{append-nil}
-use Rattle.disk.specs.Calls.{Torn, CutShort, Follows}
+use Rattle.disk.specs.Calls.{Torn, CutShort, Follows, overwritten}
 use Rattle.disk.proofs.Parts.{torn_none, cut_none}
 use Rattle.memory_disks.specs.declared.crash.Call.{Call}
 use Rattle.memory_disks.specs.declared.crash.Call.TheVariants.{Write, Cut, Sync}
@@ -38,3 +38,16 @@ module _ {A : Type 0} (first : List ℕ) (calls : List (Call A)) (f g : ℕ) whe
   some_files at n v le c left =
       let was = write_files first calls f g at v c left in
       (was.0, was.1, torn_wider at (length v.items) n was.0 c le was.2)
+
+  pub some_part : (at n : ℕ) (v : Vec ℕ A) → length v.items ≤ n → Torn at n (replay (start first) calls).bytes (replay (start first) (calls ++ Write at v ∷ [])).bytes
+  some_part at n v le = torn_other at n v.items (replay (start first) calls).bytes _ le (ap (λ (m : Image A). m.bytes) (replay_push (start first) calls (Write at v)))
+
+-- the calls of the file give its bytes after a write, too
+pub write_kept : {A T E : Type 0} (r : Result T E) (first : List ℕ) (calls now : List (Call A)) (at : ℕ) (bytes old new : List ℕ)
+    → OnOk r (new ≡ overwritten at bytes old) → OnOk r ((v : Vec ℕ A) × (v.items ≡ bytes) × (now ≡ calls ++ Write at v ∷ [])) → OnErr r (new ≡ old) → OnErr r (now ≡ calls)
+    → old ≡ (replay (start first) calls).bytes → new ≡ (replay (start first) now).bytes
+write_kept {A} (Ok x) first calls now at bytes old new done noted same same_calls is =
+    done ∙ (λ i. overwritten at (sym noted.1 i) (is i)) ∙ sym (ap (λ (m : Image A). m.bytes) (replay_push (start first) calls (Write at noted.0)))
+    ∙ sym (ap (λ (l : List (Call A)). (replay (start first) l).bytes) noted.2)
+write_kept {A} (Err e) first calls now at bytes old new done noted same same_calls is =
+    same ∙ is ∙ sym (ap (λ (l : List (Call A)). (replay (start first) l).bytes) same_calls)

@@ -128,8 +128,8 @@ pub(crate) fn sync<F: PlacedFile>(file: &mut F) -> Result<(), DiskFault>
     ensures durable { OnOk result (IsTrue (F.state file.old).claims_bytes → IsTrue (F.state file.old).claims_files
         → IsDurable (F.state file.new)) }
 {
-    match file.sync() {
-        Ok(()) => Ok(()),
-        Err(_) => Err(DiskFault),
+    if file.sync().is_err() {
+        return Err(DiskFault);
     }
+    Ok(())
 }
