@@ -81,8 +81,16 @@ rest_is d bytes = take_all (length bytes - d) (drop d bytes) (omega (arith, leng
 pub overwritten_on : (at d n m : ℕ) (bytes old mid new : List ℕ) → m ≡ d + n → at ≤ length old → d ≤ length bytes → n ≤ length (rest_of d bytes)
     → mid ≡ overwritten at (take d bytes) old → (at + d ≤ length mid → new ≡ overwritten (at + d) (take n (rest_of d bytes)) mid) → new ≡ overwritten at (take m bytes) old
 overwritten_on at d n m bytes old mid new both le fit some was now =
-    let long : at + d ≤ length mid = omega (arith, ap length was, length-append (take at old ++ take d bytes) (drop (at + length (take d bytes)) old),
-        length-append (take at old) (take d bytes), length-take at old, length-take d bytes, le, fit) in
+    let long : at + d ≤ length mid = omega (
+      arith,
+      ap length was,
+      length-append (take at old ++ take d bytes) (drop (at + length (take d bytes)) old),
+      length-append (take at old) (take d bytes),
+      length-take at old,
+      length-take d bytes,
+      le,
+      fit,
+    ) in
     let within : d + n ≤ length bytes = omega (arith, ap length (rest_is d bytes), length-drop d bytes, fit, some) in
     now long ∙ (λ i. overwritten (at + d) (take n (rest_is d bytes i)) (was i)) ∙ overwritten_more at d n bytes old le within
     ∙ sym (ap (λ (j : ℕ). overwritten at (take j bytes) old) both)

@@ -22,11 +22,7 @@ pub struct MemoryFile<A: Allocator> {
 }
 
 // Writes over what is there and past the end. Where the file can't grow, it stays as it was.
-fn overwrite<A: Allocator>(
-    file: &mut Vec<u8, A>,
-    at: usize,
-    bytes: &[u8],
-) -> Result<(), FileFault>
+fn overwrite<A: Allocator>(file: &mut Vec<u8, A>, at: usize, bytes: &[u8]) -> Result<(), FileFault>
     ensures done { OnOk result (file.new.items ≡ overwritten at bytes.now file.old.items) }
     ensures same { OnErr result (file.new.items ≡ file.old.items) }
 {

@@ -82,11 +82,7 @@ fn put<F: PlacedFile>(file: &mut F, at: usize, bytes: &[u8]) -> Result<(), DiskF
 }
 
 /// Writes all bytes at this place.
-pub(crate) fn write<F: PlacedFile>(
-    file: &mut F,
-    at: usize,
-    bytes: &[u8],
-) -> Result<(), DiskFault>
+pub(crate) fn write<F: PlacedFile>(file: &mut F, at: usize, bytes: &[u8]) -> Result<(), DiskFault>
     ensures continues { Continues (F.state file.old) (F.state file.new) }
     ensures time { IsTrue (F.state file.old).claims_files → Elapses (F.state file.old) (F.state file.new) }
     ensures room { OnOk result (at + length bytes.now ≤ 2 ^ 63) }
