@@ -1,7 +1,7 @@
 -- What the calls of a file in memory do to what a crash may leave.
-use Rattle.std.proofs.Common.{◌≡◌, ◌⊎◌, inl, inr, ⊎_elim, ℕ, Vec, ◌≤◌, List, [], ◌∷◌, ◌++◌, length, take, Result, Ok, Err, OnOk, OnErr, refl, sym, ◌∙◌, ap, subst, arith}
+use Rattle.std.proofs.Common.{◌≡◌, inr, ⊎_elim, ℕ, Vec, ◌≤◌, List, [], ◌∷◌, ◌++◌, length, take, Result, Ok, Err, OnOk, OnErr, refl, sym, ◌∙◌, ap, subst, arith}
 use Rattle.std.proofs.lemmas.List.{append-nil}
-use Rattle.disk.specs.Calls.{Torn, CutShort, Follows, overwritten}
+use Rattle.disk.specs.Calls.{Torn, Follows, overwritten}
 use Rattle.disk.proofs.Parts.{torn_none, cut_none}
 use Rattle.memory_disks.specs.declared.crash.Call.{Call}
 use Rattle.memory_disks.specs.declared.crash.Call.TheVariants.{Write, Cut, Sync}

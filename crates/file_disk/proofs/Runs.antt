@@ -1,5 +1,5 @@
 -- Several calls of a file, one after the other.
-use Rattle.std.proofs.Common.{◌≡◌, ◌⊎◌, inl, inr, ⊎_elim, ℕ, ◌+◌, ◌≤◌, List, length, drop, IsTrue, refl, ◌∙◌, ap, arith}
+use Rattle.std.proofs.Common.{◌≡◌, inl, inr, ⊎_elim, ℕ, ◌+◌, ◌≤◌, List, length, IsTrue, refl, ◌∙◌, ap, arith}
 use Rattle.std.proofs.lemmas.List.{length-drop}
 use Rattle.disk.specs.State.{DeviceState, DiskState}
 use Rattle.disk.specs.Calls.{Torn, Follows, AddsNone, Elapses, Continues}

@@ -1,6 +1,6 @@
 -- Several writes at one place, one after the other.
 use borrow.Rule.Slice.PartMut.{put_mid}
-use Rattle.std.proofs.Common.{◌≡◌, ℕ, ◌+◌, ◌-◌, ◌<◌, ◌≤◌, List, [], ◌∷◌, ◌++◌, length, take, drop, get_or, sym, ◌∙◌, ap, arith}
+use Rattle.std.proofs.Common.{◌≡◌, ℕ, ◌+◌, ◌-◌, ◌<◌, ◌≤◌, List, ◌++◌, length, take, drop, get_or, sym, ◌∙◌, ap, arith}
 use Rattle.std.proofs.lemmas.List.{same_lists, places, drop-drop, drop_at, length-take-le, length-append, length-take, length-drop, take_all, take-append-le}
 use Rattle.std.proofs.lemmas.Slice.{take-put_mid_below}
 use Rattle.std.proofs.Math.Seq.{take-add}

@@ -1,4 +1,4 @@
-use Rattle.std.proofs.Common.{rules, List, ℕ, length, take, drop, ◌+◌, ◌∙◌, ap, sym, arith}
+use Rattle.std.proofs.Common.{rules, ℕ, length, take, ◌∙◌, ap, sym, arith}
 use Rattle.disk.specs.Calls.{overwritten}
 use Rattle.file_disk.proofs.Runs.{Writes, writes_none, writes_rest}
 use Rattle.file_disk.proofs.Tears.{overwritten_none, overwritten_on}

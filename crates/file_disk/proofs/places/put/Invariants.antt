@@ -1,4 +1,4 @@
-use Rattle.std.proofs.Common.{◌≤◌, length, ◌≡◌, take, drop, IsTrue}
+use Rattle.std.proofs.Common.{◌≤◌, length, ◌≡◌, take, IsTrue}
 use Rattle.disk.specs.Calls.{overwritten, Torn, Follows, Elapses, Continues}
 use Rattle.file_disk.proofs.places.put.Given as goal
 

@@ -1,4 +1,4 @@
-use Rattle.std.proofs.Common.{◌≡◌, ◌≤◌, List, length, ℕ, take, sym, ap, subst, arith}
+use Rattle.std.proofs.Common.{◌≤◌, List, length, ℕ, take, sym, ap, subst, arith}
 use Rattle.std.proofs.lemmas.List.{length-take}
 use Rattle.disk.specs.Calls.{Torn, Elapses, Follows}
 use Rattle.memory_disks.specs.declared.crash.Call.{Call}
