@@ -83,7 +83,8 @@ fn put_short_disk(rest: &str, out: &mut Output) {
     let (most, rest) = first_word(rest);
     let (text, calls) = parts(rest);
     let bytes = out.copy_of(text.as_bytes());
-    match MemoryFile::new(Global, bytes, number_of(most) as usize) {
+    let alloc = *bytes.allocator();
+    match MemoryFile::new(alloc, bytes, number_of(most) as usize) {
         Ok(file) => {
             let mut disk = FileDisk::new(file);
             put_answers(&mut disk, calls, out);
