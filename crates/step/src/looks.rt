@@ -6,9 +6,9 @@ ghost use Rattle.alphabet.specs.declared.events.Event.{Event};
 ghost use Rattle.alphabet.specs.declared.events.Event.TheVariants.{Tick as tick};
 ghost use Rattle.term.specs.Proc.{Proc, proc};
 ghost use Rattle.term.specs.Steps.{Stable, Ticks, is_skip};
-ghost use Rattle.step.specs.Offers.{Offers, both_or_one, offered, some_passes};
-ghost use Rattle.step.specs.Resting.{Resting, Settled};
-ghost use Rattle.step.specs.Targets.{sources, ticks};
+ghost use Rattle.targets.specs.Offers.{Offers, both_or_one, offered, some_passes};
+ghost use Rattle.targets.specs.Resting.{Resting, Settled};
+ghost use Rattle.targets.specs.Targets.{sources, ticks};
 
 use alphabet::{Event, EventSet};
 use std::alloc::Allocator;

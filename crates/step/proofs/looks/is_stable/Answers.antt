@@ -1,5 +1,5 @@
 use Rattle.term.specs.Proc.{proc}
-use Rattle.step.proofs.Rest.{resting-says}
+use Rattle.targets.proofs.Rest.{resting-says}
 use Rattle.step.proofs.looks.is_stable.Goals as goal
 
 pub returns : goal.returns

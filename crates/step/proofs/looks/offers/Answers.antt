@@ -1,6 +1,6 @@
 use Rattle.std.proofs.Common.{sym, ◌∙◌}
 use Rattle.term.specs.Proc.{proc}
-use Rattle.step.proofs.Offered.{offered-Offers, Act-offered}
+use Rattle.targets.proofs.Offered.{offered-Offers, Act-offered}
 use Rattle.step.proofs.looks.offers.Goals as goal
 
 pub returns-clause-events : goal.returns-clause-events
