@@ -176,15 +176,15 @@ pub(crate) fn of_ren(pairs: &[(u8, u8)], part: Facts) -> Facts
     }
 }
 
-/// Of an interrupt.
-pub(crate) fn of_intr(left: Facts, right: Facts) -> Facts
-    ensures { (P Q : Proc) → IsKnown left P → IsKnown right Q → IsKnown result (intr P Q) }
+/// Of an interrupt by the second.
+pub(crate) fn of_intr(left: Facts, by: Facts) -> Facts
+    ensures { (P Q : Proc) → IsKnown left P → IsKnown by Q → IsKnown result (intr P Q) }
 {
     Facts {
-        depth: left.depth.max(right.depth).saturating_add(1),
-        offers: left.offers.union(right.offers),
-        rests: left.rests & right.rests,
-        ticks: left.ticks | right.ticks,
+        depth: left.depth.max(by.depth).saturating_add(1),
+        offers: left.offers.union(by.offers),
+        rests: left.rests & by.rests,
+        ticks: left.ticks | by.ticks,
         skip: false,
     }
 }
