@@ -1,5 +1,5 @@
 use Rattle.std.proofs.Common.{◌+◌, ◌*◌, max}
-use Rattle.nodes.proofs.trees.Table.+term.Given as goal
+use Rattle.nodes.proofs.table.Table.+term.Given as goal
 
 abbrev pub decreases-term : goal.decreases-term
 decreases-term g l = 8 * l.number + 3
