@@ -1,8 +1,8 @@
 -- Targets by number: all of them, and how deep they are.
-use Rattle.std.proofs.Common.{◌≡◌, ◌<◌, ◌≤◌, ℕ, Bool, true, false, inl, inr, List, [], ◌∷◌, ◌++◌, length, map, nat_lt, refl, sym, ap, ◌∙◌, subst, arith}
-use Rattle.std.proofs.lemmas.Bool.Decides.{nat_tests}
-use Rattle.std.proofs.lemmas.List.{length-map, map-append}
-use borrow.Author.Tests.{ltb-true}
+use Rattle.std.proofs.Common.{◌≡◌, ◌+◌, ◌-◌, ◌^◌, ◌<◌, ◌≤◌, ℕ, zero, suc, min, Bool, true, false, ◌||◌, inl, inr, List, [], ◌∷◌, ◌++◌, length, map, take, drop, get_or, nat_lt, refl, sym, ap, ◌∙◌, subst, arith}
+use Rattle.std.proofs.lemmas.Bool.{ltb-true, lt-ltb}
+use Rattle.std.proofs.lemmas.List.{length-map, map-append, take_more}
+use Rattle.std.specs.Cmp.{both_ways}
 use Rattle.term.specs.declared.terms.Term.{Term}
 use Rattle.term.specs.Traces.{In, here, there}
 use Rattle.term.specs.Proc.{Proc, proc, bodies_of}
@@ -50,11 +50,33 @@ module _ (B : ℕ → Proc) (P : Proc) (l : Label) (found : List Proc) (all : Ar
   no-deep h (Q, d, deep) = not (In-deep ((all Q).1 d) deep)
     where
       In-deep : {Q : Proc} {ps : List Proc} → In Q ps → deepest_state < depth Q → some_deep ps ≡ true
-      In-deep (here {x = Q} {xs = ps}) d = or-left (nat_lt deepest_state (depth Q)) (some_deep ps) (grind (arith, nat_tests))
+      In-deep (here {x = Q} {xs = ps}) d = or-left (nat_lt deepest_state (depth Q)) (some_deep ps) (lt-ltb deepest_state (depth Q) d)
       In-deep (there {y = R} {xs = ps} i) d = or-right (nat_lt deepest_state (depth R)) (some_deep ps) (In-deep i d)
 
       not : some_deep found ≡ true → ⊥
       not e = cc
+
+-- a number of 32 bits tells so, even where it stands for a greater one
+pub deep-capped : (n d : ℕ) → n ≡ min d (2 ^ 32 - 1) → nat_lt deepest_state n ≡ nat_lt deepest_state d
+deep-capped n d e =
+    both_ways (nat_lt deepest_state n) (nat_lt deepest_state d)
+    (λ h. lt-ltb deepest_state d (let k = ltb-true deepest_state n h in omega arith))
+    (λ h. lt-ltb deepest_state n (let k = ltb-true deepest_state d h in omega arith))
+
+-- the rest of the numbers, and the first of it
+pub deep-next : (ps : List Proc) (ns : List ℕ) (i d : ℕ) (b : Bool) → i < length ns → b ≡ nat_lt deepest_state (depth (at ps (get_or ns i d))) → some_deep (look ps (drop i ns)) ≡ (b || some_deep (look ps (drop (i + 1) ns)))
+deep-next ps [] i d b h e = absurd (omega arith)
+deep-next ps (n ∷ ns) zero d b h e = ap (λ (c : Bool). c || some_deep (look ps ns)) (sym e)
+deep-next ps (n ∷ ns) (suc i) d b h e = deep-next ps ns i d b (omega arith) e
+
+-- ---- terms of numbers, one more
+pub terms-more : {A : Type 0} (ps : List Proc) (ns : List ℕ) (i : ℕ) (old new : List (Term A)) (t : Term A) → i < length ns → map proc old ≡ look ps (take i ns) → proc t ≡ at ps (get_or ns i 0) → new ≡ old ++ t ∷ [] → map proc new ≡ look ps (take (i + 1) ns)
+terms-more ps ns i old new t h e f is =
+    ap (map proc) is
+    ∙ map-append proc old (t ∷ [])
+    ∙ ap (λ (l : List Proc). l ++ proc t ∷ []) e
+    ∙ ap (λ (P : Proc). look ps (take i ns) ++ P ∷ []) f
+    ∙ sym (ap (look ps) (take_more ns i 0 h) ∙ map-append (at ps) (take i ns) (get_or ns i 0 ∷ []))
 
 -- ---- at the end of a list
 pub appends : {A : Type 0} (B : ℕ → Proc) (P : Proc) (l : Label) (old new found : List (Term A)) → AreAllTargets B P l (map proc found) → new ≡ old ++ found → AppendsTargets B P l (map proc old) (map proc new)

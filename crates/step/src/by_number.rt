@@ -118,7 +118,8 @@ fn terms_of<A: Allocator, B: Allocator + Clone>(
 {
     let mut found = Vec::new(alloc.clone()?);
     for number in numbers {
-        found.push(all.term(*number, alloc)?)?;
+        let term = all.term(*number, alloc)?;
+        found.push(term)?;
     }
     Ok(found)
 }

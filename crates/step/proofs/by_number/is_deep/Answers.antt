@@ -1,0 +1,8 @@
+use Rattle.std.proofs.Common.{ap, ◌∙◌, nat_lt}
+use Rattle.term.specs.Limits.{deepest_state}
+use Rattle.term.specs.Sizes.{depth}
+use Rattle.step.proofs.Whole.{deep-capped}
+use Rattle.step.proofs.by_number.is_deep.Goals as goal
+
+pub returns : goal.returns
+returns c = λ P k. deep-capped c.from.result (depth P) (c.from.ensures ∙ k.depth_is)
