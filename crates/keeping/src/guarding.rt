@@ -61,7 +61,10 @@ impl<A: Allocator + Copy> Guarding<A> {
     }
 
     /// The processes, and the numbers of what stands for the names.
-    pub(crate) fn into_parts<B: Allocator>(self, spec: &Spec<B>) -> (Transitions<A, MOST_STATES>, Vec<u32, A>)
+    pub(crate) fn into_parts<B: Allocator>(
+        self,
+        spec: &Spec<B>,
+    ) -> (Transitions<A, MOST_STATES>, Vec<u32, A>)
         requires bodies { self.all.bodies ≡ spec.now.bodies }
         requires count { length self.guards ≡ length spec.now.bodies }
         requires settled { IsSettled self }

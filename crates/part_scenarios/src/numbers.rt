@@ -53,7 +53,10 @@ fn put_both(
 }
 
 /// Whether a hidden step of the process, which isn't too deep, leads to one that is.
-fn leads_too_deep(all: &mut Transitions<Global, MOST_STATES>, term: &Term<Global>) -> Result<bool, AllocError>
+fn leads_too_deep(
+    all: &mut Transitions<Global, MOST_STATES>,
+    term: &Term<Global>,
+) -> Result<bool, AllocError>
     requires { depth (proc term.now) ≤ deepest_state }
 {
     let number = all.number_of_term(term)?;
