@@ -7,6 +7,9 @@ use Rattle.step.proofs.by_number.put_all.Goals as goal
 pub put_targets-requires-clause-hides : goal.put_targets-requires-clause-hides
 put_targets-requires-clause-hides g c = subst (SetsBelow 256) (sym c.in_ok-number.ensures.number.is) c.requires.hides
 
+pub returns-clause-here : goal.returns-clause-here
+returns-clause-here g c = c.in_ok-put_targets.ensures.targets.here
+
 pub returns-clause-targets : goal.returns-clause-targets
 returns-clause-targets g c =
     all-targets 18446744073709551615 c.args.all.now c.number_of_term.new.self c.put_targets.new.self c.in_ok-number.number c.args.label (proc c.args.term.now) c.put_targets.new.into.items
