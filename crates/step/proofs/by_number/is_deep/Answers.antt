@@ -1,5 +1,4 @@
-use Rattle.std.proofs.Common.{ap, ◌∙◌, nat_lt}
-use Rattle.term.specs.Limits.{deepest_state}
+use Rattle.std.proofs.Common.{◌∙◌}
 use Rattle.term.specs.Sizes.{depth}
 use Rattle.step.proofs.Whole.{deep-capped}
 use Rattle.step.proofs.by_number.is_deep.Goals as goal

@@ -1,4 +1,4 @@
-use Rattle.std.proofs.Common.{◌≡◌, ◌≤◌, ℕ, List, length, sym, ap, ◌∙◌, subst}
+use Rattle.std.proofs.Common.{◌≤◌, ℕ, List, length, sym, ap, ◌∙◌, subst}
 use Rattle.alphabet.specs.Channels.{event_count}
 use Rattle.term.specs.Proc.{Proc, proc, bodies_of}
 use Rattle.targets.proofs.Lying.{lies-small}

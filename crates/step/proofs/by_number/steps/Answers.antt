@@ -1,4 +1,3 @@
-use Rattle.std.proofs.Common.{map}
 use Rattle.term.specs.Proc.{proc, bodies_of}
 use Rattle.step.proofs.Whole.{appends}
 use Rattle.step.proofs.by_number.steps.Goals as goal

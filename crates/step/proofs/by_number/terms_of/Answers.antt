@@ -1,4 +1,4 @@
-use Rattle.std.proofs.Common.{◌≡◌, List, ℕ, length, map, take, subst, arith}
+use Rattle.std.proofs.Common.{◌≡◌, List, ℕ, length, map, subst, arith}
 use Rattle.std.proofs.lemmas.List.{take_all}
 use Rattle.term.specs.Proc.{proc}
 use Rattle.nodes.specs.Looks.{look}
