@@ -16,12 +16,12 @@ use nodes::Node;
 use std::alloc::{AllocError, Allocator};
 use std::marker::Model;
 use term::Spec;
-use transitions::{MOST_STATES, Transitions};
+use transitions::Transitions;
 
 /// What is found of names so far: which are guarded, and the numbers of what stands for them.
 #[derive(Drop)]
 pub(crate) struct Guarding<A: Allocator> {
-    pub(crate) all: Transitions<A, MOST_STATES>,
+    pub(crate) all: Transitions<A>,
     pub(crate) stands: Vec<u32, A>,
     pub(crate) guards: Vec<bool, A>,
     // For each name those that wait on it. No clause speaks of them.
@@ -61,10 +61,7 @@ impl<A: Allocator + Copy> Guarding<A> {
     }
 
     /// The processes, and the numbers of what stands for the names.
-    pub(crate) fn into_parts<B: Allocator>(
-        self,
-        spec: &Spec<B>,
-    ) -> (Transitions<A, MOST_STATES>, Vec<u32, A>)
+    pub(crate) fn into_parts<B: Allocator>(self, spec: &Spec<B>) -> (Transitions<A>, Vec<u32, A>)
         requires bodies { self.all.bodies ≡ spec.now.bodies }
         requires count { length self.guards ≡ length spec.now.bodies }
         requires settled { IsSettled self }
@@ -280,7 +277,7 @@ impl<A: Allocator> Guarding<A> {
 
 /// The numbers of the names of so many bodies.
 fn put_names<A: Allocator + Copy>(
-    all: &mut Transitions<A, MOST_STATES>,
+    all: &mut Transitions<A>,
     count: usize,
     alloc: A,
 ) -> Result<Vec<u32, A>, AllocError>

@@ -12,12 +12,12 @@ use rows::Output;
 use std::alloc::{AllocError, Global};
 use step::{DEEPEST_STATE, Label};
 use term::{Spec, Term};
-use transitions::{MOST_STATES, Transitions};
+use transitions::Transitions;
 
 /// Appends how many targets the steps of the number's process have, as far as one more than a set of states may have.
 fn put_found(
     alloc: Global,
-    all: &mut Transitions<Global, MOST_STATES>,
+    all: &mut Transitions<Global>,
     number: u32,
     label: Label,
     out: &mut Output,
@@ -36,7 +36,7 @@ fn put_found(
 /// Appends how many targets the steps of the process have: found, and remembered.
 fn put_both(
     alloc: Global,
-    all: &mut Transitions<Global, MOST_STATES>,
+    all: &mut Transitions<Global>,
     term: &Term<Global>,
     label: Label,
     out: &mut Output,
@@ -53,10 +53,7 @@ fn put_both(
 }
 
 /// Whether a hidden step of the process, which isn't too deep, leads to one that is.
-fn leads_too_deep(
-    all: &mut Transitions<Global, MOST_STATES>,
-    term: &Term<Global>,
-) -> Result<bool, AllocError>
+fn leads_too_deep(all: &mut Transitions<Global>, term: &Term<Global>) -> Result<bool, AllocError>
     requires { depth (proc term.now) ≤ deepest_state }
 {
     let number = all.number_of_term(term)?;
@@ -64,7 +61,7 @@ fn leads_too_deep(
 }
 
 /// Appends whether a hidden step leads to a process that is too deep.
-fn put_depth(all: &mut Transitions<Global, MOST_STATES>, term: &Term<Global>, out: &mut Output) {
+fn put_depth(all: &mut Transitions<Global>, term: &Term<Global>, out: &mut Output) {
     if term.depth() > DEEPEST_STATE {
         return out.put(" too deep");
     }

@@ -2,7 +2,6 @@
 use Rattle.std.specs.Thread.{IsSend}
 use Rattle.std.specs.contracts.alloc.Global as Global
 use Rattle.std.specs.contracts.impls.GlobalAllocator.TheImpl.{ghosts}
-use Rattle.term.specs.Limits.{most_states}
 use Rattle.closures.specs.TableContracts as Table
 use Rattle.closures.specs.TransitionsContracts as Transitions
 use Rattle.closures.specs.StatesContracts as States
@@ -15,7 +14,7 @@ TableCrosses = IsSend (Table.the_row Global.the_row ghosts)
 
 -- the steps of its nodes
 abbrev pub TransitionsCross : Type 0
-TransitionsCross = IsSend (Transitions.the_row Global.the_row most_states ghosts)
+TransitionsCross = IsSend (Transitions.the_row Global.the_row ghosts)
 
 -- these with what processes are kept as
 abbrev pub StatesCross : Type 0

@@ -8,7 +8,7 @@ ghost use Rattle.spaces.specs.Crossings.{SetsCross, SpaceCrosses, StatesCross, T
 
 use crate::found::FoundSets;
 use crate::space::{Answers, Space};
-use closures::{MOST_STATES, States, Table, Transitions};
+use closures::{States, Table, Transitions};
 use std::alloc::Global;
 use term::Spec;
 
@@ -29,7 +29,7 @@ fn transitions_cross()
     ensures transitions { TransitionsCross }
 {
     table_crosses();
-    crosses::<Transitions<Global, MOST_STATES>>();
+    crosses::<Transitions<Global>>();
 }
 
 // That these with what processes are kept as may.

@@ -16,7 +16,7 @@ ghost use Rattle.spaces.specs.Offers.{AreLeastOf, AreOffers, AreSmall};
 
 use crate::offers::{in_order, put_offer, some_apart};
 use alphabet::{Event, EventSet};
-use closures::{Facts, MOST_STATES, Transitions};
+use closures::{Facts, Transitions};
 use std::alloc::{AllocError, Allocator};
 
 /// What is known of a set of states.
@@ -31,7 +31,7 @@ pub(crate) struct SetFacts<A: Allocator> {
 
 /// What is known of the set of these processes.
 pub(crate) fn facts_of<A: Allocator + Copy>(
-    all: &Transitions<A, MOST_STATES>,
+    all: &Transitions<A>,
     alloc: A,
     numbers: &[u32],
 ) -> Result<SetFacts<A>, AllocError>
@@ -44,7 +44,7 @@ pub(crate) fn facts_of<A: Allocator + Copy>(
 }
 
 /// The events with which one of the processes has a step, tick among them.
-fn next_of<A: Allocator>(all: &Transitions<A, MOST_STATES>, numbers: &[u32]) -> EventSet
+fn next_of<A: Allocator>(all: &Transitions<A>, numbers: &[u32]) -> EventSet
     requires { AllBelow (length all.now.table.processes) numbers.now }
     ensures { (x : Event) → IsTrue (member result x) ↔ ((Q : Proc) × In Q (look all.now.table.processes numbers.now) × Takes Q x) }
 {
@@ -68,7 +68,7 @@ fn events_of(facts: Facts) -> EventSet
 
 /// What those of the processes offer that have no hidden step and can't terminate.
 fn offers_of<A: Allocator + Copy>(
-    all: &Transitions<A, MOST_STATES>,
+    all: &Transitions<A>,
     alloc: A,
     numbers: &[u32],
 ) -> Result<Vec<EventSet, A>, AllocError>

@@ -20,7 +20,7 @@ ghost use Rattle.spaces.specs.Spaces.{Belongs, GrewFrom, IsSetOf, states};
 use crate::facts::{SetFacts, facts_of};
 use crate::states::StateSet;
 use alphabet::Event;
-use closures::{AfterFault, MOST_STATES, States, Transitions, advance, start};
+use closures::{AfterFault, States, Transitions, advance, start};
 use indexmap::IndexMap;
 use std::alloc::{AllocError, Allocator};
 use std::hash::{BuildHasherDefault, FoldHasher};
@@ -318,7 +318,7 @@ impl<A: Allocator> FoundSets<A> {
 /// Puts the set of this list among no sets, with what is known of it.
 fn put_list<A: Allocator + Copy>(
     sets: &mut Lists<A>,
-    all: &Transitions<A, MOST_STATES>,
+    all: &Transitions<A>,
     alloc: A,
     list: Vec<u32, A>,
 ) -> Result<(), AllocError>

@@ -1,1 +1,5 @@
-pub mod Whole
+pub mod Lists
+pub mod Parts
+pub mod ActList
+pub mod HidList
+pub mod Labelled

@@ -1,3 +1,6 @@
 -- To believe.
+pub mod Around
 pub mod Labels
 pub mod Faults
+-- Steps of the program.
+pub mod Targets

@@ -1,14 +1,17 @@
 //! The steps of a term by the table of `docs/SEMANTICS.md`: what it becomes by one, whether it is stable, and what it offers.
 //!
-//! Calls for one term alone. The program asks the same of processes by number (`nodes`, `transitions`), and these calls are made of
-//! that.
+//! Calls for one term alone. Whether it is stable and what it offers is found as `nodes` finds it of a process by number.
 #![tactic(auto)]
 
-mod by_number;
+pub mod around;
+mod events;
 mod fault;
+mod hidden;
+mod labelled;
 mod looks;
 
-pub use by_number::steps;
 pub use fault::StepFault;
+pub use hidden::body_of;
+pub use labelled::steps;
 pub use looks::{can_tick, is_stable, offers};
 pub use targets::{DEEPEST_STATE, Label};

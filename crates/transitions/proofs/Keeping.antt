@@ -1,7 +1,7 @@
 -- Processes by number, of which there get more.
 use Rattle.std.proofs.Common.{◌≡◌, ℕ, ◌<◌, List, length, refl, sym, ap, ◌∙◌, subst, arith}
 use Rattle.term.specs.Proc.{Proc, bodies_of, prefix}
-use Rattle.term.specs.Limits.{Terms}
+use Rattle.term.specs.Limits.{Terms, most_states}
 use Rattle.targets.specs.declared.labels.Label.{Label}
 use Rattle.targets.specs.HiddenSets.{SetsBelow}
 use Rattle.targets.specs.Labels.{Step}
@@ -48,8 +48,8 @@ module _ (s r : Numbered) (k : KeepsNumbers s r) where
       (subst (λ (P : Proc). IsCutIn r.table (S s.bodies P) most ns) (sym (at-kept n h))
       (cut-grown s.table r.table k.table (S s.bodies (at s.table.processes n)) most ns c))
 
-  pub targets-kept : (most n : ℕ) (l : Label) (ns : List ℕ) → n < length s.table.processes → AreTargets most s n l ns → AreTargets most r n l ns
-  targets-kept most n l ns h c = cut-kept (λ B P. Step (bodies_of B) P l) n most ns h c
+  pub targets-kept : (n : ℕ) (l : Label) (ns : List ℕ) → n < length s.table.processes → AreTargets s n l ns → AreTargets r n l ns
+  targets-kept n l ns h c = cut-kept (λ B P. Step (bodies_of B) P l) n most_states ns h c
 
   -- a node whose parts are below n
   pub node-kept : (n : ℕ) (x : Node) → n < length s.table.processes → IsWithin s.table.parameters n x → IsWithin r.table.parameters (length r.table.processes) x
@@ -80,8 +80,8 @@ module _ (s r : Numbered) (k : KeepsNumbers s r) where
       go (Intr p q) v = rw (part p v.0, part q v.1) refl
       go (Name j) v = refl
 
-pub sound-grown : (most : ℕ) (t u : Tabled) (ns : List ℕ) (m : Kept) (ds : List ℕ) → IsSound most t ns m ds → HasGrown t u → IsSound most u ns m ds
-sound-grown most t u ns m ds s g =
+pub sound-grown : (t u : Tabled) (ns : List ℕ) (m : Kept) (ds : List ℕ) → IsSound t ns m ds → HasGrown t u → IsSound u ns m ds
+sound-grown t u ns m ds s g =
     let k = kept t u ns s.here g in
     record {
       here = below-grown t u g ns s.here;
@@ -89,7 +89,7 @@ sound-grown most t u ns m ds s g =
           let r = s.remembered n l vs i e in
           record {
             within = within-kept (numbered t ns) (numbered u ns) k n r.within;
-            targets = targets-kept (numbered t ns) (numbered u ns) k most n l vs r.within r.targets;
+            targets = targets-kept (numbered t ns) (numbered u ns) k n l vs r.within r.targets;
           };
       few = omega (arith, s.few, longer t u g);
       depths = λ i d h.

@@ -54,18 +54,18 @@ acts-more acts more hs k n l found e small h m (label.Event x) s = by (h (key m 
     by (inl same) = inl same
     by (inr new) = let is = key-same m n (label.Event x) l s small (new.0 ∙ e) in inr (is.0, is.1, new.1)
 
-pub sound-more : (most : ℕ) (t : Tabled) (ns ds : List ℕ) (old new : Kept) (n : ℕ) (l : Label) (found : List ℕ) → n < length t.processes → AreTargets most (numbered t ns) n l found → IsSound most t ns old ds → MayRecall old new n l found → IsSound most t ns new ds
-sound-more most t ns ds old new n l found within targets sound h = record { here = sound.here; remembered = all; few = sound.few; depths = sound.depths }
+pub sound-more : (t : Tabled) (ns ds : List ℕ) (old new : Kept) (n : ℕ) (l : Label) (found : List ℕ) → n < length t.processes → AreTargets (numbered t ns) n l found → IsSound t ns old ds → MayRecall old new n l found → IsSound t ns new ds
+sound-more t ns ds old new n l found within targets sound h = record { here = sound.here; remembered = all; few = sound.few; depths = sound.depths }
   where
-    all : AllRemembered most (numbered t ns) new
+    all : AllRemembered (numbered t ns) new
     all m j vs i f = by (h m j i)
       where
-        by : (recalled new m j ≡ recalled old m j) ⊎ ((m ≡ n) × (j ≡ l) × (recalled new m j ≡ Some found)) → IsRemembered most (numbered t ns) m j vs
+        by : (recalled new m j ≡ recalled old m j) ⊎ ((m ≡ n) × (j ≡ l) × (recalled new m j ≡ Some found)) → IsRemembered (numbered t ns) m j vs
         by (inl same) = sound.remembered m j vs i (sym same ∙ f)
         by (inr (is_n, is_l, is_found)) =
-            subst (IsRemembered most (numbered t ns) m j) (same_Some found vs (sym is_found ∙ f))
-            (subst (λ (x : Label). IsRemembered most (numbered t ns) m x found) (sym is_l)
-            (subst (λ (x : ℕ). IsRemembered most (numbered t ns) x l found) (sym is_n) (record { within = within; targets = targets })))
+            subst (IsRemembered (numbered t ns) m j) (same_Some found vs (sym is_found ∙ f))
+            (subst (λ (x : Label). IsRemembered (numbered t ns) m x found) (sym is_l)
+            (subst (λ (x : ℕ). IsRemembered (numbered t ns) x l found) (sym is_n) (record { within = within; targets = targets })))
 
 -- ---- bodies
 pub body-number : (t : Tabled) (ns : List ℕ) (k n d : ℕ) → AllBelow (length t.processes) ns → k < length ns → n ≡ get_or ns k d → IsNumber t n (bodies_of (look t.processes ns) k)

@@ -40,17 +40,17 @@ abbrev pub MayRecall : Kept → Kept → ℕ → Label → List ℕ → Type 0
 MayRecall old new n l ns = (m : ℕ) (k : Label) → IsSmall k → (recalled new m k ≡ recalled old m k) ⊎ ((m ≡ n) × (k ≡ l) × (recalled new m k ≡ Some ns))
 
 -- What is remembered of a process's number and a label.
-pub record IsRemembered (most : ℕ) (s : Numbered) (n : ℕ) (l : Label) (ns : List ℕ) : Type 0 where
+pub record IsRemembered (s : Numbered) (n : ℕ) (l : Label) (ns : List ℕ) : Type 0 where
   pub within : n < length s.table.processes
-  pub targets : AreTargets most s n l ns
+  pub targets : AreTargets s n l ns
 
 -- All that is remembered is so.
-abbrev pub AllRemembered : ℕ → Numbered → Kept → Type 0
-AllRemembered most s m = (n : ℕ) (l : Label) (ns : List ℕ) → IsSmall l → recalled m n l ≡ Some ns → IsRemembered most s n l ns
+abbrev pub AllRemembered : Numbered → Kept → Type 0
+AllRemembered s m = (n : ℕ) (l : Label) (ns : List ℕ) → IsSmall l → recalled m n l ≡ Some ns → IsRemembered s n l ns
 
 -- What always holds: the bodies' numbers are in the table, what is remembered is so, and so are the depths.
-pub record IsSound (most : ℕ) (t : Tabled) (ns : List ℕ) (m : Kept) (ds : List ℕ) : Type 0 where
+pub record IsSound (t : Tabled) (ns : List ℕ) (m : Kept) (ds : List ℕ) : Type 0 where
   pub here : AllBelow (length t.processes) ns
-  pub remembered : AllRemembered most (numbered t ns) m
+  pub remembered : AllRemembered (numbered t ns) m
   pub few : length ds ≤ length t.processes
   pub depths : AreUnfolded (bodies_of (look t.processes ns)) t.processes ds

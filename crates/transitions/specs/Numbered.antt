@@ -4,6 +4,7 @@ use Rattle.std.specs.Coded.{Coded, code_by, coded×, coded_list}
 use Rattle.std.proofs.Common.{refl}
 use Rattle.term.specs.Codes.{proc_code}
 use Rattle.term.specs.Proc.{Proc, bodies_of}
+use Rattle.term.specs.Limits.{most_states}
 use Rattle.targets.specs.declared.labels.Label.{Label}
 use Rattle.targets.specs.HiddenSets.{SetsBelow}
 use Rattle.targets.specs.Labels.{Step}
@@ -29,9 +30,9 @@ pub record KeepsNumbers (old new : Numbered) : Type 0 where
   pub bodies : new.bodies ≡ old.bodies
 
 -- The numbers of what the process with this number becomes by a step with this label, none twice: of all of it, or of
--- more than this many.
-abbrev pub AreTargets : ℕ → Numbered → ℕ → Label → List ℕ → Type 0
-AreTargets most s n l ns = IsCutIn s.table (Step (bodies_of s.bodies) (at s.table.processes n) l) most ns
+-- more than a set of states may have.
+abbrev pub AreTargets : Numbered → ℕ → Label → List ℕ → Type 0
+AreTargets s n l ns = IsCutIn s.table (Step (bodies_of s.bodies) (at s.table.processes n) l) most_states ns
 
 -- All events that the process with this number hides are among the 256 that there can be.
 abbrev pub HidesEvents : Numbered → ℕ → Type 0

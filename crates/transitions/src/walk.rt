@@ -3,6 +3,7 @@
 ghost use Rattle.std.specs.Prelude.{◌≡◌, ◌↔◌, ◌<◌, ◌⊎◌, ◌++◌, ◌∷◌, [], ℕ, List, IfOk, OnOk, length, true, false};
 ghost use Rattle.alphabet.specs.EventSets.{has};
 ghost use Rattle.alphabet.specs.declared.events.Event.TheVariants.{Tick as tick, Of as ev};
+ghost use Rattle.term.specs.Limits.{most_states};
 ghost use Rattle.term.specs.Proc.{Proc, bodies_of};
 ghost use Rattle.term.specs.Steps.{Act, Hid};
 ghost use Rattle.targets.specs.declared.labels.Label.TheVariants as label;
@@ -21,11 +22,11 @@ use nodes::Node;
 use std::alloc::{AllocError, Allocator};
 use targets::Label;
 
-impl<A: Allocator + Copy, const MOST: usize> Transitions<A, MOST> {
+impl<A: Allocator + Copy> Transitions<A> {
     /// Appends to the empty list the numbers of what the process becomes by a step with this label, each once: of all of
-    /// it, or of more than `MOST`. Numbers keep what they are of, also where memory is refused. What was asked of parts is
-    /// remembered, and what the process becomes by hidden steps. What it becomes by an event isn't: most members of a set
-    /// of states are asked once, and what comes of the set is remembered.
+    /// it, or of more than a set of states may have. Numbers keep what they are of, also where memory is refused. What was
+    /// asked of parts is remembered, and what the process becomes by hidden steps. What it becomes by an event isn't: most
+    /// members of a set of states are asked once, and what comes of the set is remembered.
     pub fn put_targets(
         &mut self,
         number: u32,
@@ -35,7 +36,7 @@ impl<A: Allocator + Copy, const MOST: usize> Transitions<A, MOST> {
         requires number { number < length self.old.table.processes }
         requires hides { HidesEvents self.old number }
         requires empty { into.old.items ≡ [] }
-        ensures targets { OnOk result (AreTargets MOST self.new number label into.new.items) }
+        ensures targets { OnOk result (AreTargets self.new number label into.new.items) }
         ensures kept { KeepsNumbers self.old self.new }
     {
         match label {
@@ -54,7 +55,7 @@ impl<A: Allocator + Copy, const MOST: usize> Transitions<A, MOST> {
         requires number { number < length self.old.table.processes }
         requires hides { HidesEvents self.old number }
         requires empty { into.old.items ≡ [] }
-        ensures targets { OnOk result (AreTargets MOST self.new number label into.new.items) }
+        ensures targets { OnOk result (AreTargets self.new number label into.new.items) }
         ensures kept { KeepsNumbers self.old self.new }
     {
         if !self.may_step(number, label) {
@@ -74,7 +75,7 @@ impl<A: Allocator + Copy, const MOST: usize> Transitions<A, MOST> {
         requires number { number < length self.old.table.processes }
         requires hides { HidesEvents self.old number }
         requires empty { into.old.items ≡ [] }
-        ensures targets { OnOk result (AreTargets MOST self.new number label into.new.items) }
+        ensures targets { OnOk result (AreTargets self.new number label into.new.items) }
         ensures kept { KeepsNumbers self.old self.new }
     {
         if !self.may_step(number, label) {
@@ -110,7 +111,7 @@ impl<A: Allocator + Copy, const MOST: usize> Transitions<A, MOST> {
         requires number { number < length self.old.table.processes }
         requires hides { HidesEvents self.old number }
         requires empty { into.old.items ≡ [] }
-        ensures targets { OnOk result (AreTargets MOST self.new number label into.new.items) }
+        ensures targets { OnOk result (AreTargets self.new number label into.new.items) }
         ensures kept { KeepsNumbers self.old self.new }
     {
         match label {
@@ -124,7 +125,7 @@ impl<A: Allocator + Copy, const MOST: usize> Transitions<A, MOST> {
     fn find_end(&mut self, number: u32, into: &mut Vec<u32, A>) -> Result<(), AllocError>
         requires number { number < length self.old.table.processes }
         requires empty { into.old.items ≡ [] }
-        ensures targets { OnOk result (AreTargets MOST self.new number (label.Event tick) into.new.items) }
+        ensures targets { OnOk result (AreTargets self.new number (label.Event tick) into.new.items) }
         ensures kept { KeepsNumbers self.old self.new }
     {
         if !self.facts(number).ticks {
@@ -146,7 +147,7 @@ impl<A: Allocator + Copy, const MOST: usize> Transitions<A, MOST> {
         requires number { number < length self.old.table.processes }
         requires hides { HidesEvents self.old number }
         requires empty { into.old.items ≡ [] }
-        ensures targets { OnOk result (AreTargets MOST self.new number (label.Event (ev event)) into.new.items) }
+        ensures targets { OnOk result (AreTargets self.new number (label.Event (ev event)) into.new.items) }
         ensures kept { KeepsNumbers self.old self.new }
     {
         let node = self.node(number);
@@ -172,7 +173,7 @@ impl<A: Allocator + Copy, const MOST: usize> Transitions<A, MOST> {
         requires hides { SetsBelow 256 (shape self.old.table.parameters self.old.table.processes node) }
         requires lefts { lefts.old.items ≡ [] }
         requires rights { rights.old.items ≡ [] }
-        ensures parts { OnOk result (AreActsOfParts self.new.table node event MOST lefts.new.items rights.new.items) }
+        ensures parts { OnOk result (AreActsOfParts self.new.table node event most_states lefts.new.items rights.new.items) }
         ensures kept { KeepsNumbers self.old self.new }
     {
         let label = Label::Event(Event::Of(event));
@@ -204,8 +205,8 @@ impl<A: Allocator + Copy, const MOST: usize> Transitions<A, MOST> {
         requires right_hides { HidesEvents self.old q }
         requires lefts { lefts.old.items ≡ [] }
         requires rights { rights.old.items ≡ [] }
-        ensures lefts { OnOk result (AreTargets MOST self.new p label lefts.new.items) }
-        ensures rights { OnOk result (AreTargets MOST self.new q label rights.new.items) }
+        ensures lefts { OnOk result (AreTargets self.new p label lefts.new.items) }
+        ensures rights { OnOk result (AreTargets self.new q label rights.new.items) }
         ensures kept { KeepsNumbers self.old self.new }
     {
         self.put_part_targets(p, label, lefts)?;
@@ -225,7 +226,7 @@ impl<A: Allocator + Copy, const MOST: usize> Transitions<A, MOST> {
         requires part { p < length self.old.table.processes }
         requires hides { HidesEvents self.old p }
         requires empty { into.old.items ≡ [] }
-        ensures cut { OnOk result (IsCutIn self.new.table (ActsBy (sources (relation_at self.new.table.parameters relation) event) (at self.new.table.processes p)) MOST into.new.items) }
+        ensures cut { OnOk result (IsCutIn self.new.table (ActsBy (sources (relation_at self.new.table.parameters relation) event) (at self.new.table.processes p)) most_states into.new.items) }
         ensures kept { KeepsNumbers self.old self.new }
     {
         let events = self.sources(relation, event)?;
@@ -238,7 +239,7 @@ impl<A: Allocator + Copy, const MOST: usize> Transitions<A, MOST> {
         requires part { p < length self.old.table.processes }
         requires hides { HidesEvents self.old p }
         requires empty { into.old.items ≡ [] }
-        ensures cut { OnOk result (IsCutIn self.new.table (ActsBy events.now (at self.new.table.processes p)) MOST into.new.items) }
+        ensures cut { OnOk result (IsCutIn self.new.table (ActsBy events.now (at self.new.table.processes p)) most_states into.new.items) }
         ensures kept { KeepsNumbers self.old self.new }
     {
         for event in events {
@@ -253,7 +254,7 @@ impl<A: Allocator + Copy, const MOST: usize> Transitions<A, MOST> {
         requires part { p < length self.old.table.processes }
         requires hides { HidesEvents self.old p }
         requires here { AllBelow (length self.old.table.processes) into.old.items }
-        ensures cut { OnOk result ((es : List ℕ) → IsCutIn self.old.table (ActsBy es (at self.old.table.processes p)) MOST into.old.items → IsCutIn self.new.table (ActsBy (es ++ event ∷ []) (at self.new.table.processes p)) MOST into.new.items) }
+        ensures cut { OnOk result ((es : List ℕ) → IsCutIn self.old.table (ActsBy es (at self.old.table.processes p)) most_states into.old.items → IsCutIn self.new.table (ActsBy (es ++ event ∷ []) (at self.new.table.processes p)) most_states into.new.items) }
         ensures kept { KeepsNumbers self.old self.new }
     {
         let mut found = self.list();
@@ -267,7 +268,7 @@ impl<A: Allocator + Copy, const MOST: usize> Transitions<A, MOST> {
         requires number { number < length self.old.table.processes }
         requires hides { HidesEvents self.old number }
         requires empty { into.old.items ≡ [] }
-        ensures targets { OnOk result (AreTargets MOST self.new number label.Tau into.new.items) }
+        ensures targets { OnOk result (AreTargets self.new number label.Tau into.new.items) }
         ensures kept { KeepsNumbers self.old self.new }
     {
         let node = self.node(number);
@@ -294,7 +295,7 @@ impl<A: Allocator + Copy, const MOST: usize> Transitions<A, MOST> {
         requires rights { rights.old.items ≡ [] }
         ensures lefts { OnOk result (AllBelow (length self.new.table.processes) lefts.new.items) }
         ensures rights { OnOk result (AllBelow (length self.new.table.processes) rights.new.items) }
-        ensures parts { OnOk result (AreHidsOfParts self.new.table (bodies_of self.new.bodies) node MOST lefts.new.items rights.new.items) }
+        ensures parts { OnOk result (AreHidsOfParts self.new.table (bodies_of self.new.bodies) node most_states lefts.new.items rights.new.items) }
         ensures kept { KeepsNumbers self.old self.new }
     {
         match node {
@@ -322,8 +323,8 @@ impl<A: Allocator + Copy, const MOST: usize> Transitions<A, MOST> {
         requires right_hides { HidesEvents self.old q }
         requires lefts { lefts.old.items ≡ [] }
         requires rights { rights.old.items ≡ [] }
-        ensures lefts { OnOk result (IsCutIn self.new.table (OrEnd (Hid (bodies_of self.new.bodies) (at self.new.table.processes p)) (at self.new.table.processes p)) MOST lefts.new.items) }
-        ensures rights { OnOk result (IsCutIn self.new.table (OrEnd (Hid (bodies_of self.new.bodies) (at self.new.table.processes q)) (at self.new.table.processes q)) MOST rights.new.items) }
+        ensures lefts { OnOk result (IsCutIn self.new.table (OrEnd (Hid (bodies_of self.new.bodies) (at self.new.table.processes p)) (at self.new.table.processes p)) most_states lefts.new.items) }
+        ensures rights { OnOk result (IsCutIn self.new.table (OrEnd (Hid (bodies_of self.new.bodies) (at self.new.table.processes q)) (at self.new.table.processes q)) most_states rights.new.items) }
         ensures kept { KeepsNumbers self.old self.new }
     {
         self.put_side(p, lefts)?;
@@ -336,7 +337,7 @@ impl<A: Allocator + Copy, const MOST: usize> Transitions<A, MOST> {
         requires side { p < length self.old.table.processes }
         requires hides { HidesEvents self.old p }
         requires empty { into.old.items ≡ [] }
-        ensures cut { OnOk result (IsCutIn self.new.table (OrEnd (Hid (bodies_of self.new.bodies) (at self.new.table.processes p)) (at self.new.table.processes p)) MOST into.new.items) }
+        ensures cut { OnOk result (IsCutIn self.new.table (OrEnd (Hid (bodies_of self.new.bodies) (at self.new.table.processes p)) (at self.new.table.processes p)) most_states into.new.items) }
         ensures kept { KeepsNumbers self.old self.new }
     {
         self.put_part_targets(p, Label::Tau, into)?;
@@ -351,7 +352,7 @@ impl<A: Allocator + Copy, const MOST: usize> Transitions<A, MOST> {
         requires part { p < length self.old.table.processes }
         requires hides { HidesEvents self.old p }
         requires empty { into.old.items ≡ [] }
-        ensures cut { OnOk result (IsCutIn self.new.table (λ Q. Hid (bodies_of self.new.bodies) (at self.new.table.processes p) Q ⊎ ActsIn (set_at self.new.table.parameters set) (at self.new.table.processes p) Q) MOST into.new.items) }
+        ensures cut { OnOk result (IsCutIn self.new.table (λ Q. Hid (bodies_of self.new.bodies) (at self.new.table.processes p) Q ⊎ ActsIn (set_at self.new.table.parameters set) (at self.new.table.processes p) Q) most_states into.new.items) }
         ensures kept { KeepsNumbers self.old self.new }
     {
         let mut found = self.list();
@@ -373,7 +374,7 @@ impl<A: Allocator + Copy, const MOST: usize> Transitions<A, MOST> {
         requires part { p < length self.old.table.processes }
         requires hides { HidesEvents self.old p }
         requires empty { into.old.items ≡ [] }
-        ensures cut { OnOk result (IsCutIn self.new.table (ActsIn (set_at self.new.table.parameters set) (at self.new.table.processes p)) MOST into.new.items) }
+        ensures cut { OnOk result (IsCutIn self.new.table (ActsIn (set_at self.new.table.parameters set) (at self.new.table.processes p)) most_states into.new.items) }
         ensures kept { KeepsNumbers self.old self.new }
     {
         let events = self.hidden_events(set, p)?;
@@ -395,7 +396,7 @@ impl<A: Allocator + Copy, const MOST: usize> Transitions<A, MOST> {
     /// The body with this number, which is `STOP` where there is none.
     fn put_body(&mut self, body: usize, into: &mut Vec<u32, A>) -> Result<(), AllocError>
         requires empty { into.old.items ≡ [] }
-        ensures cut { OnOk result (IsCutIn self.new.table (λ R. R ≡ bodies_of self.new.bodies body) MOST into.new.items) }
+        ensures cut { OnOk result (IsCutIn self.new.table (λ R. R ≡ bodies_of self.new.bodies body) most_states into.new.items) }
         ensures kept { KeepsNumbers self.old self.new }
     {
         if let Some(number) = self.body(body) {

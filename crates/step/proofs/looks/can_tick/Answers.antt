@@ -5,6 +5,4 @@ use Rattle.step.proofs.looks.can_tick.Goals as goal
 
 pub returns : goal.returns
 returns g c =
-    let P = proc c.args.term.now in
-    let k = c.facts_of_term.ensures in
-    ((λ t. ticks-Ticks P (sym k.ticks_is ∙ t)), (λ t. k.ticks_is ∙ Ticks-ticks t))
+    ((λ t. ticks-Ticks (proc c.args.term.now) (sym c.has_tick.ensures ∙ t)), (λ t. c.has_tick.ensures ∙ Ticks-ticks t))

@@ -7,7 +7,7 @@ pub invariant_of-self : goal.invariant_of-self
 invariant_of-self g c =
     let n = c.args.number in
     let l = c.args.label in
-    sound-more g.row.MOST c.self.inside.table c.self.inside.bodies.items c.self.inside.depths.items c.self.inside.remembered c.put.new.self n l c.args.found.now
+    sound-more c.self.inside.table c.self.inside.bodies.items c.self.inside.depths.items c.self.inside.remembered c.put.new.self n l c.args.found.now
     (subst (λ (s : Numbered). n < length s.table.processes) (sym c.self.view_is) c.requires.number)
-    (subst (λ (s : Numbered). AreTargets g.row.MOST s n l c.args.found.now) (sym c.self.view_is) c.requires.targets)
+    (subst (λ (s : Numbered). AreTargets s n l c.args.found.now) (sym c.self.view_is) c.requires.targets)
     c.self.invariant c.put.ensures
