@@ -6,12 +6,12 @@
 pub mod around;
 mod events;
 mod fault;
+mod finding;
 mod hidden;
-mod labelled;
 mod looks;
 
 pub use fault::StepFault;
+pub use finding::steps;
 pub use hidden::body_of;
-pub use labelled::steps;
 pub use looks::{can_tick, is_stable, offers};
 pub use targets::{DEEPEST_STATE, Label};

@@ -5,7 +5,7 @@ use Rattle.step.specs.Labels.{targets, some_deep}
 use Rattle.step.proofs.Parts.{fresh}
 use Rattle.step.proofs.Labelled.{appends, has_deep, no_deep}
 use Rattle.step.proofs.Lists.{appended}
-use Rattle.step.proofs.labelled.steps.Goals as goal
+use Rattle.step.proofs.finding.steps.Goals as goal
 
 pub returns-then-any_deep-clause-depth : goal.returns-then-any_deep-clause-depth
 returns-then-any_deep-clause-depth g c =
