@@ -4,10 +4,10 @@ use Rattle.std.proofs.lemmas.Bool.{cases_eq}
 use Rattle.alphabet.specs.EventSets.{Set, has}
 use Rattle.term.specs.Traces.{In, here, there}
 use Rattle.term.specs.Proc.{Proc, stop, skip, prefix, ext, int, seq, par, hide, ren, intr, name}
-use Rattle.term.specs.Steps.{is_skip, Ticks, t-skip, t-ext-l, t-ext-r, t-par, t-hide, t-ren, t-intr-l, t-intr-r, Hid, h-int-l, h-int-r, h-ext-l, h-ext-r, h-seq, h-seq-t, h-par-l, h-par-r, h-par-tl, h-par-tr, h-hide, h-hide-a, h-ren, h-intr-l, h-intr-r, h-name}
-use Rattle.term.proofs.Decide.{skips-tick}
+use Rattle.term.specs.Steps.{is_skip, Hid, h-int-l, h-int-r, h-ext-l, h-ext-r, h-seq, h-seq-t, h-par-l, h-par-r, h-par-tl, h-par-tr, h-hide, h-hide-a, h-ren, h-intr-l, h-intr-r, h-name}
 use Rattle.targets.specs.HiddenSets.{SetsBelow}
 use Rattle.targets.specs.Targets.{where_, ticks}
+use Rattle.targets.proofs.Ticking.{ticks-Ticks, Ticks-ticks}
 use Rattle.step.specs.Targets.{acts, hids, each, elements}
 use Rattle.targets.proofs.Members.{In-append_l, In-append_r, append-In, where_-In, In-where_, In-map, map-In}
 use Rattle.step.proofs.ActList.{In-each, each-In, acts-Act, Act-acts}
