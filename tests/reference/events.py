@@ -41,7 +41,8 @@ class EventEvaluator(Evaluator):
     def event(self, tree: Tree, scope: Scope) -> int:
         """The one event that a phrase in a set is."""
         chosen = self.chosen(tree, scope)
-        if chosen.form == "Call":
+        if chosen.form == "Call" or chosen.is_bare_name():
+            # Where it is no channel, a fault of what it means comes first.
             self.meaning(chosen, scope)
         if chosen.form != "Event":
             raise ScriptFault(tree.line, EXPECTED)
