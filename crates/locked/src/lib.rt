@@ -9,6 +9,7 @@ mod closing;
 mod fault;
 mod locked;
 mod names;
+mod sharing;
 mod waiting;
 
 pub use alphabet::{EventSet, Report};
@@ -21,4 +22,5 @@ pub use session::{
     Entry, Failed, Fault, Recorder, SeatNumber, Session, SessionError, SessionOn, Summary, crosses,
     legal_crosses, names_of, read_as,
 };
+pub use sharing::Sharing;
 pub use waiting::Waiting;

@@ -12,7 +12,7 @@ ghost use Rattle.seats.specs.Groups.{receipts_of};
 use crate::faults::reported;
 use crate::judge::SeatJudge;
 use alphabet::Report;
-use shared::{GROUP, Naming, Recorder};
+use shared::{GROUP, Recorder, Sharing};
 use std::alloc::Allocator;
 use std::sync::Wait;
 use wire::{Fault, Receipt};
@@ -57,7 +57,7 @@ fn add_receipts<B: Allocator>(
     }
 }
 
-impl<J: Recorder, A: Allocator + Copy, N: Naming, R: Wait> SeatJudge<'_, J, A, N, R> {
+impl<J: Recorder, A: Allocator + Copy, N: Sharing<J>, R: Wait> SeatJudge<'_, J, A, N, R> {
     /// Reports in one turn of the seat, up to the first that is refused, and adds the answers, for which there is room. The result is how
     /// many they are.
     pub(crate) fn report_some<B: Allocator>(

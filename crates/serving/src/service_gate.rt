@@ -6,14 +6,14 @@ use alphabet::Alphabet;
 use connections::{Gate, Over, Reusable};
 use left_right::Absorb;
 use seats::{ServiceJudge, refusal_of};
-use shared::{Board, Naming, Places, Recorder, SeatFault, Share, Shared, Summary};
+use shared::{Board, Places, Recorder, SeatFault, Share, Shared, Sharing, Summary};
 use std::alloc::Global;
 use std::sync::Wait;
 use wire::{Fault, Sink, Source, Tally};
 
 /// A service at which connections are served, each at a seat of its own, which leaves once its connection is over. Its places are the
 /// seats' shares. It isn't `Drop`: end it by `end`.
-pub struct ServiceGate<'a, J: Recorder, N: Naming>
+pub struct ServiceGate<'a, J: Recorder, N: Sharing<J>>
 where
     Board<N, Global>: Absorb<Summary, State = Summary>,
 {
@@ -22,7 +22,7 @@ where
     ghost same: { alphabet.now ≡ N.spec.alphabet },
 }
 
-impl<'a, J: Recorder, N: Naming> ServiceGate<'a, J, N> {
+impl<'a, J: Recorder, N: Sharing<J>> ServiceGate<'a, J, N> {
     /// The gate to this service. The alphabet is that of its specification; it may be a copy (`seats::copy_of`), which all threads read
     /// without the session's lock. By it `connections::serve_on` serves the session, with the places that `Shared::service` made.
     /// Constant cost; takes no memory.
@@ -44,7 +44,7 @@ impl<'a, J: Recorder, N: Naming> ServiceGate<'a, J, N> {
     }
 }
 
-impl<J: Recorder, N: Naming + Send + Sync> Gate for ServiceGate<'_, J, N> {
+impl<J: Recorder, N: Sharing<J> + Send + Sync> Gate for ServiceGate<'_, J, N> {
     type Place = Share<N, Global>;
 
     ghost use Rattle.serving.specs.Runs.{IsNewSeat, IsRefusal};
@@ -80,7 +80,7 @@ impl<J: Recorder, N: Naming + Send + Sync> Gate for ServiceGate<'_, J, N> {
     }
 }
 
-impl<J: Recorder, N: Naming + Send + Sync> Reusable for ServiceGate<'_, J, N> {
+impl<J: Recorder, N: Sharing<J> + Send + Sync> Reusable for ServiceGate<'_, J, N> {
     type Places = Places<N>;
 
     ghost use Rattle.std.specs.Prelude.{◌≡◌};

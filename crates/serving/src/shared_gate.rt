@@ -6,14 +6,14 @@ use alphabet::Alphabet;
 use connections::{Gate, Over};
 use left_right::Absorb;
 use seats::{SeatJudge, refusal_of};
-use shared::{Board, Naming, Recorder, Share, Shared, Summary};
+use shared::{Board, Recorder, Share, Shared, Sharing, Summary};
 use std::alloc::Global;
 use std::sync::Wait;
 use wire::{Fault, Sink, Source, Tally};
 
 /// A shared session at which connections are served, each at a seat of its own. Its places are the seats' shares. It isn't `Drop`:
 /// end it by `end`.
-pub struct SharedGate<'a, J: Recorder, N: Naming>
+pub struct SharedGate<'a, J: Recorder, N: Sharing<J>>
 where
     Board<N, Global>: Absorb<Summary, State = Summary>,
 {
@@ -22,7 +22,7 @@ where
     ghost same: { alphabet.now ≡ N.spec.alphabet },
 }
 
-impl<'a, J: Recorder, N: Naming> SharedGate<'a, J, N> {
+impl<'a, J: Recorder, N: Sharing<J>> SharedGate<'a, J, N> {
     /// The gate to this session. The alphabet is that of its specification. By it `connections::serve_all` serves the session, each
     /// connection at a seat of its own. The alphabet may be a copy (`seats::copy_of`): all threads read it, without the session's
     /// lock. No seat is given yet: `place` gives one for each connection, or answers 22, 26, 31 or 40 (`seats::refusal_of`).
@@ -45,7 +45,7 @@ impl<'a, J: Recorder, N: Naming> SharedGate<'a, J, N> {
     }
 }
 
-impl<J: Recorder, N: Naming + Send + Sync> Gate for SharedGate<'_, J, N> {
+impl<J: Recorder, N: Sharing<J> + Send + Sync> Gate for SharedGate<'_, J, N> {
     type Place = Share<N, Global>;
 
     ghost use Rattle.serving.specs.Runs.{IsAnsweredAt, IsNewSeat, IsRefusal};

@@ -15,8 +15,8 @@ mod turns;
 
 pub use locked::{
     Board, Counts, Entry, Failed, Fault, Front, LAST_NAME, NameFault, Names, Naming, Opened,
-    Publisher, Recorder, SeatFault, SeatNumber, Session, SessionError, SessionOn, Source, Spine,
-    Summary, Waiting, crosses, legal_crosses, names_of, read_as,
+    Publisher, Recorder, SeatFault, SeatNumber, Session, SessionError, SessionOn, Sharing, Source,
+    Spine, Summary, Waiting, crosses, legal_crosses, names_of, read_as,
 };
 pub use places::Places;
 pub use seat::{Seat, Shared};

@@ -1,13 +1,15 @@
 //! The places of a service: seats that come and go.
 
-ghost use Rattle.std.specs.Prelude.{◌≡◌, ◌≤◌, ◌<◌, ◌+◌, [], false, IfOk, IfErr};
+ghost use Rattle.std.specs.Prelude.{◌≡◌, ◌≤◌, ◌<◌, ◌+◌, [], false, IfOk, IfErr, IfSome};
 ghost use Rattle.locked.specs.Beginnings.{StartsWith};
 ghost use Rattle.shared.specs.Seats.{answers_to};
 
 use crate::seat::{Seat, Shared};
 use crate::share::Share;
 use crate::turns::lock;
-use locked::{Fault, Locked, Naming, Opened, Recorder, SeatFault, SeatNumber, SessionOn};
+use locked::{
+    Fault, Locked, Naming, Opened, Recorder, SeatFault, SeatNumber, SessionOn, Sharing,
+};
 use std::alloc::Allocator;
 use std::marker::Model;
 use std::sync::atomic::AtomicU64;
@@ -87,6 +89,8 @@ impl<N: Naming> Places<N> {
         answered: u64,
         part: ledger::Share<N>,
     )
+    where
+        N: Sharing<J>,
         requires all { N.all ≡ N.parts }
         requires part { (part.parts ≡ 1) × (answered ≤ part.amount) }
         ensures free { self.new.free ≡ self.old.free + 1 }
@@ -99,7 +103,7 @@ impl<N: Naming> Places<N> {
     }
 }
 
-impl<J: Recorder + Drop, A: Allocator + Copy, N: Naming> Shared<J, A, N> {
+impl<J: Recorder + Drop, A: Allocator + Copy, N: Sharing<J>> Shared<J, A, N> {
     /// A service: a session that up to so many seats share at one time, to which nothing is offered, with names from 1 to 1,000; and its places,
     /// which are all free. Where memory is refused, the session is gone, and its file stays.
     pub fn service<R: Wait>(
@@ -111,6 +115,7 @@ impl<J: Recorder + Drop, A: Allocator + Copy, N: Naming> Shared<J, A, N> {
         places: u64,
     ) -> Result<(Shared<J, A, N>, Places<N>), Fault>
         requires story { (session.spec ≡ N.spec) × (session.history ≡ N.opening) × (session.offered ≡ []) }
+        requires before { IfSome N.before (λ before. before ≡ session) }
         requires book { opened.seen.book ≡ N.book }
         requires ledger { (blank.name ≡ N.name) × (blank.parts ≡ N.parts) × (N.all ≡ N.parts) }
         requires places { (0 < places) × (places ≤ 64) × (N.all ≡ places + 2) }
@@ -133,7 +138,7 @@ impl<J: Recorder + Drop, A: Allocator + Copy, N: Naming> Shared<J, A, N> {
     }
 }
 
-impl<J: Recorder, A: Allocator + Copy, N: Naming> Shared<J, A, N> {
+impl<J: Recorder, A: Allocator + Copy, N: Sharing<J>> Shared<J, A, N> {
     /// Gives a free place to a seat without a name, which has seen the history as it stands. Its number is above 1,000. A seat takes no memory
     /// of the allocator.
     ///

@@ -18,7 +18,7 @@ use crate::share::{GROUP, Receipt, Round, Share, Status};
 use alphabet::{EventSet, Report};
 use left_right::Absorb;
 use locked::{
-    Board, Fault, Locked, NameFault, Naming, Opened, Recorder, SeatFault, SeatNumber, SessionOn,
+    Board, Fault, Locked, NameFault, Opened, Recorder, SeatFault, SeatNumber, SessionOn, Sharing,
     Summary,
 };
 use std::alloc::Allocator;
@@ -27,7 +27,7 @@ use std::sync::ledger::Blank;
 use std::sync::{Condvar, Mutex, MutexGuard, Wait};
 
 /// A session that seats share. It isn't `Drop`: end it by `finish`.
-pub struct Shared<J: Recorder, A: Allocator, N: Naming>
+pub struct Shared<J: Recorder, A: Allocator, N: Sharing<J>>
 where
     Board<N, A>: Absorb<Summary, State = Summary>,
 {
@@ -42,7 +42,7 @@ where
 }
 
 /// A seat at a shared session. It isn't `Drop`: end it by `end`. What may be dropped, and moved to a thread, is its `Share`.
-pub struct Seat<'a, J: Recorder, A: Allocator, N: Naming>
+pub struct Seat<'a, J: Recorder, A: Allocator, N: Sharing<J>>
 where
     Board<N, A>: Absorb<Summary, State = Summary>,
 {
@@ -50,7 +50,7 @@ where
     pub share: Share<N, A>,
 }
 
-impl<J: Recorder + Drop, A: Allocator + Copy, N: Naming> Shared<J, A, N> {
+impl<J: Recorder + Drop, A: Allocator + Copy, N: Sharing<J>> Shared<J, A, N> {
     /// A session that up to so many seats share, to which nothing is offered. Where memory is refused, the session is gone, and its file stays.
     pub fn new<R: Wait>(
         rt: &R,
@@ -61,6 +61,7 @@ impl<J: Recorder + Drop, A: Allocator + Copy, N: Naming> Shared<J, A, N> {
         places: u64,
     ) -> Result<Shared<J, A, N>, Fault>
         requires story { (session.spec ≡ N.spec) × (session.history ≡ N.opening) × (session.offered ≡ []) }
+        requires before { IfSome N.before (λ before. before ≡ session) }
         requires book { opened.seen.book ≡ N.book }
         requires ledger { (blank.name ≡ N.name) × (blank.parts ≡ N.parts) × (N.all ≡ N.parts) }
         requires places { (0 < places) × (places ≤ 64) × (places < N.all) }
@@ -79,7 +80,7 @@ impl<J: Recorder + Drop, A: Allocator + Copy, N: Naming> Shared<J, A, N> {
     }
 }
 
-impl<J: Recorder, A: Allocator + Copy, N: Naming> Shared<J, A, N> {
+impl<J: Recorder, A: Allocator + Copy, N: Sharing<J>> Shared<J, A, N> {
     /// Gives a seat, which has seen the history as it stands. A seat takes no memory of the allocator.
     ///
     /// The faults are asked for in this order: `Closed`, `Seats`, `Reader`. After `Reader` a seat number is used up.
@@ -108,7 +109,7 @@ impl<J: Recorder, A: Allocator + Copy, N: Naming> Shared<J, A, N> {
     }
 }
 
-impl<J: Recorder, A: Allocator + Copy, N: Naming> Seat<'_, J, A, N> {
+impl<J: Recorder, A: Allocator + Copy, N: Sharing<J>> Seat<'_, J, A, N> {
     /// Reports. The receipt has the verdict and the place of the report's entry in the history.
     ///
     /// The faults: `Depth` or `States` where judging met that limit; `History` at 1,000,000 entries, or where names are kept as their bodies at 2^62, or at

@@ -21,7 +21,8 @@ use crate::turns::{locked_for, named_at, take_turn};
 use alphabet::{EventSet, Report};
 use core::mem::replace_with;
 use locked::{
-    Counts, Failed, Fault, Looker, NameFault, Naming, Recorder, SeatNumber, Summary, is_of, look,
+    Counts, Failed, Fault, Looker, NameFault, Naming, Recorder, SeatNumber, Sharing, Summary,
+    is_of, look,
 };
 use std::alloc::Allocator;
 use std::marker::Model;
@@ -286,6 +287,8 @@ impl<N: Naming, A: Allocator + Copy> Share<N, A> {
         reports: &[Report],
         verdicts: &mut [bool],
     ) -> Round
+    where
+        N: Sharing<J>,
         requires reports { AllByRecursion (IsReport N.spec.alphabet) reports.now }
         requires count { (0 < length reports.now) × (length reports.now ≤ GROUP) × (length reports.now ≤ length verdicts.old) }
         ensures count { (result.count ≤ length reports.now) × (result.place + result.count ≤ 2 ^ 62 + 1) }
@@ -337,6 +340,8 @@ impl<N: Naming, A: Allocator + Copy> Share<N, A> {
         shared: &Shared<J, A, N>,
         report: Report,
     ) -> Result<Receipt, Fault>
+    where
+        N: Sharing<J>,
         requires { IsReport N.spec.alphabet report }
         ensures answered { IfOk result (λ r. Answered (bodies_of N.spec.bodies) self.old self.new report r.verdict r.place) }
         ensures refused { IfErr result (λ f. Refused N.spec self.old self.new report f) }
@@ -360,6 +365,8 @@ impl<N: Naming, A: Allocator + Copy> Share<N, A> {
         shared: &Shared<J, A, N>,
         name: SeatNumber,
     ) -> Result<u32, NameFault>
+    where
+        N: Sharing<J>,
         ensures named { IfOk result (λ count. Named (bodies_of N.spec.bodies) self.old self.new name count) }
         ensures unnamed { IfErr result (λ _. self.new ≡ self.old) }
     {
@@ -389,6 +396,8 @@ impl<N: Naming, A: Allocator + Copy> Share<N, A> {
         rt: &R,
         shared: &Shared<J, A, N>,
     ) -> EventSet
+    where
+        N: Sharing<J>,
         ensures next { (x : Event) → IsTrue (member result x) ↔ Trace (bodies_of N.spec.bodies) root (events self.new.seen ++ x ∷ []) }
         ensures seen { StartsWith self.new.seen self.old.seen × Legal (bodies_of N.spec.bodies) self.new.seen }
         ensures same { (self.new.seat ≡ self.old.seat) × (self.new.mine ≡ self.old.mine) × (self.new.closed ≡ self.old.closed) × (self.new.begun ≡ self.old.begun) }
