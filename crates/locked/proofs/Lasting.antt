@@ -1,8 +1,9 @@
 -- What stays of a session while reports are taken.
-use Rattle.std.proofs.Common.{◌≡◌, ◌<◌, ℕ, Option, Some, None, Result, Ok, Err, IfErr, OnOk, List, [], ◌∷◌, ◌++◌, length, map, take, drop, refl, sym, ap, ◌∙◌, subst, arith, append_assoc, IsTrue}
+use Rattle.std.proofs.Common.{◌≡◌, ◌<◌, ℕ, Option, Some, None, Result, Ok, Err, IfErr, IfSome, OnOk, List, [], ◌∷◌, ◌++◌, length, map, take, drop, refl, sym, ap, ◌∙◌, subst, arith, append_assoc, IsTrue}
 use Rattle.std.specs.Prelude.{IsSome, OnErr}
 use Rattle.std.proofs.Math.Seq.{take-append_seam}
 use Rattle.std.proofs.lemmas.List.{append-nil, map-append, take-append-drop, take-map}
+use Rattle.std.proofs.lemmas.Option.{IfSome_then}
 use Rattle.disk.specs.Calls.{Continues}
 use Rattle.disk.specs.Runs.{LeavesOnly}
 use Rattle.disk.proofs.Moments.{continues_on, run_more, weaker}
@@ -15,7 +16,7 @@ use Rattle.session.specs.Legal.{IsJudged}
 use Rattle.session.specs.Recorder.{HoldAlike, Recording}
 use Rattle.session.specs.Records.{AreReports, Keeps, record_of, records_of}
 use Rattle.session.specs.Reports.{IsReport}
-use Rattle.session.specs.View.{SessionView, IsRecorded, entries}
+use Rattle.session.specs.View.{SessionView, IsAlike, IsRecorded, entries}
 use Rattle.session.specs.Faults.{ExplainsSettle, IsJournal, LeftWith}
 use Rattle.session.specs.declared.fault.Fault.{Fault}
 use Rattle.session.specs.declared.fault.Fault.TheVariants.{Depth, States, Seats, History, Turn, Behind, Journal, Closed, Memory}
@@ -131,3 +132,36 @@ module _ {J : Type 0} (r : Recording J) where
       (weaker (r.state mid.journal) (r.state now.journal) (LeftWith r script root mid mid.offered) (HoldsMore r script root old) (any_moment script root (lasts.kept script root was) b f)
       (λ c some. more_left script root old mid.spec mid.history mid.offered mid.journal c lasts.spec_is lasts.begins lasts.alike judged reports some));
   }
+
+  -- ---- of a session that is told, if one is
+
+  abbrev pub Since : Option (SessionView J) → SessionView J → Type 0
+  Since told t = IfSome told (λ before. Lasts r before t)
+
+  pub since_itself : (told : Option (SessionView J)) (t : SessionView J) → IfSome told (λ before. before ≡ t) → t.offered ≡ [] → IsJudged t.spec t.history → AreReports t.spec.alphabet t.history → Since told t
+  since_itself told t is none judged reports = IfSome_then told is (λ before same. subst (λ (b : SessionView J). Lasts r b t) (sym same) (lasts_alone t none judged reports))
+
+  pub since_given : (told : Option (SessionView J)) (t now : SessionView J) → now ≡ record t { given = now.given } → Since told t → Since told now
+  since_given told t now is since = subst (λ (x : SessionView J). Since told x) (sym is) since
+
+  pub since_gone : (told : Option (SessionView J)) (t now : SessionView J) → now ≡ record t { gone = now.gone; room = now.room } → Since told t → Since told now
+  since_gone told t now is since = subst (λ (x : SessionView J). Since told x) (sym is) since
+
+  -- the same specification, history, fault and journal
+  pub since_alike : (told : Option (SessionView J)) (t now : SessionView J) → IsAlike t now → now.offered ≡ t.offered → Since told t → Since told now
+  since_alike told t now alike same since =
+      IfSome_then told since
+      (λ before lasts. subst (λ (j : J). Remains r before now.spec now.history now.offered now.failed j) (sym alike.journal)
+      (subst (λ (f : Option Entry). Remains r before now.spec now.history now.offered f t.journal) (sym alike.failed)
+      (subst (λ (l : List Entry). Remains r before now.spec now.history l t.failed t.journal) (sym same)
+      (subst (λ (h : List Entry). Remains r before now.spec h t.offered t.failed t.journal) (sym alike.history)
+      (subst (λ (s : Specified). Remains r before s t.history t.offered t.failed t.journal) (sym alike.spec) lasts)))))
+
+  pub since_offered : (told : Option (SessionView J)) (t now : SessionView J) → IsAlike t now → t.failed ≡ None → Since told t → Since told now
+  since_offered told t now alike none since =
+      IfSome_then told since
+      (λ before lasts. subst (λ (j : J). Remains r before now.spec now.history now.offered now.failed j) (sym alike.journal)
+      (subst (λ (f : Option Entry). Remains r before now.spec now.history now.offered f t.journal) (sym alike.failed)
+      (subst (λ (h : List Entry). Remains r before now.spec h now.offered t.failed t.journal) (sym alike.history)
+      (subst (λ (s : Specified). Remains r before s t.history now.offered t.failed t.journal) (sym alike.spec)
+      (lasts_offered before t.spec t.history t.offered now.offered t.failed t.journal none lasts)))))

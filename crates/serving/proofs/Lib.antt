@@ -2,4 +2,5 @@ pub mod Closings
 pub mod Crossings
 pub mod Openings
 pub mod OpeningsInParts
+pub mod Served
 pub mod ServiceClosings
