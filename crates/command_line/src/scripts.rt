@@ -81,7 +81,8 @@ pub(crate) fn tell_read<E: Write + IsTerminal>(
     process: &[u8],
     errors: &mut E,
 ) -> Result<(), Exit>
-    ensures { IfOk result (λ _. (spec : Specified) × IsRead script.now process.now spec) }
+    ensures read { IfOk result (λ _. (spec : Specified) × IsRead script.now process.now spec) }
+    ensures unread { IfErr result IsRefusal }
 {
     match read(alloc, script, process) {
         Ok(_) => Ok(()),

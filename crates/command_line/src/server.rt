@@ -1,7 +1,9 @@
 //! `cspwatch serve`: the reports of connections, judged by one session with a journal.
-ghost use Rattle.std.specs.Prelude.{◌≡◌, [], IfOk};
+ghost use Rattle.std.specs.Prelude.{◌≡◌, ◌⊎◌, [], IfOk, IfErr};
 ghost use Rattle.std.specs.Thread.{IsSend};
 ghost use Rattle.command_line.specs.Crossings.{JournalCrosses};
+ghost use Rattle.script.specs.Reading.{IsRead};
+ghost use Rattle.command_line.specs.Endings.{IsEndOf, IsServed, IsServedFor, IsUnserved};
 
 use crate::doors::{Door, Entrance, close_up, listen_at};
 use crate::endings::{Ended, tell_ended};
@@ -15,10 +17,7 @@ use crate::telling::{tell_fault, tell_journal, tell_open};
 use file_disk::{FileDisk, FileFolder, FileSystem};
 use journal::Journal;
 use program::{Exit, Session, SessionError};
-use serving::{
-    Accept, Connections, Listen, OpenError, Parts, Recorder, SessionOn, open, open_parts,
-    serve_service, serve_session,
-};
+use serving::{Listen, OpenError, Parts, Plan, Recorder, SessionOn, open, open_parts};
 use std::alloc::{AllocError, Global};
 use std::fs::File;
 use std::io::{IsTerminal, Write};
@@ -32,52 +31,17 @@ use words::{Service, Until};
 /// How many accepts in a row may fail, with a tenth of a second between two, before a service ends.
 const RETRIES: u8 = 100;
 
-// Serves so many connections that are taken so at this session, and says what is left of the run, with the lines that weren't judged if these
-// are to be counted.
-fn serve_some<J: Recorder + Drop + Send, L: Accept + Drop, R: AllocGlobal + Threads + Wait + Sync>(
-    rt: &R,
-    session: SessionOn<J, Global>,
-    accept: L,
-    connections: Connections,
-    counts: bool,
-) -> Result<Ended, AllocError>
-    requires { session.offered ≡ [] }
-{
-    match serve_session(rt, rt.alloc(), session, accept, connections) {
-        Ok(closing) => {
-            let ended = Ended::of_run(&closing, counts);
-            drop(closing);
-            Ok(ended)
-        }
-        Err((AllocError, accept)) => {
-            drop(accept);
-            Err(AllocError)
-        }
+// How long the server runs.
+fn plan_of(until: Until) -> Plan {
+    match until {
+        Until::Over(connections) => Plan::Over(connections),
+        Until::Idle => Plan::Idle,
+        Until::Stopped => Plan::Stopped,
     }
 }
 
-// Serves connections that are taken so at this session, without end, or until all are over; and says what is left of the run.
-fn serve_all<
-    J: Recorder + Drop + Send,
-    L: Listen + Drop,
-    R: AllocGlobal + Threads + Wait + Clock + Sync,
->(rt: &R, session: SessionOn<J, Global>, accept: L, until_idle: bool) -> Result<Ended, AllocError>
-    requires { session.offered ≡ [] }
-{
-    match serve_service(rt, rt.alloc(), session, accept, until_idle, RETRIES) {
-        Ok(closed) => {
-            let ended = Ended::of_service(&closed);
-            drop(closed);
-            Ok(ended)
-        }
-        Err((AllocError, accept)) => {
-            drop(accept);
-            Err(AllocError)
-        }
-    }
-}
-
-// Serves connections that are taken so at this session, until the server ends, and says what is left of the run.
+// Serves connections that are taken so at this session, until the server ends, and says what is left of the run, with the lines that weren't judged
+// if these are to be counted.
 fn serve_until<
     J: Recorder + Drop + Send,
     L: Listen + Drop,
@@ -90,11 +54,18 @@ fn serve_until<
     counts: bool,
 ) -> Result<Ended, AllocError>
     requires { session.offered ≡ [] }
+    ensures { IfOk result (λ ended. IsEndOf session.spec session.history ended.summary) }
 {
-    match until {
-        Until::Over(connections) => serve_some(rt, session, accept, connections, counts),
-        Until::Idle => serve_all(rt, session, accept, true),
-        Until::Stopped => serve_all(rt, session, accept, false),
+    match serving::serve(rt, rt.alloc(), session, accept, plan_of(until), RETRIES, counts) {
+        Ok(run) => {
+            let ended = Ended::of(&run);
+            drop(run);
+            Ok(ended)
+        }
+        Err((AllocError, accept)) => {
+            drop(accept);
+            Err(AllocError)
+        }
     }
 }
 
@@ -112,6 +83,7 @@ fn serve_logged<
     log: Log,
 ) -> Result<Ended, AllocError>
     requires { session.offered ≡ [] }
+    ensures { IfOk result (λ ended. IsEndOf session.spec session.history ended.summary) }
 {
     let (sender, keeper) = match start(rt, service, address, log) {
         Ok(started) => started,
@@ -144,6 +116,7 @@ fn serve_with<
     log: Option<Log>,
 ) -> Result<Ended, AllocError>
     requires { session.offered ≡ [] }
+    ensures { IfOk result (λ ended. IsEndOf session.spec session.history ended.summary) }
 {
     match log {
         Some(log) => serve_logged(rt, service, session, accept, address, log),
@@ -172,6 +145,7 @@ fn serve_through<
     log: Option<Log>,
 ) -> Result<Ended, AllocError>
     requires { session.offered ≡ [] }
+    ensures { IfOk result (λ ended. IsEndOf session.spec session.history ended.summary) }
 {
     let Entrance { door, address } = entrance;
     let ended = match door {
@@ -192,7 +166,9 @@ fn enter<
     service: &Service<'_>,
     output: &mut O,
     errors: &mut E,
-) -> Result<(Entrance, Option<Log>), Exit> {
+) -> Result<(Entrance, Option<Log>), Exit>
+    ensures { IfErr result IsUnserved }
+{
     let log = log_of(rt, service, errors)?;
     match listen_at(rt, service, output, errors) {
         Ok(entrance) => Ok((entrance, log)),
@@ -229,6 +205,7 @@ fn serve_at<
     errors: &mut E,
 ) -> Exit
     requires { session.offered ≡ [] }
+    ensures { IsServed session.spec session.history (O.contents output.new) result }
 {
     let (entrance, log) = match enter(rt, service, output, errors) {
         Ok(entered) => entered,
@@ -252,7 +229,9 @@ fn session_at<R: Files<File = File> + AllocGlobal, E: Write + IsTerminal>(
     script: &[u8],
     errors: &mut E,
 ) -> Result<(Session<FileDisk<File>, Global>, bool), Exit>
-    ensures { IfOk result (λ r. r.0.offered ≡ []) }
+    ensures offered { IfOk result (λ r. r.0.offered ≡ []) }
+    ensures read { IfOk result (λ r. IsRead script.now service.now.process.now r.0.spec) }
+    ensures unserved { IfErr result IsUnserved }
 {
     let names = names_by(service.large);
     let (file, is_made) = journal_at(rt, service.journal, errors)?;
@@ -278,7 +257,9 @@ fn tell_unopened<R: Files<File = File> + AllocGlobal, E: Write + IsTerminal>(
     script: &[u8],
     error: OpenError,
     errors: &mut E,
-) -> Exit {
+) -> Exit
+    ensures { IsUnserved result }
+{
     let script = Script {
         name: service.spec,
         text: script,
@@ -302,7 +283,9 @@ fn session_in_parts<'a, S: FileSystem, R: Files<File = File> + AllocGlobal, E: W
     ),
     Exit,
 >
-    ensures { IfOk result (λ r. r.0.offered ≡ []) }
+    ensures offered { IfOk result (λ r. r.0.offered ≡ []) }
+    ensures read { IfOk result (λ r. IsRead script.now service.now.process.now r.0.spec) }
+    ensures unserved { IfErr result IsUnserved }
 {
     let (file, is_made) = journal_at(rt, service.journal, errors)?;
     let Ok(folder) = FileFolder::new(system, rt.alloc(), service.journal, file) else {
@@ -336,7 +319,9 @@ pub(crate) fn serve<
         + 'static,
     O: Write,
     E: Write + IsTerminal,
->(rt: &R, service: &Service<'_>, output: &mut O, errors: &mut E) -> Exit {
+>(rt: &R, service: &Service<'_>, output: &mut O, errors: &mut E) -> Exit
+    ensures { IsUnserved result ⊎ IsServedFor service.now.process.now (O.contents output.new) result }
+{
     let held = hold_streams(rt);
     let exit = serve_held(rt, service, output, errors);
     drop(held);
@@ -358,7 +343,9 @@ fn serve_held<
         + 'static,
     O: Write,
     E: Write + IsTerminal,
->(rt: &R, service: &Service<'_>, output: &mut O, errors: &mut E) -> Exit {
+>(rt: &R, service: &Service<'_>, output: &mut O, errors: &mut E) -> Exit
+    ensures { IsUnserved result ⊎ IsServedFor service.now.process.now (O.contents output.new) result }
+{
     let script = match script_of(rt, service, errors) {
         Ok(script) => script,
         Err(exit) => return exit,
@@ -396,7 +383,9 @@ fn serve_in_parts<
     script: &[u8],
     output: &mut O,
     errors: &mut E,
-) -> Exit {
+) -> Exit
+    ensures { IsUnserved result ⊎ IsServedFor service.now.process.now (O.contents output.new) result }
+{
     match session_in_parts(rt, system, service, script, errors) {
         Ok((session, is_made)) => serve_at(rt, service, session, is_made, output, errors),
         Err(exit) => exit,
@@ -420,7 +409,9 @@ fn script_of<R: Files + AllocGlobal, E: Write + IsTerminal>(
     rt: &R,
     service: &Service<'_>,
     errors: &mut E,
-) -> Result<Vec<u8>, Exit> {
+) -> Result<Vec<u8>, Exit>
+    ensures { IfErr result IsUnserved }
+{
     let script = text_of(rt, service.spec, errors)?;
     tell_read(
         rt.alloc(),

@@ -165,3 +165,14 @@ module _ {J : Type 0} (r : Recording J) where
       (subst (λ (h : List Entry). Remains r before now.spec h now.offered t.failed t.journal) (sym alike.history)
       (subst (λ (s : Specified). Remains r before s t.history now.offered t.failed t.journal) (sym alike.spec)
       (lasts_offered before t.spec t.history t.offered now.offered t.failed t.journal none lasts)))))
+
+  pub since_settled : {T : Type 0} (told : Option (SessionView J)) (mid now : SessionView J) (result : Result T Fault) → IsJudged mid.spec (entries mid) → AreReports mid.spec.alphabet (entries mid) → now.spec ≡ mid.spec
+      → OnOk result (now.history ≡ mid.history ++ mid.offered) → OnErr result ((now.history ≡ mid.history) × (now.offered ≡ mid.offered)) → OnOk result ((mid.failed ≡ None) × (now.failed ≡ None))
+      → IfErr result (ExplainsSettle mid.failed mid.offered now.failed) → IfErr result (λ fault. IsJournal fault → (r.state mid.journal).failures < (r.state now.journal).failures)
+      → Continues (r.state mid.journal) (r.state now.journal) → HoldAlike r mid.journal now.journal
+      → ((script root : List ℕ) → IsRecorded r script root mid → IsRecorded r script root now)
+      → ((script root : List ℕ) → IsRecorded r script root mid → IsTrue (r.state mid.journal).claims_bytes → IsTrue (r.state mid.journal).claims_files
+      → LeavesOnly (r.state mid.journal) (r.state now.journal) (LeftWith r script root mid mid.offered))
+      → Since told mid → Since told now
+  since_settled told mid now result judged reports spec appended stays is_open why cause continues alike kept any_moment since =
+      IfSome_then told since (λ before lasts. lasts_settled before mid now result judged reports spec appended stays is_open why cause continues alike kept any_moment lasts)

@@ -4,6 +4,7 @@
 
 mod opening;
 mod opening_parts;
+mod runs;
 mod service_gate;
 mod services;
 mod sessions;
@@ -16,6 +17,7 @@ pub use connections::{
 pub use large_sessions::Parts;
 pub use opening::{OpenError, open};
 pub use opening_parts::open_parts;
+pub use runs::{Plan, Run, serve};
 pub use service_gate::ServiceGate;
 pub use services::{ClosedService, serve_service};
 pub use sessions::{Closing, serve_session};
