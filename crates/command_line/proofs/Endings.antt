@@ -1,5 +1,5 @@
 -- How a run of the server ends.
-use Rattle.std.proofs.Common.{◌≡◌, inl, inr, ℕ, Bool, true, false, Option, Some, None, List, refl, ap, ◌∙◌, subst, IsTrue}
+use Rattle.std.proofs.Common.{◌≡◌, inl, inr, ℕ, Bool, true, false, Option, Some, None, List, refl, sym, subst, IsTrue}
 use Rattle.std.specs.Prelude.{◌⊎◌, ◌↔◌, ◌||◌, IsSome, is_some, not}
 use Rattle.std.specs.Io.KnownBytes.{Appends}
 use Rattle.term.specs.Specs.{Specified}
@@ -11,13 +11,17 @@ use Rattle.program.specs.Exits.{journal_exit, kind_exit, script_exit}
 use Rattle.program.specs.SessionError.{SessionError}
 use Rattle.program.specs.SessionError.TheVariants as error
 use Rattle.program.specs.declared.exit.Exit.{Exit}
-use Rattle.program.specs.declared.exit.Exit.TheVariants.{BadScript, BadJournal}
+use Rattle.program.specs.declared.exit.Exit.TheVariants.{BadScript, BadJournal, Done, FileFailed, Limit, Misuse, Rejected}
+use Rattle.script.specs.Reading.{IsRead}
+use Rattle.serving.specs.Entry.{Entry}
+use Rattle.tokens.specs.declared.error.ScriptError.{ScriptError}
 use Rattle.tokens.specs.declared.error.ScriptErrorKind.{ScriptErrorKind}
 use Rattle.tokens.specs.declared.error.ScriptErrorKind.TheVariants as kind
 use Rattle.serving.specs.Summary.{Summary}
 use Rattle.serving.specs.declared.opening.OpenError.{OpenError}
 use Rattle.serving.specs.declared.opening.OpenError.TheVariants.{Begin, Replay, OtherSpecification}
-use Rattle.command_line.specs.Endings.{IsTold, IsUnserved}
+use Rattle.command_line.specs.Commands.{IsRefusal}
+use Rattle.command_line.specs.Endings.{IsEndOf, IsServed, IsServedFor, IsTold, IsUnserved}
 use Rattle.command_line.specs.Statuses.{begin_exit, open_exit, run_exit}
 
 -- the line was written, or it wasn't
@@ -33,7 +37,7 @@ pub some_is : {X : Type 0} (b : Bool) (o : Option X) → IsTrue b ↔ IsSome o �
 some_is true (Some x) same = refl
 some_is false None same = refl
 some_is true None same = absurd (same.0 refl)
-some_is false (Some x) same = absurd (let bad = same.1 tt in cc bad)
+some_is false (Some x) same = absurd (let bad = same.1 refl in cc bad)
 
 -- a script that is refused isn't served, nor a journal that gives no session
 pub script_unserved : (k : ScriptErrorKind) (other : Exit) → IsUnserved other → IsUnserved (kind_exit k other)
@@ -70,3 +74,41 @@ pub open_unserved : (e : OpenError) → IsUnserved (open_exit e)
 open_unserved (Begin e) = begin_unserved e
 open_unserved (Replay e) = journal_unserved e
 open_unserved OtherSpecification = tt
+
+pub opened_unserved : (e : OpenError) (exit : Exit) → exit ≡ open_exit e → IsUnserved exit
+opened_unserved e exit is = subst (λ (x : Exit). IsUnserved x) (sym is) (open_unserved e)
+
+pub journal_failed : (e : SessionError) (exit : Exit) → exit ≡ journal_exit e → IsUnserved exit
+journal_failed e exit is = subst (λ (x : Exit). IsUnserved x) (sym is) (journal_unserved e)
+
+pub file_failed : (exit : Exit) → exit ≡ FileFailed → IsUnserved exit
+file_failed exit is = subst (λ (x : Exit). IsUnserved x) (sym is) tt
+
+pub refused_unserved : (exit : Exit) → IsRefusal exit → IsUnserved exit
+refused_unserved BadScript is = tt
+refused_unserved FileFailed is = tt
+refused_unserved Limit is = tt
+refused_unserved BadJournal is = tt
+refused_unserved Done is = is
+refused_unserved Rejected is = is
+refused_unserved Misuse is = is
+
+kind_refused : (k : ScriptErrorKind) → IsRefusal (kind_exit k BadScript)
+kind_refused kind.Memory = tt
+kind_refused k = tt
+
+pub script_refused : (f : ScriptError) (exit : Exit) → exit ≡ script_exit f → IsRefusal exit
+script_refused f exit is = subst (λ (x : Exit). IsRefusal x) (sym is) (kind_refused f.kind)
+
+-- the line couldn't be made
+pub told_none : (summary : Summary) (closed : Bool) (totals : Totals) (accept_failed : Bool) (old new : Option (List ℕ)) (exit : Exit) → exit ≡ run_exit (service_status closed accept_failed (record totals { limit = true }))
+    → IsTold summary closed totals accept_failed old new exit
+told_none summary closed totals accept_failed old new exit is = inr (inr is)
+
+-- a run that was told
+pub served_by : (spec : Specified) (opening : List Entry) (summary : Summary) (closed : Bool) (totals : Totals) (accept_failed : Bool) (old new : Option (List ℕ)) (exit : Exit) → IsEndOf spec opening summary
+    → IsTold summary closed totals accept_failed old new exit → IsServed spec opening new exit
+served_by spec opening summary closed totals accept_failed old new exit ends told = inr (summary, closed, totals, accept_failed, old, ends, told)
+
+pub served_for : (script process : List ℕ) (spec : Specified) (opening : List Entry) (new : Option (List ℕ)) (exit : Exit) → IsRead script process spec → IsServed spec opening new exit → IsUnserved exit ⊎ IsServedFor process new exit
+served_for script process spec opening new exit read served = inr (record { script = script; spec = spec; read = read; opening = opening; served = served })

@@ -31,6 +31,7 @@ pub(crate) struct Ended {
 
 impl Ended {
     /// Of a run.
+    #[tactic(auto, using(crate::proofs::Endings::some_is))]
     pub(crate) fn of<J: Recorder>(run: &Run<J>) -> Ended
         ensures summary { result.summary ≡ summary_of run.now.session.history }
         ensures closed { result.closed ≡ is_some run.now.session.failed }
@@ -109,6 +110,7 @@ pub(crate) fn tell_ended<O: Write, E: Write + IsTerminal>(
 }
 
 // Writes the line of the counts, and answers the status: an output that failed counts as a listener that did.
+#[tactic(auto, using(crate::proofs::Endings::told_by))]
 fn tell_counts<O: Write, E: Write>(
     line: &[u8],
     ended: Ended,
@@ -124,6 +126,7 @@ fn tell_counts<O: Write, E: Write>(
 }
 
 // The same on these errors.
+#[tactic(auto, using(crate::proofs::Endings::told_none))]
 fn tell_ended_on<O: Write, E: Write + IsTerminal>(
     alloc: Global,
     service: &Service<'_>,

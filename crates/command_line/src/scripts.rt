@@ -74,6 +74,7 @@ pub(crate) fn text_of<R: Files + AllocGlobal, E: Write + IsTerminal>(
 }
 
 /// That the script denotes a specification for this process, or the status of the fault that was reported.
+#[tactic(auto, using(crate::proofs::Endings::script_refused))]
 pub(crate) fn tell_read<E: Write + IsTerminal>(
     alloc: Global,
     name: &str,

@@ -157,6 +157,7 @@ fn serve_through<
 }
 
 // Opens the log, and listens; or answers the status of the fault that was reported.
+#[tactic(auto, using(crate::proofs::Endings::file_failed))]
 fn enter<
     R: Files<File = File> + Net<Stream = TcpStream, Listener = TcpListener> + AllocGlobal,
     O: Write,
@@ -181,6 +182,7 @@ fn enter<
 
 // Serves the connections of the address at this session, and answers the exit status. Where it doesn't come to that, it takes away the
 // journal that this run made.
+#[tactic(auto, using(crate::proofs::Endings::served_by))]
 fn serve_at<
     J: Recorder + Drop + Send,
     R: Files<File = File>
@@ -223,6 +225,7 @@ fn serve_at<
 
 // The session of the script on the journal in the file, and whether this run made the file; or the status of the fault that was
 // reported, where no file is left that this run made.
+#[tactic(auto, using(crate::proofs::Endings::file_failed))]
 fn session_at<R: Files<File = File> + AllocGlobal, E: Write + IsTerminal>(
     rt: &R,
     service: &Service<'_>,
@@ -251,6 +254,7 @@ fn session_at<R: Files<File = File> + AllocGlobal, E: Write + IsTerminal>(
 }
 
 // Reports why there is no session of the script on the journal, and answers the status.
+#[tactic(auto, using(crate::proofs::Endings::opened_unserved))]
 fn tell_unopened<R: Files<File = File> + AllocGlobal, E: Write + IsTerminal>(
     rt: &R,
     service: &Service<'_>,
@@ -270,6 +274,7 @@ fn tell_unopened<R: Files<File = File> + AllocGlobal, E: Write + IsTerminal>(
 }
 
 // The same session with names kept as their bodies, on a journal in parts, the first of which is the file.
+#[tactic(auto, using(crate::proofs::Endings::file_failed, crate::proofs::Endings::journal_failed))]
 fn session_in_parts<'a, S: FileSystem, R: Files<File = File> + AllocGlobal, E: Write + IsTerminal>(
     rt: &R,
     system: &'a S,
@@ -329,6 +334,7 @@ pub(crate) fn serve<
 }
 
 // The same, while standard streams that are closed are held.
+#[tactic(auto, using(crate::proofs::Endings::served_for))]
 fn serve_held<
     R: Files<File = File>
         + Net<Stream = TcpStream, Listener = TcpListener>
@@ -361,6 +367,7 @@ fn serve_held<
 }
 
 // The same, with names kept as their bodies, on a journal in parts.
+#[tactic(auto, using(crate::proofs::Endings::served_for))]
 fn serve_in_parts<
     S: FileSystem + Sync,
     R: Files<File = File>
@@ -405,6 +412,7 @@ fn journal_crosses()
 }
 
 // The text of a script that denotes a specification for the process, or the status of the fault that was reported.
+#[tactic(auto, using(crate::proofs::Endings::refused_unserved))]
 fn script_of<R: Files + AllocGlobal, E: Write + IsTerminal>(
     rt: &R,
     service: &Service<'_>,

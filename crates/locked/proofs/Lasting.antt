@@ -29,6 +29,15 @@ use Rattle.locked.specs.Lasting.{HoldsMore, Lasts, Remains}
 pub first_of_map : (f : Entry → Recorded) (l : List Entry) (first rest : List Recorded) → map f l ≡ first ++ rest → first ≡ map f (take (length first) l)
 first_of_map f l first rest is = sym (ap (take (length first)) is ∙ take-append_seam first rest) ∙ take-map f (length first) l
 
+none_some : {X : Type 0} (o : Option X) → o ≡ None → IsSome o → ⊥
+none_some None is some = cc some
+none_some (Some x) is some = cc is
+
+-- what holds of each error, of a result that is one
+pub of_error : {T : Type 0} (result : Result T Fault) (P : Type 0) → ((x : T) → result ≡ Ok x → ⊥) → OnErr result P → P
+of_error (Ok x) P not holds = absurd (not x refl)
+of_error (Err f) P not holds = holds
+
 module _ {J : Type 0} (r : Recording J) where
   -- what a journal of a longer history holds with the first of what was offered
   more_left : (script root : List ℕ) (old : SessionView J) (spec : Specified) (h offered : List Entry) (j : J) (c : r.Content) → spec ≡ old.spec → StartsWith h old.history → HoldAlike r old.journal j
@@ -60,7 +69,7 @@ module _ {J : Type 0} (r : Recording J) where
     kept = λ script root kept. kept;
     alike = alike_still r t.journal t.journal refl;
     continues = record { bytes_claim = refl; files_claim = refl; counted = omega arith };
-    cause = λ none some. absurd (subst IsSome none some);
+    cause = λ none some. absurd (none_some t.failed none some);
     any_moment = λ script root kept bytes files.
       weaker (r.state t.journal) (r.state t.journal) _ (HoldsMore r script root t) (unmoved_settle r t.journal script root t.spec.alphabet t.history t.offered t.failed kept bytes files)
       (λ c some. more_left script root t t.spec t.history t.offered t.journal c refl (begins_self t.history) (alike_still r t.journal t.journal refl) judged reports some);
@@ -87,7 +96,7 @@ module _ {J : Type 0} (r : Recording J) where
   -- a settling closes a session only where the device fails
   cause_of : {T : Type 0} (mid now : SessionView J) (result : Result T Fault) → OnOk result ((mid.failed ≡ None) × (now.failed ≡ None)) → IfErr result (ExplainsSettle mid.failed mid.offered now.failed)
       → IfErr result (λ fault. IsJournal fault → (r.state mid.journal).failures < (r.state now.journal).failures) → mid.failed ≡ None → IsSome now.failed → (r.state mid.journal).failures < (r.state now.journal).failures
-  cause_of mid now (Ok x) is_open why cause none some = absurd (subst IsSome is_open.1 some)
+  cause_of mid now (Ok x) is_open why cause none some = absurd (none_some now.failed is_open.1 some)
   cause_of mid now (Err (Journal e)) is_open why cause none some = cause tt
   cause_of mid now (Err (Closed e)) is_open why cause none some = absurd (let bad : Some e ≡ None = sym why.0 ∙ none in cc bad)
   cause_of mid now (Err Depth) is_open why cause none some = absurd why
@@ -107,7 +116,7 @@ module _ {J : Type 0} (r : Recording J) where
       → (mid.failed ≡ None → (r.state mid.journal).failures < (r.state now.journal).failures) → Continues (r.state old.journal) (r.state mid.journal) → Continues (r.state mid.journal) (r.state now.journal)
       → (r.state old.journal).failures < (r.state now.journal).failures
   either old mid now None is before here first second = let less = here is in let on = first.counted in omega (arith, less, on)
-  either old mid now (Some e) is before here first second = let less = before (subst IsSome (sym is) tt) in let on = second.counted in omega (arith, less, on)
+  either old mid now (Some e) is before here first second = let less = before (subst IsSome (sym is) refl) in let on = second.counted in omega (arith, less, on)
 
   -- what a settling leaves
   pub lasts_settled : {T : Type 0} (old mid now : SessionView J) (result : Result T Fault) → IsJudged mid.spec (entries mid) → AreReports mid.spec.alphabet (entries mid) → now.spec ≡ mid.spec
