@@ -1,5 +1,5 @@
 -- What was answered of a session that is served stands in its file, which is read as that very history.
-use Rattle.std.proofs.Common.{◌≡◌, ℕ, None, List, refl, sym, ap, ◌∙◌, subst, IsTrue}
+use Rattle.std.proofs.Common.{◌≡◌, ℕ, None, List, refl, sym, subst, IsTrue}
 use Rattle.disk.specs.State.{DiskState, FolderState}
 use Rattle.disk.specs.Runs.{LeavesOnly}
 use Rattle.disk.proofs.Moments.{weaker}
@@ -10,11 +10,11 @@ use Rattle.shared.specs.Entry.{Entry}
 use Rattle.shared.specs.Lasting.{HoldsMore}
 use Rattle.shared.specs.Legal.{IsJudged}
 use Rattle.shared.specs.Reading.{IsRead}
-use Rattle.shared.specs.Recorder.{Recording, on_disk}
+use Rattle.shared.specs.Recorder.{on_disk}
 use Rattle.shared.specs.Records.{AreReports, names_of, records_of}
-use Rattle.shared.specs.Scripts.{IsReadAs, IsReplayOf}
+use Rattle.shared.specs.Scripts.{IsReplayOf}
 use Rattle.shared.specs.Seats.{AllTold}
-use Rattle.shared.specs.SessionView.{SessionView, IsFor, IsRecorded}
+use Rattle.shared.specs.SessionView.{SessionView, IsFor}
 use Rattle.shared.specs.View.{SeatView}
 use Rattle.shared.proofs.Keeping.{left_open}
 use Rattle.journal.specs.Journal.{Held}
