@@ -56,7 +56,15 @@ fn serve_until<
     requires { session.offered ≡ [] }
     ensures { IfOk result (λ ended. IsEndOf session.spec session.history ended.summary) }
 {
-    match serving::serve(rt, rt.alloc(), session, accept, plan_of(until), RETRIES, counts) {
+    match serving::serve(
+        rt,
+        rt.alloc(),
+        session,
+        accept,
+        plan_of(until),
+        RETRIES,
+        counts,
+    ) {
         Ok(run) => {
             let ended = Ended::of(&run);
             drop(run);
@@ -383,14 +391,7 @@ fn serve_in_parts<
         + 'static,
     O: Write,
     E: Write + IsTerminal,
->(
-    rt: &R,
-    system: &S,
-    service: &Service<'_>,
-    script: &[u8],
-    output: &mut O,
-    errors: &mut E,
-) -> Exit
+>(rt: &R, system: &S, service: &Service<'_>, script: &[u8], output: &mut O, errors: &mut E) -> Exit
     ensures { IsUnserved result ⊎ IsServedFor service.now.process.now (O.contents output.new) result }
 {
     match session_in_parts(rt, system, service, script, errors) {

@@ -71,8 +71,8 @@ module _ {J : Type 0} (r : Recording J) where
     continues = record { bytes_claim = refl; files_claim = refl; counted = omega arith };
     cause = λ none some. absurd (none_some t.failed none some);
     any_moment = λ script root kept bytes files.
-      weaker (r.state t.journal) (r.state t.journal) _ (HoldsMore r script root t) (unmoved_settle r t.journal script root t.spec.alphabet t.history t.offered t.failed kept bytes files)
-      (λ c some. more_left script root t t.spec t.history t.offered t.journal c refl (begins_self t.history) (alike_still r t.journal t.journal refl) judged reports some);
+        weaker (r.state t.journal) (r.state t.journal) _ (HoldsMore r script root t) (unmoved_settle r t.journal script root t.spec.alphabet t.history t.offered t.failed kept bytes files)
+        (λ c some. more_left script root t t.spec t.history t.offered t.journal c refl (begins_self t.history) (alike_still r t.journal t.journal refl) judged reports some);
   }
 
   -- where nothing is offered
@@ -135,11 +135,11 @@ module _ {J : Type 0} (r : Recording J) where
     continues = continues_on (r.state old.journal) (r.state mid.journal) (r.state now.journal) lasts.continues continues;
     cause = λ none some. either old mid now mid.failed refl (lasts.cause none) (λ open_before. cause_of mid now result is_open why cause open_before some) lasts.continues continues;
     any_moment = λ script root was bytes files.
-      let b : IsTrue (r.state mid.journal).claims_bytes = subst IsTrue (sym lasts.continues.bytes_claim) bytes in
-      let f : IsTrue (r.state mid.journal).claims_files = subst IsTrue (sym lasts.continues.files_claim) files in
-      run_more (r.state old.journal) (r.state mid.journal) (r.state now.journal) (HoldsMore r script root old) (lasts.any_moment script root was bytes files)
-      (weaker (r.state mid.journal) (r.state now.journal) (LeftWith r script root mid mid.offered) (HoldsMore r script root old) (any_moment script root (lasts.kept script root was) b f)
-      (λ c some. more_left script root old mid.spec mid.history mid.offered mid.journal c lasts.spec_is lasts.begins lasts.alike judged reports some));
+        let b : IsTrue (r.state mid.journal).claims_bytes = subst IsTrue (sym lasts.continues.bytes_claim) bytes in
+        let f : IsTrue (r.state mid.journal).claims_files = subst IsTrue (sym lasts.continues.files_claim) files in
+        run_more (r.state old.journal) (r.state mid.journal) (r.state now.journal) (HoldsMore r script root old) (lasts.any_moment script root was bytes files)
+        (weaker (r.state mid.journal) (r.state now.journal) (LeftWith r script root mid mid.offered) (HoldsMore r script root old) (any_moment script root (lasts.kept script root was) b f)
+        (λ c some. more_left script root old mid.spec mid.history mid.offered mid.journal c lasts.spec_is lasts.begins lasts.alike judged reports some));
   }
 
   -- ---- of a session that is told, if one is

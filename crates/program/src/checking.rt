@@ -92,7 +92,14 @@ fn hear<R: Wait, J: Recorder, A: Allocator + Copy + Drop, N: Sharing<J>, T: Sour
 }
 
 // Answers the lines of the reader from the only seat of the session. The caller picks the names.
-fn hear_alone<R: Wait, D: Disk + Drop, A: Allocator + Copy + Drop, N: Sharing<Journal<D>>, T: Source, W: Sink>(
+fn hear_alone<
+    R: Wait,
+    D: Disk + Drop,
+    A: Allocator + Copy + Drop,
+    N: Sharing<Journal<D>>,
+    T: Source,
+    W: Sink,
+>(
     rt: &R,
     alloc: A,
     session: Session<D, A>,

@@ -41,7 +41,8 @@ impl<'a, J: Recorder, A: Allocator + Copy, N: Sharing<J>, R: Wait> ServiceJudge<
     }
 }
 
-impl<J: Recorder, A: Allocator + Copy, N: Sharing<J>, R: Wait> Judge for ServiceJudge<'_, J, A, N, R> {
+impl<J: Recorder, A: Allocator + Copy, N: Sharing<J>, R: Wait> Judge
+    for ServiceJudge<'_, J, A, N, R> {
     ghost use Rattle.alphabet.specs.Channels.{event_count};
     ghost use Rattle.term.specs.Proc.{bodies_of};
     ghost use Rattle.seats.specs.Judges.{Reports, Statuses, Nexts, Identifies};

@@ -7,9 +7,7 @@ ghost use Rattle.shared.specs.Seats.{answers_to};
 use crate::seat::{Seat, Shared};
 use crate::share::Share;
 use crate::turns::lock;
-use locked::{
-    Fault, Locked, Naming, Opened, Recorder, SeatFault, SeatNumber, SessionOn, Sharing,
-};
+use locked::{Fault, Locked, Naming, Opened, Recorder, SeatFault, SeatNumber, SessionOn, Sharing};
 use std::alloc::Allocator;
 use std::marker::Model;
 use std::sync::atomic::AtomicU64;

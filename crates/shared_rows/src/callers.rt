@@ -5,8 +5,7 @@ use alphabet::{Event, EventSet, Report};
 use journal::Prepared;
 use shared::{
     Counts, Entry, Failed, Names, Naming, Publisher, Receipt, Recorder, SeatNumber, Share, Shared,
-    Sharing,
-    Source, Spine, Summary, Waiting, crosses, legal_crosses,
+    Sharing, Source, Spine, Summary, Waiting, crosses, legal_crosses,
 };
 use std::alloc::{AllocError, Global};
 use std::sync::{Wait, ledger};

@@ -144,14 +144,11 @@ fn are_explained(all: &[Answers], history: &[Entry]) -> bool {
 }
 
 /// Appends what comes of the tasks at the seats of this shared session.
-fn put_shared<J: Recorder + Drop + Send, N: Sharing<J> + Send + Sync, T: Threads + Wait + Clock + Sync>(
-    rt: &T,
-    alloc: Global,
-    shared: Shared<J, Global, N>,
-    gate: &Gate,
-    plan: &Plan,
-    out: &mut Output,
-)
+fn put_shared<
+    J: Recorder + Drop + Send,
+    N: Sharing<J> + Send + Sync,
+    T: Threads + Wait + Clock + Sync,
+>(rt: &T, alloc: Global, shared: Shared<J, Global, N>, gate: &Gate, plan: &Plan, out: &mut Output)
     requires { N.all ≡ N.parts }
 {
     let (mut shares, mut all) = (Vec::new(alloc), Vec::new(alloc));
