@@ -88,6 +88,7 @@ class StandIn(Listener):
 
     def play(self, link, conversation):
         reader = link.makefile("rb")
+        wanted = b""
         for step in conversation:
             if step is HOLD:
                 self.lines += [line.rstrip(b"\n") for line in reader]
@@ -105,6 +106,11 @@ class StandIn(Listener):
             for piece in [reply] if isinstance(reply, bytes) else reply:
                 link.sendall(piece)
                 time.sleep(0.01)
+        if wanted is None:
+            # What the client sent meanwhile is read before the end, as a server does that refuses: else the end is a reset,
+            # which may overtake the reply.
+            link.shutdown(socket.SHUT_WR)
+            reader.read()
 
 
 class CheckServer(Listener):

@@ -4,11 +4,13 @@
     dist/make_package.py [--program FILE] [--output FOLDER]    makes FOLDER/cspwatch_VERSION_amd64.deb
 
 Without --program the program is the released one, dist/cspwatch; without --output the folder is dist. The version is what the
-program prints. The package has the program, its manual page, completions, licences, examples, and a unit for systemd. It is made
-by `dpkg-deb`, and has the same bytes each time: all its files have the date of the last commit, or SOURCE_DATE_EPOCH.
+program prints. The package has the program, its manual page, completions, licences, the pages for users, examples, and a unit for
+systemd. It is made by `dpkg-deb`, and has the same bytes each time: all its files have the date of the last commit, or
+SOURCE_DATE_EPOCH.
 """
 import argparse
 import gzip
+import hashlib
 import os
 import re
 import shutil
@@ -58,6 +60,12 @@ SMALLER = [
     ("THIRD-PARTY.md", DOCUMENTS + "/THIRD-PARTY.md.gz"),
 ]
 """Files that are compressed."""
+
+PAGES = ["LANGUAGE", "SEMANTICS", "PROTOCOL", "SERVICE", "JOURNAL", "PARTS", "PROVED"]
+"""The pages of docs/ that are for users."""
+
+SCRIPTS = ["postinst", "prerm", "postrm"]
+"""What dpkg runs after an installation, before a removal and after it."""
 
 
 class Refused(Exception):
@@ -125,11 +133,35 @@ def fill(folder, program, about):
     compress((CHANGES % about).encode("utf-8"), os.path.join(folder, DOCUMENTS, "changelog.gz"))
     with open(os.path.join(folder, DOCUMENTS, "copyright"), "w", encoding="utf-8") as file:
         file.write(copyright_text())
+    for name in PAGES:
+        copy(os.path.join(ROOT, "docs", name + ".md"), os.path.join(folder, DOCUMENTS, "docs", name + ".md"))
     examples = os.path.join(ROOT, "examples")
     for name in sorted(os.listdir(examples)):
-        if name.endswith((".csp", ".reports", ".replies", ".md")):
-            copy(os.path.join(examples, name), os.path.join(folder, DOCUMENTS, "examples", name))
+        if os.path.isfile(os.path.join(examples, name)):
+            mode = 0o755 if name.endswith(".sh") else 0o644
+            copy(os.path.join(examples, name), os.path.join(folder, DOCUMENTS, "examples", name), mode)
     os.makedirs(os.path.join(folder, "etc/cspwatch"))
+
+
+def sums_of(folder):
+    """The sums of all files, as dpkg keeps them."""
+    lines = []
+    for place, _, names in os.walk(folder):
+        for path in (os.path.join(place, name) for name in names):
+            with open(path, "rb") as file:
+                lines.append("%s  %s\n" % (hashlib.md5(file.read()).hexdigest(), os.path.relpath(path, folder)))
+    return "".join(sorted(lines, key=lambda line: line.split("  ", 1)[1]))
+
+
+def fill_control(folder, about):
+    """Puts what dpkg reads below the folder, which has all other files by then."""
+    texts = {"control": CONTROL % dict(about, size=size_of(folder)), "md5sums": sums_of(folder)}
+    os.makedirs(os.path.join(folder, "DEBIAN"))
+    for name, text in texts.items():
+        with open(os.path.join(folder, "DEBIAN", name), "w", encoding="utf-8") as file:
+            file.write(text)
+    for name in SCRIPTS:
+        copy(os.path.join(PACKAGE, name), os.path.join(folder, "DEBIAN", name), 0o755)
 
 
 def size_of(folder):
@@ -149,14 +181,14 @@ def settle(folder, seconds):
 
 def make(program, target):
     """Makes the package of the program in the folder, and answers its file."""
+    missing = [name for name in ("dpkg-deb", "objdump") if shutil.which(name) is None]
+    if missing:
+        raise Refused("there is no %s" % " and no ".join(missing))
     version, seconds = version_of(program), date()
     about = {"version": version, "maintainer": maintainer(), "library": oldest_library(program), "date": formatdate(seconds)}
     with tempfile.TemporaryDirectory(prefix="package-") as folder:
         fill(folder, program, about)
-        control = CONTROL % dict(about, size=size_of(folder))
-        os.makedirs(os.path.join(folder, "DEBIAN"))
-        with open(os.path.join(folder, "DEBIAN/control"), "w", encoding="utf-8") as file:
-            file.write(control)
+        fill_control(folder, about)
         settle(folder, seconds)
         package = os.path.join(target, "cspwatch_%s_amd64.deb" % version)
         words = ["dpkg-deb", "--root-owner-group", "-Zxz", "--build", folder, package]
@@ -169,9 +201,6 @@ def main():
     parser.add_argument("--program", default=os.path.join(HERE, "cspwatch"), help="the program")
     parser.add_argument("--output", default=HERE, help="the folder of the package")
     options = parser.parse_args()
-    missing = [name for name in ("dpkg-deb", "objdump") if shutil.which(name) is None]
-    if missing:
-        sys.exit("make_package.py: there is no %s" % " and no ".join(missing))
     try:
         print(make(os.path.abspath(options.program), os.path.abspath(options.output)))
     except Refused as why:

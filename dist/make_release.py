@@ -1,13 +1,15 @@
 #!/usr/bin/env python3
 """Makes a release of the built program, or compares the built program with the last release.
 
-    dist/make_release.py [--program FILE] [--build]    copies the program to dist/cspwatch, and writes dist/RELEASE and dist/SHA256SUMS
+    dist/make_release.py [--program FILE] [--build]    makes the files of a release in dist
     dist/make_release.py --compare [--program FILE]    says whether the program is the released one, byte for byte
 
-Without --program the program is crates/cspwatch/out/cspwatch, which `rt` builds; with --build it is built first. A release is
-made from a state that is committed, whose version is a released one: between releases VERSION ends in -dev. A program that
-differs from the released one passes where a source of it has changed since and its version ends in -dev. The last line of
-a comparison is `N passed, M failed`.
+Without --program the program is crates/cspwatch/out/cspwatch, which `rt` builds; with --build it is built first. A release is the
+program, its package for Debian, the wheel of the client for Python, what is known of them in RELEASE, and their sums in SHA256SUMS.
+It is made from a state that is committed, whose version doesn't end in -dev, as VERSION does between releases.
+
+A program that differs from the released one passes the comparison where a source of it has changed since, and its version is a later
+one. The last line of a comparison is `N passed, M failed`.
 """
 import argparse
 import hashlib
@@ -17,6 +19,9 @@ import re
 import shutil
 import subprocess
 import sys
+
+import make_package
+import make_wheel
 
 HERE = os.path.dirname(os.path.abspath(__file__))
 ROOT = os.path.dirname(HERE)
@@ -45,6 +50,18 @@ def output(words, folder=ROOT):
 def digest(path):
     with open(path, "rb") as file:
         return hashlib.sha256(file.read()).hexdigest()
+
+
+def numbers_of(version):
+    """The numbers of a version, to compare it with another one."""
+    return [int(number) for number in version.partition("-")[0].split(".")]
+
+
+def versions_of_clients():
+    """By the file in which it stands, the version of each client."""
+    with open(os.path.join(ROOT, "clients", "c", "cspwatch_client.h"), encoding="utf-8") as file:
+        header = re.search(r'^#define CSPWATCH_CLIENT_VERSION "(.*)"$', file.read(), re.MULTILINE)
+    return {"clients/python/cspwatch_client/__init__.py": make_wheel.version(), "clients/c/cspwatch_client.h": header and header[1]}
 
 
 def version_of(program):
@@ -78,7 +95,8 @@ def kit():
 
 def commit():
     """The commit of this state, which has to be committed as a whole, the files of the release excepted."""
-    changed = output(["git", "status", "--porcelain", "--", ".", ":!dist/RELEASE", ":!dist/SHA256SUMS", ":!dist/cspwatch"])
+    own = [":!dist/" + name for name in ("RELEASE", "SHA256SUMS", "cspwatch", "*.deb", "*.whl")]
+    changed = output(["git", "status", "--porcelain", "--", "."] + own)
     if changed:
         raise Refused("these files are not committed:\n%s" % changed)
     return output(["git", "rev-parse", "HEAD"])
@@ -89,6 +107,9 @@ def facts_of(program):
     version = version_of(program)
     if version.endswith(UNRELEASED):
         raise Refused("%s is no version of a release: take %s off VERSION" % (version, UNRELEASED))
+    for name, other in versions_of_clients().items():
+        if other != version:
+            raise Refused("the program has version %s, and %s has %s" % (version, name, other))
     libraries = needs(program)
     more = [name for name in libraries if C_LIBRARY.fullmatch(name) is None]
     if more:
@@ -107,16 +128,23 @@ def facts_of(program):
 
 
 def make(program):
-    """Writes the files of the release."""
+    """Writes the files of the release. What is left of the one before goes."""
     facts = facts_of(program)
-    total = dict(facts)["sha256"]
+    for name in os.listdir(HERE):
+        if name.endswith((".deb", ".whl")):
+            os.remove(os.path.join(HERE, name))
     shutil.copy(program, COPY)
+    try:
+        package, wheel = make_package.make(COPY, HERE), make_wheel.make(HERE)
+    except make_package.Refused as why:
+        raise Refused(str(why)) from None
     with open(RELEASE, "w", encoding="utf-8") as file:
         file.writelines("%s: %s\n" % fact for fact in facts)
     with open(SUMS, "w", encoding="utf-8") as file:
-        file.write("%s  cspwatch\n" % total)
-    print(open(RELEASE, encoding="utf-8").read(), end="")
-    print("the program is dist/cspwatch")
+        file.writelines("%s  %s\n" % (digest(path), os.path.basename(path)) for path in (COPY, package, wheel))
+    with open(RELEASE, encoding="utf-8") as file:
+        print(file.read(), end="")
+    print("the program is dist/cspwatch, its package dist/%s, and the wheel dist/%s" % (os.path.basename(package), os.path.basename(wheel)))
 
 
 def released():
@@ -152,6 +180,38 @@ def sources():
     return total.hexdigest()
 
 
+def changed_files(release):
+    """The files of the release that aren't what it says."""
+    with open(SUMS, encoding="utf-8") as file:
+        sums = dict(reversed(line.split()) for line in file)
+    if sums.get("cspwatch") != release["sha256"]:
+        return ["SHA256SUMS"]
+    return [name for name, total in sums.items() if not os.path.exists(os.path.join(HERE, name)) or digest(os.path.join(HERE, name)) != total]
+
+
+def judged(program, release):
+    """What is to be said of the program beside the last release, and whether it passes."""
+    changed = changed_files(release)
+    if changed:
+        return "dist/%s is NOT what the release has" % ", dist/".join(changed), False
+    if not os.path.exists(program):
+        return "%s: there is no such program" % program, False
+    name = release["version"]
+    if digest(program) == release["sha256"]:
+        return "the built program is that of release %s, byte for byte" % name, True
+    if sources() == release["sources"]:
+        if kit() == release["kit"]:
+            return "the built program is NOT that of release %s, though its sources are the same" % name, False
+        return "the built program is another than that of release %s, which was built by another kit: %s" % (name, release["kit"]), True
+    version = version_of(program)
+    if numbers_of(version) <= numbers_of(name):
+        text = "the built program says that it is version %s, and sources have changed since release %s: VERSION has to be a later one that ends in %s"
+        return text % (version, name, UNRELEASED), False
+    if version.endswith(UNRELEASED):
+        return "the built program is another than that of release %s: its sources have changed since" % name, True
+    return "version %s isn't released: make the release, or let VERSION end in %s" % (version, UNRELEASED), True
+
+
 def compare(program):
     """Prints what the comparison with the last release gives; answers whether it passes."""
     release = released()
@@ -159,32 +219,10 @@ def compare(program):
         print("there is no release to compare with")
         print("0 passed, 0 failed")
         return True
-    if not os.path.exists(COPY) or digest(COPY) != release["sha256"]:
-        print("dist/cspwatch is NOT the program that dist/RELEASE names")
-        print("0 passed, 1 failed")
-        return False
-    here = digest(program) if os.path.exists(program) else None
-    if here == release["sha256"]:
-        print("the built program is that of release %s, byte for byte" % release["version"])
-        print("1 passed, 0 failed")
-        return True
-    if here is None:
-        print("%s: there is no such program" % program)
-    elif sources() != release["sources"] and version_of(program).endswith(UNRELEASED):
-        print("the built program is another than that of release %s: its sources have changed since" % release["version"])
-        print("1 passed, 0 failed")
-        return True
-    elif sources() != release["sources"]:
-        print("the built program says that it is version %s, which is released, and its sources have changed since: VERSION has to end in %s"
-              % (version_of(program), UNRELEASED))
-    elif kit() != release["kit"]:
-        print("the built program is another than that of release %s, which was built by another kit: %s" % (release["version"], release["kit"]))
-        print("1 passed, 0 failed")
-        return True
-    else:
-        print("the built program is NOT that of release %s, though its sources are the same" % release["version"])
-    print("0 passed, 1 failed")
-    return False
+    text, passes = judged(program, release)
+    print(text)
+    print("%d passed, %d failed" % (passes, not passes))
+    return passes
 
 
 def main():

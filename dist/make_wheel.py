@@ -1,53 +1,40 @@
 #!/usr/bin/env python3
-"""Makes a wheel of the client for Python, with `cspwatch-logs`, without a network.
+"""Makes a wheel of the client for Python, with `cspwatch-logs`. It needs no network, and no other package.
 
     dist/make_wheel.py [--output FOLDER]    makes FOLDER/cspwatch_client-VERSION-py3-none-any.whl
 
-Without --output the folder is dist. The version is the package's `__version__`. It needs pip, setuptools and wheel (Debian's
-python3-pip, python3-setuptools, python3-wheel), and has the same bytes each time: all its files have the date of the last commit,
-or SOURCE_DATE_EPOCH.
+Without --output the folder is dist. The version is the package's `__version__`. The wheel has the same bytes each time: all its files
+have the date of the last commit, or SOURCE_DATE_EPOCH.
 """
 import argparse
 import os
-import shutil
 import subprocess
 import sys
-import tempfile
 
 HERE = os.path.dirname(os.path.abspath(__file__))
 ROOT = os.path.dirname(HERE)
-SOURCES = os.path.join(ROOT, "clients", "python")
-WHEEL = [sys.executable, "-m", "pip", "wheel", "--quiet", "--disable-pip-version-check", "--no-index", "--no-build-isolation", "--no-deps"]
+sys.path.insert(0, os.path.join(ROOT, "clients", "python", "backend"))
+
+import cspwatch_build  # noqa: E402 (clients/python/backend)
 
 
-def date():
-    """The time that all files get, in seconds."""
-    given = os.environ.get("SOURCE_DATE_EPOCH")
-    words = ["git", "-C", ROOT, "log", "-1", "--format=%ct"]
-    return given or subprocess.run(words, stdout=subprocess.PIPE, check=True).stdout.decode().strip()
+def version():
+    """The version of the package for Python, as the program would print it: `0.7.0.dev0` is `0.7.0-dev`."""
+    return cspwatch_build.version().replace(".dev0", "-dev")
 
 
 def make(target):
     """Makes the wheel in the folder, and answers its file."""
-    with tempfile.TemporaryDirectory(prefix="wheel-") as folder:
-        sources = os.path.join(folder, "sources")
-        shutil.copytree(SOURCES, sources, ignore=shutil.ignore_patterns("__pycache__", "build", "*.egg-info"))
-        # Whoever installs the client has its licences.
-        for name in ("LICENSE-MIT", "LICENSE-APACHE"):
-            shutil.copy(os.path.join(ROOT, name), sources)
-        made = os.path.join(folder, "made")
-        subprocess.run(WHEEL + ["--wheel-dir", made, sources], env=dict(os.environ, SOURCE_DATE_EPOCH=date()), check=True)
-        (name,) = os.listdir(made)
-        return shutil.copy(os.path.join(made, name), os.path.join(target, name))
+    if "SOURCE_DATE_EPOCH" not in os.environ:
+        words = ["git", "-C", ROOT, "log", "-1", "--format=%ct"]
+        os.environ["SOURCE_DATE_EPOCH"] = subprocess.run(words, stdout=subprocess.PIPE, check=True).stdout.decode().strip()
+    return os.path.join(target, cspwatch_build.build_wheel(target))
 
 
 def main():
     parser = argparse.ArgumentParser(description=__doc__.split("\n")[0])
     parser.add_argument("--output", default=HERE, help="the folder of the wheel")
-    try:
-        print(make(os.path.abspath(parser.parse_args().output)))
-    except subprocess.CalledProcessError:
-        sys.exit("make_wheel.py: no wheel was made; see above")
+    print(make(os.path.abspath(parser.parse_args().output)))
 
 
 if __name__ == "__main__":

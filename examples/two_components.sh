@@ -1,7 +1,8 @@
 #!/usr/bin/env bash
 # Two components report to one server: a sender puts messages into a buffer of one place, and a receiver gets them out of it.
 #
-#   examples/two_components.sh [PROGRAM]        PROGRAM is cspwatch; without it the built one is taken, else the released one
+#   examples/two_components.sh [PROGRAM]        PROGRAM is cspwatch; without it the built one is taken, else the released one, else
+#                                              that on the PATH
 #
 # Each component reports, over a connection of its own, what it has just done, and knows nothing of the other's reports. They come in order
 # because the system itself works in order: here by two pipes between the components. The receiver has a fault: it gets the third message wrong.
@@ -9,6 +10,7 @@ set -eu
 top=$(dirname "$0")/..
 built=$top/crates/cspwatch/out/cspwatch
 [ -x "$built" ] || built=$top/dist/cspwatch
+[ -x "$built" ] || built=$(command -v cspwatch || true)
 program=$(realpath "${1:-"$built"}")
 folder=$(mktemp -d)
 trap 'rm -rf "$folder"' EXIT

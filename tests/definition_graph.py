@@ -162,7 +162,7 @@ def crate_of(crate, name):
     for text in sources(crate).values():
         for below, names in re.findall(r"^(?:pub )?use (\w+)::(?:\{([^}]*)\}|%s;)" % re.escape(name), text, re.MULTILINE):
             listed = not names or re.search(r"\b%s\b" % re.escape(name), names)
-            if listed and below != "crate" and os.path.isdir(os.path.join(CRATES, below)):
+            if listed and below not in ("crate", crate) and os.path.isdir(os.path.join(CRATES, below)):
                 found = crate_of(below, name)
                 if found:
                     return found

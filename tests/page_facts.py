@@ -47,7 +47,7 @@ FAULT_ENUMS = {
     "crates/tokens/src/error.rt": "ScriptErrorKind",
     "crates/journal/src/error.rt": "JournalError",
     "crates/session/src/fault.rt": "SessionError",
-    "crates/wire/src/answers.rt": "Fault",
+    "crates/answers/src/fault.rt": "Fault",
 }
 """The types that have the numbers and words of faults."""
 
@@ -127,6 +127,25 @@ def check_release(pages):
     yield "README.md", None if library in text_of("README.md") else "dist/RELEASE needs the GNU C library %s" % library
 
 
+# ---- the version
+
+VERSIONS = {
+    "man/cspwatch.1": r'^\.TH CSPWATCH 1 \S+ "cspwatch (.*?)"',
+    "man/cspwatch-logs.1": r'^\.TH CSPWATCH-LOGS 1 \S+ "cspwatch-client (.*?)"',
+    "tests/cases/program.json": r'"cspwatch (\d.*?)"',
+    "clients/python/cspwatch_client/__init__.py": r'^__version__ = "(.*)"$',
+    "clients/c/cspwatch_client.h": r'^#define CSPWATCH_CLIENT_VERSION "(.*)"$',
+}
+"""Where the version of the program stands too, and how: a release has one version. Python writes `.dev0` for `-dev`."""
+
+
+def check_versions():
+    wanted = re.search(r'^const VERSION: &str = "(.*)";$', text_of("crates/words/src/commands.rt"), re.MULTILINE)[1]
+    for name, form in VERSIONS.items():
+        found = {one.replace("\\-", "-").replace(".dev0", "-dev") for one in re.findall(form, text_of(name), re.MULTILINE)}
+        yield name, None if found == {wanted} else "has version %s, and the program has %s" % (", ".join(sorted(found)) or "none", wanted)
+
+
 # ---- ports
 
 
@@ -166,7 +185,7 @@ def check_wrong_bodies(pages):
 
 def faults_of(name, enum):
     """The numbers and words of a type of faults, by its calls `code` and `word`."""
-    block = re.search(r"^impl %s \{.*?^\}" % enum, text_of(name), re.DOTALL | re.MULTILINE)[0]
+    block = re.search(r"^impl(?:<[^>]*>)? %s(?:<\w+>)? \{.*?^\}" % enum, text_of(name), re.DOTALL | re.MULTILINE)[0]
     codes = dict(re.findall(r"%s::(\w+)(?:\(_\))? => (\d+)," % enum, block))
     named = dict(re.findall(r'%s::(\w+)(?:\(_\))? => "(\w+)",' % enum, block))
     return {(int(codes[variant]), named[variant]) for variant in codes}
@@ -175,12 +194,14 @@ def faults_of(name, enum):
 def protocol_faults():
     """The numbers and words that the server and `check` can answer after `ERR`.
 
-    A report isn't answered with a fault that `Explained` calls impossible, unless a connection without a seat is refused with it.
+    A report isn't answered with a fault that `Explained` calls impossible, unless a connection without a seat is refused with it, or one
+    that gives a name.
     """
     never = set(re.findall(r"^Explained .* (\w+) = ⊥$", text_of("crates/locked/specs/Faults.antt"), re.MULTILINE))
-    refusing = set(re.findall(r"^refused_as .* = (\w+)$", text_of("crates/seats/specs/Faults.antt"), re.MULTILINE))
-    never = {word.lower() for word in never - refusing}
-    lines = set(re.findall(r'b"ERR (\d+) (\w+)\\n"', text_of("crates/wire/src/answers.rt")))
+    refusing = set(re.findall(r"^ *IsNoSeat \(?(\w+).* = Unit", text_of("crates/answers/specs/Faults.antt"), re.MULTILINE))
+    naming = set(re.findall(r"^Identifies .*\(fault ≡ (\w+)\)", text_of("crates/seats/specs/Judges.antt"), re.MULTILINE))
+    never = {word.lower() for word in never - refusing - naming}
+    lines = set(re.findall(r'b"ERR (\d+) (\w+)\\n"', text_of("crates/wire/src/answer.rt")))
     lines |= set(re.findall(r'b"ERR (\d+) (\w+)\\n"', text_of("crates/wire/src/replies.rt")))
     lines |= set(re.findall(r'b"ERR (\d+) (\w+)\\n"', text_of("crates/wire/src/engine.rt")))
     return {(int(code), word) for code, word in lines if word not in never}
@@ -218,7 +239,7 @@ def check_codes(pages):
     found = listed(text_of("docs/JOURNAL.md"), r"^\| `(\d\d) (\w+)(?: n)?` \|")
     yield "docs/JOURNAL.md", difference(found, faults_of("crates/journal/src/error.rt", "JournalError"))
     # The lists of clients and manual may have a fault that the sources have and no server answers.
-    unanswered = faults_of("crates/wire/src/answers.rt", "Fault") - protocol
+    unanswered = faults_of("crates/answers/src/fault.rt", "Fault") - protocol
     for name, form in CLIENT_LISTS.items():
         found = {(int(code), word.lower()) for word, code in re.findall(form, text_of(name), re.MULTILINE)}
         yield name, difference(found, protocol, unanswered)
@@ -254,6 +275,7 @@ def checks(pages):
     yield from check_files(pages)
     yield from check_map()
     yield from check_release(of_today)
+    yield from check_versions()
     yield from check_ports()
     yield from check_wrong_bodies(of_today)
     yield from check_codes(pages)

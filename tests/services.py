@@ -6,7 +6,8 @@
 First connections are made, one after the other and 64 at a time, that report ten times each and end: none is refused, and the memory
 stays as it was after the first 64. Then components that are seats by number report at random, lose their connections and come back
 (`clients/python`), while the service is killed again and again: each report is judged once, the journal has them all in the order of
-their seats, and what `show` prints of it is what the reference does. The last line is `N passed, M failed`.
+their seats, and what `show` prints of it is what the reference does. At last a journal in parts stands in a folder that is named by a
+link, as a service for systemd has it. The last line is `N passed, M failed`.
 """
 import argparse
 import contextlib
@@ -222,6 +223,27 @@ def come_back(options, folder):
     print(f"{kills} kills, {count} reports of {options.components} components, of which the verdicts of {lost} were lost")
 
 
+def linked_folder(options, folder):
+    """A journal in parts in a folder that is named by a link: it is begun, gone on with, replayed and shown."""
+    os.mkdir(os.path.join(folder, "state"))
+    os.symlink("state", os.path.join(folder, "link"))
+    for first in (b"E a\n", b"E b\n"):
+        command = [options.program, "serve", "--large", "p.csp", "P", "link/j", "--listen", "127.0.0.1:0", "--until-idle"]
+        with subprocess.Popen(command, cwd=folder, stdout=subprocess.PIPE, stderr=subprocess.PIPE, text=True) as process:
+            found = re.fullmatch(r"listening 127\.0\.0\.1:([0-9]+)\n", process.stdout.readline())
+            if found:
+                with socket.create_connection(("127.0.0.1", int(found.group(1))), SECONDS) as connection:
+                    connection.sendall(first + b"Q\n")
+                    connection.makefile("rb").read()
+            out, errors = process.communicate(timeout=SECONDS)
+        if process.returncode or errors or not out.startswith("S "):
+            yield f"serve answers {process.returncode}, {out!r}, {errors!r}"
+    for word, wanted in (("replay", "S 2 2 0 0 open\n"), ("show", "1 1001 1 E a OK\n")):
+        done = subprocess.run([options.program, word, "link/j"], cwd=folder, capture_output=True, text=True, timeout=SECONDS)
+        if done.returncode or wanted not in done.stdout:
+            yield f"{word} answers {done.returncode}, {done.stdout!r}, {done.stderr!r}"
+
+
 def main():
     parser = argparse.ArgumentParser(description=__doc__.split("\n", 1)[0])
     parser.add_argument("--program", default=PROGRAM)
@@ -232,7 +254,7 @@ def main():
     options = parser.parse_args()
     options.program = os.path.abspath(options.program)
     passed = failed = 0
-    for test in (come_and_go, come_back):
+    for test in (come_and_go, come_back, linked_folder):
         with tempfile.TemporaryDirectory(prefix="service-") as folder:
             write_script(folder)
             problems = list(test(options, folder))

@@ -13,7 +13,7 @@ round the journal is read, and it is checked that
 - the last line is the summary of the history, the status tells whether a report was rejected, and `replay` agrees.
 
 With --kill the server is killed (signal 9) at a random moment of each round, and the next round goes on with the journal; a new one is
-begun after ten. Then each answered report has to be in the journal, the entries of the round before are its beginning, of each
+begun after five, before a history is full. Then each answered report has to be in the journal, the entries of the round before are its beginning, of each
 connection that waits for its replies one entry at most is without an answer, and `replay` tells the summary.
 
 The last line is `N passed, M failed`, over the rounds. The journal is in a folder in memory where there is one (--folder says another).
@@ -37,7 +37,7 @@ SCRIPT = "channel a, b, c\nP = a -> Q [] c -> P\nQ = b -> P [] c -> Q\n"
 NEXT = {"P": {"a": "Q", "c": "P"}, "Q": {"b": "P", "c": "Q"}}
 NAMES = ["a", "b", "c", "_tick"]
 AHEAD = 200
-ROUNDS_OF_A_JOURNAL = 10
+ROUNDS_OF_A_JOURNAL = 5
 
 
 def a_line(rng):

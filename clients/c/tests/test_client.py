@@ -4,6 +4,7 @@ Run by `python3 -m unittest discover -s clients/c/tests`. The variable CC names 
 the program; without a program those tests are skipped. Where the compiler has them, its checks of memory are on.
 """
 import os
+import re
 import shutil
 import subprocess
 import sys
@@ -258,6 +259,24 @@ class Installed(unittest.TestCase):
         self.assertEqual((done.stdout, done.returncode), (b"a: accepted, report 1\nb: accepted, report 2\nnext: a\n", 0))
         self.run_well(["make", "-s", "-C", copy, "uninstall", "PREFIX=/usr", "DESTDIR=" + target])
         self.assertEqual([names for _, _, names in os.walk(target) if names], [])
+
+    def test_the_tests_are_run_by_make(self):
+        words = ["make", "-s", "-C", CLIENT, "check", "CC=" + COMPILER, "PYTHON=" + sys.executable, "TESTS=Names.test_the_longest_line"]
+        done = subprocess.run(words, stdout=subprocess.PIPE, stderr=subprocess.STDOUT, timeout=120)
+        self.assertEqual((b"Ran 1 test" in done.stdout, done.returncode), (True, 0), done.stdout)
+
+    def test_the_version(self):
+        copy = os.path.join(FOLDER.name, "version")
+        shutil.copytree(CLIENT, copy)
+        with open(os.path.join(copy, "cspwatch_client.h"), encoding="ascii") as file:
+            version = re.search('^#define CSPWATCH_CLIENT_VERSION "(.*)"$', file.read(), re.MULTILINE)[1]
+        self.run_well(["make", "-s", "-C", copy, "cspwatch_client.pc", "PREFIX=/prefix"])
+        with open(os.path.join(copy, "cspwatch_client.pc"), encoding="ascii") as file:
+            text = file.read()
+        self.assertIn("\nVersion: %s\n" % version, text)
+        self.assertIn("libdir=/prefix/lib\n", text)
+        self.run_well(["make", "-s", "-C", copy, "clean"])
+        self.assertFalse(os.path.exists(os.path.join(copy, "cspwatch_client.pc")))
 
     def flags(self, target):
         """What pkg-config says of the installed library; where there is none, what its file has."""

@@ -4,6 +4,7 @@ import os
 import sys
 import threading
 import unittest
+from typing import Any
 
 HERE = os.path.dirname(os.path.abspath(__file__))
 sys.path[:0] = [os.path.dirname(HERE), os.path.dirname(os.path.dirname(HERE))]
@@ -17,12 +18,17 @@ BYE = (b"Q", b"BYE\n")
 class Talk(unittest.TestCase):
     """A test whose client talks with a stand-in."""
 
+    kind: Any = Client
+    """What makes a client that is under test."""
+    patient: Any = ReconnectingClient
+    """The same of one that comes back."""
+
     def talk(self, *steps):
         """A client of a server that plays this conversation, of which all has to be played."""
         server = StandIn(list(steps))
         self.entered(server)
         self.addCleanup(lambda: self.assertEqual(server.troubles, []))
-        client = Client(server.address, timeout=SECONDS)
+        client = self.kind(server.address, timeout=SECONDS)
         self.addCleanup(client.close)
         return client
 
@@ -121,7 +127,7 @@ class Faults(Talk):
         for begun in (b"", b"OK "):
             server = StandIn([(b"E a", begun), HOLD])
             self.entered(server)
-            client = Client(server.address, timeout=0.1)
+            client = self.kind(server.address, timeout=0.1)
             with self.assertRaises(NoReply):
                 client.event("a")
             self.assertTrue(client.closed)
@@ -185,7 +191,7 @@ class Ends(Talk):
     def test_the_block_ends_the_connection(self):
         server = StandIn([(b"E a", b"OK 1\n"), BYE])
         with server:
-            with Client(server.address) as client:
+            with self.kind(server.address) as client:
                 self.assertFalse(client.closed)
                 self.assertTrue(client.event("a"))
             self.assertTrue(client.closed)
@@ -196,7 +202,7 @@ class Ends(Talk):
         server = StandIn([BYE])
         with server:
             with self.assertRaises(KeyError):
-                with Client(server.address):
+                with self.kind(server.address):
                     raise KeyError
         self.assertEqual(server.troubles, [])
 
@@ -210,14 +216,14 @@ class Ends(Talk):
         server = StandIn([BYE], [BYE])
         host, port = server.address.split(":")
         with server:
-            Client((host, int(port))).close()
-            Client("localhost:" + port, timeout=SECONDS).close()
+            self.kind((host, int(port))).close()
+            self.kind("localhost:" + port, timeout=SECONDS).close()
         self.assertEqual(server.troubles, [])
         for text in ("127.0.0.1", "127.0.0.1:", ":80", "127.0.0.1:x", "", "4050"):
             with self.assertRaises(ValueError):
-                Client(text)
+                self.kind(text)
         with self.assertRaises(OSError):
-            Client(server.address, timeout=SECONDS)
+            self.kind(server.address, timeout=SECONDS)
 
     def test_over_files(self):
         written = io.BytesIO()
@@ -232,7 +238,7 @@ class Ends(Talk):
 class Seats(Talk):
     def test_a_seat_by_number(self):
         server = self.started([(b"I 3", b"I 3 7\n"), (b"E a", b"OK 12\n"), (b"E d", b"ERR 11 event\n"), (b"S", b"S 12 12 0 0 open\n"), (b"R", b"NO 13\n"), BYE])
-        with Client(server.address, timeout=SECONDS, seat=3) as client:
+        with self.kind(server.address, timeout=SECONDS, seat=3) as client:
             self.assertEqual(client.judged, 7)
             self.assertTrue(client.event("a"))
             self.assertEqual(client.judged, 8)
@@ -254,7 +260,7 @@ class Seats(Talk):
         for code in (10, 22, 27, 31, 40):
             server = self.started([(b"I 1000", b"ERR %d word\n" % code), HOLD])
             with self.assertRaises(Fault) as caught:
-                Client(server.address, timeout=SECONDS, seat=1000)
+                self.kind(server.address, timeout=SECONDS, seat=1000)
             self.assertEqual(caught.exception.code, code)
         self.assertEqual(FaultCode.TAKEN, 27)
 
@@ -263,18 +269,18 @@ class Seats(Talk):
             with self.subTest(reply=reply):
                 server = self.started([(b"I 3", reply + b"\n"), HOLD])
                 with self.assertRaises(BadReply):
-                    Client(server.address, timeout=SECONDS, seat=3)
+                    self.kind(server.address, timeout=SECONDS, seat=3)
 
     def test_numbers_that_are_no_seat(self):
         for seat in (0, 1001, -1):
-            for kind in (Client, ReconnectingClient):
+            for kind in (self.kind, self.patient):
                 with self.assertRaises(ValueError):
                     kind("127.0.0.1:1", seat=seat)
 
 
 class ComingBack(Talk):
     def client(self, server, **more):
-        client = ReconnectingClient(server.address, 3, timeout=SECONDS, **more)
+        client = self.patient(server.address, 3, timeout=SECONDS, **more)
         self.addCleanup(client.close)
         return client
 
@@ -348,7 +354,7 @@ class ComingBack(Talk):
                 client.event("a")
         self.assertEqual((client.judged, client.closed), (4, True))
         with self.assertRaises(OSError):
-            ReconnectingClient(server.address, 3, patience=0.05)
+            self.patient(server.address, 3, patience=0.05)
 
     def test_what_does_not_pass(self):
         for code in (10, 31):

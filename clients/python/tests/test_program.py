@@ -2,8 +2,10 @@
 
 Without a program these tests are skipped, and those of a server where the program has no command `serve`.
 """
+import asyncio
 import doctest
 import os
+import random
 import re
 import subprocess
 import sys
@@ -12,9 +14,10 @@ import threading
 import unittest
 
 HERE = os.path.dirname(os.path.abspath(__file__))
-sys.path[:0] = [os.path.dirname(HERE), os.path.dirname(os.path.dirname(HERE))]
+sys.path[:0] = [HERE, os.path.dirname(HERE), os.path.dirname(os.path.dirname(HERE))]
 
-from cspwatch_client import Checker, Client, Fault, FaultCode, ReconnectingClient, Server, StartFailed, Status, Verdict  # noqa: E402
+from blocking import Blocking, Patient  # noqa: E402
+from cspwatch_client import AsyncClient, Checker, Client, Fault, FaultCode, ReconnectingClient, Server, StartFailed, Status, Verdict, VerdictLost  # noqa: E402
 from stand_in import SECONDS, CheckServer, has_serve, has_services, program  # noqa: E402
 
 PROGRAM = program()
@@ -117,6 +120,22 @@ class Serves(WithScript):
         self.assertEqual(outcome.summary, Status(5, 2, 1, 2, closed=False))
         self.assertEqual(self.replay(), ("S 5 2 1 2 open\n", 1))
 
+    def test_session_by_asyncio(self):
+        server = self.server()
+        with Blocking(server.address, SECONDS) as client:
+            self.session(client)
+        self.assertEqual(server.wait(SECONDS).summary, Status(5, 2, 1, 2, closed=False))
+
+    def test_reports_that_are_sent_ahead(self):
+        async def report(address):
+            async with await AsyncClient.connect(address, SECONDS) as client:
+                return await asyncio.gather(*(client.event("ab"[number % 2]) for number in range(3000)), client.next())
+
+        server = self.server()
+        *verdicts, following = asyncio.run(report(server.address))
+        self.assertEqual((verdicts, following), ([Verdict(True, number + 1) for number in range(3000)], ("a",)))
+        self.assertEqual(server.wait(SECONDS).summary, Status(3000, 3000, 0, 0, closed=False))
+
     def test_two_clients_and_a_later_run(self):
         server = self.server(connections=2)
         with server.client(SECONDS) as first:
@@ -201,16 +220,44 @@ class Services(WithScript):
         outcome = server.wait(SECONDS)
         self.assertEqual((outcome.exit_status, outcome.errors), (0, ""))
 
+    def again(self, server):
+        """The server killed, and started again at the same address."""
+        server.stop()
+        return Server(self.spec, "P", self.journal, connections=None, program=PROGRAM, listen=server.address)
+
     def test_a_server_that_is_started_again(self):
-        server = self.service()
-        with ReconnectingClient(server.address, seat=3, timeout=SECONDS) as client:
-            self.assertEqual(client.event("a"), Verdict(True, 1))
-            server.stop()
-            server = Server(self.spec, "P", self.journal, connections=None, program=PROGRAM, listen=server.address)
-            self.assertEqual(client.event("a"), Verdict(False, 2))
-            self.assertEqual(client.judged, 2)
-        outcome = server.wait(SECONDS)
-        self.assertEqual((outcome.exit_status, outcome.summary), (1, Status(2, 1, 0, 1, closed=False)))
+        for kind in (ReconnectingClient, Patient):
+            self.journal = os.path.join(self.folder, kind.__name__)
+            server = self.service()
+            with kind(server.address, seat=3, timeout=SECONDS) as client:
+                self.assertEqual(client.event("a"), Verdict(True, 1))
+                server = self.again(server)
+                self.assertEqual(client.event("a"), Verdict(False, 2))
+                self.assertEqual(client.judged, 2)
+            outcome = server.wait(SECONDS)
+            self.assertEqual((outcome.exit_status, outcome.summary), (1, Status(2, 1, 0, 1, closed=False)))
+
+    def test_reports_that_are_sent_ahead_of_a_server_that_is_killed(self):
+        self.spec = self.file("c.csp", "channel c : {0..49}\nP = c?x -> P\n")
+        names = ["c.%d" % (number % 50) for number in range(50 + 6 * 2000)]
+        server, told = asyncio.run(self.reported(self.service(), names))
+        self.assertEqual((server.wait(SECONDS).exit_status, {type(one) for one in told} - {VerdictLost}), (0, {Verdict}))
+        shown = subprocess.run([PROGRAM, "show", self.journal], stdout=subprocess.PIPE, timeout=SECONDS, check=True).stdout.decode().splitlines()
+        self.assertEqual(shown[:-1], ["%d 3 %d E %s OK" % (number, number, name) for number, name in enumerate(names, 1)])
+        self.assertEqual([one.place for one in told if isinstance(one, Verdict)], [at for at, one in enumerate(told, 1) if isinstance(one, Verdict)])
+
+    async def reported(self, server, names):
+        """What became of these reports, while the server is killed amid each two thousand of them; and the last server."""
+        rng, told = random.Random(1), []
+        async with await AsyncClient.connect(server.address, SECONDS, seat=3, patience=SECONDS) as client:
+            told += await asyncio.gather(*map(client.event, names[:50]))
+            while len(told) < len(names):
+                calls = asyncio.gather(*map(client.event, names[len(told) : len(told) + 2000]), return_exceptions=True)
+                await asyncio.sleep(rng.uniform(0, 0.1))
+                server = self.again(server)
+                told += await calls
+            self.assertEqual(client.judged, len(names))
+        return server, told
 
 
 @unittest.skipUnless(PROGRAM, "there is no program")

@@ -7,7 +7,7 @@ use Rattle.term.specs.Sizes.{depth}
 use Rattle.term.specs.Specs.{Specified, IsClosed, IsProcessOf}
 use Rattle.term.specs.Limits.{Terms, Distinct, Level, NoLimit, most_states}
 use Rattle.term.proofs.Closed.{processes-stay}
-use Rattle.step.specs.declared.targets.Label.TheVariants as label
+use Rattle.targets.specs.declared.labels.Label.TheVariants as label
 use Rattle.after.specs.declared.fault.AfterFault.{AfterFault}
 use Rattle.after.specs.Belonging.{IsSetOf, MeetsLimit}
 use Rattle.targets.specs.Cuts.{CutOf}

@@ -10,8 +10,8 @@ use Rattle.term.specs.Steps.{Refuses, Run, Ticks, done, hid, end}
 use Rattle.term.specs.Specs.{Specified}
 use Rattle.term.specs.Limits.{Reach, Advance, Opening, NoLimit}
 use Rattle.term.proofs.Reached.{Is, run-cut, run-then, reached-event, reached-more, reached-refuses, reached-tick}
-use Rattle.step.specs.declared.targets.Label.TheVariants as label
-use Rattle.step.specs.Labels.{Step}
+use Rattle.targets.specs.declared.labels.Label.TheVariants as label
+use Rattle.targets.specs.Labels.{Step}
 use Rattle.after.specs.declared.fault.AfterFault.{AfterFault}
 use Rattle.after.specs.Belonging.{Belongs, MeetsLimit}
 use Rattle.after.specs.Closing.{Among, TargetOf, IsClosure, Takes}

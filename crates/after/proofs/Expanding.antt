@@ -1,20 +1,17 @@
 -- One term's targets more.
-use Rattle.std.proofs.Common.{◌≡◌, ℕ, zero, suc, ◌+◌, ◌<◌, ◌≤◌, ◌⊎◌, inl, inr, List, [], ◌∷◌, ◌++◌, length, map, take, drop, get_or, refl, sym, ap, ◌∙◌, subst, arith}
+use Rattle.std.proofs.Common.{◌≡◌, ℕ, zero, suc, ◌+◌, ◌<◌, ◌≤◌, ◌⊎◌, inl, inr, List, [], ◌∷◌, ◌++◌, length, take, drop, get_or, refl, sym, ap, ◌∙◌, subst, arith}
 use Rattle.std.proofs.lemmas.List.{append_assoc, append-nil, take_all}
-use Rattle.term.specs.declared.terms.Term.{Term}
 use Rattle.term.specs.Traces.{In, here, there}
-use Rattle.term.specs.Proc.{Proc, proc, stop}
-use Rattle.term.specs.Limits.{Terms, Distinct, HasDeep, HasMany, IsStates, most_states}
-use Rattle.step.specs.declared.targets.Label.{Label}
-use Rattle.step.specs.declared.targets.Label.TheVariants as label
-use Rattle.step.specs.Labels.{Step}
-use Rattle.step.proofs.ActList.{append-In, In-append_l, In-append_r}
-use Rattle.alphabet.specs.declared.events.Event.{Event}
+use Rattle.term.specs.Proc.{Proc, stop}
+use Rattle.term.specs.Limits.{Terms, Distinct, HasDeep, HasMany, most_states}
+use Rattle.targets.specs.declared.labels.Label.{Label}
+use Rattle.targets.specs.declared.labels.Label.TheVariants as label
+use Rattle.targets.specs.Labels.{Step}
+use Rattle.targets.proofs.Members.{append-In, In-append_l, In-append_r}
 use Rattle.targets.specs.Cuts.{CutOf}
-use Rattle.after.specs.Closing.{AllShallow, TargetOf, WithHidden, Grows, HasPut}
-use Rattle.after.proofs.Keeping.{event-depth}
+use Rattle.after.specs.Closing.{TargetOf, WithHidden, Grows, HasPut}
 use Rattle.targets.proofs.Cutting.{cut-to, no-longer, only as one-In}
-use Rattle.after.proofs.Lists.{In-part, In-take, part-more, part-none, some-more}
+use Rattle.after.proofs.Lists.{In-part, part-more, part-none}
 use Rattle.after.proofs.Levels.{cut-all}
 
 below : (n d : ℕ) → (n < d) ⊎ (d ≤ n)
@@ -124,24 +121,6 @@ module _ (B : ℕ → Proc) where
       wider : (Q : Proc) → WithHidden B old (drop from (take to old)) Q → WithHidden B old (drop from old) Q
       wider Q (inl i) = inl i
       wider Q (inr (P, i, d)) = inr (P, In-part from to old P i, d)
-
-  -- ---- the targets of an event
-  module _ {A : Type 0} (xs : List (Term A)) (i : ℕ) (t : Term A) (h : i < length xs) (e : t ≡ get_or xs i t) (l : Label) (now : List Proc)
-      (c : CutOf (TargetOf B (map proc (take i xs)) l) most_states now) (few : length now ≤ most_states) (found new : List Proc)
-      (only : (Q : Proc) → In Q found → Step B (proc t) l Q) (all : length new ≤ most_states → (Q : Proc) → Step B (proc t) l Q → In Q found) (p : HasPut found now new) where
-    pub first-cut : CutOf (TargetOf B (map proc (take (i + 1) xs)) l) most_states new
-    first-cut =
-        cut-to (λ Q. TargetOf B (map proc (take i xs)) l Q ⊎ Step B (proc t) l Q) (TargetOf B (map proc (take (i + 1) xs)) l) most_states new
-        (λ Q. ((some-more xs i t h e (λ P. Step B P l Q)).1, (some-more xs i t h e (λ P. Step B P l Q)).0))
-        (cut-put (TargetOf B (map proc (take i xs)) l) (Step B (proc t) l) most_states found now new c few only all p)
-
-  pub first-many : {A : Type 0} (xs : List (Term A)) (i : ℕ) (x : Event) (now : List Proc) → AllShallow (map proc xs) → CutOf (TargetOf B (map proc (take i xs)) (label.Event x)) most_states now → most_states < length now → IsStates B (TargetOf B (map proc xs) (label.Event x))
-  first-many xs i x now shallow c h = (
-    0,
-    (λ (Q, (P, j, d), l). let k = event-depth B P Q x d in let m = shallow P j in omega arith),
-    (now, c.once, (λ Q j. let (P, k, d) = c.only Q j in (P, In-take xs i P k, d)), h),
-    (λ j k. absurd (omega arith)),
-  )
 
 -- what was told of the targets of one process holds of what was put, where that is short enough
 pub cut-told : (S : Terms) (most : ℕ) (found old new : List Proc) → CutOf S most found → HasPut found old new → length new ≤ most → (Q : Proc) → S Q → In Q found

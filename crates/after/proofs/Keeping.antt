@@ -1,43 +1,17 @@
 -- What steps keep: a target lies in the specification, and an event leads to no greater depth.
-use Rattle.std.proofs.Common.{ℕ, ◌<◌, ◌≤◌, length, subst, sym, arith}
+use Rattle.std.proofs.Common.{ℕ, ◌<◌, ◌≤◌, length, subst, sym}
 use Rattle.std.proofs.lemmas.List.Elements.{All-get_or}
 use Rattle.alphabet.specs.declared.events.Event.{Event}
 use Rattle.alphabet.specs.declared.events.Event.TheVariants.{Tick as tick, Of as ev}
 use Rattle.alphabet.specs.Channels.{event_count}
-use Rattle.term.specs.Proc.{Proc, bodies_of, stop, skip, prefix, ext, int, seq, par, hide, ren, intr, name}
-use Rattle.term.specs.Steps.{Act, a-prefix, a-ext-l, a-ext-r, a-seq, a-par-l, a-par-r, a-par-b, a-hide, a-ren, a-intr-l, a-intr-r}
+use Rattle.term.specs.Proc.{Proc, bodies_of, stop}
 use Rattle.term.specs.Sizes.{depth}
 use Rattle.term.specs.Specs.{Specified, LiesIn, IsProcessOf, IsClosed}
 use Rattle.term.proofs.Closed.{act-lies, hid-lies}
-use Rattle.step.specs.declared.targets.Label.{Label}
-use Rattle.step.specs.declared.targets.Label.TheVariants as label
-use Rattle.step.specs.Labels.{Step}
-
-pub act-depth : {P Q : Proc} {a : ℕ} → Act P a Q → depth Q ≤ depth P
-act-depth a-prefix = omega arith
-act-depth (a-ext-l d) = let k = act-depth d in omega arith
-act-depth (a-ext-r d) = let k = act-depth d in omega arith
-act-depth (a-seq d) = let k = act-depth d in omega arith
-act-depth (a-par-l n d) = let k = act-depth d in omega arith
-act-depth (a-par-r n d) = let k = act-depth d in omega arith
-act-depth (a-par-b y d e) = let k = act-depth d in let l = act-depth e in omega arith
-act-depth (a-hide n d) = let k = act-depth d in omega arith
-act-depth (a-ren i d) = let k = act-depth d in omega arith
-act-depth (a-intr-l d) = let k = act-depth d in omega arith
-act-depth (a-intr-r d) = let k = act-depth d in omega arith
-
-depth-positive : (P : Proc) → 1 ≤ depth P
-depth-positive stop = omega arith
-depth-positive skip = omega arith
-depth-positive (prefix a P) = omega arith
-depth-positive (ext P Q) = omega arith
-depth-positive (int P Q) = omega arith
-depth-positive (seq P Q) = omega arith
-depth-positive (par A P Q) = omega arith
-depth-positive (hide A P) = omega arith
-depth-positive (ren R P) = omega arith
-depth-positive (intr P Q) = omega arith
-depth-positive (name k) = omega arith
+use Rattle.targets.specs.declared.labels.Label.{Label}
+use Rattle.targets.specs.declared.labels.Label.TheVariants as label
+use Rattle.targets.specs.Labels.{Step}
+use Rattle.targets.proofs.Depths.{act-depth, depth-positive}
 
 -- a step with an event, or with tick, leads to no greater depth
 pub event-depth : (B : ℕ → Proc) (P Q : Proc) (x : Event) → Step B P (label.Event x) Q → depth Q ≤ depth P

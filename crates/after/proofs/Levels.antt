@@ -7,8 +7,8 @@ use Rattle.term.specs.Steps.{Hid, Run, done, hid}
 use Rattle.term.specs.Sizes.{depth}
 use Rattle.term.specs.Limits.{Terms, Reach, Level, Distinct, HasDeep, IsWithin, deepest_state, most_states}
 use Rattle.term.proofs.Reached.{Is, closed-all, run-then}
-use Rattle.step.specs.declared.targets.Label.TheVariants as label
-use Rattle.step.proofs.ActList.{append-In, In-append_l, In-append_r}
+use Rattle.targets.specs.declared.labels.Label.TheVariants as label
+use Rattle.targets.proofs.Members.{append-In, In-append_l, In-append_r}
 use Rattle.after.specs.declared.fault.AfterFault.{AfterFault}
 use Rattle.after.specs.declared.fault.AfterFault.TheVariants.{Depth, States, Memory}
 use Rattle.after.specs.Belonging.{MeetsLimit}

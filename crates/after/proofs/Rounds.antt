@@ -6,7 +6,7 @@ use Rattle.std.proofs.Math.ListN.{drop_of_length-le}
 use Rattle.term.specs.Proc.{Proc, bodies_of}
 use Rattle.term.specs.Specs.{Specified, IsClosed}
 use Rattle.term.specs.Limits.{Terms, Distinct, most_states}
-use Rattle.step.specs.declared.targets.Label.TheVariants as label
+use Rattle.targets.specs.declared.labels.Label.TheVariants as label
 use Rattle.after.specs.declared.fault.AfterFault.{AfterFault}
 use Rattle.after.specs.Belonging.{MeetsLimit}
 use Rattle.after.specs.Closing.{Among, AllLie, Opens, Grows, IsStuck, IsClosure}

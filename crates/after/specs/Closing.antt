@@ -8,10 +8,10 @@ use Rattle.term.specs.Steps.{Ticks}
 use Rattle.term.specs.Sizes.{depth}
 use Rattle.term.specs.Specs.{Specified, IsProcessOf}
 use Rattle.term.specs.Limits.{Terms, Reach, Distinct, HasDeep, HasMany, NoLimit, deepest_state, most_states}
-use Rattle.step.specs.declared.targets.Label.{Label}
-use Rattle.step.specs.declared.targets.Label.TheVariants as label
-use Rattle.step.specs.Labels.{Step}
-use Rattle.step.specs.Offers.{Offers}
+use Rattle.targets.specs.declared.labels.Label.{Label}
+use Rattle.targets.specs.declared.labels.Label.TheVariants as label
+use Rattle.targets.specs.Labels.{Step}
+use Rattle.targets.specs.Offers.{Offers}
 use Rattle.targets.specs.Cuts.{CutOf}
 use Rattle.after.specs.declared.fault.AfterFault.{AfterFault}
 use Rattle.after.specs.declared.fault.AfterFault.TheVariants.{Depth, States, Memory}

@@ -13,13 +13,13 @@ use Rattle.session.specs.Monitors.{Stops}
 use Rattle.session.specs.AfterFault.TheVariants as limit
 use Rattle.session.specs.View.{IsOf, SessionView, entries}
 use Rattle.session.specs.Faults.{Explains, ExplainsReport}
-use Rattle.session.specs.declared.fault.Fault.{Fault as SessionFault}
-use Rattle.session.specs.declared.fault.Fault.TheVariants as session
-use Rattle.wire.specs.declared.answers.Receipt.{Receipt}
+use Rattle.session.specs.Faults.{Fault as SessionFault}
+use Rattle.answers.specs.declared.fault.Fault.TheVariants as session
+use Rattle.answers.specs.declared.receipt.Receipt.{Receipt}
 use Rattle.attending.specs.Courses.{Adds, IsLong, Leaves}
 use Rattle.term.specs.declared.names.Names.{Names}
 use Rattle.term.specs.declared.names.Names.TheVariants.{Steps, Bodies}
-use Rattle.attending.specs.Reported.{reported_as}
+use Rattle.answers.specs.Faults.{plain_of}
 use Rattle.attending.specs.Standing.{course_of}
 
 -- where nothing is offered, a report is judged after the history
@@ -48,7 +48,7 @@ long_of Bodies h number (inr full) le = omega (arith, full, le)
 
 pub refused : {D : Type 0} (old new : SessionView D) (seat number : ℕ) (r : Report) (fault : SessionFault) →
     (old.failed ≡ None → old.offered ≡ []) → seat ≡ 1 → number ≡ next_number (entries old) seat → new.history ≡ old.history → ExplainsReport old new seat number 0 r fault →
-    Leaves old.spec (course_of old.history old.failed) r (reported_as fault) (course_of new.history new.failed)
+    Leaves old.spec (course_of old.history old.failed) r (plain_of fault) (course_of new.history new.failed)
 refused old new seat number r session.Depth idle one turn same (e, left, now) = record {
   why = subst (λ (h : List Entry). Stops old.spec (events h) r limit.Depth) (all old (idle e.0.is_open)) e.1;
   same = same;
@@ -60,6 +60,8 @@ refused old new seat number r session.States idle one turn same (e, left, now) =
   closed = ap is_some now;
 }
 refused old new seat number r session.Seats idle one turn same (e, left, now) = absurd e
+refused old new seat number r session.Reader idle one turn same (e, left, now) = absurd e
+refused old new seat number r session.Taken idle one turn same (e, left, now) = absurd e
 refused old new seat number r session.History idle one turn same (e, left, now) = record {
   why =
       let is = all old (idle e.0) in

@@ -11,10 +11,10 @@ use Rattle.session.specs.Legal.{IsJudged}
 use Rattle.session.specs.Monitors.{Monitoring}
 use Rattle.wire.specs.Requests.{Asks}
 use Rattle.wire.specs.Replies.{Answers, tallied, TakesNoName, identified_as}
-use Rattle.wire.specs.declared.answers.Answer.{Answer}
-use Rattle.wire.specs.declared.answers.Answer.TheVariants as answered
-use Rattle.wire.specs.declared.answers.Fault.TheVariants.{Memory}
-use Rattle.wire.specs.declared.answers.Tally.{Tally}
+use Rattle.wire.specs.declared.answer.Answer.{Answer}
+use Rattle.wire.specs.declared.answer.Answer.TheVariants as answered
+use Rattle.answers.specs.declared.fault.Fault.TheVariants.{Memory}
+use Rattle.wire.specs.declared.answer.Tally.{Tally}
 use Rattle.wire.specs.declared.requests.Request.{Request}
 use Rattle.wire.specs.declared.requests.Request.TheVariants as asked
 use Rattle.attending.specs.Courses.{Course, Reports, Statuses, Nexts}

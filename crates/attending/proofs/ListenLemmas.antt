@@ -8,7 +8,7 @@ use Rattle.term.specs.Specs.{Specified}
 use Rattle.session.specs.Entry.{Entry}
 use Rattle.wire.specs.Requests.{Lacks}
 use Rattle.wire.specs.Talks.{joined, IsHeard, IsShort, Talk, Open, HasQuit, IsCutOff, Hears, Serves}
-use Rattle.wire.specs.declared.answers.Tally.{Tally}
+use Rattle.wire.specs.declared.answer.Tally.{Tally}
 use Rattle.wire.specs.declared.engine.End.{End}
 use Rattle.wire.specs.declared.engine.End.TheVariants.{Quit, Input, Line}
 use Rattle.wire.specs.declared.engine.WireError.{WireError}

@@ -7,9 +7,9 @@ use Rattle.term.specs.Specs.{Specified}
 use Rattle.session.specs.Entry.{Entry}
 use Rattle.session.specs.Entries.{events}
 use Rattle.wire.specs.Replies.{Answers, TakesNoName}
-use Rattle.wire.specs.declared.answers.Answer.{Answer}
-use Rattle.wire.specs.declared.answers.Answer.TheVariants as answered
-use Rattle.wire.specs.declared.answers.Receipt.{Receipt}
+use Rattle.wire.specs.declared.answer.Answer.{Answer}
+use Rattle.wire.specs.declared.answer.Answer.TheVariants as answered
+use Rattle.answers.specs.declared.receipt.Receipt.{Receipt}
 use Rattle.wire.specs.declared.requests.Request.{Request}
 use Rattle.wire.specs.declared.requests.Request.TheVariants as asked
 use Rattle.attending.specs.Courses.{Course, Reports, Statuses, Nexts, Adds}

@@ -14,10 +14,10 @@ use Rattle.session.specs.Monitors.{Stops}
 use Rattle.session.specs.Entry.{Entry}
 use Rattle.session.specs.Summary.{Summary}
 use Rattle.session.specs.Entries.{events, summary_of}
-use Rattle.wire.specs.declared.answers.Receipt.{Receipt}
-use Rattle.wire.specs.declared.answers.Status.{Status}
-use Rattle.wire.specs.declared.answers.Fault.{Fault}
-use Rattle.wire.specs.declared.answers.Fault.TheVariants.{Depth, States, Seats, History, Turn, Behind, Reader, Taken, Journal, Closed, Memory}
+use Rattle.answers.specs.declared.receipt.Receipt.{Receipt}
+use Rattle.answers.specs.declared.receipt.Status.{Status}
+use Rattle.wire.specs.Faults.{Fault}
+use Rattle.answers.specs.declared.fault.Fault.TheVariants.{Depth, States, Seats, History, Turn, Behind, Reader, Taken, Journal, Closed, Memory}
 
 -- The history so far, and whether a report was answered with a fault that closes the session.
 pub record Course : Type 0 where
@@ -50,8 +50,8 @@ abbrev pub IsWhy : Specified → List Entry → Report → Fault → Type 0
 IsWhy spec h report Depth = Stops spec (events h) report limit.Depth
 IsWhy spec h report States = Stops spec (events h) report limit.States
 IsWhy spec h report History = IsLong spec.names h
-IsWhy spec h report Journal = Unit {0}
-IsWhy spec h report Closed = Unit {0}
+IsWhy spec h report (Journal x) = Unit {0}
+IsWhy spec h report (Closed x) = Unit {0}
 IsWhy spec h report Memory = Unit {0}
 IsWhy spec h report Seats = ⊥
 IsWhy spec h report Turn = ⊥
@@ -61,8 +61,8 @@ IsWhy spec h report Taken = ⊥
 
 -- the faults that close the session, or that only a closed one has: 30 and 31
 abbrev pub closes : Fault → Bool
-closes Journal = true
-closes Closed = true
+closes (Journal x) = true
+closes (Closed x) = true
 closes _ = false
 
 -- the report wasn't judged, and the history stays

@@ -4,5 +4,4 @@ pub mod Standing
 pub mod Lines
 pub mod Attendances
 -- Steps of the program.
-pub mod Reported
 pub mod Preparing

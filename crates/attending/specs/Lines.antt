@@ -8,8 +8,8 @@ use Rattle.session.specs.Entry.{Entry}
 use Rattle.shown.specs.Reasons.{IsReason}
 use Rattle.wire.specs.Requests.{Asks}
 use Rattle.wire.specs.Replies.{Answers, answer_text, tallied, TakesNoName}
-use Rattle.wire.specs.declared.answers.Answer.{Answer}
-use Rattle.wire.specs.declared.answers.Answer.TheVariants as answered
+use Rattle.wire.specs.declared.answer.Answer.{Answer}
+use Rattle.wire.specs.declared.answer.Answer.TheVariants as answered
 use Rattle.wire.specs.declared.requests.Request.{Request}
 use Rattle.wire.specs.declared.requests.Request.TheVariants.{Judge, UnknownEvent}
 use Rattle.attending.specs.Courses.{Course, Reports, Statuses, Nexts}

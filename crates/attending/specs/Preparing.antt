@@ -8,9 +8,9 @@ use Rattle.session.specs.Entries.{events}
 use Rattle.session.specs.Monitors.{Monitoring}
 use Rattle.wire.specs.Requests.{Asks}
 use Rattle.wire.specs.Replies.{Answers, tallied, TakesNoName}
-use Rattle.wire.specs.declared.answers.Answer.{Answer}
-use Rattle.wire.specs.declared.answers.Answer.TheVariants.{Judged}
-use Rattle.wire.specs.declared.answers.Tally.{Tally}
+use Rattle.wire.specs.declared.answer.Answer.{Answer}
+use Rattle.wire.specs.declared.answer.Answer.TheVariants.{Judged}
+use Rattle.wire.specs.declared.answer.Tally.{Tally}
 use Rattle.wire.specs.declared.requests.Request.{Request}
 use Rattle.attending.specs.Courses.{Course, Reports, Statuses, Nexts}
 use Rattle.attending.specs.Standing.{Standing, course_of}

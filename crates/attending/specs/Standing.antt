@@ -1,7 +1,7 @@
 -- Where a check line by line stands.
 use Rattle.std.specs.Prelude.{ℕ, List, Bool, true, false, Option, is_some}
 use Rattle.session.specs.Entry.{Entry}
-use Rattle.wire.specs.declared.answers.Tally.{Tally}
+use Rattle.wire.specs.declared.answer.Tally.{Tally}
 use Rattle.attending.specs.Courses.{Course, begun}
 
 -- The course, the tally of the answers, how many lines were answered, whether all that is wanted on the errors was written there, and what

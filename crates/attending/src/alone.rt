@@ -10,13 +10,12 @@ ghost use Rattle.wire.specs.Replies.{Answers, IsAnswerBelow, TakesNoName};
 ghost use Rattle.attending.specs.Courses.{Reports, Statuses, Nexts, status_of};
 ghost use Rattle.attending.specs.Standing.{course_of};
 ghost use Rattle.attending.specs.Preparing.{HasLast};
-ghost use Rattle.attending.specs.Reported.{reported_as};
 
 use alphabet::Report;
 use disk::Disk;
 use session::{SeatNumber, Session};
 use std::alloc::Allocator;
-use wire::{Answer, Fault, Receipt, Request, Status, Summary};
+use wire::{Answer, Fault, Receipt, Request, Status};
 
 /// A session, and its only seat.
 #[derive(Drop)]
@@ -58,23 +57,6 @@ impl<D: Disk, A: Allocator> Alone<D, A> {
     }
 }
 
-/// A session's fault, as the line protocol reports it.
-fn reported(fault: session::Fault) -> Fault
-    ensures { result ≡ reported_as fault }
-{
-    match fault {
-        session::Fault::Depth => Fault::Depth,
-        session::Fault::States => Fault::States,
-        session::Fault::Seats => Fault::Seats,
-        session::Fault::History => Fault::History,
-        session::Fault::Turn => Fault::Turn,
-        session::Fault::Behind => Fault::Behind,
-        session::Fault::Journal(_) => Fault::Journal,
-        session::Fault::Closed(_) => Fault::Closed,
-        session::Fault::Memory => Fault::Memory,
-    }
-}
-
 /// Judges the report as the next one of the seat.
 fn judge<D: Disk, A: Allocator + Copy>(
     alone: &mut Alone<D, A>,
@@ -93,7 +75,7 @@ fn judge<D: Disk, A: Allocator + Copy>(
             verdict: entry.verdict,
             place: alone.session.len() as u64,
         }),
-        Err(fault) => Err(reported(fault)),
+        Err(fault) => Err(fault.plain()),
     }
 }
 
@@ -101,14 +83,8 @@ fn judge<D: Disk, A: Allocator + Copy>(
 fn status<D: Disk, A: Allocator>(session: &Session<D, A>) -> Status
     ensures { result ≡ status_of session.now.history (course_of session.now.history session.now.failed).closed }
 {
-    let summary = session.summary();
     Status {
-        summary: Summary {
-            judged: summary.judged,
-            events: summary.events,
-            refusals: summary.refusals,
-            rejected: summary.rejected,
-        },
+        summary: session.summary(),
         closed: session.is_closed(),
     }
 }

@@ -1,5 +1,5 @@
 -- What the board shows.
-use Rattle.history.specs.declared.entry.Summary.{Summary}
+use Rattle.answers.specs.declared.receipt.Summary.{Summary}
 
 -- after an operation: its counts
 abbrev pub shows : Summary → Summary → Summary

@@ -6,10 +6,10 @@ use Rattle.term.specs.Traces.{Pairs as Relation}
 use Rattle.term.specs.Limits.{Terms, HasMany, most_states}
 use Rattle.term.specs.Proc.{Proc, bodies_of, ext, seq, par, hide, ren, intr}
 use Rattle.term.specs.Steps.{Act, a-ext-l, a-ext-r, a-seq, a-par-l, a-par-r, a-par-b, a-hide, a-intr-l, a-intr-r, Hid, h-ext-l, h-ext-r, h-seq, h-par-l, h-par-r, h-hide, h-ren, h-intr-l, h-intr-r}
-use Rattle.step.specs.declared.targets.Label.{Label}
-use Rattle.step.specs.Labels.{Step}
-use Rattle.step.specs.Offers.{offered}
-use Rattle.step.proofs.Offered.{offered-Offers}
+use Rattle.targets.specs.declared.labels.Label.{Label}
+use Rattle.targets.specs.Labels.{Step}
+use Rattle.targets.specs.Offers.{offered}
+use Rattle.targets.proofs.Offered.{offered-Offers}
 use Rattle.targets.specs.Cuts.{CutOf}
 use Rattle.targets.proofs.Cutting.{Image, cut-map}
 use Rattle.targets.proofs.Inverting.{par-act}

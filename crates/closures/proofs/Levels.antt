@@ -7,11 +7,11 @@ use Rattle.term.specs.Traces.{In}
 use Rattle.term.specs.Proc.{Proc, stop, bodies_of}
 use Rattle.term.specs.Specs.{Specified}
 use Rattle.term.specs.Limits.{IsStates, HasDeep, most_states}
-use Rattle.step.specs.declared.targets.Label.{Label}
-use Rattle.step.specs.declared.targets.Label.TheVariants as label
-use Rattle.step.specs.HiddenSets.{SetsBelow}
-use Rattle.step.specs.Labels.{Step}
-use Rattle.step.proofs.ActList.{In-append_l}
+use Rattle.targets.specs.declared.labels.Label.{Label}
+use Rattle.targets.specs.declared.labels.Label.TheVariants as label
+use Rattle.targets.specs.HiddenSets.{SetsBelow}
+use Rattle.targets.specs.Labels.{Step}
+use Rattle.targets.proofs.Members.{In-append_l}
 use Rattle.targets.specs.Cuts.{CutOf}
 use Rattle.targets.proofs.Cutting.{cut-to}
 use Rattle.nodes.specs.Shapes.{at}
@@ -22,7 +22,7 @@ use Rattle.after.proofs.Keeping.{event-depth}
 use Rattle.after.proofs.Lists.{In-at}
 use Rattle.after.proofs.Expanding.{IsOnTheWay, cut-put, cut-told, target-more, target-less, way-cut, way-goes-on}
 use Rattle.closures.specs.Targets.{HasPutTargets}
-use Rattle.step.proofs.Lying.{lies-small}
+use Rattle.targets.proofs.Lying.{lies-small}
 
 pub In-taken : (ps : List Proc) (ns : List ℕ) (n : ℕ) (Q : Proc) → In Q (look ps (take n ns)) → In Q (look ps ns)
 In-taken ps ns n Q i =

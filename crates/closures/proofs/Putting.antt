@@ -6,7 +6,7 @@ use Rattle.std.specs.List.{list_any}
 use Rattle.indexmap.specs.IndexSet.{insert_key}
 use Rattle.term.specs.Traces.{In}
 use Rattle.term.specs.Proc.{Proc, stop}
-use Rattle.step.proofs.ActList.{append-In, In-append_r}
+use Rattle.targets.proofs.Members.{append-In, In-append_r}
 use Rattle.targets.proofs.Cutting.{only as one-In, distinct-push}
 use Rattle.nodes.specs.Shapes.{at}
 use Rattle.nodes.specs.Tables.{NoneTwice}

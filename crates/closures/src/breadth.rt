@@ -5,7 +5,7 @@ ghost use Rattle.std.specs.Prelude.{◌≡◌, ◌⊎◌, ◌<◌, IfOk, length,
 ghost use Rattle.alphabet.specs.declared.events.Event.TheVariants.{Of as ev};
 ghost use Rattle.term.specs.Limits.{HasMany};
 ghost use Rattle.term.specs.Proc.{bodies_of};
-ghost use Rattle.step.specs.declared.targets.Label.TheVariants as label;
+ghost use Rattle.targets.specs.declared.labels.Label.TheVariants as label;
 ghost use Rattle.nodes.specs.Shapes.{at};
 ghost use Rattle.transitions.specs.Numbered.{HidesEvents};
 ghost use Rattle.keeping.specs.Kept.{StaysKept};
@@ -16,7 +16,7 @@ use alphabet::Event;
 use keeping::States;
 use nodes::Node;
 use std::alloc::{AllocError, Allocator};
-use step::Label;
+use targets::Label;
 use transitions::MOST_STATES;
 
 /// The depth up to which the targets are made at once. So many levels of too many targets take 40 MB.

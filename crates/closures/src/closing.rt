@@ -5,7 +5,7 @@ ghost use Rattle.alphabet.specs.Channels.{event_count};
 ghost use Rattle.term.specs.Limits.{Distinct, HasDeep, most_states};
 ghost use Rattle.term.specs.Proc.{bodies_of};
 ghost use Rattle.term.specs.Specs.{IsClosed};
-ghost use Rattle.step.specs.declared.targets.Label.TheVariants as label;
+ghost use Rattle.targets.specs.declared.labels.Label.TheVariants as label;
 ghost use Rattle.targets.specs.Cuts.{CutOf};
 ghost use Rattle.nodes.specs.Looks.{look, AllBelow};
 ghost use Rattle.keeping.specs.Kept.{StaysKept};
@@ -17,7 +17,7 @@ use after::AfterFault;
 use alphabet::Event;
 use keeping::States;
 use std::alloc::{AllocError, Allocator};
-use step::Label;
+use targets::Label;
 use term::Spec;
 use transitions::MOST_STATES;
 

@@ -1,2 +1,3 @@
 -- Lemmas.
+mod Told
 mod Folders

@@ -3,7 +3,7 @@ use Rattle.std.specs.Prelude.{◌≡◌, ℕ, List, Option, Result, false}
 use Rattle.std.specs.Io.KnownBytes.{Appends}
 use Rattle.term.specs.Specs.{Specified}
 use Rattle.program.specs.Entry.{Entry}
-use Rattle.wire.specs.declared.answers.Tally.{Tally}
+use Rattle.wire.specs.declared.answer.Tally.{Tally}
 use Rattle.wire.specs.declared.engine.End.{End}
 use Rattle.wire.specs.declared.engine.WireError.{WireError}
 use Rattle.wire.specs.Replies.{status_text}
@@ -18,8 +18,8 @@ use Rattle.program.specs.Ending.{Ending}
 use Rattle.program.specs.Options.{Options}
 use Rattle.program.specs.Prints.{IsPrinted}
 use Rattle.program.specs.Showings.{Displays}
-use Rattle.program.specs.declared.exit.Exit.{Exit}
-use Rattle.program.specs.declared.exit.Exit.TheVariants.{BadScript, FileFailed, Limit}
+use Rattle.answers.specs.declared.exit.Exit.{Exit}
+use Rattle.answers.specs.declared.exit.Exit.TheVariants.{BadScript, FileFailed, Limit}
 
 -- the statuses where a script's file can't be read, the script is refused, or no session of it opens
 abbrev pub IsRefusal : Exit → Type 0

@@ -10,7 +10,7 @@ use crate::scripts::{Script, text_of};
 use crate::telling::tell_fault;
 use disk::Disk;
 use file_disk::NoFile;
-use program::{Attended, Ending, Exit, Manner, SessionError, attend};
+use program::{Attended, Ending, Exit, Manner, SessionError, attend, exit_of_attended};
 use std::alloc::Global;
 use std::io::{IsTerminal, Write};
 use std::rt::Files;
@@ -60,7 +60,7 @@ fn ended_of<D: Disk + Drop>(attended: Attended<D, Global>) -> Ended
 {
     let ended = Ended {
         end: attended.end,
-        exit: Exit::of_attended(attended.end, attended.tally),
+        exit: exit_of_attended(attended.end, attended.tally),
         limit: attended.tally.limit,
         whole: attended.whole,
     };

@@ -1,5 +1,8 @@
 //! Where the connections of a server are taken.
 
+ghost use Rattle.std.specs.Prelude.{◌≡◌, IfErr};
+ghost use Rattle.answers.specs.declared.exit.Exit.TheVariants.{FileFailed};
+
 use crate::journal_files::keep_name;
 use crate::sockets::listener_at;
 use crate::telling::tell_fault;
@@ -100,7 +103,9 @@ pub(crate) fn listen_at<
     R: Files<File = File> + Net<Stream = TcpStream, Listener = TcpListener>,
     O: Write,
     E: Write,
->(rt: &R, service: &Service<'_>, output: &mut O, errors: &mut E) -> Result<Entrance, Exit> {
+>(rt: &R, service: &Service<'_>, output: &mut O, errors: &mut E) -> Result<Entrance, Exit>
+    ensures { IfErr result (λ exit. exit ≡ FileFailed) }
+{
     if keep_name(rt, service.journal).is_err() {
         return Err(tell_fault(errors, service.journal, "cannot write", Exit::FileFailed));
     }

@@ -1,14 +1,17 @@
 //! What came of a run of the server.
 
-ghost use Rattle.std.specs.Prelude.{◌≡◌};
-ghost use Rattle.command_line.specs.Statuses.{run_exit};
+ghost use Rattle.std.specs.Prelude.{◌≡◌, is_some};
+ghost use Rattle.wire.specs.Replies.{status_text};
+ghost use Rattle.program.specs.Courses.{status_by};
+ghost use Rattle.serving.specs.Entries.{summary_of};
+ghost use Rattle.command_line.specs.Endings.{IsTold};
 
 use crate::forms::put_out;
 use crate::hints::show_limit_met;
 use crate::limits::names_by;
 use crate::telling::{tell_fault, tell_unjudged};
 use program::{Exit, Summary, summary_line};
-use serving::{ClosedService, Closing, Ending, Recorder, RunStatus, Totals};
+use serving::{Recorder, Run, Totals};
 use std::alloc::{AllocError, Global};
 use std::io;
 use std::io::{IsTerminal, Write};
@@ -25,67 +28,31 @@ pub(crate) struct Ended {
     is_heard: bool,
 }
 
-// How many lines weren't judged.
-fn unjudged_of(endings: &[Ending]) -> u64 {
-    let mut count = 0u64;
-    for ending in endings {
-        count = count.saturating_add(ending.unjudged());
-    }
-    count
-}
-
 impl Ended {
-    /// Of a run of so many connections. Lines that weren't judged are passed over, if they aren't to be counted.
-    pub(crate) fn of_run<J: Recorder>(closing: &Closing<J>, counts: bool) -> Ended {
-        let unjudged = if counts {
-            unjudged_of(closing.endings.as_slice())
-        } else {
-            0
-        };
+    /// Of a run.
+    #[tactic(auto, using(serving::proofs::Plans::some_is))]
+    pub(crate) fn of<J: Recorder>(run: &Run<J>) -> Ended
+        ensures summary { result.summary ≡ summary_of run.now.session.history }
+        ensures closed { result.closed ≡ is_some run.now.session.failed }
+        ensures run { (result.totals ≡ run.now.totals) × (result.accept_failed ≡ run.now.accept_failed) }
+    {
         Ended {
-            summary: closing.session.summary(),
-            closed: closing.session.is_closed(),
-            totals: Totals {
-                rejected: closing.account.rejected,
-                limit: closing.account.limit,
-                unjudged,
-            },
-            accept_failed: closing.account.accept_failed,
-            is_heard: true,
-        }
-    }
-
-    /// Of a service.
-    pub(crate) fn of_service<J: Recorder>(closed: &ClosedService<J>) -> Ended {
-        Ended {
-            summary: closed.session.summary(),
-            closed: closed.session.is_closed(),
-            totals: closed.totals,
-            accept_failed: closed.accept_failed,
+            summary: run.session.summary(),
+            closed: run.session.is_closed(),
+            totals: run.totals,
+            accept_failed: run.accept_failed,
             is_heard: true,
         }
     }
 
     /// The same, where standard error takes more if that is free.
-    pub(crate) fn heard_if(self, is_free: bool) -> Ended {
+    pub(crate) fn heard_if(self, is_free: bool) -> Ended
+        ensures { result ≡ record self { is_heard = is_free } }
+    {
         Ended {
             is_heard: is_free,
             ..self
         }
-    }
-}
-
-// The exit status of a run of the server.
-fn exit_of(status: RunStatus) -> Exit
-    ensures { result ≡ run_exit status }
-{
-    match status {
-        RunStatus::Done => Exit::Done,
-        RunStatus::Rejected => Exit::Rejected,
-        RunStatus::Misuse => Exit::Misuse,
-        RunStatus::Closed => Exit::BadJournal,
-        RunStatus::AcceptFailed => Exit::FileFailed,
-        RunStatus::Limit => Exit::Limit,
     }
 }
 
@@ -117,7 +84,9 @@ pub(crate) fn tell_ended<O: Write, E: Write + IsTerminal>(
     ended: Ended,
     output: &mut O,
     errors: &mut E,
-) -> Exit {
+) -> Exit
+    ensures { IsTold ended.summary ended.closed ended.totals ended.accept_failed (O.contents output.old) (O.contents output.new) result }
+{
     if ended.is_heard {
         tell_ended_on(alloc, service, ended, output, errors)
     } else {
@@ -125,15 +94,34 @@ pub(crate) fn tell_ended<O: Write, E: Write + IsTerminal>(
     }
 }
 
+// Writes the line of the counts, and answers the status: an output that failed counts as a listener that did.
+#[tactic(auto, using(crate::proofs::Told::told_by))]
+fn tell_counts<O: Write, E: Write>(
+    line: &[u8],
+    ended: Ended,
+    output: &mut O,
+    errors: &mut E,
+) -> Exit
+    requires { line.now ≡ status_text (status_by ended.summary ended.closed) }
+    ensures { IsTold ended.summary ended.closed ended.totals ended.accept_failed (O.contents output.old) (O.contents output.new) result }
+{
+    let is_written = put_out(line, output, errors);
+    let accept_failed = ended.accept_failed || !is_written;
+    ended.totals.status(ended.closed, accept_failed)
+}
+
 // The same on these errors.
+#[tactic(auto, using(crate::proofs::Told::told_none))]
 fn tell_ended_on<O: Write, E: Write + IsTerminal>(
     alloc: Global,
     service: &Service<'_>,
     ended: Ended,
     output: &mut O,
     errors: &mut E,
-) -> Exit {
-    let mut totals = ended.totals;
+) -> Exit
+    ensures { IsTold ended.summary ended.closed ended.totals ended.accept_failed (O.contents output.old) (O.contents output.new) result }
+{
+    let totals = ended.totals;
     if ended.accept_failed {
         tell_fault(errors, service.listen, "cannot accept", Exit::FileFailed);
     }
@@ -141,14 +129,15 @@ fn tell_ended_on<O: Write, E: Write + IsTerminal>(
     if totals.limit {
         show_limit_met(errors, names_by(service.large));
     }
-    let is_written = match summary_line(alloc, ended.summary, ended.closed) {
-        Ok(line) => put_out(&line, output, errors),
+    match summary_line(alloc, ended.summary, ended.closed) {
+        Ok(line) => tell_counts(&line, ended, output, errors),
         Err(AllocError) => {
             tell_fault(errors, service.spec, "40 memory", Exit::Limit);
-            totals.limit = true;
-            true
+            let met = Totals {
+                limit: true,
+                ..totals
+            };
+            met.status(ended.closed, ended.accept_failed)
         }
-    };
-    // An output that failed counts as a listener that did.
-    exit_of(totals.status(ended.closed, ended.accept_failed || !is_written))
+    }
 }

@@ -2,7 +2,7 @@
 
 ghost use Rattle.std.specs.Prelude.{◌≡◌, ◌⊎◌, IsTrue};
 ghost use Rattle.std.specs.Io.KnownBytes.{Appends};
-ghost use Rattle.program.specs.declared.exit.Exit.TheVariants.{Done, FileFailed};
+ghost use Rattle.answers.specs.declared.exit.Exit.TheVariants.{Done, FileFailed};
 ghost use Rattle.command_line.specs.Commands.{Printed};
 
 use crate::scripts::{Script, text_of};

@@ -6,7 +6,7 @@ ghost use Rattle.wire.specs.Replies.{status_text};
 ghost use Rattle.program.specs.Courses.{status_of};
 ghost use Rattle.program.specs.Exits.{replay_exit};
 ghost use Rattle.program.specs.Opening.{IsDone};
-ghost use Rattle.program.specs.declared.exit.Exit.TheVariants.{Done, Rejected};
+ghost use Rattle.answers.specs.declared.exit.Exit.TheVariants.{Done, Rejected};
 ghost use Rattle.command_line.specs.Commands.{Counted};
 
 use crate::evidence::{bytes_of, files_of, is_large, tell_after};

@@ -1,7 +1,7 @@
 //! The program, as a function of its words and streams.
 ghost use Rattle.std.specs.Prelude.{◌≡◌};
-ghost use Rattle.program.specs.declared.exit.Exit.{Exit as Status};
-ghost use Rattle.program.specs.Exits.{exit_code};
+ghost use Rattle.answers.specs.declared.exit.Exit.{Exit as Status};
+ghost use Rattle.answers.specs.Exits.{exit_code};
 
 use crate::by_line::{check_in, is_wanted};
 use crate::checking::check;

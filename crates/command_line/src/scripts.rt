@@ -74,6 +74,7 @@ pub(crate) fn text_of<R: Files + AllocGlobal, E: Write + IsTerminal>(
 }
 
 /// That the script denotes a specification for this process, or the status of the fault that was reported.
+#[tactic(auto, using(crate::proofs::Told::script_refused))]
 pub(crate) fn tell_read<E: Write + IsTerminal>(
     alloc: Global,
     name: &str,
@@ -81,7 +82,8 @@ pub(crate) fn tell_read<E: Write + IsTerminal>(
     process: &[u8],
     errors: &mut E,
 ) -> Result<(), Exit>
-    ensures { IfOk result (λ _. (spec : Specified) × IsRead script.now process.now spec) }
+    ensures read { IfOk result (λ _. (spec : Specified) × IsRead script.now process.now spec) }
+    ensures unread { IfErr result IsRefusal }
 {
     match read(alloc, script, process) {
         Ok(_) => Ok(()),

@@ -1,7 +1,9 @@
 //! `cspwatch serve`: the reports of connections, judged by one session with a journal.
-ghost use Rattle.std.specs.Prelude.{◌≡◌, [], IfOk};
+ghost use Rattle.std.specs.Prelude.{◌≡◌, ◌⊎◌, [], IfOk, IfErr};
 ghost use Rattle.std.specs.Thread.{IsSend};
 ghost use Rattle.command_line.specs.Crossings.{JournalCrosses};
+ghost use Rattle.script.specs.Reading.{IsRead};
+ghost use Rattle.command_line.specs.Endings.{IsEndOf, IsServed, IsServedFor, IsUnserved};
 
 use crate::doors::{Door, Entrance, close_up, listen_at};
 use crate::endings::{Ended, tell_ended};
@@ -15,10 +17,7 @@ use crate::telling::{tell_fault, tell_journal, tell_open};
 use file_disk::{FileDisk, FileFolder, FileSystem};
 use journal::Journal;
 use program::{Exit, Session, SessionError};
-use serving::{
-    Accept, Connections, Listen, OpenError, Parts, Recorder, SessionOn, open, open_parts,
-    serve_service, serve_session,
-};
+use serving::{Listen, OpenError, Parts, Plan, Recorder, SessionOn, open, open_parts};
 use std::alloc::{AllocError, Global};
 use std::fs::File;
 use std::io::{IsTerminal, Write};
@@ -32,52 +31,17 @@ use words::{Service, Until};
 /// How many accepts in a row may fail, with a tenth of a second between two, before a service ends.
 const RETRIES: u8 = 100;
 
-// Serves so many connections that are taken so at this session, and says what is left of the run, with the lines that weren't judged if these
-// are to be counted.
-fn serve_some<J: Recorder + Drop + Send, L: Accept + Drop, R: AllocGlobal + Threads + Wait + Sync>(
-    rt: &R,
-    session: SessionOn<J, Global>,
-    accept: L,
-    connections: Connections,
-    counts: bool,
-) -> Result<Ended, AllocError>
-    requires { session.offered ≡ [] }
-{
-    match serve_session(rt, rt.alloc(), session, accept, connections) {
-        Ok(closing) => {
-            let ended = Ended::of_run(&closing, counts);
-            drop(closing);
-            Ok(ended)
-        }
-        Err((AllocError, accept)) => {
-            drop(accept);
-            Err(AllocError)
-        }
+// How long the server runs.
+fn plan_of(until: Until) -> Plan {
+    match until {
+        Until::Over(connections) => Plan::Over(connections),
+        Until::Idle => Plan::Idle,
+        Until::Stopped => Plan::Stopped,
     }
 }
 
-// Serves connections that are taken so at this session, without end, or until all are over; and says what is left of the run.
-fn serve_all<
-    J: Recorder + Drop + Send,
-    L: Listen + Drop,
-    R: AllocGlobal + Threads + Wait + Clock + Sync,
->(rt: &R, session: SessionOn<J, Global>, accept: L, until_idle: bool) -> Result<Ended, AllocError>
-    requires { session.offered ≡ [] }
-{
-    match serve_service(rt, rt.alloc(), session, accept, until_idle, RETRIES) {
-        Ok(closed) => {
-            let ended = Ended::of_service(&closed);
-            drop(closed);
-            Ok(ended)
-        }
-        Err((AllocError, accept)) => {
-            drop(accept);
-            Err(AllocError)
-        }
-    }
-}
-
-// Serves connections that are taken so at this session, until the server ends, and says what is left of the run.
+// Serves connections that are taken so at this session, until the server ends, and says what is left of the run, with the lines that weren't judged
+// if these are to be counted.
 fn serve_until<
     J: Recorder + Drop + Send,
     L: Listen + Drop,
@@ -90,11 +54,26 @@ fn serve_until<
     counts: bool,
 ) -> Result<Ended, AllocError>
     requires { session.offered ≡ [] }
+    ensures { IfOk result (λ ended. IsEndOf session.spec session.history ended.summary) }
 {
-    match until {
-        Until::Over(connections) => serve_some(rt, session, accept, connections, counts),
-        Until::Idle => serve_all(rt, session, accept, true),
-        Until::Stopped => serve_all(rt, session, accept, false),
+    match serving::serve(
+        rt,
+        rt.alloc(),
+        session,
+        accept,
+        plan_of(until),
+        RETRIES,
+        counts,
+    ) {
+        Ok(run) => {
+            let ended = Ended::of(&run);
+            drop(run);
+            Ok(ended)
+        }
+        Err((AllocError, accept)) => {
+            drop(accept);
+            Err(AllocError)
+        }
     }
 }
 
@@ -112,6 +91,7 @@ fn serve_logged<
     log: Log,
 ) -> Result<Ended, AllocError>
     requires { session.offered ≡ [] }
+    ensures { IfOk result (λ ended. IsEndOf session.spec session.history ended.summary) }
 {
     let (sender, keeper) = match start(rt, service, address, log) {
         Ok(started) => started,
@@ -144,6 +124,7 @@ fn serve_with<
     log: Option<Log>,
 ) -> Result<Ended, AllocError>
     requires { session.offered ≡ [] }
+    ensures { IfOk result (λ ended. IsEndOf session.spec session.history ended.summary) }
 {
     match log {
         Some(log) => serve_logged(rt, service, session, accept, address, log),
@@ -172,6 +153,7 @@ fn serve_through<
     log: Option<Log>,
 ) -> Result<Ended, AllocError>
     requires { session.offered ≡ [] }
+    ensures { IfOk result (λ ended. IsEndOf session.spec session.history ended.summary) }
 {
     let Entrance { door, address } = entrance;
     let ended = match door {
@@ -183,6 +165,7 @@ fn serve_through<
 }
 
 // Opens the log, and listens; or answers the status of the fault that was reported.
+#[tactic(auto, using(crate::proofs::Told::file_failed))]
 fn enter<
     R: Files<File = File> + Net<Stream = TcpStream, Listener = TcpListener> + AllocGlobal,
     O: Write,
@@ -192,7 +175,9 @@ fn enter<
     service: &Service<'_>,
     output: &mut O,
     errors: &mut E,
-) -> Result<(Entrance, Option<Log>), Exit> {
+) -> Result<(Entrance, Option<Log>), Exit>
+    ensures { IfErr result IsUnserved }
+{
     let log = log_of(rt, service, errors)?;
     match listen_at(rt, service, output, errors) {
         Ok(entrance) => Ok((entrance, log)),
@@ -205,6 +190,7 @@ fn enter<
 
 // Serves the connections of the address at this session, and answers the exit status. Where it doesn't come to that, it takes away the
 // journal that this run made.
+#[tactic(auto, using(crate::proofs::Told::served_by))]
 fn serve_at<
     J: Recorder + Drop + Send,
     R: Files<File = File>
@@ -229,6 +215,7 @@ fn serve_at<
     errors: &mut E,
 ) -> Exit
     requires { session.offered ≡ [] }
+    ensures { IsServed session.spec session.history (O.contents output.new) result }
 {
     let (entrance, log) = match enter(rt, service, output, errors) {
         Ok(entered) => entered,
@@ -246,13 +233,16 @@ fn serve_at<
 
 // The session of the script on the journal in the file, and whether this run made the file; or the status of the fault that was
 // reported, where no file is left that this run made.
+#[tactic(auto, using(crate::proofs::Told::file_failed))]
 fn session_at<R: Files<File = File> + AllocGlobal, E: Write + IsTerminal>(
     rt: &R,
     service: &Service<'_>,
     script: &[u8],
     errors: &mut E,
 ) -> Result<(Session<FileDisk<File>, Global>, bool), Exit>
-    ensures { IfOk result (λ r. r.0.offered ≡ []) }
+    ensures offered { IfOk result (λ r. r.0.offered ≡ []) }
+    ensures read { IfOk result (λ r. IsRead script.now service.now.process.now r.0.spec) }
+    ensures unserved { IfErr result IsUnserved }
 {
     let names = names_by(service.large);
     let (file, is_made) = journal_at(rt, service.journal, errors)?;
@@ -272,13 +262,16 @@ fn session_at<R: Files<File = File> + AllocGlobal, E: Write + IsTerminal>(
 }
 
 // Reports why there is no session of the script on the journal, and answers the status.
+#[tactic(auto, using(crate::proofs::Told::opened_unserved))]
 fn tell_unopened<R: Files<File = File> + AllocGlobal, E: Write + IsTerminal>(
     rt: &R,
     service: &Service<'_>,
     script: &[u8],
     error: OpenError,
     errors: &mut E,
-) -> Exit {
+) -> Exit
+    ensures { IsUnserved result }
+{
     let script = Script {
         name: service.spec,
         text: script,
@@ -289,6 +282,7 @@ fn tell_unopened<R: Files<File = File> + AllocGlobal, E: Write + IsTerminal>(
 }
 
 // The same session with names kept as their bodies, on a journal in parts, the first of which is the file.
+#[tactic(auto, using(crate::proofs::Told::file_failed, crate::proofs::Told::journal_failed))]
 fn session_in_parts<'a, S: FileSystem, R: Files<File = File> + AllocGlobal, E: Write + IsTerminal>(
     rt: &R,
     system: &'a S,
@@ -302,7 +296,9 @@ fn session_in_parts<'a, S: FileSystem, R: Files<File = File> + AllocGlobal, E: W
     ),
     Exit,
 >
-    ensures { IfOk result (λ r. r.0.offered ≡ []) }
+    ensures offered { IfOk result (λ r. r.0.offered ≡ []) }
+    ensures read { IfOk result (λ r. IsRead script.now service.now.process.now r.0.spec) }
+    ensures unserved { IfErr result IsUnserved }
 {
     let (file, is_made) = journal_at(rt, service.journal, errors)?;
     let Ok(folder) = FileFolder::new(system, rt.alloc(), service.journal, file) else {
@@ -337,7 +333,9 @@ pub(crate) fn serve<
         + 'static,
     O: Write,
     E: Write + IsTerminal,
->(rt: &R, service: &Service<'_>, output: &mut O, errors: &mut E) -> Exit {
+>(rt: &R, service: &Service<'_>, output: &mut O, errors: &mut E) -> Exit
+    ensures { IsUnserved result ⊎ IsServedFor service.now.process.now (O.contents output.new) result }
+{
     let held = hold_streams(rt);
     let exit = serve_held(rt, service, output, errors);
     drop(held);
@@ -345,6 +343,7 @@ pub(crate) fn serve<
 }
 
 // The same, while standard streams that are closed are held.
+#[tactic(auto, using(crate::proofs::Told::served_for))]
 fn serve_held<
     R: Files<File = File>
         + FileSystem
@@ -360,7 +359,9 @@ fn serve_held<
         + 'static,
     O: Write,
     E: Write + IsTerminal,
->(rt: &R, service: &Service<'_>, output: &mut O, errors: &mut E) -> Exit {
+>(rt: &R, service: &Service<'_>, output: &mut O, errors: &mut E) -> Exit
+    ensures { IsUnserved result ⊎ IsServedFor service.now.process.now (O.contents output.new) result }
+{
     let script = match script_of(rt, service, errors) {
         Ok(script) => script,
         Err(exit) => return exit,
@@ -376,6 +377,7 @@ fn serve_held<
 }
 
 // The same, with names kept as their bodies, on a journal in parts.
+#[tactic(auto, using(crate::proofs::Told::served_for))]
 fn serve_in_parts<
     S: FileSystem + Sync,
     R: Files<File = File>
@@ -391,14 +393,9 @@ fn serve_in_parts<
         + 'static,
     O: Write,
     E: Write + IsTerminal,
->(
-    rt: &R,
-    system: &S,
-    service: &Service<'_>,
-    script: &[u8],
-    output: &mut O,
-    errors: &mut E,
-) -> Exit {
+>(rt: &R, system: &S, service: &Service<'_>, script: &[u8], output: &mut O, errors: &mut E) -> Exit
+    ensures { IsUnserved result ⊎ IsServedFor service.now.process.now (O.contents output.new) result }
+{
     match session_in_parts(rt, system, service, script, errors) {
         Ok((session, is_made)) => serve_at(rt, service, session, is_made, output, errors),
         Err(exit) => exit,
@@ -418,11 +415,14 @@ fn journal_crosses()
 }
 
 // The text of a script that denotes a specification for the process, or the status of the fault that was reported.
+#[tactic(auto, using(crate::proofs::Told::refused_unserved))]
 fn script_of<R: Files + AllocGlobal, E: Write + IsTerminal>(
     rt: &R,
     service: &Service<'_>,
     errors: &mut E,
-) -> Result<Vec<u8>, Exit> {
+) -> Result<Vec<u8>, Exit>
+    ensures { IfErr result IsUnserved }
+{
     let script = text_of(rt, service.spec, errors)?;
     tell_read(
         rt.alloc(),

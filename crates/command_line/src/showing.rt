@@ -1,7 +1,7 @@
 //! `cspwatch show`: the reports of a journal, judged again, and why those that were rejected were.
 
 ghost use Rattle.std.specs.Prelude.{◌≡◌, ◌⊎◌, IfOk};
-ghost use Rattle.program.specs.declared.exit.Exit.TheVariants.{Done, Rejected};
+ghost use Rattle.answers.specs.declared.exit.Exit.TheVariants.{Done, Rejected};
 ghost use Rattle.command_line.specs.Commands.{Shown};
 
 use crate::evidence::{bytes_of, files_of, is_large, tell_after};

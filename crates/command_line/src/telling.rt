@@ -1,14 +1,15 @@
 //! How faults are reported, and the exit statuses that they ask for.
 ghost use Rattle.std.specs.Prelude.{◌≡◌};
-ghost use Rattle.program.specs.Exits.{script_exit, journal_exit, exit_code};
-ghost use Rattle.program.specs.declared.exit.Exit.TheVariants.{Limit};
+ghost use Rattle.answers.specs.Exits.{exit_code};
+ghost use Rattle.program.specs.Exits.{script_exit, journal_exit};
+ghost use Rattle.answers.specs.declared.exit.Exit.TheVariants.{Limit};
 ghost use Rattle.command_line.specs.Statuses.{open_exit};
 
 use crate::hints::{show_example, show_fault, show_header, show_limit, show_other, show_part};
 use crate::scripts::Script;
 use clap::Error;
 use clap::error::ErrorKind;
-use program::{Exit, SessionError};
+use program::{Exit, SessionError, exit_of_journal, exit_of_script};
 use serving::OpenError;
 use std::alloc::Global;
 use std::fs::File;
@@ -69,7 +70,7 @@ pub(crate) fn explain_script<E: Write + IsTerminal>(
     if explain || errors.is_terminal() {
         show_fault(errors, alloc, script, fault);
     }
-    Exit::of_script(fault)
+    exit_of_script(fault)
 }
 
 /// Reports why the script is refused, on a terminal with its line.
@@ -135,7 +136,7 @@ pub(crate) fn tell_journal<R: Files<File = File>, E: Write + IsTerminal>(
         SessionError::Part(part) => show_part(errors, name, part),
         _ => {}
     }
-    Exit::of_journal(&error)
+    exit_of_journal(&error)
 }
 
 /// Reports why there is no session of the script on the journal, and answers the status.

@@ -1,8 +1,8 @@
 -- What came of a connection, where its thread kept its promise.
 use Rattle.std.proofs.Common.{subst, sym}
 use Rattle.std.specs.Prelude.{ℕ, List, Option, Result}
-use Rattle.wire.specs.declared.answers.Fault.{Fault}
-use Rattle.wire.specs.declared.answers.Tally.{Tally}
+use Rattle.wire.specs.Faults.{Fault}
+use Rattle.wire.specs.declared.answer.Tally.{Tally}
 use Rattle.wire.specs.declared.engine.End.{End}
 use Rattle.wire.specs.declared.engine.WireError.{WireError}
 use Rattle.connections.specs.declared.gate.Over.{Over}

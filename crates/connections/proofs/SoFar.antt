@@ -5,8 +5,8 @@ use Rattle.std.specs.List.{list_any}
 use Rattle.std.proofs.Math.Bool.{or_comm}
 use Rattle.std.proofs.lemmas.List.{append-nil}
 use Rattle.std.proofs.lemmas.List.Sums.{sum_by-append}
-use Rattle.wire.specs.declared.answers.Fault.{Fault}
-use Rattle.wire.specs.declared.answers.Tally.{Tally}
+use Rattle.wire.specs.Faults.{Fault}
+use Rattle.wire.specs.declared.answer.Tally.{Tally}
 use Rattle.wire.specs.declared.engine.End.{End}
 use Rattle.wire.specs.declared.engine.WireError.{WireError}
 use Rattle.connections.specs.declared.outcome.Ending.{Ending}
@@ -22,7 +22,7 @@ use Rattle.connections.specs.declared.visits.Visit.{Visit}
 use Rattle.connections.specs.declared.visits.Visited.{Visited}
 use Rattle.connections.specs.declared.visits.Visited.TheVariants as visited
 use Rattle.connections.specs.Accounts.{has_rejected, met_limit}
-use Rattle.wire.specs.declared.answers.Fault.TheVariants.{Seats}
+use Rattle.answers.specs.declared.fault.Fault.TheVariants.{Seats}
 use Rattle.connections.specs.Outcomes.{IsOutcome, WasClosed, ending_of, places_of}
 use Rattle.connections.specs.Services.{EndsByFailure, EndsByIdleness, Goes, Holding, IsHeld, IsLook, IsStep, IsSum, IsWithout, Standing, Step, Without, took, freed, nobody, failed, beginning, capped, nothing_held, refusal_of, steps_by, taken_of, unjudged_of}
 use Rattle.connections.specs.Visiting.{Comes, State, present, past, visits_of, outcomes_of, outcome_after, place_after, refusal_in, standing, Book, IsAdded, IsState, IsVisit, IsVisited, IsAt, IsRefused, IsSoFar, Leave, none, more, Leaves, before_place, holding_of, numbers_of, promises}

@@ -2,7 +2,7 @@
 use Rattle.std.proofs.Common.{◌<◌, ℕ, List, inl, inr}
 use Rattle.std.specs.Prelude.{Option, Result, Ok, Err, OnOk, OnErr}
 use Rattle.std.specs.Io.KnownBytes.{Appends}
-use Rattle.wire.specs.declared.answers.Fault.{Fault}
+use Rattle.wire.specs.Faults.{Fault}
 use Rattle.wire.specs.Replies.{fault_text}
 use Rattle.connections.specs.Outcomes.{WasTold}
 

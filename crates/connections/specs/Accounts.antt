@@ -1,13 +1,13 @@
 -- What came of all connections together, and the exit status of a run.
 use Rattle.std.specs.Prelude.{◌||◌, ◌==◌, ℕ, Bool, true, false, cond, Result, Ok, Err}
-use Rattle.wire.specs.declared.answers.Fault.{Fault}
-use Rattle.wire.specs.declared.answers.Fault.TheVariants as fault
+use Rattle.wire.specs.Faults.{Fault}
+use Rattle.answers.specs.declared.fault.Fault.TheVariants as fault
 use Rattle.wire.specs.declared.engine.End.{End}
 use Rattle.wire.specs.declared.engine.WireError.{WireError}
 use Rattle.wire.specs.declared.engine.WireError.TheVariants.{Memory}
 use Rattle.connections.specs.declared.account.Account.{Account}
-use Rattle.connections.specs.declared.account.RunStatus.{RunStatus}
-use Rattle.connections.specs.declared.account.RunStatus.TheVariants as status
+use Rattle.answers.specs.declared.exit.Exit.{Exit}
+use Rattle.answers.specs.declared.exit.Exit.TheVariants as status
 use Rattle.connections.specs.declared.outcome.Ending.{Ending}
 use Rattle.connections.specs.declared.outcome.Ending.TheVariants.{Served, Refused, NotStarted}
 use Rattle.connections.specs.declared.totals.Totals.{Totals}
@@ -20,7 +20,7 @@ is_out_of_memory (Err error) = false
 
 -- another cause than that the session is closed
 abbrev pub is_limit : Fault → Bool
-is_limit fault.Closed = false
+is_limit (fault.Closed x) = false
 is_limit fault = true
 
 -- a report of the connection was rejected
@@ -36,22 +36,13 @@ met_limit (Refused fault) = is_limit fault
 met_limit NotStarted = true
 
 -- How a run ends whose session was closed or not.
-abbrev pub status_of : Bool → Account → RunStatus
+abbrev pub status_of : Bool → Account → Exit
 status_of closed account =
-    cond closed status.Closed (cond account.accept_failed status.AcceptFailed
+    cond closed status.BadJournal (cond account.accept_failed status.FileFailed
     (cond account.rejected status.Rejected (cond account.limit status.Limit status.Done)))
 
--- its exit status
-abbrev pub status_code : RunStatus → ℕ
-status_code status.Done = 0
-status_code status.Rejected = 1
-status_code status.Misuse = 2
-status_code status.Closed = 4
-status_code status.AcceptFailed = 5
-status_code status.Limit = 6
-
 -- How a service ends: as a run does, but that a line that wasn't judged comes before a limit.
-abbrev pub service_status : Bool → Bool → Totals → RunStatus
+abbrev pub service_status : Bool → Bool → Totals → Exit
 service_status closed accept_failed totals =
-    cond closed status.Closed (cond accept_failed status.AcceptFailed
+    cond closed status.BadJournal (cond accept_failed status.FileFailed
     (cond totals.rejected status.Rejected (cond (totals.unjudged == 0) (cond totals.limit status.Limit status.Done) status.Misuse)))

@@ -1,9 +1,9 @@
 -- What came of the connections of a service, which gives its places again.
 use Rattle.std.specs.Prelude.{◌≡◌, ◌⊎◌, ◌&&◌, ◌==◌, ◌≤◌, ℕ, ◌+◌, ◌-◌, ◌^◌, ◌<◌, min, Bool, true, false, List, [], ◌∷◌, ◌++◌, length, map, sum_by, Option, None, Some, Result, MatchOption}
 use Rattle.std.specs.List.{list_any}
-use Rattle.wire.specs.declared.answers.Fault.{Fault}
-use Rattle.wire.specs.declared.answers.Fault.TheVariants.{Seats}
-use Rattle.wire.specs.declared.answers.Tally.{Tally}
+use Rattle.wire.specs.Faults.{Fault}
+use Rattle.answers.specs.declared.fault.Fault.TheVariants.{Seats}
+use Rattle.wire.specs.declared.answer.Tally.{Tally}
 use Rattle.wire.specs.declared.engine.End.{End}
 use Rattle.wire.specs.declared.engine.WireError.{WireError}
 use Rattle.wire.specs.Unjudged.{unjudged_lines}

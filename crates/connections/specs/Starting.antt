@@ -1,6 +1,6 @@
 -- Connections whose threads run.
 use Rattle.std.specs.Prelude.{◌≡◌, List, [], ◌∷◌}
-use Rattle.wire.specs.declared.answers.Fault.{Fault}
+use Rattle.wire.specs.Faults.{Fault}
 use Rattle.connections.specs.declared.gate.Over.{Over}
 use Rattle.connections.specs.declared.outcome.Outcome.{Outcome}
 use Rattle.connections.specs.declared.outcome.Outcome.TheVariants as outcome

@@ -1,8 +1,8 @@
 -- The connections of a service while it runs.
 use Rattle.std.specs.Prelude.{◌≡◌, ◌⊎◌, ◌||◌, ◌≤◌, ℕ, ◌+◌, Bool, List, [], ◌∷◌, length, map, sum_by, Option, None, Result, Ok, Err}
-use Rattle.wire.specs.declared.answers.Fault.{Fault}
-use Rattle.wire.specs.declared.answers.Fault.TheVariants.{Seats}
-use Rattle.wire.specs.declared.answers.Tally.{Tally}
+use Rattle.wire.specs.Faults.{Fault}
+use Rattle.answers.specs.declared.fault.Fault.TheVariants.{Seats}
+use Rattle.wire.specs.declared.answer.Tally.{Tally}
 use Rattle.wire.specs.declared.engine.End.{End}
 use Rattle.wire.specs.declared.engine.WireError.{WireError}
 use Rattle.connections.specs.declared.gate.Over.{Over}

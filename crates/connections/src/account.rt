@@ -2,9 +2,10 @@
 
 ghost use Rattle.std.specs.Prelude.{◌≡◌};
 ghost use Rattle.std.specs.List.{list_any};
-ghost use Rattle.connections.specs.Accounts.{has_rejected, is_limit, is_out_of_memory, met_limit, status_code, status_of};
+ghost use Rattle.connections.specs.Accounts.{has_rejected, is_limit, is_out_of_memory, met_limit, status_of};
 
 use crate::outcome::Ending;
+use answers::Exit;
 use wire::{End, Fault, WireError};
 
 /// What came of all connections together.
@@ -19,39 +20,6 @@ pub struct Account {
     pub accept_failed: bool,
 }
 
-/// How a run of the server ends.
-#[derive(Clone, Copy, Debug, PartialEq, Eq)]
-pub enum RunStatus {
-    /// All connections are over.
-    Done,
-    /// A report was rejected.
-    Rejected,
-    /// A line wasn't judged, since it was no command, named no event, or was too long. Only of a service.
-    Misuse,
-    /// The journal's device failed, and closed the session.
-    Closed,
-    /// A connection couldn't be taken.
-    AcceptFailed,
-    /// Memory ran out, or a limit was met.
-    Limit,
-}
-
-impl RunStatus {
-    /// The exit status.
-    pub fn code(self) -> u8
-        ensures { result ≡ status_code self }
-    {
-        match self {
-            RunStatus::Done => 0,
-            RunStatus::Rejected => 1,
-            RunStatus::Misuse => 2,
-            RunStatus::Closed => 4,
-            RunStatus::AcceptFailed => 5,
-            RunStatus::Limit => 6,
-        }
-    }
-}
-
 // Whether memory ran out before the first line.
 fn ran_out(end: &Result<End, WireError>) -> bool
     ensures { result ≡ is_out_of_memory end.now }
@@ -63,7 +31,7 @@ fn ran_out(end: &Result<End, WireError>) -> bool
 fn tells_limit(fault: &Fault) -> bool
     ensures { result ≡ is_limit fault.now }
 {
-    !matches!(fault, Fault::Closed)
+    !matches!(fault, Fault::Closed(()))
 }
 
 impl Ending {
@@ -131,20 +99,21 @@ impl Account {
         }
     }
 
-    /// How the run ends whose session was closed or not: the first of `Closed`, `AcceptFailed`, `Rejected`, `Limit` and `Done` that fits.
-    pub fn status(&self, closed: bool) -> RunStatus
+    /// How the run ends whose session was closed or not: `BadJournal` where it was, then `FileFailed` where a connection couldn't be taken,
+    /// `Rejected` and `Limit`; else `Done`.
+    pub fn status(&self, closed: bool) -> Exit
         ensures { result ≡ status_of closed self.now }
     {
         if closed {
-            RunStatus::Closed
+            Exit::BadJournal
         } else if self.accept_failed {
-            RunStatus::AcceptFailed
+            Exit::FileFailed
         } else if self.rejected {
-            RunStatus::Rejected
+            Exit::Rejected
         } else if self.limit {
-            RunStatus::Limit
+            Exit::Limit
         } else {
-            RunStatus::Done
+            Exit::Done
         }
     }
 }

@@ -1,9 +1,9 @@
 //! Where connections come from, and where they are served.
 
 ghost use Rattle.std.specs.Prelude.{◌≡◌, ◌≢◌, ◌⊎◌, ◌+◌, ◌<◌, ℕ, List, Option, Result, Err, IsErrOf, IfOk, IfErr, IfSome, IfNone, OnOk, OnErr};
-ghost use Rattle.wire.specs.declared.answers.Fault.{Fault};
-ghost use Rattle.wire.specs.declared.answers.Fault.TheVariants.{Seats};
-ghost use Rattle.wire.specs.declared.answers.Tally.{Tally};
+ghost use Rattle.wire.specs.Faults.{Fault};
+ghost use Rattle.answers.specs.declared.fault.Fault.TheVariants.{Seats};
+ghost use Rattle.wire.specs.declared.answer.Tally.{Tally};
 ghost use Rattle.wire.specs.declared.engine.End.{End};
 ghost use Rattle.wire.specs.declared.engine.WireError.{WireError};
 

@@ -16,7 +16,7 @@ mod totals;
 mod unix;
 mod visits;
 
-pub use account::{Account, RunStatus};
+pub use account::Account;
 pub use gate::{Accept, AcceptFault, Close, Gate, Listen, Over, Reusable};
 pub use number::Connections;
 pub use outcome::{Ending, Outcome, part};

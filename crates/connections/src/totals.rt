@@ -5,8 +5,8 @@ ghost use Rattle.connections.specs.Accounts.{service_status};
 ghost use Rattle.connections.specs.Services.{IsSum, unjudged_of};
 ghost use Rattle.connections.specs.Visiting.{IsAdded};
 
-use crate::account::RunStatus;
 use crate::outcome::Ending;
+use answers::Exit;
 use wire::unjudged;
 
 /// What came of the connections of a service that are over, together.
@@ -53,23 +53,23 @@ impl Totals {
         self.unjudged = self.unjudged.saturating_add(ending.unjudged());
     }
 
-    /// How a service ends whose session was closed or not, and where an accept failed or not: the first of `Closed`, `AcceptFailed`,
-    /// `Rejected`, `Misuse`, `Limit` and `Done` that fits.
-    pub fn status(&self, closed: bool, accept_failed: bool) -> RunStatus
+    /// How a service ends whose session was closed or not, and where an accept failed or not: `BadJournal` where it was closed, then
+    /// `FileFailed` where one failed, `Rejected`, `Misuse` where a line wasn't judged, and `Limit`; else `Done`.
+    pub fn status(&self, closed: bool, accept_failed: bool) -> Exit
         ensures { result ≡ service_status closed accept_failed self.now }
     {
         if closed {
-            RunStatus::Closed
+            Exit::BadJournal
         } else if accept_failed {
-            RunStatus::AcceptFailed
+            Exit::FileFailed
         } else if self.rejected {
-            RunStatus::Rejected
+            Exit::Rejected
         } else if self.unjudged > 0 {
-            RunStatus::Misuse
+            Exit::Misuse
         } else if self.limit {
-            RunStatus::Limit
+            Exit::Limit
         } else {
-            RunStatus::Done
+            Exit::Done
         }
     }
 }

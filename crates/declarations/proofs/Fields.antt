@@ -1,5 +1,5 @@
 -- The fields of channels, from sets of values in memory.
-use Rattle.std.proofs.Common.{◌≡◌, List, [], ◌∷◌, ◌++◌, map, length, Bool, true, false, cond, Option, Some, None, Vec, refl, sym, ap, ◌∙◌, append_assoc, append-nil, arith}
+use Rattle.std.proofs.Common.{◌≡◌, ℕ, ◌≤◌, List, [], ◌∷◌, ◌++◌, map, length, Bool, true, false, cond, Option, Some, None, Vec, refl, sym, ap, ◌∙◌, append_assoc, append-nil, arith}
 use Rattle.std.proofs.lemmas.List.{map-append}
 use Rattle.std.specs.Prelude.{int_lt}
 use Rattle.std.specs.List.{list_all, AllByRecursion}
@@ -11,7 +11,7 @@ use Rattle.alphabet.specs.Channels.{FieldValue, number, constant, Values, is_bel
 use Rattle.alphabet.specs.Stored.{value_of, field_of}
 use Rattle.tokens.specs.declared.unread.Unread.{Unread}
 use Rattle.syntax.specs.declared.tree.Tree.{Tree}
-use Rattle.syntax.specs.Grammar.{Syntax, Syntaxes, NoSyntax, MoreSyntax}
+use Rattle.syntax.specs.Grammar.{Syntax, Syntaxes, MoreSyntax}
 use Rattle.syntax.specs.Parsing.{syntaxes}
 use Rattle.syntax.specs.View.{shapes}
 use Rattle.syntax.proofs.Failing.{fails_on}
@@ -20,15 +20,9 @@ use Rattle.values.specs.Values.{◌>>=◌, value_cmp}
 use Rattle.values.specs.Worths.{Worth, Known, worth, the_set}
 use Rattle.values.specs.Channels.{fields_of}
 use Rattle.values.specs.View.{Fails, value}
-use Rattle.declared_names.specs.Steps.{steps}
 use Rattle.declarations.specs.Sigma.{add_field}
 use Rattle.declared_names.proofs.Chains.{both, left, right}
-use Rattle.declared_names.proofs.Loops.{from}
-
--- ---- parts, taken one by one
-
-pub all_start : {A X : Type 0} (f : X → Syntax → Option X) (ts : List (Tree A)) (x y : X) → x ≡ y → from f ts 0 x ≡ steps f y (syntaxes (shapes ts))
-all_start f ts x y h = ap (λ z. steps f z (syntaxes (shapes ts))) h
+use Rattle.declarations.proofs.Turns.{left_from, no_left}
 
 -- ---- a set, taken value by value
 
@@ -101,26 +95,33 @@ pub set_fails : (k : Unread) (known : Known) (front : List Values) (t : Syntax) 
 unfolding add_field
 set_fails k known front t w e h = fails_on k (the_set w) (add_field known front t) (λ n. ap (added_to front) e ∙ ap (λ o. o >>= λ vs. some_fields (front ++ vs ∷ [])) n) h
 
-pub added_fields : (known : Known) (front : List Values) (ts : Syntaxes) → steps (add_field known) front ts ≡ (fields_of known ts >>= λ fs. Some (front ++ fs))
-unfolding steps add_field fields_of
-added_fields known front NoSyntax = ap some_fields (sym (append-nil front))
-added_fields known front (MoreSyntax t ts) = by (worth known t) (λ vs. added_fields known (front ++ vs ∷ []) ts)
+-- all fields behind these
+abbrev pub with_fields : Known → List Values → Syntaxes → Option (List Values)
+with_fields known front ts = fields_of known ts >>= λ fs. some_fields (front ++ fs)
+
+pub one_field : (known : Known) (front : List Values) (t : Syntax) (ts : Syntaxes) → with_fields known front (MoreSyntax t ts) ≡ (add_field known front t >>= λ fs. with_fields known fs ts)
+unfolding add_field fields_of
+one_field known front t ts = by (worth known t)
   where
-    last : (vs : Values) (o : Option (List Values)) → (o >>= λ fs. some_fields ((front ++ vs ∷ []) ++ fs)) ≡ ((o >>= λ fs. some_fields (vs ∷ fs)) >>= λ fs. Some (front ++ fs))
+    last : (vs : Values) (o : Option (List Values)) → ((o >>= λ fs. some_fields (vs ∷ fs)) >>= λ fs. some_fields (front ++ fs)) ≡ (o >>= λ fs. some_fields ((front ++ vs ∷ []) ++ fs))
     last vs None = refl
-    last vs (Some fs) = ap some_fields (append_assoc front (vs ∷ []) fs)
+    last vs (Some fs) = ap some_fields (sym (append_assoc front (vs ∷ []) fs))
 
-    inner : (o : Option Values) → ((vs : Values) → steps (add_field known) (front ++ vs ∷ []) ts ≡ (fields_of known ts >>= λ fs. some_fields ((front ++ vs ∷ []) ++ fs))) → ((o >>= λ vs. some_fields (front ++ vs ∷ [])) >>= λ fs. steps (add_field known) fs ts) ≡ ((o >>= λ vs. fields_of known ts >>= λ fs. some_fields (vs ∷ fs)) >>= λ fs. Some (front ++ fs))
-    inner None rec = refl
-    inner (Some vs) rec = rec vs ∙ last vs (fields_of known ts)
+    inner : (o : Option Values) → ((o >>= λ vs. fields_of known ts >>= λ fs. some_fields (vs ∷ fs)) >>= λ fs. some_fields (front ++ fs)) ≡ ((o >>= λ vs. some_fields (front ++ vs ∷ [])) >>= λ fs. with_fields known fs ts)
+    inner None = refl
+    inner (Some vs) = last vs (fields_of known ts)
 
-    by : (o : Option Worth) → ((vs : Values) → steps (add_field known) (front ++ vs ∷ []) ts ≡ (fields_of known ts >>= λ fs. some_fields ((front ++ vs ∷ []) ++ fs))) → ((o >>= λ w. the_set w >>= λ vs. some_fields (front ++ vs ∷ [])) >>= λ fs. steps (add_field known) fs ts) ≡ ((o >>= λ w. the_set w >>= λ vs. fields_of known ts >>= λ fs. some_fields (vs ∷ fs)) >>= λ fs. Some (front ++ fs))
-    by None rec = refl
-    by (Some w) rec = inner (the_set w) rec
+    by : (o : Option Worth) → ((o >>= λ w. the_set w >>= λ vs. fields_of known ts >>= λ fs. some_fields (vs ∷ fs)) >>= λ fs. some_fields (front ++ fs)) ≡ ((o >>= λ w. the_set w >>= λ vs. some_fields (front ++ vs ∷ [])) >>= λ fs. with_fields known fs ts)
+    by None = refl
+    by (Some w) = inner (the_set w)
 
-pub all_fields : (known : Known) (ts : Syntaxes) → steps (add_field known) [] ts ≡ fields_of known ts
-all_fields known ts = added_fields known [] ts ∙ by (fields_of known ts)
+pub all_start : {A : Type 0} (known : Known) (ts : List (Tree A)) (front : List Values) → front ≡ [] → with_fields known front (left_from ts 0) ≡ fields_of known (syntaxes (shapes ts))
+all_start known ts front h = ap (λ x. with_fields known x (left_from ts 0)) h ∙ by (fields_of known (left_from ts 0))
   where
     by : (o : Option (List Values)) → (o >>= λ fs. some_fields fs) ≡ o
     by None = refl
     by (Some fs) = refl
+
+pub all_end : {A : Type 0} (known : Known) (ts : List (Tree A)) (i : ℕ) (front : List Values) (whole : Option (List Values)) → with_fields known front (left_from ts i) ≡ whole → length ts ≤ i → whole ≡ Some front
+unfolding fields_of
+all_end known ts i front whole inv h = sym inv ∙ ap (with_fields known front) (no_left ts i h) ∙ ap some_fields (append-nil front)

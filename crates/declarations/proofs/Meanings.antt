@@ -12,12 +12,9 @@ use Rattle.values.specs.Worths.{Worth, Known}
 use Rattle.values.specs.Names.{Meaning, channel, datatype, constant_name, definition, parametric, is_constant, Entry, same_name, names_of, listed_names, field_sets, entries_of, declared_by, declared_by_all, meaning, are_distinct, worth_of, known_in, Stands}
 use Rattle.declared_names.specs.LanguageNames.{has_names, have_names}
 use Rattle.declarations.specs.Passing.{all_pass, pass}
-use Rattle.declared_names.specs.Steps.{only_of, two_of}
-use Rattle.declared_names.specs.Entering.{list_parts}
-use Rattle.declarations.specs.Sigma.{are_channels, lists_channels, declares_channels, declare_channels, KeepDeclared}
+use Rattle.declarations.specs.Sigma.{is_declared_constant, AreDeclared}
 use Rattle.declared_names.proofs.Chains.{bind_some, some_same, left, right, both}
 use Rattle.declarations.proofs.Constants.{no_some, worth_pass, set_pass}
-use Rattle.declared_names.proofs.Entered.{parts_names}
 
 -- ---- entries among others
 
@@ -25,19 +22,19 @@ abbrev pub In : Entry → List Entry → Type 0
 In e [] = ⊥
 In e (f ∷ fs) = (f ≡ e) ⊎ In e fs
 
-in_front : (e : Entry) (es fs : List Entry) → In e es → In e (es ++ fs)
+pub in_front : (e : Entry) (es fs : List Entry) → In e es → In e (es ++ fs)
 in_front e [] fs h = absurd h
 in_front e (f ∷ es) fs h = elim h [ inl k ↦ inl k | inr k ↦ inr (in_front e es fs k) ]
 
-in_back : (e : Entry) (es fs : List Entry) → In e fs → In e (es ++ fs)
+pub in_back : (e : Entry) (es fs : List Entry) → In e fs → In e (es ++ fs)
 in_back e [] fs h = h
 in_back e (f ∷ es) fs h = inr (in_back e es fs h)
 
-in_either : (e : Entry) (es fs : List Entry) → In e (es ++ fs) → In e es ⊎ In e fs
+pub in_either : (e : Entry) (es fs : List Entry) → In e (es ++ fs) → In e es ⊎ In e fs
 in_either e [] fs h = inr h
 in_either e (f ∷ es) fs h = elim h [ inl k ↦ inl (inl k) | inr k ↦ (elim (in_either e es fs k) [ inl l ↦ inl (inr l) | inr l ↦ inr l ]) ]
 
-any_of : (n : Name) (e : Entry) (es : List Entry) → In e es → same_name n e.0 ≡ true → list_any (λ f. same_name n f.0) es ≡ true
+pub any_of : (n : Name) (e : Entry) (es : List Entry) → In e es → same_name n e.0 ≡ true → list_any (λ f. same_name n f.0) es ≡ true
 any_of n e [] h k = absurd h
 any_of n e (f ∷ es) h k = elim h [ inl l ↦ first (same_name n f.0) (list_any (λ f. same_name n f.0) es) (ap (λ (x : Entry). same_name n x.0) l ∙ k) | inr l ↦ second (same_name n f.0) (list_any (λ f. same_name n f.0) es) (any_of n e es l k) ]
   where
@@ -220,10 +217,6 @@ named (MoreSyntax t ts) es h k =
 
 -- ---- the test that parts constants from channels
 
--- a constant's name, which is a name of the language
-abbrev pub is_declared_constant : List Entry → Name → Bool
-is_declared_constant es n = is_constant (meaning es n) && is_name n
-
 all_constants : (es : List Entry) (cs : List Name) → are_distinct es ≡ true → AreNamed es → AllIn cs es → all_pass (is_declared_constant es) (map constant cs) ≡ true
 unfolding is_constant
 all_constants es [] h k l = refl
@@ -247,62 +240,12 @@ steps_pass ts es d h k (suc j) n w e =
     by (definition t) a b rec = worth_pass (is_declared_constant es) (known_in es j) rec t w b
     by (parametric xs t) a b rec = absurd cc
 
--- names of channels
-channel_names : (all : List Entry) (sets : Syntaxes) (ts : Syntaxes) (ns : List Name) → names_of ts ≡ Some ns → ((n : Name) → In (n, channel sets) (map (λ n. (n, channel sets)) ns) → (is_name n ≡ true) × (meaning all n ≡ Some (channel sets))) → are_channels (is_declared_constant all) ts ≡ true
-unfolding names_of are_channels is_constant
-channel_names all sets NoSyntax ns h k = refl
-channel_names all sets (MoreSyntax (Called n) ts) ns h k =
-    let (ms, a, b) = bind_some (names_of ts) (λ ms. Some (n ∷ ms)) ns h in
-    let inside : (m : Name) → In (m, channel sets) (map (λ n. (n, channel sets)) (n ∷ ms)) → (is_name m ≡ true) × (meaning all m ≡ Some (channel sets)) = λ m l. k m (subst (λ xs. In (m, channel sets) (map (λ n. (n, channel sets)) xs)) (some_same b) l) in
-    let here = inside n (inl refl) in
-    both (is_name n && not (is_declared_constant all n)) (are_channels (is_declared_constant all) ts)
-    (both (is_name n) (not (is_declared_constant all n)) here.0 (ap (λ o. not (is_constant o && is_name n)) here.1))
-    (channel_names all sets ts ms a (λ m l. inside m (inr l)))
-channel_names all sets (MoreSyntax (Numeral n) ts) ns h k = absurd cc
-channel_names all sets (MoreSyntax (Node f us) ts) ns h k = absurd cc
-
-channel_list : (all : List Entry) (sets : Syntaxes) (t : Syntax) (ns : List Name) → listed_names t ≡ Some ns → ((n : Name) → In (n, channel sets) (map (λ n. (n, channel sets)) ns) → (is_name n ≡ true) × (meaning all n ≡ Some (channel sets))) → lists_channels (is_declared_constant all) (list_parts t) ≡ true
-channel_list all sets t ns h k =
-    let (ts, a, b) = bind_some (list_parts t) names_of ns (sym (parts_names t) ∙ h) in
-    ap (lists_channels (is_declared_constant all)) a ∙ channel_names all sets ts ns b k
-
-channel_form : (all : List Entry) (f : Form) (ts : Syntaxes) (es : List Entry) → entries_of f ts ≡ Some es → ((e : Entry) → In e es → (is_name e.0 ≡ true) × (meaning all e.0 ≡ Some e.1)) → declares_channels (is_declared_constant all) (Node f ts) ≡ true
-unfolding entries_of declares_channels only_of two_of
-channel_form all forms.Channels (MoreSyntax t NoSyntax) es h k =
-    let (ns, a, b) = bind_some (listed_names t) (λ ns. Some (map (λ n. (n, channel NoSyntax)) ns)) es h in
-    channel_list all NoSyntax t ns a (λ n l. k (n, channel NoSyntax) (subst (In (n, channel NoSyntax)) (some_same b) l))
-channel_form all forms.ChannelsWithFields (MoreSyntax t (MoreSyntax u NoSyntax)) es h k =
-    let (ns, a, b) = bind_some (listed_names t) (λ ns. field_sets u >>= λ sets. Some (map (λ n. (n, channel sets)) ns)) es h in
-    let (sets, c, d) = bind_some (field_sets u) (λ sets. Some (map (λ n. (n, channel sets)) ns)) es b in
-    channel_list all sets t ns a (λ n l. k (n, channel sets) (subst (In (n, channel sets)) (some_same d) l))
-channel_form all forms.Datatype (MoreSyntax (Called m) (MoreSyntax t NoSyntax)) es h k = refl
-channel_form all forms.Definition (MoreSyntax (Called m) (MoreSyntax t NoSyntax)) es h k = refl
-channel_form all forms.DefinitionWithParameters (MoreSyntax (Called m) (MoreSyntax t (MoreSyntax u NoSyntax))) es h k = refl
-channel_form all f ts es h k = absurd (no_some h)
-
-channel_declarations : (all : List Entry) (ts : Syntaxes) (es : List Entry) → declared_by_all ts ≡ Some es → ((e : Entry) → In e es → (is_name e.0 ≡ true) × (meaning all e.0 ≡ Some e.1)) → declare_channels (is_declared_constant all) ts ≡ true
-unfolding declared_by_all declare_channels declared_by
-channel_declarations all NoSyntax es h k = refl
-channel_declarations all (MoreSyntax t ts) es h k =
-    let (fs, a, b) = bind_some (declared_by t) (λ es. declared_by_all ts >>= λ fs. Some (es ++ fs)) es h in
-    let (gs, c, d) = bind_some (declared_by_all ts) (λ gs. Some (fs ++ gs)) es b in
-    both (declares_channels (is_declared_constant all) t) (declare_channels (is_declared_constant all) ts)
-    (one t fs a (λ e l. k e (subst (In e) (some_same d) (in_front e fs gs l))))
-    (channel_declarations all ts gs c (λ e l. k e (subst (In e) (some_same d) (in_back e fs gs l))))
-  where
-    one : (t : Syntax) (fs : List Entry) → declared_by t ≡ Some fs → ((e : Entry) → In e fs → (is_name e.0 ≡ true) × (meaning all e.0 ≡ Some e.1)) → declares_channels (is_declared_constant all) t ≡ true
-    one (Called n) fs h k = absurd cc
-    one (Numeral n) fs h k = absurd cc
-    one (Node f us) fs h k = channel_form all f us fs h k
-
--- constants and channels are apart in what is declared
-pub keeps : (ts : Syntaxes) (es : List Entry) (known : Known) → declared_by_all ts ≡ Some es → are_distinct es ≡ true → have_names ts ≡ true → Stands es known → KeepDeclared known [] ts
-keeps ts es known d h k s =
-    let names : AreNamed es = named ts es d k in (
-      is_declared_constant es,
-      record {
-        clear = record { named = λ n e. right (is_constant (meaning es n)) (is_name n) e; names = refl; constants = refl };
-        constants = λ n w e. let r = (s n w).0 e in steps_pass ts es d h names r.0 n w r.1;
-      },
-      channel_declarations es ts es d (λ e l. (in_named es e names l, means es e h l)),
-    )
+-- what is declared is a whole
+pub are_declared : (ts : Syntaxes) (es : List Entry) (known : Known) → declared_by_all ts ≡ Some es → are_distinct es ≡ true → have_names ts ≡ true → Stands es known → AreDeclared known es
+are_declared ts es known d h k s =
+    let names : AreNamed es = named ts es d k in
+    record {
+      named = λ n m e. in_named es (n, m) names (meant es n m e);
+      once = h;
+      constants = λ n w e. let r = (s n w).0 e in steps_pass ts es d h names r.0 n w r.1;
+    }

@@ -1,27 +1,25 @@
 -- What is found is what a script declares.
-use Rattle.std.proofs.Common.{◌≡◌, ◌≤◌, List, [], Bool, true, false, cond, Option, Some, None, refl, sym, ap, subst, ◌∙◌, arith}
+use Rattle.std.proofs.Common.{◌≡◌, ◌≤◌, List, [], Bool, true, false, cond, Option, Some, None, refl, sym, ap, subst, ◌∙◌, arith, append-nil}
 use Rattle.std.proofs.lemmas.Bool.{ltb-true, ltb-false}
 use Rattle.std.specs.Prelude.{nat_lt, Result, Ok, Err, IfOk}
 use Rattle.std.specs.List.{list_all}
-use Rattle.alphabet.specs.Channels.{Channel, event_count}
+use Rattle.alphabet.specs.Channels.{Channel, names, event_count}
 use Rattle.tokens.specs.declared.unread.Unread.{Unread}
 use Rattle.syntax.specs.declared.form.Form.TheVariants as forms
 use Rattle.syntax.specs.Grammar.{Syntax, Called, Numeral, Node, Syntaxes}
 use Rattle.values.specs.Values.{◌>>=◌, Name}
 use Rattle.values.specs.Worths.{Worth, Known}
-use Rattle.values.specs.Names.{Entry, declared, are_distinct, have_parameters, Stands}
+use Rattle.values.specs.Names.{Entry, declared, declared_by_all, are_distinct, have_parameters, Stands}
 use Rattle.values.specs.Channels.{channels_of, Declares}
 use Rattle.values.specs.View.{Fails, Gives}
-use Rattle.declared_names.specs.Steps.{steps}
 use Rattle.declared_names.specs.LanguageNames.{has_names, have_names}
 use Rattle.declared_names.specs.Entering.{script_parts, distinct_entries}
 use Rattle.declarations.specs.Fitting.{fitting, fitting_entries}
-use Rattle.declarations.specs.Sigma.{enter_declaration, KeepDeclared}
+use Rattle.declarations.specs.Sigma.{small, with_entries, entered, AreDeclared, Follows}
 use Rattle.declared_names.proofs.Chains.{bind_some, some_same}
 use Rattle.declared_names.proofs.Scripts.{parts_declared, parts_none}
-use Rattle.declarations.proofs.Entire.{entire}
 use Rattle.syntax.proofs.Failing.{fails_none, fails_on}
-use Rattle.declarations.proofs.Meanings.{keeps}
+use Rattle.declarations.proofs.Meanings.{are_declared}
 
 -- ---- the declarations of a script
 
@@ -59,7 +57,8 @@ are_fitting t es h =
       parameters = ap (λ xs. list_all (λ e. have_parameters xs e.1) xs) (sym fits.0) ∙ fits.1;
     }
 
-small_one : (known : Known) (es : List Entry) (cs : List Channel) → (channels_of known es >>= λ cs. cond (nat_lt 256 (event_count cs)) None (Some cs)) ≡ Some cs → (channels_of known es ≡ Some cs) × (event_count cs ≤ 256)
+small_one : (known : Known) (es : List Entry) (cs : List Channel) → with_entries known [] es ≡ Some cs → (channels_of known es ≡ Some cs) × (event_count cs ≤ 256)
+unfolding with_entries small
 small_one known es cs h =
     let (ds, a, b) = bind_some (channels_of known es) (λ cs. cond (nat_lt 256 (event_count cs)) None (Some cs)) cs h in
     let r = by ds (nat_lt 256 (event_count ds)) refl b in
@@ -70,16 +69,21 @@ small_one known es cs h =
     by ds false p q = (some_same q, ltb-false 256 (event_count ds) p)
 
 module _ (t : Syntax) (ts : Syntaxes) where
-  pub found : (es : List Entry) (f : Known) (cs : List Channel) → script_parts t ≡ Some ts → fitting_entries t ≡ Some es → Stands es f → steps (enter_declaration f) [] ts ≡ Some cs → Declares t es f cs
+  all_declared : (es : List Entry) → script_parts t ≡ Some ts → fitting_entries t ≡ Some es → declared_by_all ts ≡ Some es
+  all_declared es p e = sym (parts_declared t ts p) ∙ (are_fitting t es e).named
+
+  pub found : (es : List Entry) (f : Known) (cs : List Channel) → script_parts t ≡ Some ts → fitting_entries t ≡ Some es → Stands es f → entered f [] (declared_by_all ts) ≡ Some cs → Declares t es f cs
   found es f cs p e s h =
       let d = are_fitting t es e in
-      let r = small_one f es cs (sym (entire f ts es (sym (parts_declared t ts p) ∙ d.named) d.once) ∙ h) in
+      let r = small_one f es cs (sym (ap (entered f []) (all_declared es p e)) ∙ h) in
       record { named = d.named; once = d.once; parameters = d.parameters; stands = s; fielded = r.0; small = r.1 }
 
-  pub keeps_declared : (es : List Entry) (f : Known) → has_names t ≡ true → script_parts t ≡ Some ts → fitting_entries t ≡ Some es → Stands es f → KeepDeclared f [] ts
-  keeps_declared es f n p e s =
+  pub all_follow : (es : List Entry) (f : Known) → has_names t ≡ true → script_parts t ≡ Some ts → fitting_entries t ≡ Some es → Stands es f → Follows f [] (declared_by_all ts)
+  unfolding with_entries channels_of small names
+  all_follow es f n p e s =
       let d = are_fitting t es e in
-      keeps ts es f (sym (parts_declared t ts p) ∙ d.named) d.once (parts_named t ts p n) s
+      let whole = are_declared ts es f (all_declared es p e) d.once (parts_named t ts p n) s in
+      (es, all_declared es p e, record { front = []; rest = []; all = subst (AreDeclared f) (sym (append-nil es)) whole; entered = refl })
 
 -- ---- what is declared is found
 
@@ -102,14 +106,15 @@ declares_entries t es f cs d =
     ∙ ap (λ b. cond b (Some es) None >>= λ es. fitting es) d.once
     ∙ ap (λ b. cond b (Some es) None) d.parameters
 
-pub declares_channels : (t : Syntax) (ts : Syntaxes) (es fs : List Entry) (f g : Known) (cs : List Channel) → Declares t es f cs → script_parts t ≡ Some ts → fitting_entries t ≡ Some fs → Stands fs g → (fs ≡ es) × (g ≡ f) × (steps (enter_declaration g) [] ts ≡ Some cs)
+pub declares_channels : (t : Syntax) (ts : Syntaxes) (es fs : List Entry) (f g : Known) (cs : List Channel) → Declares t es f cs → script_parts t ≡ Some ts → fitting_entries t ≡ Some fs → Stands fs g → (fs ≡ es) × (g ≡ f) × (entered g [] (declared_by_all ts) ≡ Some cs)
+unfolding with_entries small
 declares_channels t ts es fs f g cs d p e s =
     let same : fs ≡ es = some_same (sym e ∙ declares_entries t es f cs d) in
-    let table : g ≡ f = one_table es g f (subst (λ xs. Stands xs g) same s) d.stands in
-    let all = entire f ts es (sym (parts_declared t ts p) ∙ d.named) d.once in (
+    let table : g ≡ f = one_table es g f (subst (λ xs. Stands xs g) same s) d.stands in (
       same,
       table,
-      ap (λ x. steps (enter_declaration x) [] ts) table ∙ all ∙ ap (λ o. o >>= λ cs. cond (nat_lt 256 (event_count cs)) None (Some cs)) d.fielded ∙ by (nat_lt 256 (event_count cs)) refl d.small,
+      ap (λ x. entered x [] (declared_by_all ts)) table ∙ ap (entered f []) (sym (parts_declared t ts p) ∙ d.named)
+          ∙ ap (λ o. o >>= λ cs. cond (nat_lt 256 (event_count cs)) None (Some cs)) d.fielded ∙ by (nat_lt 256 (event_count cs)) refl d.small,
     )
   where
     by : (b : Bool) → nat_lt 256 (event_count cs) ≡ b → event_count cs ≤ 256 → cond b None (Some cs) ≡ Some cs
@@ -149,8 +154,8 @@ entries_fail k t es f cs p d e = fails_some k (fitting_entries t) es p (declares
 pub parts_fail : {Y : Type 0} (k : Unread) (t : Syntax) (es : List Entry) (f : Known) (cs : List Channel) (p : Option Y) → Declares t es f cs → Fails k (script_parts t) → Fails k p
 parts_fail k t es f cs p d e = entries_fail k t es f cs p d (entries_none k t (parts_none k t e))
 
-pub channels_fail : {Y : Type 0} (k : Unread) (t : Syntax) (ts : Syntaxes) (es fs : List Entry) (f g : Known) (cs : List Channel) (p : Option Y) → Declares t es f cs → script_parts t ≡ Some ts → fitting_entries t ≡ Some fs → Stands fs g → Fails k (steps (enter_declaration g) [] ts) → Fails k p
-channels_fail k t ts es fs f g cs p d q e s h = fails_some k (steps (enter_declaration g) [] ts) cs p (declares_channels t ts es fs f g cs d q e s).2 h
+pub channels_fail : {Y : Type 0} (k : Unread) (t : Syntax) (ts : Syntaxes) (es fs : List Entry) (f g : Known) (cs : List Channel) (p : Option Y) → Declares t es f cs → script_parts t ≡ Some ts → fitting_entries t ≡ Some fs → Stands fs g → Fails k (entered g [] (declared_by_all ts)) → Fails k p
+channels_fail k t ts es fs f g cs p d q e s h = fails_some k (entered g [] (declared_by_all ts)) cs p (declares_channels t ts es fs f g cs d q e s).2 h
 
 pub same_all : (es fs : List Entry) (f g : Known) (cs ds : List Channel) → es ≡ fs → f ≡ g → cs ≡ ds → (let a : Option (List Entry × Known × List Channel) = Some (es, f, cs) in let b : Option (List Entry × Known × List Channel) = Some (fs, g, ds) in a ≡ b)
 same_all es fs f g cs ds a b c = λ i. Some (a i, b i, c i)
@@ -158,11 +163,11 @@ same_all es fs f g cs ds a b c = λ i. Some (a i, b i, c i)
 -- ---- where the channels are entered over names and what they mean
 
 module _ (t : Syntax) (ts : Syntaxes) (es : List Entry) (f : Known) where
-  pub found_in : (r : Result (List Channel) Unread) → script_parts t ≡ Some ts → fitting_entries t ≡ Some es → Stands es f → Gives (λ cs. cs) r (steps (enter_declaration f) [] ts) → IfOk r (λ cs. Declares t es f cs)
+  pub found_in : (r : Result (List Channel) Unread) → script_parts t ≡ Some ts → fitting_entries t ≡ Some es → Stands es f → Gives (λ cs. cs) r (entered f [] (declared_by_all ts)) → IfOk r (λ cs. Declares t es f cs)
   found_in (Ok cs) p e s h = found t ts es f cs p e s h
   found_in (Err k) p e s h = tt
 
-  pub found_only : (r : Result (List Channel) Unread) → script_parts t ≡ Some ts → fitting_entries t ≡ Some es → Stands es f → Gives (λ cs. cs) r (steps (enter_declaration f) [] ts)
+  pub found_only : (r : Result (List Channel) Unread) → script_parts t ≡ Some ts → fitting_entries t ≡ Some es → Stands es f → Gives (λ cs. cs) r (entered f [] (declared_by_all ts))
       → (fs : List Entry) (g : Known) (ds : List Channel) → Declares t fs g ds → Gives {Y = List Entry × Known × List Channel} (λ cs. (es, f, cs)) r (Some (fs, g, ds))
   found_only (Ok cs) p e s h fs g ds d =
       let r = declares_channels t ts fs es g f ds d p e s in

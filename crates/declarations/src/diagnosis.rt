@@ -6,8 +6,8 @@ ghost use Rattle.syntax.specs.View.{shapes};
 ghost use Rattle.tokens.specs.declared.unread.Unread.TheVariants.{Memory};
 ghost use Rattle.values.specs.Tables.{table};
 ghost use Rattle.values.specs.View.{Gives};
-ghost use Rattle.declarations.specs.Sigma.{KeepDeclared, enter_declaration};
-ghost use Rattle.declared_names.specs.Steps.{steps};
+ghost use Rattle.values.specs.Names.{declared_by_all};
+ghost use Rattle.declarations.specs.Sigma.{Follows, entered};
 
 use crate::found::{seen_behind, seen_of};
 use crate::kinds::{Kind, Wanted};
@@ -123,8 +123,8 @@ pub(crate) fn declared_alphabet<'a, A: Allocator + Copy>(
     known: &Known<A>,
     declarations: &[Tree<A>],
 ) -> Result<Alphabet<A>, Unread>
-    requires { KeepDeclared (table known.now) [] (syntaxes (shapes declarations.now)) }
-    ensures { Gives (λ a. a) result (steps (enter_declaration (table known.now)) [] (syntaxes (shapes declarations.now))) }
+    requires { Follows (table known.now) [] (declared_by_all (syntaxes (shapes declarations.now))) }
+    ensures { Gives (λ a. a) result (entered (table known.now) [] (declared_by_all (syntaxes (shapes declarations.now)))) }
 {
     match alphabet_of(alloc, known, declarations) {
         Ok(alphabet) => Ok(alphabet),

@@ -10,8 +10,10 @@ ghost use Rattle.syntax.specs.View.{shape, shapes};
 ghost use Rattle.values.specs.Tables.{table};
 ghost use Rattle.values.specs.View.{Gives, value as value_of, values as values_of};
 ghost use Rattle.alphabet.specs.Channels.{are_apart};
-ghost use Rattle.declared_names.specs.Steps.{steps};
-ghost use Rattle.declarations.specs.Sigma.{add_field, enter, enter_name, enter_names, enter_channels, enter_fielded, enter_form, enter_declaration, AreParted, KeepNames, KeepList, KeepParts, KeepDeclared};
+ghost use Rattle.syntax.specs.declared.form.Form.TheVariants.{ChannelsWithFields};
+ghost use Rattle.values.specs.Channels.{fields_of as fields_in};
+ghost use Rattle.values.specs.Names.{names_of, listed_names, entries_of, declared_by, declared_by_all};
+ghost use Rattle.declarations.specs.Sigma.{add_field, enter, with_names, entered, channels_named, CanBeNamed, Follows};
 
 use alphabet::{Alphabet, AlphabetError, Field, Value as FieldValue};
 use declared_names::{
@@ -69,7 +71,7 @@ fn fields_of<A: Allocator + Copy>(
     known: &Known<A>,
     sets: &[Tree<A>],
 ) -> Result<Vec<Field<A>, A>, Unread>
-    ensures fields { Gives (λ v. map field_of v.items) result (steps (add_field (table known.now)) [] (syntaxes (shapes sets.now))) }
+    ensures fields { Gives (λ v. map field_of v.items) result (fields_in (table known.now) (syntaxes (shapes sets.now))) }
     ensures rising { IfOk result (λ v. list_all is_rising (map field_of v.items) ≡ true) }
 {
     let mut fields = Vec::new(alloc);
@@ -100,14 +102,14 @@ fn add_channel<A: Allocator + Copy>(
 }
 
 /// The same of a name in a list.
-#[tactic(auto, unfolding(crate::specs::Sigma::enter_name))]
+#[tactic(auto, unfolding(crate::specs::Sigma::with_names, values::specs::Names::names_of))]
 fn add_channel_of<A: Allocator + Copy>(
     alphabet: &mut Alphabet<A>,
     name: &Tree<A>,
     fields: &[Field<A>],
 ) -> Result<(), Unread>
-    requires { AreParted alphabet.old (MoreSyntax (shape name.now) NoSyntax) (map field_of fields.now) }
-    ensures { Gives (λ _. alphabet.new) result (enter_name (map field_of fields.now) alphabet.old (shape name.now)) }
+    requires { CanBeNamed alphabet.old (MoreSyntax (shape name.now) NoSyntax) (map field_of fields.now) }
+    ensures { Gives (λ _. alphabet.new) result (with_names (map field_of fields.now) alphabet.old (MoreSyntax (shape name.now) NoSyntax)) }
 {
     match part_of(name) {
         Part::Name(text) => add_channel(alphabet, text, name.line(), fields),
@@ -121,8 +123,8 @@ fn add_channels<A: Allocator + Copy>(
     names: &[Tree<A>],
     fields: &[Field<A>],
 ) -> Result<(), Unread>
-    requires { AreParted alphabet.old (syntaxes (shapes names.now)) (map field_of fields.now) }
-    ensures { Gives (λ _. alphabet.new) result (steps (enter_name (map field_of fields.now)) alphabet.old (syntaxes (shapes names.now))) }
+    requires { CanBeNamed alphabet.old (syntaxes (shapes names.now)) (map field_of fields.now) }
+    ensures { Gives (λ _. alphabet.new) result (with_names (map field_of fields.now) alphabet.old (syntaxes (shapes names.now))) }
 {
     for name in names {
         add_channel_of(alphabet, name, fields)?;
@@ -138,8 +140,8 @@ fn add_names<A: Allocator + Copy>(
     names: &[Tree<A>],
     sets: &[Tree<A>],
 ) -> Result<(), Unread>
-    requires { KeepNames (table known.now) alphabet.old (syntaxes (shapes names.now)) }
-    ensures { Gives (λ _. alphabet.new) result (enter_names (table known.now) (syntaxes (shapes sets.now)) alphabet.old (syntaxes (shapes names.now))) }
+    requires { Follows (table known.now) alphabet.old (channels_named (names_of (syntaxes (shapes names.now))) (syntaxes (shapes sets.now))) }
+    ensures { Gives (λ _. alphabet.new) result (entered (table known.now) alphabet.old (channels_named (names_of (syntaxes (shapes names.now))) (syntaxes (shapes sets.now)))) }
 {
     if names.is_empty() {
         return Ok(());
@@ -149,7 +151,6 @@ fn add_names<A: Allocator + Copy>(
 }
 
 /// The same of a list of names.
-#[tactic(auto, unfolding(crate::specs::Sigma::enter_channels))]
 fn add_list<A: Allocator + Copy>(
     alloc: A,
     known: &Known<A>,
@@ -157,15 +158,15 @@ fn add_list<A: Allocator + Copy>(
     names: &Tree<A>,
     sets: &[Tree<A>],
 ) -> Result<(), Unread>
-    requires { KeepList (table known.now) alphabet.old (shape names.now) }
-    ensures { Gives (λ _. alphabet.new) result (enter_channels (table known.now) alphabet.old (shape names.now) (syntaxes (shapes sets.now))) }
+    requires { Follows (table known.now) alphabet.old (channels_named (listed_names (shape names.now)) (syntaxes (shapes sets.now))) }
+    ensures { Gives (λ _. alphabet.new) result (entered (table known.now) alphabet.old (channels_named (listed_names (shape names.now)) (syntaxes (shapes sets.now)))) }
 {
     let names = name_list(names)?;
     add_names(alloc, known, alphabet, names, sets)
 }
 
 /// The same where the sets stand in this part.
-#[tactic(auto, unfolding(crate::specs::Sigma::enter_fielded))]
+#[tactic(auto, unfolding(values::specs::Names::entries_of))]
 fn add_fielded<A: Allocator + Copy>(
     alloc: A,
     known: &Known<A>,
@@ -173,15 +174,14 @@ fn add_fielded<A: Allocator + Copy>(
     names: &Tree<A>,
     sets: &Tree<A>,
 ) -> Result<(), Unread>
-    requires { KeepList (table known.now) alphabet.old (shape names.now) }
-    ensures { Gives (λ _. alphabet.new) result (enter_fielded (table known.now) alphabet.old (shape names.now) (shape sets.now)) }
+    requires { Follows (table known.now) alphabet.old (entries_of ChannelsWithFields (MoreSyntax (shape names.now) (MoreSyntax (shape sets.now) NoSyntax))) }
+    ensures { Gives (λ _. alphabet.new) result (entered (table known.now) alphabet.old (entries_of ChannelsWithFields (MoreSyntax (shape names.now) (MoreSyntax (shape sets.now) NoSyntax)))) }
 {
     let sets = set_list(sets)?;
     add_list(alloc, known, alphabet, names, sets)
 }
 
 /// Adds the channels of a declaration of this form.
-#[tactic(auto, unfolding(crate::specs::Sigma::enter_form))]
 fn add_form<A: Allocator + Copy>(
     alloc: A,
     known: &Known<A>,
@@ -190,8 +190,8 @@ fn add_form<A: Allocator + Copy>(
     parts: &[Tree<A>],
     line: Position,
 ) -> Result<(), Unread>
-    requires { KeepParts (table known.now) alphabet.old form (syntaxes (shapes parts.now)) }
-    ensures { Gives (λ _. alphabet.new) result (enter_form (table known.now) alphabet.old form (syntaxes (shapes parts.now))) }
+    requires { Follows (table known.now) alphabet.old (entries_of form (syntaxes (shapes parts.now))) }
+    ensures { Gives (λ _. alphabet.new) result (entered (table known.now) alphabet.old (entries_of form (syntaxes (shapes parts.now)))) }
 {
     match form {
         Form::Channels => {
@@ -207,15 +207,15 @@ fn add_form<A: Allocator + Copy>(
 }
 
 /// Adds the channels of a declaration.
-#[tactic(auto, unfolding(crate::specs::Sigma::enter_declaration))]
+#[tactic(auto, unfolding(values::specs::Names::declared_by))]
 fn add_declaration<A: Allocator + Copy>(
     alloc: A,
     known: &Known<A>,
     alphabet: &mut Alphabet<A>,
     declaration: &Tree<A>,
 ) -> Result<(), Unread>
-    requires { KeepDeclared (table known.now) alphabet.old (MoreSyntax (shape declaration.now) NoSyntax) }
-    ensures { Gives (λ _. alphabet.new) result (enter_declaration (table known.now) alphabet.old (shape declaration.now)) }
+    requires { Follows (table known.now) alphabet.old (declared_by (shape declaration.now)) }
+    ensures { Gives (λ _. alphabet.new) result (entered (table known.now) alphabet.old (declared_by (shape declaration.now))) }
 {
     match part_of(declaration) {
         Part::Node(form, parts) => {
@@ -232,8 +232,8 @@ fn add_declarations<A: Allocator + Copy>(
     alphabet: &mut Alphabet<A>,
     declarations: &[Tree<A>],
 ) -> Result<(), Unread>
-    requires { KeepDeclared (table known.now) alphabet.old (syntaxes (shapes declarations.now)) }
-    ensures { Gives (λ _. alphabet.new) result (steps (enter_declaration (table known.now)) alphabet.old (syntaxes (shapes declarations.now))) }
+    requires { Follows (table known.now) alphabet.old (declared_by_all (syntaxes (shapes declarations.now))) }
+    ensures { Gives (λ _. alphabet.new) result (entered (table known.now) alphabet.old (declared_by_all (syntaxes (shapes declarations.now)))) }
 {
     for declaration in declarations {
         add_declaration(alloc, known, alphabet, declaration)?;
@@ -247,8 +247,8 @@ pub(crate) fn alphabet_of<A: Allocator + Copy>(
     known: &Known<A>,
     declarations: &[Tree<A>],
 ) -> Result<Alphabet<A>, Unread>
-    requires { KeepDeclared (table known.now) [] (syntaxes (shapes declarations.now)) }
-    ensures { Gives (λ a. a) result (steps (enter_declaration (table known.now)) [] (syntaxes (shapes declarations.now))) }
+    requires { Follows (table known.now) [] (declared_by_all (syntaxes (shapes declarations.now))) }
+    ensures { Gives (λ a. a) result (entered (table known.now) [] (declared_by_all (syntaxes (shapes declarations.now)))) }
 {
     let mut alphabet = Alphabet::new(alloc);
     match add_declarations(alloc, known, &mut alphabet, declarations) {

@@ -3,7 +3,7 @@ use Rattle.std.proofs.Common.{◌≡◌, ◌≢◌, ℕ, suc, inl, inr, arith, L
 use Rattle.std.proofs.lemmas.Bool.Decides.{eqb_tells}
 use Rattle.syntax.specs.declared.form.Form.TheVariants as forms
 use Rattle.syntax.specs.Grammar.{Syntax, Called, Node, NoSyntax, MoreSyntax}
-use Rattle.event_phrases.specs.Forms.{one_of, name_of, if_none}
+use Rattle.event_phrases.specs.Forms.{one_of, name_of, if_none, read_by, parts_by}
 use Rattle.values.specs.Values.{Name}
 use Rattle.values.specs.declared.value.Value.{Value}
 use Rattle.event_phrases.specs.Scopes.{Scope}
@@ -13,7 +13,7 @@ use Rattle.denotation.specs.Denotes.{named, phrased, body_of, is_nameless, body_
 use Rattle.denotation.specs.declared.forms.Phrase.{Phrase as Held}
 use Rattle.denotation.specs.declared.forms.Phrase.TheVariants as phrases
 use Rattle.denotation.specs.Shapes.{plain}
-use Rattle.denotation.specs.Phrases.{phrase_of, parts_of, form_phrase, denoted}
+use Rattle.denotation.specs.Phrases.{phrase_of, form_phrase, denoted}
 
 some_more : (n : ℕ) → nat_eq (suc n) 0 ≡ false
 some_more n = elim (eqb_tells (suc n) 0) [ inl p ↦ absurd (omega (arith, p.1)) | inr p ↦ p.0 ]
@@ -48,5 +48,5 @@ no_name (phrases.Calling n ts) h = refl
 no_name (phrases.Replicated j gs t) h = refl
 
 pub name_root : (n : Name) → root_of (Node forms.Event (MoreSyntax (Called n) NoSyntax)) ≡ named n
-unfolding root_by name_called phrase_of parts_of form_phrase one_of name_of if_none
+unfolding root_by name_called read_by parts_by form_phrase one_of name_of if_none
 name_root n = refl

@@ -11,7 +11,8 @@ use Rattle.syntax.proofs.Failing.{fails_on}
 use Rattle.tokens.specs.declared.unread.Unread.{Unread}
 use Rattle.values.specs.Values.{◌>>=◌, Name}
 use Rattle.values.specs.View.{Fails}
-use Rattle.event_phrases.specs.EventForms.{event_fits}
+use Rattle.event_phrases.specs.Fitting.{event_fits}
+use Rattle.event_phrases.specs.Forms.{FieldPhrase, event_of}
 use Rattle.event_phrases.specs.Prefixes.{prefix_parts}
 use Rattle.event_phrases.specs.Scopes.{Scope, events_by}
 use Rattle.event_phrases.proofs.Options.{step, fails_at}
@@ -110,17 +111,17 @@ module _ (s : Scope) (room : ℕ) where
   -- ---- prefixes
 
   module _ (e : Syntax) (next : Scope → Option Body) where
-    pub no_prefix : (k : Unread) → Fails k (prefix_parts s e) → Fails k (fits room (prefixed_by s e next))
+    pub no_prefix : (k : Unread) → Fails k (prefix_parts s (event_of e)) → Fails k (fits room (prefixed_by s e next))
     unfolding prefixed_by fit
-    no_prefix k f = fails_on k (prefix_parts s e) (fits room (prefixed_by s e next)) (λ n. ap (λ o. fits room (o >>= λ p. branches (event_fits p.0 p.1 p.2 s) next 0 (events s.channels) >>= λ ps. Some (choice_of ps))) n) f
+    no_prefix k f = fails_on k (prefix_parts s (event_of e)) (fits room (prefixed_by s e next)) (λ n. ap (λ o. fits room (o >>= λ p. branches (event_fits p.0 p.1 p.2 s) next 0 (events s.channels) >>= λ ps. Some (choice_of ps))) n) f
 
-    module _ (c : Name) (ts : Syntaxes) (sets : List Values) (h : prefix_parts s e ≡ Some (c, ts, sets)) where
+    module _ (c : Name) (fs : List FieldPhrase) (sets : List Values) (h : prefix_parts s (event_of e) ≡ Some (c, fs, sets)) where
       abbrev all : Option (List Body)
-      all = branches (event_fits c ts sets s) next 0 (events s.channels)
+      all = branches (event_fits c fs sets s) next 0 (events s.channels)
 
       there : fits room (prefixed_by s e next) ≡ fits room (all >>= λ ps. Some (choice_of ps))
       unfolding prefixed_by
-      there = ap (fits room) (step (prefix_parts s e) (λ p. branches (event_fits p.0 p.1 p.2 s) next 0 (events s.channels) >>= λ ps. Some (choice_of ps)) (c, ts, sets) h)
+      there = ap (fits room) (step (prefix_parts s (event_of e)) (λ p. branches (event_fits p.0 p.1 p.2 s) next 0 (events s.channels) >>= λ ps. Some (choice_of ps)) (c, fs, sets) h)
 
       choice_size : (ps : List Body) → size (choice_of ps) ≡ sizes ps + halved_nodes ps
       unfolding join_of none_of

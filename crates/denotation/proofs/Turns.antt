@@ -1,14 +1,12 @@
 -- One more in a list of bodies, with the room that is left.
 use Rattle.std.proofs.Common.{◌≡◌, ℕ, suc, ◌+◌, List, [], ◌∷◌, ◌++◌, drop, Option, Some, None, refl, sym, ap, subst, ◌∙◌, arith, append_assoc, append-nil}
 use Rattle.alphabet.specs.Channels.{Values, Parts}
-use Rattle.syntax.specs.Grammar.{Syntax}
-use Rattle.syntax.specs.Parsing.{syntaxes}
-use Rattle.event_phrases.specs.EventForms.{event_fits}
 use Rattle.event_phrases.proofs.FirstValues.{led_fits_is}
 use Rattle.tokens.specs.declared.unread.Unread.{Unread}
 use Rattle.values.specs.Values.{◌>>=◌, Name}
 use Rattle.values.specs.View.{Fails}
-use Rattle.event_phrases.specs.Fitting.{Fitting}
+use Rattle.event_phrases.specs.Fitting.{Fitting, event_fits}
+use Rattle.event_phrases.specs.Forms.{FieldPhrase}
 use Rattle.event_phrases.specs.Leading.{Fit, first_fit, fit_or, leading, led_fits}
 use Rattle.event_phrases.specs.Scopes.{Scope}
 use Rattle.event_phrases.proofs.Options.{bind_assoc, fails_at, step}
@@ -147,6 +145,6 @@ abbrev pub some_branch : Option (ℕ × Body × List Parts) → ℕ → Option B
 some_branch o r = Some (o, r)
 
 -- the same where the first values of the fields are found before
-pub led_branches : (next : Scope → Option Body) (c : Name) (ts : List Syntax) (sets : List Values) (s : Scope) (us : Values) (a : ℕ) (ps : List Parts) → us ≡ leading s.known ts sets → branches (led_fits c us ts sets s) next a ps ≡ branches (event_fits c (syntaxes ts) sets s) next a ps
-led_branches next c ts sets s us a ps h =
-    ap (λ us. branches (led_fits c us ts sets s) next a ps) h ∙ ap (λ test. branches test next a ps) (led_fits_is c ts sets s)
+pub led_branches : (next : Scope → Option Body) (c : Name) (fs : List FieldPhrase) (sets : List Values) (s : Scope) (us : Values) (a : ℕ) (ps : List Parts) → us ≡ leading s.known fs sets → branches (led_fits c us fs sets s) next a ps ≡ branches (event_fits c fs sets s) next a ps
+led_branches next c fs sets s us a ps h =
+    ap (λ us. branches (led_fits c us fs sets s) next a ps) h ∙ ap (λ test. branches test next a ps) (led_fits_is c fs sets s)

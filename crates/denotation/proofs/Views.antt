@@ -5,57 +5,15 @@ use Rattle.syntax.specs.declared.form.Form.TheVariants as forms
 use Rattle.syntax.specs.declared.operator.Operator.{Operator}
 use Rattle.syntax.specs.declared.operator.Operator.TheVariants as operators
 use Rattle.syntax.specs.Parsing.{syntaxes}
-use Rattle.syntax.specs.Grammar.{Syntax, Called, Numeral, Node, Syntaxes, NoSyntax, MoreSyntax}
+use Rattle.syntax.specs.Grammar.{Syntax, MoreSyntax}
 use Rattle.values.specs.Values.{◌>>=◌}
-use Rattle.event_phrases.specs.Forms.{part_list, node_of, name_of, if_none, one_of, two_of, three_of, four_of, first_of}
-use Rattle.denotation.specs.Phrases.{calling, renaming, operation_phrase, Part, part, written, parts_of, phrase_of, form_phrase, or_other}
-
-pub one_part : (ts : List Syntax) → one_of (map part ts) ≡ (one_of ts >>= λ t. Some (part t))
-unfolding one_of if_none
-one_part [] = refl
-one_part (t ∷ []) = refl
-one_part (t ∷ u ∷ ts) = refl
-
-pub two_parts : (ts : List Syntax) → two_of (map part ts) ≡ (two_of ts >>= λ p. Some (part p.0, part p.1))
-unfolding two_of one_of if_none
-two_parts [] = refl
-two_parts (t ∷ []) = refl
-two_parts (t ∷ u ∷ []) = refl
-two_parts (t ∷ u ∷ v ∷ ts) = refl
-
-pub three_parts : (ts : List Syntax) → three_of (map part ts) ≡ (three_of ts >>= λ p. Some (part p.0, part p.1, part p.2))
-unfolding three_of two_of one_of if_none
-three_parts [] = refl
-three_parts (t ∷ []) = refl
-three_parts (t ∷ u ∷ []) = refl
-three_parts (t ∷ u ∷ v ∷ []) = refl
-three_parts (t ∷ u ∷ v ∷ w ∷ ts) = refl
-
-pub four_parts : (ts : List Syntax) → four_of (map part ts) ≡ (four_of ts >>= λ p. Some (part p.0, part p.1, part p.2, part p.3))
-unfolding four_of three_of two_of one_of if_none
-four_parts [] = refl
-four_parts (t ∷ []) = refl
-four_parts (t ∷ u ∷ []) = refl
-four_parts (t ∷ u ∷ v ∷ []) = refl
-four_parts (t ∷ u ∷ v ∷ w ∷ []) = refl
-four_parts (t ∷ u ∷ v ∷ w ∷ x ∷ ts) = refl
+use Rattle.event_phrases.specs.Forms.{name_of, first_of}
+use Rattle.denotation.specs.Phrases.{calling, renaming, operation_phrase, Part, part, written, phrase_of, form_phrase}
 
 -- the parts themselves
 pub back : (ts : List Syntax) → map (λ (t : Part). t.0) (map part ts) ≡ ts
 back [] = refl
 back (t ∷ ts) = ap (λ ts. t ∷ ts) (back ts)
-
-parts_are : (ts : Syntaxes) → parts_of ts ≡ map part (part_list ts)
-unfolding parts_of part_list
-parts_are NoSyntax = refl
-parts_are (MoreSyntax t ts) = ap (λ ps. part t ∷ ps) (parts_are ts)
-
--- what a tree is as a phrase, by its form and its parts
-pub phrase_is : (t : Syntax) → phrase_of t ≡ or_other (node_of t >>= λ n. form_phrase n.0 (map part n.1))
-unfolding phrase_of node_of
-phrase_is (Called n) = refl
-phrase_is (Numeral n) = refl
-phrase_is (Node f ts) = ap (λ ps. or_other (form_phrase f ps)) (parts_are ts)
 
 -- a call, of its name and the parts after it
 pub call_parts : (ts : List Syntax) → form_phrase forms.Call (map part ts) ≡ (first_of ts >>= λ p. name_of p.0 >>= λ n. Some (calling n p.1))

@@ -7,14 +7,13 @@ use Rattle.syntax.specs.declared.form.Form.{Form}
 use Rattle.syntax.specs.declared.form.Form.TheVariants as forms
 use Rattle.syntax.specs.declared.operator.Operator.{Operator}
 use Rattle.syntax.specs.declared.operator.Operator.TheVariants as operators
-use Rattle.syntax.specs.Grammar.{Syntax, Called, Numeral, Node, Syntaxes, NoSyntax, MoreSyntax}
+use Rattle.syntax.specs.Grammar.{Syntax, Syntaxes, NoSyntax, MoreSyntax}
 use Rattle.values.specs.Values.{◌>>=◌, Name}
 use Rattle.values.specs.Worths.{Known, worth, condition, the_value, the_set}
 use Rattle.values.specs.Names.{Meaning, parametric, meaning, is_process}
-use Rattle.event_phrases.specs.Events.{unless_value, masked, both, set_of, pairs_of, in_order}
-use Rattle.event_phrases.specs.EventForms.{event_fits, two_masked, outside}
-use Rattle.event_phrases.specs.Fitting.{Fitting}
-use Rattle.event_phrases.specs.Forms.{node_of, name_of, if_none, first_of, one_of, two_of, three_of, four_of}
+use Rattle.event_phrases.specs.Events.{unless_value, masked, two_masked, both, outside, set_of, pairs_of, in_order}
+use Rattle.event_phrases.specs.Fitting.{Fitting, event_fits}
+use Rattle.event_phrases.specs.Forms.{node_of, name_of, if_none, first_of, one_of, two_of, three_of, four_of, read_by, event_of}
 use Rattle.event_phrases.specs.Prefixes.{prefix_parts}
 use Rattle.event_phrases.specs.Scopes.{Scope, with_input, unless_constant, events_by}
 use Rattle.denotation.specs.Bodies.{Body, stop, skip, prefix, ext, int, seq, par, hide, ren, intr, name, choice_of, halved}
@@ -99,20 +98,9 @@ form_phrase forms.ReplicatedInternal ts = replicated_phrase joins.Internal ts
 form_phrase forms.ReplicatedInterleaving ts = replicated_phrase joins.Interleaving ts
 form_phrase f ts = None
 
-abbrev pub or_other : Option Phrase → Phrase
-or_other None = other
-or_other (Some p) = p
-
-unfoldable mutual
-  -- what a tree is as a phrase for a process
-  pub phrase_of : Syntax → Phrase
-  phrase_of (Called n) = other
-  phrase_of (Numeral n) = other
-  phrase_of (Node f ts) = or_other (form_phrase f (parts_of ts))
-
-  pub parts_of : Syntaxes → List Part
-  parts_of NoSyntax = []
-  parts_of (MoreSyntax t ts) = (t, phrase_of t) ∷ parts_of ts
+-- what a tree is as a phrase for a process
+abbrev pub phrase_of : Syntax → Phrase
+phrase_of t = read_by form_phrase other t
 
 abbrev pub part : Syntax → Part
 part t = (t, phrase_of t)
@@ -154,7 +142,7 @@ branches test next a (p ∷ ps) = test p >>= branch_on next a (branches test nex
 
 -- `event -> P`: the choice over the events that fit
 unfoldable pub prefixed_by : Scope → Syntax → (Scope → Option Body) → Option Body
-prefixed_by s e next = prefix_parts s e >>= λ p. branches (event_fits p.0 p.1 p.2 s) next 0 (events s.channels) >>= λ ps. Some (choice_of ps)
+prefixed_by s e next = prefix_parts s (event_of e) >>= λ p. branches (event_fits p.0 p.1 p.2 s) next 0 (events s.channels) >>= λ ps. Some (choice_of ps)
 
 -- ---- calls
 

@@ -2,7 +2,8 @@
 ghost use Rattle.std.specs.Prelude.{◌≡◌, map};
 ghost use Rattle.std.specs.Option.{option_map};
 ghost use Rattle.syntax.specs.View.{shape, shapes};
-ghost use Rattle.denotation.specs.Phrases.{form_phrase, generator_of, generators_of, joined_phrase, operation_phrase, or_other, part, phrase_of, replicated_phrase};
+ghost use Rattle.event_phrases.specs.Forms.{some_or};
+ghost use Rattle.denotation.specs.Phrases.{form_phrase, generator_of, generators_of, joined_phrase, operation_phrase, other, part, phrase_of, replicated_phrase};
 ghost use Rattle.denotation.specs.Shapes.{plain};
 
 use event_phrases::forms::{first, four, name, node, one, three, two};
@@ -59,7 +60,7 @@ pub(crate) enum Phrase<'a, A: Allocator> {
 }
 
 /// Two processes that are joined so.
-#[tactic(auto, using(crate::proofs::Views::two_parts), unfolding(crate::specs::Phrases::joined_phrase))]
+#[tactic(auto, using(event_phrases::proofs::Views::two_parts), unfolding(crate::specs::Phrases::joined_phrase))]
 fn joined<A: Allocator>(join: Join, parts: &[Tree<A>]) -> Option<Phrase<'_, A>>
     ensures { option_map plain result ≡ joined_phrase join (map part (shapes parts.now)) }
 {
@@ -95,7 +96,7 @@ pub(crate) fn generator<A: Allocator>(tree: &Tree<A>) -> Option<(&[u8], &Tree<A>
 }
 
 /// A process for all values of generators, joined so.
-#[tactic(auto, using(crate::proofs::Views::two_parts), unfolding(crate::specs::Phrases::replicated_phrase))]
+#[tactic(auto, using(event_phrases::proofs::Views::two_parts), unfolding(crate::specs::Phrases::replicated_phrase))]
 fn replicated<A: Allocator>(join: Join, parts: &[Tree<A>]) -> Option<Phrase<'_, A>>
     ensures { option_map plain result ≡ replicated_phrase join (map part (shapes parts.now)) }
 {
@@ -104,7 +105,7 @@ fn replicated<A: Allocator>(join: Join, parts: &[Tree<A>]) -> Option<Phrase<'_, 
 }
 
 /// The process that this operator with these parts is a phrase for.
-#[tactic(auto, using(crate::proofs::Views::two_parts, crate::proofs::Views::three_parts, crate::proofs::Views::four_parts, crate::proofs::Views::renaming_parts), unfolding(crate::specs::Phrases::operation_phrase))]
+#[tactic(auto, using(event_phrases::proofs::Views::two_parts, event_phrases::proofs::Views::three_parts, event_phrases::proofs::Views::four_parts, crate::proofs::Views::renaming_parts), unfolding(crate::specs::Phrases::operation_phrase))]
 fn operation<A: Allocator>(operator: Operator, parts: &[Tree<A>]) -> Option<Phrase<'_, A>>
     ensures { option_map plain result ≡ operation_phrase operator (map part (shapes parts.now)) }
 {
@@ -143,7 +144,7 @@ fn operation<A: Allocator>(operator: Operator, parts: &[Tree<A>]) -> Option<Phra
 }
 
 /// The process that this form with these parts is a phrase for.
-#[tactic(auto, using(crate::proofs::Views::one_part, crate::proofs::Views::three_parts, crate::proofs::Views::call_parts), unfolding(crate::specs::Phrases::form_phrase, event_phrases::specs::Forms::if_none))]
+#[tactic(auto, using(event_phrases::proofs::Views::one_part, event_phrases::proofs::Views::three_parts, crate::proofs::Views::call_parts), unfolding(crate::specs::Phrases::form_phrase, event_phrases::specs::Forms::if_none))]
 fn process_form<A: Allocator>(form: Form, parts: &[Tree<A>]) -> Option<Phrase<'_, A>>
     ensures { option_map plain result ≡ form_phrase form (map part (shapes parts.now)) }
 {
@@ -175,9 +176,9 @@ fn process_form<A: Allocator>(form: Form, parts: &[Tree<A>]) -> Option<Phrase<'_
 }
 
 /// The process that this is a phrase for, by its form.
-#[tactic(auto, using(crate::proofs::Views::phrase_is), unfolding(crate::specs::Phrases::phrase_of))]
+#[tactic(auto, using(event_phrases::proofs::Views::read_is))]
 pub(crate) fn process_phrase<A: Allocator>(tree: &Tree<A>) -> Option<Phrase<'_, A>>
-    ensures { or_other (option_map plain result) ≡ phrase_of (shape tree.now) }
+    ensures { some_or other (option_map plain result) ≡ phrase_of (shape tree.now) }
 {
     let (form, parts) = node(tree)?;
     process_form(form, parts)

@@ -6,6 +6,7 @@ ghost use Rattle.syntax.specs.Parsing.{syntaxes};
 ghost use Rattle.syntax.specs.View.{shape, shapes};
 ghost use Rattle.values.specs.Tables.{input};
 ghost use Rattle.values.specs.View.{Gives};
+ghost use Rattle.event_phrases.specs.Forms.{field_of};
 ghost use Rattle.event_phrases.specs.Leading.{led_fits};
 ghost use Rattle.event_phrases.specs.Scopes.{within};
 ghost use Rattle.event_phrases.specs.View.{listed};
@@ -42,7 +43,7 @@ fn next_branch<'a, A: Allocator + Copy, G: GlobalScope<A>>(
     from: usize,
     room: &mut usize,
 ) -> Result<Option<(usize, Draft<A>)>, Unread>
-    ensures branch { Gives (λ o. (option_map (λ p. (p.0, body p.1, drop (suc p.0) (events_of (G.scope scope.now.global.now).channels))) o, room.new)) result (first_branch (led_fits prefix.now.channel.now (listed prefix.now.leading.items) (shapes prefix.now.fields.now) (map (λ v. listed v.items) prefix.now.sets.now) (within (G.scope scope.now.global.now) (map input scope.now.inputs.items))) (denoted (phrase_of (shape prefix.now.then.now))) from (drop from (events_of (G.scope scope.now.global.now).channels)) room.old) }
+    ensures branch { Gives (λ o. (option_map (λ p. (p.0, body p.1, drop (suc p.0) (events_of (G.scope scope.now.global.now).channels))) o, room.new)) result (first_branch (led_fits prefix.now.channel.now (listed prefix.now.leading.items) (map field_of (shapes prefix.now.fields.now)) (map (λ v. listed v.items) prefix.now.sets.now) (within (G.scope scope.now.global.now) (map input scope.now.inputs.items))) (denoted (phrase_of (shape prefix.now.then.now))) from (drop from (events_of (G.scope scope.now.global.now).channels)) room.old) }
     ensures number { IfOk result (λ o. IfSome o (λ p. (from ≤ p.0) × (p.0 < 256))) }
 {
     let found = next_fitting(alloc, scope, prefix, from)?;
@@ -69,7 +70,7 @@ fn branches<'a, A: Allocator + Copy, G: GlobalScope<A>>(
     prefix: &Prefix<'a, A>,
     room: &mut usize,
 ) -> Result<Vec<Draft<A>, A>, Unread>
-    ensures { Gives (λ v. (map body v.items, room.new)) result (all_fit room.old (branches_of (led_fits prefix.now.channel.now (listed prefix.now.leading.items) (shapes prefix.now.fields.now) (map (λ v. listed v.items) prefix.now.sets.now) (within (G.scope scope.now.global.now) (map input scope.now.inputs.items))) (denoted (phrase_of (shape prefix.now.then.now))) 0 (events_of (G.scope scope.now.global.now).channels))) }
+    ensures { Gives (λ v. (map body v.items, room.new)) result (all_fit room.old (branches_of (led_fits prefix.now.channel.now (listed prefix.now.leading.items) (map field_of (shapes prefix.now.fields.now)) (map (λ v. listed v.items) prefix.now.sets.now) (within (G.scope scope.now.global.now) (map input scope.now.inputs.items))) (denoted (phrase_of (shape prefix.now.then.now))) 0 (events_of (G.scope scope.now.global.now).channels))) }
 {
     let mut drafts = Vec::new(alloc);
     let mut from = 0;

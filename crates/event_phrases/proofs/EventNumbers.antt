@@ -7,8 +7,7 @@ use Rattle.alphabet.specs.declared.events.Event.TheVariants.{Tick as tick, Of as
 use Rattle.alphabet.specs.Events.{is_event}
 use Rattle.alphabet.specs.EventSets.{Set, member}
 use Rattle.values.specs.Values.{◌>>=◌}
-use Rattle.event_phrases.specs.Events.{Events, Beginning, at_number, number_in, set_below}
-use Rattle.event_phrases.specs.EventForms.{is_event_of}
+use Rattle.event_phrases.specs.Events.{Events, Beginning, at_number, is_event_of, number_in, set_below}
 use Rattle.event_phrases.proofs.Options.{bind_same}
 use Rattle.event_phrases.proofs.SetsBelow.{is_in, member_is, is_below, more_is, split, lt_is, ge_is}
 

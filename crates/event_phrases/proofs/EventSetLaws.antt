@@ -8,10 +8,9 @@ use Rattle.alphabet.specs.Events.{is_numbered_below}
 use Rattle.alphabet.specs.EventSets.{Set, has, member}
 use Rattle.syntax.specs.declared.tree.Tree.{Tree}
 use Rattle.syntax.specs.Grammar.{Syntax}
-use Rattle.syntax.specs.Parsing.{syntaxes}
 use Rattle.syntax.specs.View.{shape, shapes}
 use Rattle.tokens.specs.declared.unread.Unread.{Unread}
-use Rattle.values.specs.Values.{◌>>=◌, Name}
+use Rattle.values.specs.Values.{◌>>=◌}
 use Rattle.values.specs.Worths.{Known, condition}
 use Rattle.values.specs.View.{Fails}
 use Rattle.event_phrases.specs.declared.forms.Extent.{Extent}
@@ -19,17 +18,12 @@ use Rattle.event_phrases.specs.declared.forms.Extent.TheVariants as extents
 use Rattle.event_phrases.specs.declared.forms.Combination.{Combination}
 use Rattle.event_phrases.specs.declared.forms.Combination.TheVariants as combinations
 use Rattle.event_phrases.specs.declared.row.Row.{Row}
-use Rattle.event_phrases.specs.Events.{Events, KnownEvents, Beginning, no_events, begins_so, at_number, beginning, beginning_so, whole_event, either, both, together, event_set, set_below, set_of, masked}
-use Rattle.values.specs.Tables.{names_value}
-use Rattle.event_phrases.specs.EventForms.{is_in_both, combine, gives_by, set_by, outside}
-use Rattle.event_phrases.specs.Forms.{SetPhrase, set_inside, set_called, nothing, everything, several, set_chosen, combined, tall, sets_tall, set_phrase_of}
-use Rattle.event_phrases.proofs.EventLaws.{event_set_is}
-use Rattle.event_phrases.proofs.Scopes.{hidden, seen}
+use Rattle.event_phrases.specs.Events.{Events, KnownEvents, Beginning, no_events, begins_so, at_number, beginning, beginning_so, whole_event, either, both, outside, is_in_both, combine, gives, together, event_set, set_below, set_of, masked}
+use Rattle.event_phrases.specs.Forms.{EventPhrase, event_of, SetPhrase, set_chosen}
 use Rattle.event_phrases.specs.View.{row}
 use Rattle.event_phrases.proofs.EventNumbers.{drop_item, drop_none, none_below}
 use Rattle.event_phrases.proofs.SetsBelow.{below_same, inside_is, is_in, member_is, is_below, has_is}
 use Rattle.syntax.proofs.Failing.{fails_on}
-use Rattle.event_phrases.proofs.Options.{some_truth}
 
 abbrev some_set : Set → Option Set
 some_set S = Some S
@@ -132,14 +126,14 @@ with_set cs S o = masked cs (o >>= λ B. Some (either (has S) B))
 abbrev pub Lies : List Channel → Set → Type 0
 Lies cs S = S ≡ set_of cs (has S)
 
-module _ {A : Type 0} (cs : List Channel) (gives : Syntax → Option Events) (trees : List (Tree A)) where
+module _ {A : Type 0} (cs : List Channel) (given_by : EventPhrase → Option Events) (trees : List (Tree A)) where
   abbrev pub others : ℕ → Option Events
-  others i = together gives (syntaxes (shapes (drop i trees)))
+  others i = together given_by (map event_of (shapes (drop i trees)))
 
-  pub several_start : (S : Set) → ((x : Event) → member S x ≡ false) → (with_set cs S (others 0) ≡ masked cs (together gives (syntaxes (shapes trees)))) × Lies cs S
+  pub several_start : (S : Set) → ((x : Event) → member S x ≡ false) → (with_set cs S (others 0) ≡ masked cs (together given_by (map event_of (shapes trees)))) × Lies cs S
   unfolding masked
   several_start S h = (
-    by (together gives (syntaxes (shapes trees))),
+    by (together given_by (map event_of (shapes trees))),
     set_is (sym (none_of_all cs S h)) ∙ below_same (event_count cs) no_events (has S) (λ a k. sym (h (ev a))),
   )
     where
@@ -150,9 +144,9 @@ module _ {A : Type 0} (cs : List Channel) (gives : Syntax → Option Events) (tr
       by None = refl
       by (Some B) = ap (λ B. some_set (set_of cs B)) (empty B)
 
-  step : (i : ℕ) (t : Tree A) → i < length trees → t ≡ get_or trees i t → others i ≡ (gives (shape t) >>= λ A. others (i + 1) >>= λ B. Some (either A B))
+  step : (i : ℕ) (t : Tree A) → i < length trees → t ≡ get_or trees i t → others i ≡ (given_by (event_of (shape t)) >>= λ A. others (i + 1) >>= λ B. Some (either A B))
   unfolding together
-  step i t h is = ap (λ ts. together gives (syntaxes (shapes ts))) (drop_item trees i t h is)
+  step i t h is = ap (λ ts. together given_by (map event_of (shapes ts))) (drop_item trees i t h is)
 
   or_same : (n : ℕ) (E B : Events) (S T R : Set) → T ≡ set_below n E → ((x : Event) → member R x ≡ (member S x || member T x)) → (a : ℕ) → a < n → (has S a || (E a || B a)) ≡ (has R a || B a)
   or_same n E B S T R t m a h =
@@ -177,9 +171,9 @@ module _ {A : Type 0} (cs : List Channel) (gives : Syntax → Option Events) (tr
           let n = event_count cs in
           turn (nat_lt a n) (has S a) (E a) ∙ ap (λ b. nat_lt a n && (has S a || b)) (sym (has_is n E a) ∙ ap (λ S. has S a) (sym t)) ∙ ap (λ b. nat_lt a n && b) (sym (m (ev a)))
 
-  pub several_more : (i : ℕ) (t : Tree A) (S T R : Set) (whole : Option Set) → (with_set cs S (others i) ≡ whole) × Lies cs S → i < length trees → t ≡ get_or trees i t → masked cs (gives (shape t)) ≡ Some T → ((x : Event) → member R x ≡ (member S x || member T x)) → (with_set cs R (others (i + 1)) ≡ whole) × Lies cs R
+  pub several_more : (i : ℕ) (t : Tree A) (S T R : Set) (whole : Option Set) → (with_set cs S (others i) ≡ whole) × Lies cs S → i < length trees → t ≡ get_or trees i t → masked cs (given_by (event_of (shape t))) ≡ Some T → ((x : Event) → member R x ≡ (member S x || member T x)) → (with_set cs R (others (i + 1)) ≡ whole) × Lies cs R
   unfolding masked
-  several_more i t S T R whole inv h is got m = by (gives (shape t)) (others (i + 1)) got (ap (with_set cs S) (sym (step i t h is)) ∙ inv.0)
+  several_more i t S T R whole inv h is got m = by (given_by (event_of (shape t))) (others (i + 1)) got (ap (with_set cs S) (sym (step i t h is)) ∙ inv.0)
     where
       by : (o p : Option Events) → masked cs o ≡ Some T → with_set cs S (o >>= λ A. p >>= λ B. Some (either A B)) ≡ whole → (with_set cs R p ≡ whole) × Lies cs R
       by None p g e = absurd cc
@@ -189,15 +183,15 @@ module _ {A : Type 0} (cs : List Channel) (gives : Syntax → Option Events) (tr
         lies_more S T R E inv.1 (sym (set_is g)) m,
       )
 
-  pub several_fails : (k : Unread) (i : ℕ) (t : Tree A) (S : Set) (whole : Option Set) → (with_set cs S (others i) ≡ whole) × Lies cs S → i < length trees → t ≡ get_or trees i t → Fails k (masked cs (gives (shape t))) → Fails k whole
+  pub several_fails : (k : Unread) (i : ℕ) (t : Tree A) (S : Set) (whole : Option Set) → (with_set cs S (others i) ≡ whole) × Lies cs S → i < length trees → t ≡ get_or trees i t → Fails k (masked cs (given_by (event_of (shape t)))) → Fails k whole
   unfolding masked
   several_fails k i t S whole inv h is f =
-      fails_on k (masked cs (gives (shape t))) whole (λ e. sym inv.0 ∙ ap (with_set cs S) (step i t h is ∙ ap (λ o. o >>= λ A. others (i + 1) >>= λ B. Some (either A B)) (masked_none cs (gives (shape t)) e))) f
+      fails_on k (masked cs (given_by (event_of (shape t)))) whole (λ e. sym inv.0 ∙ ap (with_set cs S) (step i t h is ∙ ap (λ o. o >>= λ A. others (i + 1) >>= λ B. Some (either A B)) (masked_none cs (given_by (event_of (shape t))) e))) f
 
   pub several_end : (i : ℕ) (S : Set) (whole : Option Set) → (with_set cs S (others i) ≡ whole) × Lies cs S → length trees ≤ i → whole ≡ Some S
   unfolding masked together
   several_end i S whole inv h =
-      sym inv.0 ∙ ap (λ ts. with_set cs S (together gives (syntaxes (shapes ts)))) (drop_none trees i h)
+      sym inv.0 ∙ ap (λ ts. with_set cs S (together given_by (map event_of (shapes ts)))) (drop_none trees i h)
       ∙ ap (λ B. some_set (set_of cs B)) (λ i a. or_none (has S a) i) ∙ ap some_set (sym inv.1)
     where
       or_none : (b : Bool) → (b || false) ≡ b
@@ -244,99 +238,34 @@ abbrev pub some_beginning : Beginning → Option Beginning
 some_beginning b = Some b
 
 -- the events of one phrase in a set
-module _ {A : Type 0} (cs : List Channel) (known : Known) (e : Extent) (t : Syntax) (rows : List (Row A)) (h : map row rows ≡ events cs) (b : Beginning) (S : Set) (s : S ≡ set_below (length rows) (at_number (begins_so b) (map row rows))) where
-  pub begun_events : e ≡ extents.Beginnings → beginning cs known t ≡ Some b → masked cs (gives_by cs known e t) ≡ Some S
-  unfolding gives_by
-  begun_events is g = ap (λ e. masked cs (gives_by cs known e t)) is ∙ ap (λ o. masked cs (o >>= λ b. Some (beginning_so cs b))) g ∙ begun_set cs b rows S h s
+module _ {A : Type 0} (cs : List Channel) (known : Known) (e : Extent) (t : EventPhrase) (rows : List (Row A)) (h : map row rows ≡ events cs) (b : Beginning) (S : Set) (s : S ≡ set_below (length rows) (at_number (begins_so b) (map row rows))) where
+  pub begun_events : e ≡ extents.Beginnings → beginning cs known t ≡ Some b → masked cs (gives cs known e t) ≡ Some S
+  unfolding gives
+  begun_events is g = ap (λ e. masked cs (gives cs known e t)) is ∙ ap (λ o. masked cs (o >>= λ b. Some (beginning_so cs b))) g ∙ begun_set cs b rows S h s
 
-  pub member_events : e ≡ extents.Events → whole_event cs known t ≡ Some b → masked cs (gives_by cs known e t) ≡ Some S
-  unfolding gives_by
-  member_events is g = ap (λ e. masked cs (gives_by cs known e t)) is ∙ ap (λ o. masked cs (o >>= λ b. Some (beginning_so cs b))) g ∙ begun_set cs b rows S h s
+  pub member_events : e ≡ extents.Events → whole_event cs known t ≡ Some b → masked cs (gives cs known e t) ≡ Some S
+  unfolding gives
+  member_events is g = ap (λ e. masked cs (gives cs known e t)) is ∙ ap (λ o. masked cs (o >>= λ b. Some (beginning_so cs b))) g ∙ begun_set cs b rows S h s
 
 -- faults of the phrases in a set
-pub begun_fails : (k : Unread) (cs : List Channel) (known : Known) (e : Extent) (t : Syntax) → e ≡ extents.Beginnings → Fails k (beginning cs known t) → Fails k (masked cs (gives_by cs known e t))
-unfolding gives_by masked
+pub begun_fails : (k : Unread) (cs : List Channel) (known : Known) (e : Extent) (t : EventPhrase) → e ≡ extents.Beginnings → Fails k (beginning cs known t) → Fails k (masked cs (gives cs known e t))
+unfolding gives masked
 begun_fails k cs known e t h f =
-    fails_on k (beginning cs known t) (masked cs (gives_by cs known e t)) (λ n. ap (λ e. masked cs (gives_by cs known e t)) h ∙ ap (λ o. masked cs (o >>= λ b. Some (beginning_so cs b))) n) f
+    fails_on k (beginning cs known t) (masked cs (gives cs known e t)) (λ n. ap (λ e. masked cs (gives cs known e t)) h ∙ ap (λ o. masked cs (o >>= λ b. Some (beginning_so cs b))) n) f
 
-pub member_fails : (k : Unread) (cs : List Channel) (known : Known) (e : Extent) (t : Syntax) → e ≡ extents.Events → Fails k (whole_event cs known t) → Fails k (masked cs (gives_by cs known e t))
-unfolding gives_by masked
+pub member_fails : (k : Unread) (cs : List Channel) (known : Known) (e : Extent) (t : EventPhrase) → e ≡ extents.Events → Fails k (whole_event cs known t) → Fails k (masked cs (gives cs known e t))
+unfolding gives masked
 member_fails k cs known e t h f =
-    fails_on k (whole_event cs known t) (masked cs (gives_by cs known e t)) (λ n. ap (λ e. masked cs (gives_by cs known e t)) h ∙ ap (λ o. masked cs (o >>= λ b. Some (beginning_so cs b))) n) f
+    fails_on k (whole_event cs known t) (masked cs (gives cs known e t)) (λ n. ap (λ e. masked cs (gives cs known e t)) h ∙ ap (λ o. masked cs (o >>= λ b. Some (beginning_so cs b))) n) f
 
--- ---- by their forms
+-- ---- a choice of two sets
 
-pub no_set : (cs : List Channel) (known : Known) (sets : KnownEvents) (t : Syntax) → None ≡ set_phrase_of t → masked cs (event_set cs known sets t) ≡ None
-unfolding masked
-no_set cs known sets t h = ap (masked cs) (event_set_is cs known sets t ∙ ap (λ o. o >>= set_by cs known sets) (sym h))
+module _ (cs : List Channel) (known : Known) (sets : KnownEvents) (c : Syntax) (p q : SetPhrase) where
+  pub condition_fails : (k : Unread) → Fails k (condition known c) → Fails k (masked cs (event_set cs known sets (set_chosen c p q)))
+  unfolding masked event_set
+  condition_fails k f =
+      fails_on k (condition known c) (masked cs (event_set cs known sets (set_chosen c p q))) (λ e. ap (λ o. masked cs (o >>= λ b. cond b (event_set cs known sets p) (event_set cs known sets q))) e) f
 
-module _ (q : SetPhrase) where
-  pub inside_tall : (t : Syntax) → q ≡ set_inside t → sets_tall q ≡ tall t
-  unfolding sets_tall
-  inside_tall t h = ap sets_tall h
-
-  pub combined_tall : (c : Combination) (t u : Syntax) → q ≡ combined c t u → sets_tall q ≡ tall t + tall u
-  unfolding sets_tall
-  combined_tall c t u h = ap sets_tall h
-
-  pub chosen_tall : (c t u : Syntax) → q ≡ set_chosen c t u → sets_tall q ≡ tall t + tall u
-  unfolding sets_tall
-  chosen_tall c t u h = ap sets_tall h
-
-  module _ (cs : List Channel) (known : Known) (sets : KnownEvents) where
-    pub inside_set : (t : Syntax) → q ≡ set_inside t → masked cs (set_by cs known sets q) ≡ masked cs (event_set cs known sets t)
-    unfolding set_by
-    inside_set t h = ap (λ q. masked cs (set_by cs known sets q)) h
-
-    pub hidden_set : (n : Name) → q ≡ set_called n → names_value (known n) ≡ true → masked cs (set_by cs known sets q) ≡ None
-    unfolding masked set_by
-    hidden_set n h v = ap (λ q. masked cs (set_by cs known sets q)) h ∙ ap (masked cs) (hidden (known n) (sets n) v)
-
-    pub seen_set : (n : Name) → q ≡ set_called n → names_value (known n) ≡ false → masked cs (set_by cs known sets q) ≡ masked cs (sets n)
-    unfolding set_by
-    seen_set n h v = ap (λ q. masked cs (set_by cs known sets q)) h ∙ ap (masked cs) (seen (known n) (sets n) v)
-
-    pub nothing_set : (S : Set) → q ≡ nothing → ((x : Event) → member S x ≡ false) → masked cs (set_by cs known sets q) ≡ Some S
-    unfolding set_by
-    nothing_set S h m = ap (λ q. masked cs (set_by cs known sets q)) h ∙ none_of_all cs S m
-
-    pub everything_set : (S : Set) → q ≡ everything → ((x : Event) → member S x ≡ is_numbered_below (event_count cs) x) → masked cs (set_by cs known sets q) ≡ Some S
-    unfolding set_by
-    everything_set S h m = ap (λ q. masked cs (set_by cs known sets q)) h ∙ all_of_them cs S m
-
-    pub several_set : (e : Extent) (ts : List Syntax) → q ≡ several e ts → masked cs (set_by cs known sets q) ≡ masked cs (together (gives_by cs known e) (syntaxes ts))
-    unfolding set_by
-    several_set e ts h = ap (λ q. masked cs (set_by cs known sets q)) h
-
-    module _ (c t u : Syntax) (h : q ≡ set_chosen c t u) where
-      abbrev pub chosen_by : Option Bool → Option Events
-      chosen_by o = o >>= λ b. cond b (event_set cs known sets t) (event_set cs known sets u)
-
-      chosen_set : masked cs (set_by cs known sets q) ≡ masked cs (chosen_by (condition known c))
-      unfolding set_by
-      chosen_set = ap (λ q. masked cs (set_by cs known sets q)) h
-
-      pub condition_fails : (k : Unread) → Fails k (condition known c) → Fails k (masked cs (set_by cs known sets q))
-      unfolding masked
-      condition_fails k f = fails_on k (condition known c) (masked cs (set_by cs known sets q)) (λ e. chosen_set ∙ ap (λ o. masked cs (chosen_by o)) e) f
-
-      pub first_chosen : (b : Bool) → condition known c ≡ Some b → b ≡ true → masked cs (set_by cs known sets q) ≡ masked cs (event_set cs known sets t)
-      first_chosen b e f = chosen_set ∙ ap (λ o. masked cs (chosen_by o)) (e ∙ ap some_truth f)
-
-      pub second_chosen : (b : Bool) → condition known c ≡ Some b → b ≡ false → masked cs (set_by cs known sets q) ≡ masked cs (event_set cs known sets u)
-      second_chosen b e f = chosen_set ∙ ap (λ o. masked cs (chosen_by o)) (e ∙ ap some_truth f)
-
-    module _ (c : Combination) (t u : Syntax) (h : q ≡ combined c t u) where
-      combined_set : masked cs (set_by cs known sets q) ≡ masked cs (event_set cs known sets t >>= λ A. event_set cs known sets u >>= λ B. Some (combine c A B))
-      unfolding set_by
-      combined_set = ap (λ q. masked cs (set_by cs known sets q)) h
-
-      pub first_set_fails : (k : Unread) → Fails k (masked cs (event_set cs known sets t)) → Fails k (masked cs (set_by cs known sets q))
-      first_set_fails k f =
-          subst (λ o. Fails k o) (sym combined_set) (first_fails k cs (event_set cs known sets t) (λ A. event_set cs known sets u >>= λ B. Some (combine c A B)) f)
-
-      pub second_set_fails : (k : Unread) → Fails k (masked cs (event_set cs known sets u)) → Fails k (masked cs (set_by cs known sets q))
-      second_set_fails k f = subst (λ o. Fails k o) (sym combined_set) (second_fails k cs c (event_set cs known sets t) (event_set cs known sets u) f)
-
-      pub both_sets : (S T R : Set) → masked cs (event_set cs known sets t) ≡ Some S → masked cs (event_set cs known sets u) ≡ Some T → ((x : Event) → member R x ≡ is_in_both c (member S x) (member T x)) → masked cs (set_by cs known sets q) ≡ Some R
-      both_sets S T R a b m = combined_set ∙ combined_made cs c (event_set cs known sets t) (event_set cs known sets u) S T R a b m
+  pub chosen_so : (b : Bool) → condition known c ≡ Some b → event_set cs known sets (set_chosen c p q) ≡ cond b (event_set cs known sets p) (event_set cs known sets q)
+  unfolding event_set
+  chosen_so b e = ap (λ o. o >>= λ b. cond b (event_set cs known sets p) (event_set cs known sets q)) e

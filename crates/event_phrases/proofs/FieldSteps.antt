@@ -2,15 +2,15 @@
 use Rattle.std.proofs.Common.{◌≡◌, ◌-◌, ◌<◌, ◌≤◌, List, [], ◌∷◌, ◌++◌, length, map, take, drop, get_or, Bool, true, false, cond, ◌||◌, nat_eq, Option, Some, None, refl, sym, ap, ap₂, ◌∙◌, arith, append-nil, append_assoc, eqb-true}
 use Rattle.alphabet.specs.Channels.{FieldValue, Values}
 use Rattle.syntax.specs.Grammar.{Syntax}
-use Rattle.syntax.specs.Parsing.{syntaxes}
 use Rattle.values.specs.Values.{Name, is_same}
 use Rattle.values.specs.Worths.{Known}
-use Rattle.event_phrases.specs.Events.{field_value}
+use Rattle.event_phrases.specs.Events.{field_value, value_within}
+use Rattle.event_phrases.specs.Forms.{FieldPhrase, field_of}
 use Rattle.event_phrases.specs.Fitting.{Fitting, fits_field, fitting, then_fits}
-use Rattle.event_phrases.specs.Leading.{before_more, leading, led_fitting, value_within}
+use Rattle.event_phrases.specs.Leading.{before_more, leading, led_fitting}
 use Rattle.event_phrases.specs.Prefixes.{has_event}
 use Rattle.event_phrases.specs.Scopes.{Scope}
-use Rattle.event_phrases.specs.Uses.{is_used, mentions}
+use Rattle.event_phrases.specs.Uses.{is_used, is_within}
 use Rattle.event_phrases.proofs.Options.{some_is}
 use Rattle.event_phrases.proofs.Scopes.{first_item, rest_is}
 
@@ -31,7 +31,7 @@ some_found o = Some o
 
 module _ {F S V : Type 0} (field : F → Syntax) (set : S → Values) (value : V → FieldValue) where
   abbrev fit : List F → List S → List V → Scope → Fitting
-  fit fs sets vs s = fitting (syntaxes (map field fs)) (map set sets) (map value vs) s
+  fit fs sets vs s = fitting (map field_of (map field fs)) (map set sets) (map value vs) s
 
   pub fit_done : (fs : List F) (sets : List S) (vs : List V) (s : Scope) → length fs < 1 → length sets < 1 → length vs < 1 → fit fs sets vs s ≡ Some (Some s)
   unfolding fitting
@@ -67,26 +67,26 @@ module _ {F S V : Type 0} (field : F → Syntax) (set : S → Values) (value : V
   fit_no_values (f ∷ fs) (g ∷ sets) (v ∷ vs) s h k l = absurd (omega (arith, l))
 
   pub fit_next : (fs : List F) (sets : List S) (vs : List V) (s : Scope) (f : F) (g : S) (v : V) → 1 ≤ length fs → 1 ≤ length sets → 1 ≤ length vs → f ≡ get_or fs 0 f → g ≡ get_or sets 0 g → v ≡ get_or vs 0 v →
-      fit fs sets vs s ≡ then_fits (fits_field (field f) (set g) (value v) s) (fit (take (length fs - 1) (drop 1 fs)) (take (length sets - 1) (drop 1 sets)) (take (length vs - 1) (drop 1 vs)))
+      fit fs sets vs s ≡ then_fits (fits_field (field_of (field f)) (set g) (value v) s) (fit (take (length fs - 1) (drop 1 fs)) (take (length sets - 1) (drop 1 sets)) (take (length vs - 1) (drop 1 vs)))
   unfolding fitting
   fit_next [] sets vs s f g v h k l ef eg ev = absurd (omega (arith, h))
   fit_next (x ∷ fs) [] vs s f g v h k l ef eg ev = absurd (omega (arith, k))
   fit_next (x ∷ fs) (y ∷ sets) [] s f g v h k l ef eg ev = absurd (omega (arith, l))
   fit_next (x ∷ fs) (y ∷ sets) (z ∷ vs) s f g v h k l ef eg ev =
-      ap (λ x. then_fits (fits_field (field x) (set y) (value z) s) (fit fs sets vs)) (sym ef)
-      ∙ ap (λ y. then_fits (fits_field (field f) (set y) (value z) s) (fit fs sets vs)) (sym eg)
-      ∙ ap (λ z. then_fits (fits_field (field f) (set g) (value z) s) (fit fs sets vs)) (sym ev)
-      ∙ ap (λ fs. then_fits (fits_field (field f) (set g) (value v) s) (fit fs sets vs)) (sym (rest_is (x ∷ fs)))
-      ∙ ap (λ sets. then_fits (fits_field (field f) (set g) (value v) s) (fit (take (length (x ∷ fs) - 1) fs) sets vs)) (sym (rest_is (y ∷ sets)))
-      ∙ ap (λ vs. then_fits (fits_field (field f) (set g) (value v) s) (fit (take (length (x ∷ fs) - 1) fs) (take (length (y ∷ sets) - 1) sets) vs)) (sym (rest_is (z ∷ vs)))
+      ap (λ x. then_fits (fits_field (field_of (field x)) (set y) (value z) s) (fit fs sets vs)) (sym ef)
+      ∙ ap (λ y. then_fits (fits_field (field_of (field f)) (set y) (value z) s) (fit fs sets vs)) (sym eg)
+      ∙ ap (λ z. then_fits (fits_field (field_of (field f)) (set g) (value z) s) (fit fs sets vs)) (sym ev)
+      ∙ ap (λ fs. then_fits (fits_field (field_of (field f)) (set g) (value v) s) (fit fs sets vs)) (sym (rest_is (x ∷ fs)))
+      ∙ ap (λ sets. then_fits (fits_field (field_of (field f)) (set g) (value v) s) (fit (take (length (x ∷ fs) - 1) fs) sets vs)) (sym (rest_is (y ∷ sets)))
+      ∙ ap (λ vs. then_fits (fits_field (field_of (field f)) (set g) (value v) s) (fit (take (length (x ∷ fs) - 1) fs) (take (length (y ∷ sets) - 1) sets) vs)) (sym (rest_is (z ∷ vs)))
 
 -- ---- events against fields whose first values are known
 
 module _ {U F S V : Type 0} (first : U → FieldValue) (field : F → Syntax) (set : S → Values) (value : V → FieldValue) (s : Scope) where
   abbrev led : List U → List F → List S → List V → Fitting
-  led us fs sets vs = led_fitting (map first us) (map field fs) (map set sets) (map value vs) s
+  led us fs sets vs = led_fitting (map first us) (map field_of (map field fs)) (map set sets) (map value vs) s
 
-  pub led_by_none : (us : List U) (fs : List F) (sets : List S) (vs : List V) → length us < 1 → led us fs sets vs ≡ fitting (syntaxes (map field fs)) (map set sets) (map value vs) s
+  pub led_by_none : (us : List U) (fs : List F) (sets : List S) (vs : List V) → length us < 1 → led us fs sets vs ≡ fitting (map field_of (map field fs)) (map set sets) (map value vs) s
   unfolding led_fitting
   led_by_none [] fs sets vs h = refl
   led_by_none (u ∷ us) fs sets vs h = absurd (omega (arith, h))
@@ -138,7 +138,7 @@ module _ {U F S V : Type 0} (first : U → FieldValue) (field : F → Syntax) (s
 
 module _ {F S : Type 0} (field : F → Syntax) (set : S → Values) (known : Known) (front : Values) where
   abbrev with_leading : List F → List S → Option Values
-  with_leading fs sets = Some (front ++ leading known (map field fs) (map set sets))
+  with_leading fs sets = Some (front ++ leading known (map field_of (map field fs)) (map set sets))
 
   pub leading_no_fields : (fs : List F) (sets : List S) → length fs < 1 → with_leading fs sets ≡ Some front
   unfolding leading
@@ -151,37 +151,37 @@ module _ {F S : Type 0} (field : F → Syntax) (set : S → Values) (known : Kno
   leading_no_sets [] sets h k = absurd (omega (arith, h))
   leading_no_sets (f ∷ fs) (g ∷ sets) h k = absurd (omega (arith, k))
 
-  leading_next : (fs : List F) (sets : List S) (f : F) (g : S) (o : Option FieldValue) → 1 ≤ length fs → 1 ≤ length sets → f ≡ get_or fs 0 f → g ≡ get_or sets 0 g → value_within (field_value known (field f)) (set g) ≡ o → with_leading fs sets ≡ Some (front ++ before_more o (leading known (map field (drop 1 fs)) (map set (drop 1 sets))))
+  leading_next : (fs : List F) (sets : List S) (f : F) (g : S) (o : Option FieldValue) → 1 ≤ length fs → 1 ≤ length sets → f ≡ get_or fs 0 f → g ≡ get_or sets 0 g → value_within (field_value known (field_of (field f))) (set g) ≡ o → with_leading fs sets ≡ Some (front ++ before_more o (leading known (map field_of (map field (drop 1 fs))) (map set (drop 1 sets))))
   unfolding leading
   leading_next [] sets f g o h k ef eg e = absurd (omega (arith, h))
   leading_next (x ∷ fs) [] f g o h k ef eg e = absurd (omega (arith, k))
   leading_next (x ∷ fs) (y ∷ sets) f g o h k ef eg e =
-      ap (λ z. some_values (front ++ before_more (value_within (field_value known (field z)) (set y)) (leading known (map field fs) (map set sets)))) (sym ef)
-      ∙ ap (λ z. some_values (front ++ before_more (value_within (field_value known (field f)) (set z)) (leading known (map field fs) (map set sets)))) (sym eg)
-      ∙ ap (λ o. some_values (front ++ before_more o (leading known (map field fs) (map set sets)))) e
+      ap (λ z. some_values (front ++ before_more (value_within (field_value known (field_of (field z))) (set y)) (leading known (map field_of (map field fs)) (map set sets)))) (sym ef)
+      ∙ ap (λ z. some_values (front ++ before_more (value_within (field_value known (field_of (field f))) (set z)) (leading known (map field_of (map field fs)) (map set sets)))) (sym eg)
+      ∙ ap (λ o. some_values (front ++ before_more o (leading known (map field_of (map field fs)) (map set sets)))) e
 
-  pub leading_ends : (fs : List F) (sets : List S) (f : F) (g : S) → 1 ≤ length fs → 1 ≤ length sets → f ≡ get_or fs 0 f → g ≡ get_or sets 0 g → Some (value_within (field_value known (field f)) (set g)) ≡ Some None → with_leading fs sets ≡ Some front
+  pub leading_ends : (fs : List F) (sets : List S) (f : F) (g : S) → 1 ≤ length fs → 1 ≤ length sets → f ≡ get_or fs 0 f → g ≡ get_or sets 0 g → Some (value_within (field_value known (field_of (field f))) (set g)) ≡ Some None → with_leading fs sets ≡ Some front
   unfolding before_more
   leading_ends fs sets f g h k ef eg e = leading_next fs sets f g None h k ef eg (some_is e) ∙ ap some_values (append-nil front)
 
-  pub leading_goes_on : (fs : List F) (sets : List S) (f : F) (g : S) (v : FieldValue) → 1 ≤ length fs → 1 ≤ length sets → f ≡ get_or fs 0 f → g ≡ get_or sets 0 g → Some (value_within (field_value known (field f)) (set g)) ≡ Some (Some v) → with_leading fs sets ≡ Some ((front ++ v ∷ []) ++ leading known (map field (take (length fs - 1) (drop 1 fs))) (map set (take (length sets - 1) (drop 1 sets))))
+  pub leading_goes_on : (fs : List F) (sets : List S) (f : F) (g : S) (v : FieldValue) → 1 ≤ length fs → 1 ≤ length sets → f ≡ get_or fs 0 f → g ≡ get_or sets 0 g → Some (value_within (field_value known (field_of (field f))) (set g)) ≡ Some (Some v) → with_leading fs sets ≡ Some ((front ++ v ∷ []) ++ leading known (map field_of (map field (take (length fs - 1) (drop 1 fs)))) (map set (take (length sets - 1) (drop 1 sets))))
   unfolding before_more
   leading_goes_on fs sets f g v h k ef eg e =
       leading_next fs sets f g (Some v) h k ef eg (some_is e)
-      ∙ ap some_values (sym (append_assoc front (v ∷ []) (leading known (map field (drop 1 fs)) (map set (drop 1 sets)))))
-      ∙ ap (λ fs. some_values ((front ++ v ∷ []) ++ leading known (map field fs) (map set (drop 1 sets)))) (sym (rest_is fs))
-      ∙ ap (λ sets. some_values ((front ++ v ∷ []) ++ leading known (map field (take (length fs - 1) (drop 1 fs))) (map set sets))) (sym (rest_is sets))
+      ∙ ap some_values (sym (append_assoc front (v ∷ []) (leading known (map field_of (map field (drop 1 fs))) (map set (drop 1 sets)))))
+      ∙ ap (λ fs. some_values ((front ++ v ∷ []) ++ leading known (map field_of (map field fs)) (map set (drop 1 sets)))) (sym (rest_is fs))
+      ∙ ap (λ sets. some_values ((front ++ v ∷ []) ++ leading known (map field_of (map field (take (length fs - 1) (drop 1 fs)))) (map set sets))) (sym (rest_is sets))
 
 -- ---- names in fields
 
-used_first : (x : Name) (t : Syntax) (ts : List Syntax) (set : Values) (sets : List Values) → mentions x t ≡ true → is_used x (t ∷ ts) (set ∷ sets) ≡ true
+used_first : (x : Name) (f : FieldPhrase) (fs : List FieldPhrase) (set : Values) (sets : List Values) → is_within x f ≡ true → is_used x (f ∷ fs) (set ∷ sets) ≡ true
 unfolding is_used
-used_first x t ts [] sets h = h
-used_first x t ts (v ∷ vs) sets h = ap (λ b. b || is_used x ts sets) h
+used_first x f fs [] sets h = h
+used_first x f fs (v ∷ vs) sets h = ap (λ b. b || is_used x fs sets) h
 
 module _ {F S : Type 0} (field : F → Syntax) (set : S → Values) (x : Name) where
   abbrev used : List F → List S → Bool
-  used fs sets = is_used x (map field fs) (map set sets)
+  used fs sets = is_used x (map field_of (map field fs)) (map set sets)
 
   pub used_no_fields : (fs : List F) (sets : List S) → length fs < 1 → false ≡ used fs sets
   unfolding is_used
@@ -194,26 +194,26 @@ module _ {F S : Type 0} (field : F → Syntax) (set : S → Values) (x : Name) w
   used_no_sets [] sets h k = absurd (omega (arith, h))
   used_no_sets (f ∷ fs) (g ∷ sets) h k = absurd (omega (arith, k))
 
-  pub used_here : (fs : List F) (sets : List S) (f : F) → 1 ≤ length fs → 1 ≤ length sets → f ≡ get_or fs 0 f → mentions x (field f) ≡ true → true ≡ used fs sets
+  pub used_here : (fs : List F) (sets : List S) (f : F) → 1 ≤ length fs → 1 ≤ length sets → f ≡ get_or fs 0 f → is_within x (field_of (field f)) ≡ true → true ≡ used fs sets
   used_here [] sets f h k ef e = absurd (omega (arith, h))
   used_here (y ∷ fs) [] f h k ef e = absurd (omega (arith, k))
-  used_here (y ∷ fs) (g ∷ sets) f h k ef e = sym (used_first x (field y) (map field fs) (set g) (map set sets) (ap (λ z. mentions x (field z)) (sym ef) ∙ e))
+  used_here (y ∷ fs) (g ∷ sets) f h k ef e = sym (used_first x (field_of (field y)) (map field_of (map field fs)) (set g) (map set sets) (ap (λ z. is_within x (field_of (field z))) (sym ef) ∙ e))
 
 -- a name that isn't in the first field
-used_beyond : (x : Name) (t : Syntax) (ts : List Syntax) (vs : Values) (sets : List Values) (b : Bool) → mentions x t ≡ false → nat_eq (length vs) 0 ≡ b → is_used x (t ∷ ts) (vs ∷ sets) ≡ cond b false (is_used x ts sets)
+used_beyond : (x : Name) (f : FieldPhrase) (fs : List FieldPhrase) (vs : Values) (sets : List Values) (b : Bool) → is_within x f ≡ false → nat_eq (length vs) 0 ≡ b → is_used x (f ∷ fs) (vs ∷ sets) ≡ cond b false (is_used x fs sets)
 unfolding is_used
-used_beyond x t ts [] sets true m h = m
-used_beyond x t ts [] sets false m h = absurd cc
-used_beyond x t ts (v ∷ vs) sets true m h = absurd (omega (arith, eqb-true (length (v ∷ vs)) 0 h))
-used_beyond x t ts (v ∷ vs) sets false m h = ap (λ b. b || is_used x ts sets) m
+used_beyond x f fs [] sets true m h = m
+used_beyond x f fs [] sets false m h = absurd cc
+used_beyond x f fs (v ∷ vs) sets true m h = absurd (omega (arith, eqb-true (length (v ∷ vs)) 0 h))
+used_beyond x f fs (v ∷ vs) sets false m h = ap (λ b. b || is_used x fs sets) m
 
 module _ {F S : Type 0} (field : F → Syntax) (set : S → Values) (x : Name) where
-  pub used_next : (fs : List F) (sets : List S) (f : F) (g : S) (b : Bool) → 1 ≤ length fs → 1 ≤ length sets → f ≡ get_or fs 0 f → g ≡ get_or sets 0 g → mentions x (field f) ≡ false → nat_eq (length (set g)) 0 ≡ b →
-      is_used x (map field fs) (map set sets) ≡ cond b false (is_used x (map field (take (length fs - 1) (drop 1 fs))) (map set (take (length sets - 1) (drop 1 sets))))
+  pub used_next : (fs : List F) (sets : List S) (f : F) (g : S) (b : Bool) → 1 ≤ length fs → 1 ≤ length sets → f ≡ get_or fs 0 f → g ≡ get_or sets 0 g → is_within x (field_of (field f)) ≡ false → nat_eq (length (set g)) 0 ≡ b →
+      is_used x (map field_of (map field fs)) (map set sets) ≡ cond b false (is_used x (map field_of (map field (take (length fs - 1) (drop 1 fs)))) (map set (take (length sets - 1) (drop 1 sets))))
   used_next fs sets f g b h k ef eg m e =
-      ap₂ (λ fs sets. is_used x (map field fs) (map set sets)) (first_item fs f h ef) (first_item sets g k eg)
-      ∙ used_beyond x (field f) (map field (drop 1 fs)) (set g) (map set (drop 1 sets)) b m e
-      ∙ ap₂ (λ fs sets. cond b false (is_used x (map field fs) (map set sets))) (sym (rest_is fs)) (sym (rest_is sets))
+      ap₂ (λ fs sets. is_used x (map field_of (map field fs)) (map set sets)) (first_item fs f h ef) (first_item sets g k eg)
+      ∙ used_beyond x (field_of (field f)) (map field_of (map field (drop 1 fs))) (set g) (map set (drop 1 sets)) b m e
+      ∙ ap₂ (λ fs sets. cond b false (is_used x (map field_of (map field fs)) (map set sets))) (sym (rest_is fs)) (sym (rest_is sets))
 
 -- ---- channels with events
 

@@ -2,73 +2,65 @@
 use Rattle.std.proofs.Common.{◌≡◌, ℕ, suc, ◌+◌, ◌<◌, ◌≤◌, List, [], ◌∷◌, length, map, drop, get_or, Bool, true, false, cond, Option, Some, None, refl, sym, ap, ◌∙◌, arith}
 use Rattle.std.proofs.lemmas.List.{drop-map}
 use Rattle.alphabet.specs.Channels.{FieldValue, Values, Parts}
-use Rattle.syntax.specs.Grammar.{Syntax}
-use Rattle.syntax.specs.Parsing.{syntaxes}
 use Rattle.tokens.specs.declared.unread.Unread.{Unread}
 use Rattle.values.specs.Values.{◌>>=◌, Name, is_among, is_same}
 use Rattle.values.specs.Names.{same_name}
 use Rattle.values.specs.View.{Fails}
-use Rattle.event_phrases.specs.EventForms.{event_fits, fits_by, given_value}
-use Rattle.event_phrases.specs.Events.{field_value}
-use Rattle.event_phrases.specs.Fitting.{Fitting, against, fits_field, fitting, then_fits}
-use Rattle.event_phrases.specs.Forms.{FieldPhrase, given, input, input_from, field_of}
-use Rattle.event_phrases.specs.Leading.{Fit, before_more, first_fit, fit_or, leading, led_fits, led_fitting, value_within}
+use Rattle.event_phrases.specs.Events.{field_value, value_within}
+use Rattle.event_phrases.specs.Fitting.{Fitting, against, fits_field, then_fits, fitting, event_fits}
+use Rattle.event_phrases.specs.Forms.{FieldPhrase, given, input, input_from, no_field}
+use Rattle.event_phrases.specs.Leading.{Fit, before_more, first_fit, fit_or, leading, led_fits, led_fitting}
 use Rattle.event_phrases.specs.Scopes.{Scope}
-use Rattle.event_phrases.proofs.EventLaws.{value_so, no_value}
 use Rattle.event_phrases.proofs.EventNumbers.{drop_item, drop_none}
 use Rattle.syntax.proofs.Failing.{fails_on}
-use Rattle.event_phrases.proofs.Scopes.{field_fits}
 
 abbrev fits_or_not : Bool → Scope → Fitting
 fits_or_not b s = cond b (Some (Some s)) (Some None)
 
 -- a field that gives this value
-against_value : (s : Scope) (t : Syntax) (set : Values) (v w : FieldValue) → field_value s.known t ≡ Some w → fits_field t set v s ≡ against set v s (Some w)
-unfolding fits_by given_value
-against_value s t set v w h = by (field_of t) refl
-  where
-    by : (o : Option FieldPhrase) → field_of t ≡ o → fits_field t set v s ≡ against set v s (Some w)
-    by None e = absurd (cc (sym (no_value s.known t e) ∙ h))
-    by (Some (given u)) e = field_fits t (given u) set v s e ∙ ap (against set v s) (sym (value_so s.known t (given u) e) ∙ h)
-    by (Some (input x)) e = absurd (cc (sym (value_so s.known t (input x) e) ∙ h))
-    by (Some (input_from x u)) e = absurd (cc (sym (value_so s.known t (input_from x u) e) ∙ h))
+against_value : (s : Scope) (f : FieldPhrase) (set : Values) (v w : FieldValue) → field_value s.known f ≡ Some w → fits_field f set v s ≡ against set v s (Some w)
+unfolding fits_field field_value
+against_value s (given t) set v w h = ap (against set v s) h
+against_value s (input x) set v w h = absurd cc
+against_value s (input_from x t) set v w h = absurd cc
+against_value s no_field set v w h = absurd cc
 
-abbrev LedAlike : Scope → List Syntax → List Values → Type 0
-LedAlike s ts sets = (vs : Values) → led_fitting (leading s.known ts sets) ts sets vs s ≡ fitting (syntaxes ts) sets vs s
+abbrev LedAlike : Scope → List FieldPhrase → List Values → Type 0
+LedAlike s fs sets = (vs : Values) → led_fitting (leading s.known fs sets) fs sets vs s ≡ fitting fs sets vs s
 
 -- after fields of which the first ones have the values that they give
-led_is : (s : Scope) (ts : List Syntax) (sets : List Values) (vs : Values) → led_fitting (leading s.known ts sets) ts sets vs s ≡ fitting (syntaxes ts) sets vs s
+led_is : (s : Scope) (fs : List FieldPhrase) (sets : List Values) (vs : Values) → led_fitting (leading s.known fs sets) fs sets vs s ≡ fitting fs sets vs s
 unfolding leading led_fitting before_more value_within fitting against
 led_is s [] sets vs = refl
-led_is s (t ∷ ts) [] vs = refl
-led_is s (t ∷ ts) (set ∷ sets) vs = by (field_value s.known t) (λ vs. led_is s ts sets vs) refl
+led_is s (f ∷ fs) [] vs = refl
+led_is s (f ∷ fs) (set ∷ sets) vs = by (field_value s.known f) (λ vs. led_is s fs sets vs) refl
   where
-    same : (v w : FieldValue) (vs : Values) → LedAlike s ts sets → field_value s.known t ≡ Some w → is_among w set ≡ true → led_fitting (w ∷ leading s.known ts sets) (t ∷ ts) (set ∷ sets) (v ∷ vs) s ≡ fitting (syntaxes (t ∷ ts)) (set ∷ sets) (v ∷ vs) s
+    same : (v w : FieldValue) (vs : Values) → LedAlike s fs sets → field_value s.known f ≡ Some w → is_among w set ≡ true → led_fitting (w ∷ leading s.known fs sets) (f ∷ fs) (set ∷ sets) (v ∷ vs) s ≡ fitting (f ∷ fs) (set ∷ sets) (v ∷ vs) s
     same v w vs later e a =
-        let more : Scope → Fitting = λ inner. fitting (syntaxes ts) sets vs inner in
-        ap (λ f. cond (is_same w v) f (Some None)) (later vs) ∙ either (is_same w v) more
-        ∙ sym (ap (λ f. then_fits f more) (against_value s t set v w e ∙ ap (λ b. cond b (fits_or_not (is_same w v) s) None) a))
+        let more : Scope → Fitting = λ inner. fitting fs sets vs inner in
+        ap (λ o. cond (is_same w v) o (Some None)) (later vs) ∙ either (is_same w v) more
+        ∙ sym (ap (λ o. then_fits o more) (against_value s f set v w e ∙ ap (λ b. cond b (fits_or_not (is_same w v) s) None) a))
       where
         either : (b : Bool) (more : Scope → Fitting) → cond b (more s) (Some None) ≡ then_fits (fits_or_not b s) more
         either true more = refl
         either false more = refl
 
-    on : (w : FieldValue) (vs : Values) → LedAlike s ts sets → field_value s.known t ≡ Some w → is_among w set ≡ true → led_fitting (w ∷ leading s.known ts sets) (t ∷ ts) (set ∷ sets) vs s ≡ fitting (syntaxes (t ∷ ts)) (set ∷ sets) vs s
+    on : (w : FieldValue) (vs : Values) → LedAlike s fs sets → field_value s.known f ≡ Some w → is_among w set ≡ true → led_fitting (w ∷ leading s.known fs sets) (f ∷ fs) (set ∷ sets) vs s ≡ fitting (f ∷ fs) (set ∷ sets) vs s
     on w [] later e a = refl
     on w (v ∷ vs) later e a = same v w vs later e a
 
-    among : (w : FieldValue) → LedAlike s ts sets → field_value s.known t ≡ Some w → (b : Bool) → is_among w set ≡ b → led_fitting (before_more (cond b (Some w) None) (leading s.known ts sets)) (t ∷ ts) (set ∷ sets) vs s ≡ fitting (syntaxes (t ∷ ts)) (set ∷ sets) vs s
+    among : (w : FieldValue) → LedAlike s fs sets → field_value s.known f ≡ Some w → (b : Bool) → is_among w set ≡ b → led_fitting (before_more (cond b (Some w) None) (leading s.known fs sets)) (f ∷ fs) (set ∷ sets) vs s ≡ fitting (f ∷ fs) (set ∷ sets) vs s
     among w later e true a = on w vs later e a
     among w later e false a = refl
 
-    by : (o : Option FieldValue) → LedAlike s ts sets → field_value s.known t ≡ o → led_fitting (before_more (value_within o set) (leading s.known ts sets)) (t ∷ ts) (set ∷ sets) vs s ≡ fitting (syntaxes (t ∷ ts)) (set ∷ sets) vs s
+    by : (o : Option FieldValue) → LedAlike s fs sets → field_value s.known f ≡ o → led_fitting (before_more (value_within o set) (leading s.known fs sets)) (f ∷ fs) (set ∷ sets) vs s ≡ fitting (f ∷ fs) (set ∷ sets) vs s
     by None later e = refl
     by (Some w) later e = among w later e (is_among w set) refl
 
 -- an event fits by the values that were found first as it fits by the definition
-pub led_fits_is : (c : Name) (ts : List Syntax) (sets : List Values) (s : Scope) → led_fits c (leading s.known ts sets) ts sets s ≡ event_fits c (syntaxes ts) sets s
+pub led_fits_is : (c : Name) (fs : List FieldPhrase) (sets : List Values) (s : Scope) → led_fits c (leading s.known fs sets) fs sets s ≡ event_fits c fs sets s
 unfolding led_fits event_fits
-led_fits_is c ts sets s = λ i p. cond (same_name c p.channel) (led_is s ts sets p.values i) (Some None)
+led_fits_is c fs sets s = λ i p. cond (same_name c p.channel) (led_is s fs sets p.values i) (Some None)
 
 -- ---- the first event that fits
 

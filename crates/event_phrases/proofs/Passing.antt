@@ -1,5 +1,5 @@
 -- Turns over the values of an input, where a channel has no event.
-use Rattle.std.proofs.Common.{◌≡◌, ℕ, ◌+◌, ◌<◌, ◌≤◌, List, [], ◌∷◌, length, map, drop, get_or, filter, false, cond, Option, Some, None, Result, Ok, Err, MatchResult, refl, sym, ap, subst, ◌∙◌}
+use Rattle.std.proofs.Common.{◌≡◌, ℕ, ◌+◌, ◌-◌, ◌<◌, ◌≤◌, List, [], ◌∷◌, length, map, take, drop, get_or, filter, false, cond, Option, Some, None, Result, Ok, Err, MatchResult, sym, ap, ap₂, subst, ◌∙◌}
 use Rattle.tokens.specs.declared.unread.Unread.{Unread}
 use Rattle.tokens.specs.declared.unread.Unread.TheVariants.{Memory}
 use Rattle.values.specs.Names.{is_constant, meaning}
@@ -7,13 +7,14 @@ use Rattle.values.specs.Values.{◌>>=◌, Name, is_among}
 use Rattle.values.specs.View.{Fails}
 use Rattle.alphabet.specs.Channels.{Values}
 use Rattle.syntax.specs.Grammar.{Syntax}
-use Rattle.syntax.specs.Parsing.{syntaxes}
 use Rattle.event_phrases.specs.Forms.{FieldPhrase, given, input, input_from, field_of}
 use Rattle.event_phrases.specs.Prefixes.{all_pass, fields_pass, scopes_after}
 use Rattle.event_phrases.specs.Scopes.{Scope, with_input, values_by}
-use Rattle.event_phrases.specs.Uses.{chosen_values, field_passes}
+use Rattle.event_phrases.specs.Uses.{chosen_values}
 use Rattle.event_phrases.proofs.EventNumbers.{drop_item, drop_none}
 use Rattle.syntax.proofs.Failing.{fails_on}
+use Rattle.event_phrases.proofs.Options.{bind_assoc}
+use Rattle.event_phrases.proofs.Scopes.{first_item, rest_is}
 use Rattle.event_phrases.proofs.Unused.{ended}
 
 -- ---- what passes
@@ -42,47 +43,39 @@ looked_so (Err e) x each after s h k = subst (λ k. Fails k x) (sym k) tt
 
 -- ---- a field by its form
 
-module _ (ts : List Syntax) (sets : List Values) (s : Scope) (set : Values) where
+module _ (fs : List FieldPhrase) (sets : List Values) (s : Scope) (set : Values) where
   abbrev onward : Option (List Scope) → Option (Unit {0})
-  onward o = o >>= all_pass (fields_pass (syntaxes ts) sets)
+  onward o = o >>= all_pass (fields_pass fs sets)
 
-  pub field_is : (t : Syntax) (p : FieldPhrase) → field_of t ≡ Some p → fields_pass (syntaxes (t ∷ ts)) (set ∷ sets) s ≡ field_passes ts sets s p set
-  unfolding fields_pass field_passes
-  field_is t p h = ap (λ o. o >>= λ p. onward (scopes_after p set s)) h
+  pub given_passes : (t : Syntax) → scopes_after (given t) set s ≡ Some (s ∷ []) → fields_pass (given t ∷ fs) (set ∷ sets) s ≡ fields_pass fs sets s
+  unfolding fields_pass all_pass
+  given_passes t e = ap onward e ∙ ended (fields_pass fs sets s)
 
-  pub no_field_is : (t : Syntax) → field_of t ≡ None → fields_pass (syntaxes (t ∷ ts)) (set ∷ sets) s ≡ None
-  unfolding fields_pass
-  no_field_is t h = ap (λ o. o >>= λ p. onward (scopes_after p set s)) h
-
-  module _ (p : FieldPhrase) where
-    pub given_passes : (t : Syntax) → p ≡ given t → scopes_after (given t) set s ≡ Some (s ∷ []) → field_passes ts sets s p set ≡ fields_pass (syntaxes ts) sets s
-    unfolding field_passes all_pass
-    given_passes t h e =
-        ap (λ p. field_passes ts sets s p set) h
-        ∙ ap onward e
-        ∙ ended (fields_pass (syntaxes ts) sets s)
-
-    pub input_passes : (x : Name) → p ≡ input x → is_constant (meaning s.entries x) ≡ false → field_passes ts sets s p set ≡ all_pass (fields_pass (syntaxes ts) sets) (map (with_input s x) set)
-    unfolding field_passes scopes_after
-    input_passes x h c = ap (λ p. field_passes ts sets s p set) h ∙ ap (λ b. onward (cond b None (Some (map (with_input s x) set)))) c
+  module _ (x : Name) (c : is_constant (meaning s.entries x) ≡ false) where
+    pub input_passes : fields_pass (input x ∷ fs) (set ∷ sets) s ≡ all_pass (fields_pass fs sets) (map (with_input s x) set)
+    unfolding fields_pass scopes_after
+    input_passes = ap (λ b. onward (cond b None (Some (map (with_input s x) set)))) c
 
     abbrev scopes_with : Name → Values → List Scope
     scopes_with x vs = map (with_input s x) vs
 
-    part_is : (x : Name) (t : Syntax) → p ≡ input_from x t → is_constant (meaning s.entries x) ≡ false → field_passes ts sets s p set ≡ onward (chosen_values s t set >>= λ vs. Some (scopes_with x vs))
-    unfolding field_passes scopes_after chosen_values
-    part_is x t h c =
-        ap (λ p. field_passes ts sets s p set) h
-        ∙ ap (λ b. onward (cond b None (values_by s t >>= λ part. Some (map (with_input s x) (filter (λ v. is_among v part) set))))) c
-        ∙ ap onward (by (values_by s t))
-      where
-        by : (o : Option Values) → (o >>= λ part. Some (map (with_input s x) (filter (λ v. is_among v part) set))) ≡ ((o >>= λ part. Some (filter (λ v. is_among v part) set)) >>= λ vs. Some (scopes_with x vs))
-        by None = refl
-        by (Some part) = refl
+    module _ (t : Syntax) where
+      part_is : fields_pass (input_from x t ∷ fs) (set ∷ sets) s ≡ onward (chosen_values s t set >>= λ vs. Some (scopes_with x vs))
+      unfolding fields_pass scopes_after chosen_values
+      part_is =
+          ap (λ b. onward (cond b None (values_by s t >>= λ part. Some (map (with_input s x) (filter (λ v. is_among v part) set))))) c
+          ∙ ap onward (sym (bind_assoc (values_by s t) (λ part. Some (filter (λ v. is_among v part) set)) (λ vs. Some (scopes_with x vs))))
 
-    pub part_passes : (x : Name) (t : Syntax) (vs : Values) → p ≡ input_from x t → is_constant (meaning s.entries x) ≡ false → chosen_values s t set ≡ Some vs → field_passes ts sets s p set ≡ all_pass (fields_pass (syntaxes ts) sets) (map (with_input s x) vs)
-    part_passes x t vs h c e = part_is x t h c ∙ ap (λ o. onward (o >>= λ vs. Some (scopes_with x vs))) e
+      pub part_passes : (vs : Values) → chosen_values s t set ≡ Some vs → fields_pass (input_from x t ∷ fs) (set ∷ sets) s ≡ all_pass (fields_pass fs sets) (map (with_input s x) vs)
+      part_passes vs e = part_is ∙ ap (λ o. onward (o >>= λ vs. Some (scopes_with x vs))) e
 
-    pub part_fails : (x : Name) (t : Syntax) (k : Unread) → p ≡ input_from x t → is_constant (meaning s.entries x) ≡ false → Fails k (chosen_values s t set) → Fails k (field_passes ts sets s p set)
-    part_fails x t k h c f =
-        fails_on k (chosen_values s t set) (field_passes ts sets s p set) (λ e. part_is x t h c ∙ ap (λ o. onward (o >>= λ vs. Some (scopes_with x vs))) e) f
+      pub part_fails : (k : Unread) → Fails k (chosen_values s t set) → Fails k (fields_pass (input_from x t ∷ fs) (set ∷ sets) s)
+      part_fails k f = fails_on k (chosen_values s t set) (fields_pass (input_from x t ∷ fs) (set ∷ sets) s) (λ e. part_is ∙ ap (λ o. onward (o >>= λ vs. Some (scopes_with x vs))) e) f
+
+-- the first field, as this is read, and those after it
+pub first_field : {F S : Type 0} (field : F → Syntax) (set : S → Values) (fs : List F) (sets : List S) (f : F) (g : S) (p : FieldPhrase) (s : Scope) → 1 ≤ length fs → 1 ≤ length sets → f ≡ get_or fs 0 f → g ≡ get_or sets 0 g → p ≡ field_of (field f) →
+    fields_pass (map field_of (map field fs)) (map set sets) s ≡ fields_pass (p ∷ map field_of (map field (take (length fs - 1) (drop 1 fs)))) (set g ∷ map set (take (length sets - 1) (drop 1 sets))) s
+first_field field set fs sets f g p s h k ef eg e =
+    ap₂ (λ fs sets. fields_pass (map field_of (map field fs)) (map set sets) s) (first_item fs f h ef) (first_item sets g k eg)
+    ∙ ap (λ p. fields_pass (p ∷ map field_of (map field (drop 1 fs))) (set g ∷ map set (drop 1 sets)) s) (sym e)
+    ∙ ap₂ (λ fs sets. fields_pass (p ∷ map field_of (map field fs)) (set g ∷ map set sets) s) (sym (rest_is fs)) (sym (rest_is sets))

@@ -11,9 +11,8 @@ use Rattle.values.specs.Values.{◌>>=◌}
 use Rattle.values.specs.Worths.{Known}
 use Rattle.values.specs.View.{Fails}
 use Rattle.event_phrases.specs.Events.{Beginning, beginning, begins_so, number_in, pairs_from, pair_of, pairs_of}
-use Rattle.event_phrases.specs.EventForms.{behind_pairs, pairs_by}
-use Rattle.event_phrases.specs.Forms.{sides_of}
-use Rattle.event_phrases.proofs.EventLaws.{pair_is}
+use Rattle.event_phrases.specs.Forms.{EventPhrase, sides_of}
+use Rattle.event_phrases.specs.Uses.{behind_pairs}
 use Rattle.syntax.proofs.Failing.{fails_on}
 use Rattle.event_phrases.proofs.EventNumbers.{drop_item, drop_none}
 
@@ -111,18 +110,21 @@ module _ {A : Type 0} (cs : List Channel) (known : Known) (ts : List (Tree A)) w
 
 -- ---- one pair
 
-abbrev both_sides : Syntax → Syntax → Option (Syntax × Syntax)
-both_sides u v = Some (u, v)
+abbrev both_sides : EventPhrase → EventPhrase → Option (EventPhrase × EventPhrase)
+both_sides d e = Some (d, e)
 
 module _ (cs : List Channel) (known : Known) (t : Syntax) (front : Pairs) where
-  pub no_pair : None ≡ sides_of t → behind_pairs front (pair_of cs known t) ≡ None
-  unfolding behind_pairs
-  no_pair h = ap (behind_pairs front) (pair_is cs known t ∙ ap (λ o. o >>= pairs_by cs known) (sym h))
+  abbrev pair_by : Option (EventPhrase × EventPhrase) → Option Pairs
+  pair_by o = o >>= λ p. beginning cs known p.0 >>= λ left. beginning cs known p.1 >>= λ right. pairs_from cs left right 0 (events cs)
 
-  module _ (u v : Syntax) (h : both_sides u v ≡ sides_of t) where
+  pub no_pair : None ≡ sides_of t → behind_pairs front (pair_of cs known t) ≡ None
+  unfolding behind_pairs pair_of
+  no_pair h = ap (λ o. behind_pairs front (pair_by o)) (sym h)
+
+  module _ (u v : EventPhrase) (h : both_sides u v ≡ sides_of t) where
     pair_so : pair_of cs known t ≡ (beginning cs known u >>= λ left. beginning cs known v >>= λ right. pairs_from cs left right 0 (events cs))
-    unfolding pairs_by
-    pair_so = pair_is cs known t ∙ ap (λ o. o >>= pairs_by cs known) (sym h)
+    unfolding pair_of
+    pair_so = ap pair_by (sym h)
 
     pub left_fails : (k : Unread) → Fails k (beginning cs known u) → Fails k (behind_pairs front (pair_of cs known t))
     unfolding behind_pairs

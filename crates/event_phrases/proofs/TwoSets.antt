@@ -5,8 +5,7 @@ use Rattle.alphabet.specs.EventSets.{Set}
 use Rattle.tokens.specs.declared.unread.Unread.{Unread}
 use Rattle.values.specs.Values.{◌>>=◌}
 use Rattle.values.specs.View.{Fails}
-use Rattle.event_phrases.specs.EventForms.{two_masked}
-use Rattle.event_phrases.specs.Events.{Events, masked}
+use Rattle.event_phrases.specs.Events.{Events, masked, two_masked}
 use Rattle.event_phrases.proofs.Options.{step, fails_at}
 
 module _ (cs : List Channel) (o u : Option Events) where

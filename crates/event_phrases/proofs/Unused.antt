@@ -5,16 +5,14 @@ use Rattle.alphabet.specs.Channels.{FieldValue, Values}
 use Rattle.syntax.specs.declared.form.Form.{Form}
 use Rattle.syntax.specs.declared.form.Form.TheVariants as forms
 use Rattle.syntax.specs.Grammar.{Syntax, Called, Numeral, Node, Syntaxes, NoSyntax, MoreSyntax}
-use Rattle.syntax.specs.Parsing.{syntaxes}
 use Rattle.values.specs.Names.{is_constant, meaning, same_name}
 use Rattle.values.specs.Values.{◌>>=◌, Name, is_among}
 use Rattle.values.specs.Worths.{one, truth, Known, worth, worths, formed, the_value, the_set, truth_only}
 use Rattle.values.proofs.Keeps.{Parted, by_if, by_and, by_or, by_all, parted, EachPhrase, by_parts, chosen, if_is, and_is, or_is}
-use Rattle.event_phrases.specs.Forms.{FieldPhrase, given, input, input_from, part_list, node_of, name_of, if_none, one_of, two_of, field_form, field_of}
+use Rattle.event_phrases.specs.Forms.{FieldPhrase, given, input, input_from, no_field}
 use Rattle.event_phrases.specs.Prefixes.{scopes_after, all_pass, fields_pass}
 use Rattle.event_phrases.specs.Scopes.{Scope, with_input}
-use Rattle.event_phrases.proofs.Options.{some_is}
-use Rattle.event_phrases.specs.Uses.{mentions, mention, is_used}
+use Rattle.event_phrases.specs.Uses.{mentions, mention, is_within, is_used}
 
 abbrev Checked : Type 0
 Checked = Option (Unit {0})
@@ -72,42 +70,6 @@ module _ (x : Name) (k l : Known) (h : Agree x k l) where
   worth_same : (t : Syntax) → Same t
   worth_same = by_parts Same name_same number_same node_same
 
--- ---- fields
-
--- the name isn't in the field's phrase
-abbrev Lacks : Name → FieldPhrase → Type 0
-Lacks x (given t) = mentions x t ≡ false
-Lacks x (input y) = Unit {0}
-Lacks x (input_from y t) = mentions x t ≡ false
-
-form_lacks : (x : Name) (f : Form) (ts : Syntaxes) (p : FieldPhrase) → field_form f (part_list ts) ≡ Some p → mention x ts ≡ false → Lacks x p
-unfolding field_form part_list one_of two_of if_none name_of mention
-form_lacks x forms.Dotted (MoreSyntax t NoSyntax) p h e = subst (Lacks x) (some_is h) (neither (mentions x t) false e).0
-form_lacks x forms.Output (MoreSyntax t NoSyntax) p h e = subst (Lacks x) (some_is h) (neither (mentions x t) false e).0
-form_lacks x forms.Input (MoreSyntax (Called n) NoSyntax) p h e = subst (Lacks x) (some_is h) tt
-form_lacks x forms.RestrictedInput (MoreSyntax (Called n) (MoreSyntax u NoSyntax)) p h e =
-    subst (Lacks x) (some_is h) (neither (mentions x u) false (neither (mentions x (Called n)) (mentions x u || false) e).1).0
-form_lacks x forms.Dotted NoSyntax p h e = absurd cc
-form_lacks x forms.Dotted (MoreSyntax t (MoreSyntax u ts)) p h e = absurd cc
-form_lacks x forms.Output NoSyntax p h e = absurd cc
-form_lacks x forms.Output (MoreSyntax t (MoreSyntax u ts)) p h e = absurd cc
-form_lacks x forms.Input NoSyntax p h e = absurd cc
-form_lacks x forms.Input (MoreSyntax (Numeral n) NoSyntax) p h e = absurd cc
-form_lacks x forms.Input (MoreSyntax (Node f us) NoSyntax) p h e = absurd cc
-form_lacks x forms.Input (MoreSyntax t (MoreSyntax u ts)) p h e = absurd cc
-form_lacks x forms.RestrictedInput NoSyntax p h e = absurd cc
-form_lacks x forms.RestrictedInput (MoreSyntax t NoSyntax) p h e = absurd cc
-form_lacks x forms.RestrictedInput (MoreSyntax (Numeral n) (MoreSyntax u NoSyntax)) p h e = absurd cc
-form_lacks x forms.RestrictedInput (MoreSyntax (Node f us) (MoreSyntax u NoSyntax)) p h e = absurd cc
-form_lacks x forms.RestrictedInput (MoreSyntax t (MoreSyntax u (MoreSyntax v ts))) p h e = absurd cc
-form_lacks x f ts p h e = absurd cc
-
-field_lacks : (x : Name) (t : Syntax) (p : FieldPhrase) → field_of t ≡ Some p → mentions x t ≡ false → Lacks x p
-unfolding field_of node_of mentions
-field_lacks x (Called n) p h e = absurd cc
-field_lacks x (Numeral n) p h e = absurd cc
-field_lacks x (Node f ts) p h e = form_lacks x f ts p h e
-
 -- ---- scopes
 
 abbrev at : Scope → Known → Scope
@@ -135,20 +97,22 @@ module _ (x : Name) (test : Scope → Checked) (s : Scope) (k l : Known) (h : Ag
   by_constant false o q e = e
 
   -- a field whose set is empty
-  empty_same : (p : FieldPhrase) → Lacks x p → (scopes_after p [] (at s k) >>= all_pass test) ≡ (scopes_after p [] (at s l) >>= all_pass test)
-  unfolding scopes_after is_among
+  empty_same : (p : FieldPhrase) → is_within x p ≡ false → (scopes_after p [] (at s k) >>= all_pass test) ≡ (scopes_after p [] (at s l) >>= all_pass test)
+  unfolding scopes_after is_among is_within
   empty_same (given t) e = ap (λ o. ((o >>= λ w. the_value w) >>= λ v. none_there) >>= all_pass test) (worth_same x k l h t e)
     where
       none_there : Option (List Scope)
       none_there = None
   empty_same (input y) e = refl
+  empty_same no_field e = refl
   empty_same (input_from y t) e =
       by_constant (is_constant (meaning s.entries y)) (chosen_so k y [] (worth k t >>= λ w. the_set w)) (chosen_so l y [] (worth l t >>= λ w. the_set w))
       (ap (λ o. chosen_so k y [] (o >>= λ w. the_set w) >>= all_pass test) (worth_same x k l h t e))
 
   module _ (same : (m n : Known) → Agree x m n → test (at s m) ≡ test (at s n)) where
-    field_same : (p : FieldPhrase) (set : Values) → Lacks x p → (scopes_after p set (at s k) >>= all_pass test) ≡ (scopes_after p set (at s l) >>= all_pass test)
-    unfolding scopes_after all_pass
+    field_same : (p : FieldPhrase) (set : Values) → is_within x p ≡ false → (scopes_after p set (at s k) >>= all_pass test) ≡ (scopes_after p set (at s l) >>= all_pass test)
+    unfolding scopes_after all_pass is_within
+    field_same no_field set e = refl
     field_same (given t) set e =
         ap (λ o. ((o >>= λ w. the_value w) >>= λ v. cond (is_among v set) (Some (at s k ∷ [])) None) >>= all_pass test) (worth_same x k l h t e)
         ∙ by (worth l t >>= λ w. the_value w)
@@ -172,26 +136,18 @@ module _ (x : Name) (test : Scope → Checked) (s : Scope) (k l : Known) (h : Ag
 
 -- ---- all fields
 
-fields_same : (x : Name) (ts : List Syntax) (sets : List Values) (s : Scope) (k l : Known) → Agree x k l → is_used x ts sets ≡ false → fields_pass (syntaxes ts) sets (at s k) ≡ fields_pass (syntaxes ts) sets (at s l)
+fields_same : (x : Name) (fs : List FieldPhrase) (sets : List Values) (s : Scope) (k l : Known) → Agree x k l → is_used x fs sets ≡ false → fields_pass fs sets (at s k) ≡ fields_pass fs sets (at s l)
 unfolding fields_pass is_used
 fields_same x [] sets s k l h e = refl
-fields_same x (t ∷ ts) [] s k l h e = refl
-fields_same x (t ∷ ts) ([] ∷ sets) s k l h e = by (field_of t) (λ p f. field_lacks x t p f e)
-  where
-    by : (o : Option FieldPhrase) → ((p : FieldPhrase) → o ≡ Some p → Lacks x p) → (o >>= λ p. scopes_after p [] (at s k) >>= all_pass (fields_pass (syntaxes ts) sets)) ≡ (o >>= λ p. scopes_after p [] (at s l) >>= all_pass (fields_pass (syntaxes ts) sets))
-    by None g = refl
-    by (Some p) g = empty_same x (fields_pass (syntaxes ts) sets) s k l h p (g p refl)
-fields_same x (t ∷ ts) ((u ∷ us) ∷ sets) s k l h e =
-    let q = neither (mentions x t) (is_used x ts sets) e in
-    by (λ m n g. fields_same x ts sets s m n g q.1) (field_of t) (λ p f. field_lacks x t p f q.0)
-  where
-    by : ((m n : Known) → Agree x m n → fields_pass (syntaxes ts) sets (at s m) ≡ fields_pass (syntaxes ts) sets (at s n)) → (o : Option FieldPhrase) → ((p : FieldPhrase) → o ≡ Some p → Lacks x p) → (o >>= λ p. scopes_after p (u ∷ us) (at s k) >>= all_pass (fields_pass (syntaxes ts) sets)) ≡ (o >>= λ p. scopes_after p (u ∷ us) (at s l) >>= all_pass (fields_pass (syntaxes ts) sets))
-    by rest None g = refl
-    by rest (Some p) g = field_same x (fields_pass (syntaxes ts) sets) s k l h rest p (u ∷ us) (g p refl)
+fields_same x (f ∷ fs) [] s k l h e = refl
+fields_same x (f ∷ fs) ([] ∷ sets) s k l h e = empty_same x (fields_pass fs sets) s k l h f e
+fields_same x (f ∷ fs) ((u ∷ us) ∷ sets) s k l h e =
+    let q = neither (is_within x f) (is_used x fs sets) e in
+    field_same x (fields_pass fs sets) s k l h (λ m n g. fields_same x fs sets s m n g q.1) f (u ∷ us) q.0
 
 -- an input that the fields don't use
-unused : (x : Name) (v : FieldValue) (ts : List Syntax) (sets : List Values) (s : Scope) → is_used x ts sets ≡ false → fields_pass (syntaxes ts) sets (with_input s x v) ≡ fields_pass (syntaxes ts) sets s
-unused x v ts sets s e = fields_same x ts sets s (plus s.known x v) s.known (λ n g. ap (λ b. cond b (Some (one v)) (s.known n)) g) e
+unused : (x : Name) (v : FieldValue) (fs : List FieldPhrase) (sets : List Values) (s : Scope) → is_used x fs sets ≡ false → fields_pass fs sets (with_input s x v) ≡ fields_pass fs sets s
+unused x v fs sets s e = fields_same x fs sets s (plus s.known x v) s.known (λ n g. ap (λ b. cond b (Some (one v)) (s.known n)) g) e
 
 -- ---- an input with each of these values, or without
 
@@ -208,13 +164,13 @@ unfolding all_pass
 each_of test s x [] = refl
 each_of test s x (v ∷ vs) = ap (λ (o : Checked). test (with_input s x v) >>= λ u. o) (each_of test s x vs)
 
-without : (x : Name) (ts : List Syntax) (sets : List Values) (s : Scope) (v : FieldValue) (vs : Values) → is_used x ts sets ≡ false → all_pass (fields_pass (syntaxes ts) sets) (map (with_input s x) (v ∷ vs)) ≡ fields_pass (syntaxes ts) sets s
+without : (x : Name) (fs : List FieldPhrase) (sets : List Values) (s : Scope) (v : FieldValue) (vs : Values) → is_used x fs sets ≡ false → all_pass (fields_pass fs sets) (map (with_input s x) (v ∷ vs)) ≡ fields_pass fs sets s
 unfolding all_pass
-without x ts sets s v [] e = ended (fields_pass (syntaxes ts) sets (with_input s x v)) ∙ unused x v ts sets s e
-without x ts sets s v (w ∷ vs) e =
-    ap₂ (λ (o r : Checked). o >>= λ u. r) (unused x v ts sets s e) (without x ts sets s w vs e) ∙ once (fields_pass (syntaxes ts) sets s)
+without x fs sets s v [] e = ended (fields_pass fs sets (with_input s x v)) ∙ unused x v fs sets s e
+without x fs sets s v (w ∷ vs) e =
+    ap₂ (λ (o r : Checked). o >>= λ u. r) (unused x v fs sets s e) (without x fs sets s w vs e) ∙ once (fields_pass fs sets s)
 
 -- where there is some value
-pub without_values : (x : Name) (ts : List Syntax) (sets : List Values) (s : Scope) (vs : Values) → 1 ≤ length vs → is_used x ts sets ≡ false → all_pass (fields_pass (syntaxes ts) sets) (map (with_input s x) vs) ≡ fields_pass (syntaxes ts) sets s
-without_values x ts sets s [] l e = absurd (omega (arith, l))
-without_values x ts sets s (v ∷ vs) l e = without x ts sets s v vs e
+pub without_values : (x : Name) (fs : List FieldPhrase) (sets : List Values) (s : Scope) (vs : Values) → 1 ≤ length vs → is_used x fs sets ≡ false → all_pass (fields_pass fs sets) (map (with_input s x) vs) ≡ fields_pass fs sets s
+without_values x fs sets s [] l e = absurd (omega (arith, l))
+without_values x fs sets s (v ∷ vs) l e = without x fs sets s v vs e

@@ -5,10 +5,14 @@ use Rattle.std.specs.Cmp.Lexicographic.{pointwise}
 use Rattle.alphabet.specs.Channels.{FieldValue, Values, Channel, Parts, events, event_count}
 use Rattle.alphabet.specs.EventSets.{Set}
 use Rattle.term.specs.Traces.{Pairs}
-use Rattle.syntax.specs.declared.form.Form.TheVariants as forms
-use Rattle.syntax.specs.Grammar.{Syntax, Called, Node, Syntaxes, NoSyntax, MoreSyntax}
+use Rattle.syntax.specs.Grammar.{Syntax, Syntaxes, NoSyntax, MoreSyntax}
 use Rattle.values.specs.Values.{◌>>=◌, Name, is_among, is_same}
 use Rattle.values.specs.Worths.{Worth, one, many, truth, Known, worth, condition, the_value}
+use Rattle.event_phrases.specs.declared.forms.Extent.{Extent}
+use Rattle.event_phrases.specs.declared.forms.Extent.TheVariants as extents
+use Rattle.event_phrases.specs.declared.forms.Combination.{Combination}
+use Rattle.event_phrases.specs.declared.forms.Combination.TheVariants as combinations
+use Rattle.event_phrases.specs.Forms.{FieldPhrase, given, EventPhrase, event, event_inside, event_chosen, no_event, event_parts, SetPhrase, set_inside, set_called, nothing, everything, several, set_chosen, combined, no_set, set_phrase_of, sides_of}
 use Rattle.values.specs.Names.{Entry, Meaning, channel, datatype, constant_name, definition, parametric, meaning, same_name}
 
 -- a set of events: which numbers are in it
@@ -41,21 +45,20 @@ channel_fields cs known n = unless_value (known n) (fields_named cs n)
 -- ---- events by their values
 
 -- a field that gives a value
-unfoldable pub field_value : Known → Syntax → Option FieldValue
-field_value known (Node forms.Dotted (MoreSyntax t NoSyntax)) = worth known t >>= the_value
-field_value known (Node forms.Output (MoreSyntax t NoSyntax)) = worth known t >>= the_value
-field_value known t = None
+unfoldable pub field_value : Known → FieldPhrase → Option FieldValue
+field_value known (given t) = worth known t >>= the_value
+field_value known f = None
 
--- the values that fields give
-unfoldable pub field_values : Known → Syntaxes → Option Values
-field_values known NoSyntax = Some []
-field_values known (MoreSyntax t ts) = field_value known t >>= λ v. field_values known ts >>= λ vs. Some (v ∷ vs)
+-- the value, if it is one of a field's set
+unfoldable pub value_within : Option FieldValue → Values → Option FieldValue
+value_within None set = None
+value_within (Some v) set = if is_among v set then Some v else None
 
--- each value is one of its field's, and there are no more values than fields
-unfoldable pub are_within : Values → List Values → Bool
-are_within [] sets = true
-are_within (v ∷ vs) [] = false
-are_within (v ∷ vs) (set ∷ sets) = is_among v set && are_within vs sets
+-- the values that fields give, each of which is one of its field's
+unfoldable pub field_values : Known → List FieldPhrase → List Values → Option Values
+field_values known [] sets = Some []
+field_values known (f ∷ fs) [] = None
+field_values known (f ∷ fs) (set ∷ sets) = value_within (field_value known f) set >>= λ v. field_values known fs sets >>= λ vs. Some (v ∷ vs)
 
 -- the values begin with these
 unfoldable pub begins : Values → Values → Bool
@@ -68,10 +71,8 @@ abbrev pub Beginning : Type 0
 Beginning = Name × Values
 
 -- what an event phrase without inputs gives: a channel and values of its first fields
-unfoldable pub beginning : List Channel → Known → Syntax → Option Beginning
-beginning cs known (Node forms.Event (MoreSyntax (Called c) ts)) =
-    channel_fields cs known c >>= λ sets. field_values known ts >>= λ vs. if are_within vs sets then Some (c, vs) else None
-beginning cs known t = None
+unfoldable pub beginning : List Channel → Known → EventPhrase → Option Beginning
+beginning cs known e = event_parts e >>= λ p. channel_fields cs known p.0 >>= λ sets. field_values known p.1 sets >>= λ vs. Some (p.0, vs)
 
 -- an event begins so
 unfoldable pub begins_so : Beginning → Parts → Bool
@@ -88,12 +89,11 @@ abbrev pub beginning_so : List Channel → Beginning → Events
 beginning_so cs b = at_number (begins_so b) (events cs)
 
 -- the event that a phrase without inputs gives, which has all its fields
-unfoldable pub whole_event : List Channel → Known → Syntax → Option Beginning
-whole_event cs known (Node forms.Brackets (MoreSyntax t NoSyntax)) = whole_event cs known t
-whole_event cs known (Node forms.Event (MoreSyntax (Called c) ts)) =
-    beginning cs known (Node forms.Event (MoreSyntax (Called c) ts)) >>= λ b. channel_fields cs known c >>= λ sets. if nat_eq (length b.1) (length sets) then Some b else None
-whole_event cs known (Node forms.If (MoreSyntax c (MoreSyntax t (MoreSyntax u NoSyntax)))) = condition known c >>= λ b. if b then whole_event cs known t else whole_event cs known u
-whole_event cs known t = None
+unfoldable pub whole_event : List Channel → Known → EventPhrase → Option Beginning
+whole_event cs known (event c fs) = channel_fields cs known c >>= λ sets. if nat_eq (length fs) (length sets) then (field_values known fs sets >>= λ vs. Some (c, vs)) else None
+whole_event cs known (event_inside e) = whole_event cs known e
+whole_event cs known (event_chosen t e f) = condition known t >>= λ b. if b then whole_event cs known e else whole_event cs known f
+whole_event cs known no_event = None
 
 -- ---- sets of events
 
@@ -103,35 +103,46 @@ either A B a = A a || B a
 abbrev pub both : Events → Events → Events
 both A B a = A a && B a
 
-abbrev pub less : Events → Events → Events
-less A B a = A a && not (B a)
+-- the events outside a set
+abbrev pub outside : ℕ → Events → Events
+outside n A a = nat_lt a n && not (A a)
+
+-- an event is in the set that is made of two, where these say whether it is in them
+unfoldable pub is_in_both : Combination → Bool → Bool → Bool
+is_in_both combinations.Union a b = a || b
+is_in_both combinations.Intersection a b = a && b
+is_in_both combinations.Difference a b = a && not b
+
+unfoldable pub combine : Combination → Events → Events → Events
+combine c A B a = is_in_both c (A a) (B a)
+
+-- the events of one phrase in a set
+unfoldable pub gives : List Channel → Known → Extent → EventPhrase → Option Events
+gives cs known extents.Beginnings e = beginning cs known e >>= λ b. Some (beginning_so cs b)
+gives cs known extents.Events e = whole_event cs known e >>= λ b. Some (beginning_so cs b)
 
 -- the events that these phrases give together, where this says what one gives
-unfoldable pub together : (Syntax → Option Events) → Syntaxes → Option Events
-together gives NoSyntax = Some no_events
-together gives (MoreSyntax t ts) = gives t >>= λ A. together gives ts >>= λ B. Some (either A B)
+unfoldable pub together : (EventPhrase → Option Events) → List EventPhrase → Option Events
+together given_by [] = Some no_events
+together given_by (e ∷ es) = given_by e >>= λ A. together given_by es >>= λ B. Some (either A B)
 
 -- what a phrase for a set of events means
-unfoldable pub event_set : List Channel → Known → KnownEvents → Syntax → Option Events
-event_set cs known sets (Node forms.Brackets (MoreSyntax t NoSyntax)) = event_set cs known sets t
-event_set cs known sets (Node forms.Event (MoreSyntax (Called n) NoSyntax)) = unless_value (known n) (sets n)
-event_set cs known sets (Node forms.EmptySet NoSyntax) = Some no_events
-event_set cs known sets (Node forms.Events NoSyntax) = Some (λ a. nat_lt a (event_count cs))
-event_set cs known sets (Node forms.NoProductions NoSyntax) = Some no_events
-event_set cs known sets (Node forms.Productions ts) = together (λ t. beginning cs known t >>= λ b. Some (beginning_so cs b)) ts
-event_set cs known sets (Node forms.Set ts) = together (λ t. whole_event cs known t >>= λ b. Some (beginning_so cs b)) ts
-event_set cs known sets (Node forms.Union (MoreSyntax t (MoreSyntax u NoSyntax))) = event_set cs known sets t >>= λ A. event_set cs known sets u >>= λ B. Some (either A B)
-event_set cs known sets (Node forms.Intersection (MoreSyntax t (MoreSyntax u NoSyntax))) = event_set cs known sets t >>= λ A. event_set cs known sets u >>= λ B. Some (both A B)
-event_set cs known sets (Node forms.Difference (MoreSyntax t (MoreSyntax u NoSyntax))) = event_set cs known sets t >>= λ A. event_set cs known sets u >>= λ B. Some (less A B)
-event_set cs known sets (Node forms.If (MoreSyntax c (MoreSyntax t (MoreSyntax u NoSyntax)))) = condition known c >>= λ b. if b then event_set cs known sets t else event_set cs known sets u
-event_set cs known sets t = None
+unfoldable pub event_set : List Channel → Known → KnownEvents → SetPhrase → Option Events
+event_set cs known sets (set_inside p) = event_set cs known sets p
+event_set cs known sets (set_called n) = unless_value (known n) (sets n)
+event_set cs known sets nothing = Some no_events
+event_set cs known sets everything = Some (λ a. nat_lt a (event_count cs))
+event_set cs known sets (several e es) = together (gives cs known e) es
+event_set cs known sets (set_chosen c p q) = condition known c >>= λ b. if b then event_set cs known sets p else event_set cs known sets q
+event_set cs known sets (combined c p q) = event_set cs known sets p >>= λ A. event_set cs known sets q >>= λ B. Some (combine c A B)
+event_set cs known sets no_set = None
 
 -- what a name with this meaning means
 unfoldable pub events_of : List Channel → Known → KnownEvents → Meaning → Option Events
 events_of cs known sets (channel ts) = None
 events_of cs known sets (datatype ns) = None
 events_of cs known sets constant_name = None
-events_of cs known sets (definition t) = event_set cs known sets t
+events_of cs known sets (definition t) = event_set cs known sets (set_phrase_of t)
 events_of cs known sets (parametric xs t) = None
 
 -- what names mean after so many steps, in each of which a definition is looked into
@@ -155,12 +166,20 @@ set_of cs A = set_below (event_count cs) A
 unfoldable pub masked : List Channel → Option Events → Option Set
 masked cs o = o >>= λ A. Some (set_of cs A)
 
+-- the masks of two sets
+unfoldable pub two_masked : List Channel → Option Events → Option Events → Option (Set × Set)
+two_masked cs o u = masked cs o >>= λ A. masked cs u >>= λ B. Some (A, B)
+
 -- ---- renamings
+
+-- an event has this channel and these values
+abbrev pub is_event_of : Beginning → Parts → Bool
+is_event_of b p = same_name b.0 p.channel && pointwise is_same b.1 p.values
 
 -- the number of the event with these parts
 unfoldable pub number_in : List Parts → Beginning → Option ℕ
 number_in [] b = None
-number_in (p ∷ ps) b = if same_name b.0 p.channel && pointwise is_same b.1 p.values then Some 0 else (number_in ps b >>= λ a. Some (suc a))
+number_in (p ∷ ps) b = if is_event_of b p then Some 0 else (number_in ps b >>= λ a. Some (suc a))
 
 -- the pairs of `left <- right`: each of these events that begins with the left side, and the event of the right side followed by the same remaining values; a is the number of the first one
 unfoldable pub pairs_from : List Channel → Beginning → Beginning → ℕ → List Parts → Option Pairs
@@ -171,8 +190,7 @@ pairs_from cs left right a (p ∷ ps) =
 
 -- the pairs of one `left <- right`
 unfoldable pub pair_of : List Channel → Known → Syntax → Option Pairs
-pair_of cs known (Node forms.Pair (MoreSyntax t (MoreSyntax u NoSyntax))) = beginning cs known t >>= λ left. beginning cs known u >>= λ right. pairs_from cs left right 0 (events cs)
-pair_of cs known t = None
+pair_of cs known t = sides_of t >>= λ p. beginning cs known p.0 >>= λ left. beginning cs known p.1 >>= λ right. pairs_from cs left right 0 (events cs)
 
 unfoldable pub pairs_of : List Channel → Known → Syntaxes → Option Pairs
 pairs_of cs known NoSyntax = Some []

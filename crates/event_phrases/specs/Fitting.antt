@@ -1,12 +1,10 @@
 -- Events held against the fields of a prefix.
-use Rattle.std.specs.Prelude.{List, [], ◌∷◌, Bool, true, false, Option, Some, None, if◌then◌else◌}
-use Rattle.alphabet.specs.Channels.{FieldValue, Values}
-use Rattle.syntax.specs.declared.form.Form.TheVariants as forms
-use Rattle.syntax.specs.Grammar.{Syntax, Called, Node, Syntaxes, NoSyntax, MoreSyntax}
-use Rattle.values.specs.Values.{◌>>=◌, Name, is_among, is_same}
-use Rattle.values.specs.Worths.{worth, the_set}
-use Rattle.event_phrases.specs.Events.{field_value}
-use Rattle.event_phrases.specs.Scopes.{Scope, with_input, unless_constant}
+use Rattle.std.specs.Prelude.{List, [], ◌∷◌, Option, Some, None, if◌then◌else◌}
+use Rattle.alphabet.specs.Channels.{FieldValue, Values, Parts}
+use Rattle.values.specs.Values.{Name, is_among, is_same}
+use Rattle.values.specs.Names.{same_name}
+use Rattle.event_phrases.specs.Forms.{FieldPhrase, given, input, input_from, no_field}
+use Rattle.event_phrases.specs.Scopes.{Scope, with_input, unless_constant, value_by, values_by}
 
 -- Nothing where a field is at fault; Some None where the event doesn't fit; else the scope after the fields.
 abbrev pub Fitting : Type 0
@@ -27,10 +25,11 @@ against_part v s x None = None
 against_part v s x (Some part) = unless_constant s x (if is_among v part then Some (Some (with_input s x v)) else Some None)
 
 -- against a field, whose set this is
-unfoldable pub fits_field : Syntax → Values → FieldValue → Scope → Fitting
-fits_field (Node forms.Input (MoreSyntax (Called x) NoSyntax)) set v s = against_input v s x
-fits_field (Node forms.RestrictedInput (MoreSyntax (Called x) (MoreSyntax t NoSyntax))) set v s = against_part v s x (worth s.known t >>= the_set)
-fits_field t set v s = against set v s (field_value s.known t)
+unfoldable pub fits_field : FieldPhrase → Values → FieldValue → Scope → Fitting
+fits_field (given t) set v s = against set v s (value_by s t)
+fits_field (input x) set v s = against_input v s x
+fits_field (input_from x t) set v s = against_part v s x (values_by s t)
+fits_field no_field set v s = None
 
 abbrev pub then_fits : Fitting → (Scope → Fitting) → Fitting
 then_fits None more = None
@@ -38,13 +37,11 @@ then_fits (Some None) more = Some None
 then_fits (Some (Some s)) more = more s
 
 -- an event's values against the fields of a phrase, from left to right
-unfoldable pub fitting : Syntaxes → List Values → Values → Scope → Fitting
-fitting NoSyntax [] [] s = Some (Some s)
-fitting (MoreSyntax t ts) (set ∷ sets) (v ∷ vs) s = then_fits (fits_field t set v s) (λ inner. fitting ts sets vs inner)
-fitting ts sets vs s = None
+unfoldable pub fitting : List FieldPhrase → List Values → Values → Scope → Fitting
+fitting [] [] [] s = Some (Some s)
+fitting (f ∷ fs) (set ∷ sets) (v ∷ vs) s = then_fits (fits_field f set v s) (λ inner. fitting fs sets vs inner)
+fitting fs sets vs s = None
 
--- there is a field for each of these sets
-unfoldable pub has_all : Syntaxes → List Values → Bool
-has_all NoSyntax [] = true
-has_all (MoreSyntax t ts) (set ∷ sets) = has_all ts sets
-has_all ts sets = false
+-- an event against a phrase with this channel, these fields and their sets
+unfoldable pub event_fits : Name → List FieldPhrase → List Values → Scope → Parts → Fitting
+event_fits c fs sets s p = if same_name c p.channel then fitting fs sets p.values s else Some None

@@ -1,5 +1,5 @@
--- Phrases for events, sets of events and fields by their forms, with their parts in lists.
-use Rattle.std.specs.Prelude.{ℕ, suc, ◌+◌, List, [], ◌∷◌, Option, Some, None}
+-- Phrases for events, sets of events and fields, and how they are read off trees.
+use Rattle.std.specs.Prelude.{ℕ, suc, ◌+◌, List, [], ◌∷◌, map, Option, Some, None}
 use Rattle.syntax.specs.declared.form.Form.{Form}
 use Rattle.syntax.specs.declared.form.Form.TheVariants as forms
 use Rattle.syntax.specs.Grammar.{Syntax, Called, Numeral, Node, Syntaxes, NoSyntax, MoreSyntax}
@@ -42,88 +42,40 @@ one_of [] = None
 one_of (x ∷ xs) = if_none xs x
 
 unfoldable pub two_of : {X : Type 0} → List X → Option (X × X)
-two_of [] = None
-two_of (x ∷ xs) = one_of xs >>= λ y. Some (x, y)
+two_of xs = first_of xs >>= λ p. one_of p.1 >>= λ y. Some (p.0, y)
 
 unfoldable pub three_of : {X : Type 0} → List X → Option (X × X × X)
-three_of [] = None
-three_of (x ∷ xs) = two_of xs >>= λ p. Some (x, p.0, p.1)
+three_of xs = first_of xs >>= λ p. two_of p.1 >>= λ q. Some (p.0, q.0, q.1)
 
 unfoldable pub four_of : {X : Type 0} → List X → Option (X × X × X × X)
-four_of [] = None
-four_of (x ∷ xs) = three_of xs >>= λ p. Some (x, p.0, p.1, p.2)
+four_of xs = first_of xs >>= λ p. three_of p.1 >>= λ q. Some (p.0, q.0, q.1, q.2)
 
--- ---- sets of events
+-- ---- phrases of trees
 
--- a phrase for a set of events
-pub data SetPhrase : Type 0 where
-  set_inside : Syntax → SetPhrase
-  set_called : Name → SetPhrase
-  nothing : SetPhrase
-  everything : SetPhrase
-  several : Extent → List Syntax → SetPhrase
-  set_chosen : Syntax → Syntax → Syntax → SetPhrase
-  combined : Combination → Syntax → Syntax → SetPhrase
+abbrev pub some_or : {X : Type 0} → X → Option X → X
+some_or x None = x
+some_or x (Some y) = y
 
-unfoldable pub combined_phrase : Combination → List Syntax → Option SetPhrase
-combined_phrase c ts = two_of ts >>= λ p. Some (combined c p.0 p.1)
+unfoldable mutual
+  -- what a tree is, where this reads a form and its parts, as they are written and as what they are; x stands for what is nothing
+  pub read_by : {X : Type 0} → (Form → List (Syntax × X) → Option X) → X → Syntax → X
+  read_by form x (Called n) = x
+  read_by form x (Numeral n) = x
+  read_by form x (Node f ts) = some_or x (form f (parts_by form x ts))
 
-unfoldable pub set_form : Form → List Syntax → Option SetPhrase
-set_form forms.Brackets ts = one_of ts >>= λ t. Some (set_inside t)
-set_form forms.Event ts = one_of ts >>= λ t. name_of t >>= λ n. Some (set_called n)
-set_form forms.EmptySet ts = if_none ts nothing
-set_form forms.Events ts = if_none ts everything
-set_form forms.NoProductions ts = if_none ts nothing
-set_form forms.Productions ts = Some (several extents.Beginnings ts)
-set_form forms.Set ts = Some (several extents.Events ts)
-set_form forms.Union ts = combined_phrase combinations.Union ts
-set_form forms.Intersection ts = combined_phrase combinations.Intersection ts
-set_form forms.Difference ts = combined_phrase combinations.Difference ts
-set_form forms.If ts = three_of ts >>= λ p. Some (set_chosen p.0 p.1 p.2)
-set_form f ts = None
+  pub parts_by : {X : Type 0} → (Form → List (Syntax × X) → Option X) → X → Syntaxes → List (Syntax × X)
+  parts_by form x NoSyntax = []
+  parts_by form x (MoreSyntax t ts) = (t, read_by form x t) ∷ parts_by form x ts
 
-unfoldable pub set_phrase_of : Syntax → Option SetPhrase
-set_phrase_of t = node_of t >>= λ n. set_form n.0 n.1
-
--- ---- events
-
--- the name of a channel and the fields after it
-unfoldable pub event_form : Form → List Syntax → Option (Name × List Syntax)
-event_form forms.Event ts = first_of ts >>= λ p. name_of p.0 >>= λ n. Some (n, p.1)
-event_form f ts = None
-
-unfoldable pub event_of : Syntax → Option (Name × List Syntax)
-event_of t = node_of t >>= λ n. event_form n.0 n.1
-
--- a phrase in brackets
-unfoldable pub bracket_form : Form → List Syntax → Option Syntax
-bracket_form forms.Brackets ts = one_of ts
-bracket_form f ts = None
-
-unfoldable pub in_brackets : Syntax → Option Syntax
-in_brackets t = node_of t >>= λ n. bracket_form n.0 n.1
-
--- the condition of an `if`, and the phrases that it chooses from
-unfoldable pub branch_form : Form → List Syntax → Option (Syntax × Syntax × Syntax)
-branch_form forms.If ts = three_of ts
-branch_form f ts = None
-
-unfoldable pub branches_of : Syntax → Option (Syntax × Syntax × Syntax)
-branches_of t = node_of t >>= λ n. branch_form n.0 n.1
-
--- the two sides of a pair of a renaming
-unfoldable pub pair_form : Form → List Syntax → Option (Syntax × Syntax)
-pair_form forms.Pair ts = two_of ts
-pair_form f ts = None
-
-unfoldable pub sides_of : Syntax → Option (Syntax × Syntax)
-sides_of t = node_of t >>= λ n. pair_form n.0 n.1
+-- ---- fields
 
 -- a field of an event phrase
 pub data FieldPhrase : Type 0 where
   given : Syntax → FieldPhrase
   input : Name → FieldPhrase
   input_from : Name → Syntax → FieldPhrase
+  -- what is no field
+  no_field : FieldPhrase
 
 unfoldable pub field_form : Form → List Syntax → Option FieldPhrase
 field_form forms.Dotted ts = one_of ts >>= λ t. Some (given t)
@@ -132,27 +84,94 @@ field_form forms.Input ts = one_of ts >>= λ t. name_of t >>= λ x. Some (input 
 field_form forms.RestrictedInput ts = two_of ts >>= λ p. name_of p.0 >>= λ x. Some (input_from x p.1)
 field_form f ts = None
 
-unfoldable pub field_of : Syntax → Option FieldPhrase
-field_of t = node_of t >>= λ n. field_form n.0 n.1
+unfoldable pub field_of : Syntax → FieldPhrase
+field_of t = some_or no_field (node_of t >>= λ n. field_form n.0 n.1)
+
+-- ---- events
+
+-- a phrase for events: a channel and its fields, in brackets, or chosen by a condition
+pub data EventPhrase : Type 0 where
+  event : Name → List FieldPhrase → EventPhrase
+  event_inside : EventPhrase → EventPhrase
+  event_chosen : Syntax → EventPhrase → EventPhrase → EventPhrase
+  -- what is no phrase for events
+  no_event : EventPhrase
+
+unfoldable pub event_form : Form → List (Syntax × EventPhrase) → Option EventPhrase
+event_form forms.Event ts = first_of ts >>= λ p. name_of p.0.0 >>= λ c. Some (event c (map (λ t. field_of t.0) p.1))
+event_form forms.Brackets ts = one_of ts >>= λ t. Some (event_inside t.1)
+event_form forms.If ts = three_of ts >>= λ p. Some (event_chosen p.0.0 p.1.1 p.2.1)
+event_form f ts = None
+
+abbrev pub event_of : Syntax → EventPhrase
+event_of t = read_by event_form no_event t
+
+abbrev pub event_part : Syntax → Syntax × EventPhrase
+event_part t = (t, event_of t)
+
+-- the channel and the fields, where a phrase has them at once
+abbrev pub event_parts : EventPhrase → Option (Name × List FieldPhrase)
+event_parts (event c fs) = Some (c, fs)
+event_parts (event_inside e) = None
+event_parts (event_chosen c e f) = None
+event_parts no_event = None
+
+-- ---- sets of events
+
+-- a phrase for a set of events
+pub data SetPhrase : Type 0 where
+  set_inside : SetPhrase → SetPhrase
+  set_called : Name → SetPhrase
+  nothing : SetPhrase
+  everything : SetPhrase
+  several : Extent → List EventPhrase → SetPhrase
+  set_chosen : Syntax → SetPhrase → SetPhrase → SetPhrase
+  combined : Combination → SetPhrase → SetPhrase → SetPhrase
+  -- what is no phrase for a set of events
+  no_set : SetPhrase
+
+unfoldable pub combined_phrase : Combination → List (Syntax × SetPhrase) → Option SetPhrase
+combined_phrase c ts = two_of ts >>= λ p. Some (combined c p.0.1 p.1.1)
+
+unfoldable pub set_form : Form → List (Syntax × SetPhrase) → Option SetPhrase
+set_form forms.Brackets ts = one_of ts >>= λ t. Some (set_inside t.1)
+set_form forms.Event ts = one_of ts >>= λ t. name_of t.0 >>= λ n. Some (set_called n)
+set_form forms.EmptySet ts = if_none ts nothing
+set_form forms.Events ts = if_none ts everything
+set_form forms.NoProductions ts = if_none ts nothing
+set_form forms.Productions ts = Some (several extents.Beginnings (map (λ t. event_of t.0) ts))
+set_form forms.Set ts = Some (several extents.Events (map (λ t. event_of t.0) ts))
+set_form forms.Union ts = combined_phrase combinations.Union ts
+set_form forms.Intersection ts = combined_phrase combinations.Intersection ts
+set_form forms.Difference ts = combined_phrase combinations.Difference ts
+set_form forms.If ts = three_of ts >>= λ p. Some (set_chosen p.0.0 p.1.1 p.2.1)
+set_form f ts = None
+
+abbrev pub set_phrase_of : Syntax → SetPhrase
+set_phrase_of t = read_by set_form no_set t
+
+abbrev pub set_part : Syntax → Syntax × SetPhrase
+set_part t = (t, set_phrase_of t)
+
+-- ---- renamings
+
+-- the two sides of a pair of a renaming
+unfoldable pub pair_form : Form → List Syntax → Option (EventPhrase × EventPhrase)
+pair_form forms.Pair ts = two_of ts >>= λ p. Some (event_of p.0, event_of p.1)
+pair_form f ts = None
+
+unfoldable pub sides_of : Syntax → Option (EventPhrase × EventPhrase)
+sides_of t = node_of t >>= λ n. pair_form n.0 n.1
 
 -- ---- how much stands in one another
 
-unfoldable mutual
-  pub tall : Syntax → ℕ
-  tall (Called n) = 1
-  tall (Numeral n) = 1
-  tall (Node f ts) = suc (talls ts)
+unfoldable pub event_weight : EventPhrase → ℕ
+event_weight (event_inside e) = suc (event_weight e)
+event_weight (event_chosen c e f) = suc (event_weight e + event_weight f)
+event_weight e = 0
 
-  pub talls : Syntaxes → ℕ
-  talls NoSyntax = 0
-  talls (MoreSyntax t ts) = tall t + talls ts
-
--- that of the sets in a phrase
-unfoldable pub sets_tall : SetPhrase → ℕ
-sets_tall (set_inside t) = tall t
-sets_tall (set_called n) = 0
-sets_tall nothing = 0
-sets_tall everything = 0
-sets_tall (several e ts) = 0
-sets_tall (set_chosen c t u) = tall t + tall u
-sets_tall (combined j t u) = tall t + tall u
+unfoldable pub set_weight : SetPhrase → ℕ
+set_weight (set_inside p) = suc (set_weight p)
+set_weight (set_chosen c p q) = suc (set_weight p + set_weight q)
+set_weight (combined j p q) = suc (set_weight p + set_weight q)
+set_weight p = 0

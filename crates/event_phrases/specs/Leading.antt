@@ -1,39 +1,33 @@
 -- The first values of a prefix, which are found once, and the events that fit it, one after the other.
 use Rattle.std.specs.Prelude.{ℕ, suc, List, [], ◌∷◌, Option, Some, None, if◌then◌else◌}
 use Rattle.alphabet.specs.Channels.{FieldValue, Values, Parts}
-use Rattle.syntax.specs.Grammar.{Syntax}
-use Rattle.syntax.specs.Parsing.{syntaxes}
-use Rattle.values.specs.Values.{◌>>=◌, Name, is_among, is_same}
+use Rattle.values.specs.Values.{◌>>=◌, Name, is_same}
 use Rattle.values.specs.Worths.{Known}
 use Rattle.values.specs.Names.{same_name}
-use Rattle.event_phrases.specs.Events.{field_value}
+use Rattle.event_phrases.specs.Events.{field_value, value_within}
+use Rattle.event_phrases.specs.Forms.{FieldPhrase}
 use Rattle.event_phrases.specs.Fitting.{Fitting, fitting}
 use Rattle.event_phrases.specs.Scopes.{Scope}
-
--- the value, if it is one of a field's set
-unfoldable pub value_within : Option FieldValue → Values → Option FieldValue
-value_within None set = None
-value_within (Some v) set = if is_among v set then Some v else None
 
 unfoldable pub before_more : Option FieldValue → Values → Values
 before_more None vs = []
 before_more (Some v) vs = v ∷ vs
 
 -- the values of the first fields, as far as they give one of their set
-unfoldable pub leading : Known → List Syntax → List Values → Values
+unfoldable pub leading : Known → List FieldPhrase → List Values → Values
 leading known [] sets = []
-leading known (t ∷ ts) [] = []
-leading known (t ∷ ts) (set ∷ sets) = before_more (value_within (field_value known t) set) (leading known ts sets)
+leading known (f ∷ fs) [] = []
+leading known (f ∷ fs) (set ∷ sets) = before_more (value_within (field_value known f) set) (leading known fs sets)
 
 -- an event's values against fields of which the first ones have these values
-unfoldable pub led_fitting : Values → List Syntax → List Values → Values → Scope → Fitting
-led_fitting [] ts sets vs s = fitting (syntaxes ts) sets vs s
-led_fitting (u ∷ us) (t ∷ ts) (set ∷ sets) (v ∷ vs) s = if is_same u v then led_fitting us ts sets vs s else Some None
-led_fitting us ts sets vs s = None
+unfoldable pub led_fitting : Values → List FieldPhrase → List Values → Values → Scope → Fitting
+led_fitting [] fs sets vs s = fitting fs sets vs s
+led_fitting (u ∷ us) (f ∷ fs) (set ∷ sets) (v ∷ vs) s = if is_same u v then led_fitting us fs sets vs s else Some None
+led_fitting us fs sets vs s = None
 
 -- an event against a phrase with this channel, these first values, these fields and their sets
-unfoldable pub led_fits : Name → Values → List Syntax → List Values → Scope → Parts → Fitting
-led_fits c us ts sets s p = if same_name c p.channel then led_fitting us ts sets p.values s else Some None
+unfoldable pub led_fits : Name → Values → List FieldPhrase → List Values → Scope → Parts → Fitting
+led_fits c us fs sets s p = if same_name c p.channel then led_fitting us fs sets p.values s else Some None
 
 -- an event that fits: its number, the scope after the fields, and the events after it
 abbrev pub Fit : Type 0

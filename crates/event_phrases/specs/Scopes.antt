@@ -7,6 +7,7 @@ use Rattle.values.specs.Worths.{one, Known, worth, the_value, the_set}
 use Rattle.values.specs.Tables.{behind}
 use Rattle.values.specs.Names.{Entry, is_constant, meaning, same_name}
 use Rattle.event_phrases.specs.Events.{Events, KnownEvents, event_set}
+use Rattle.event_phrases.specs.Forms.{set_phrase_of}
 
 -- What is known of a script's names where a phrase stands.
 pub record Scope : Type 0 where
@@ -30,7 +31,7 @@ unless_constant s x y = if is_constant (meaning s.entries x) then None else y
 
 -- the set of events that a phrase means
 abbrev pub events_by : Scope → Syntax → Option Events
-events_by s t = event_set s.channels s.known s.sets t
+events_by s t = event_set s.channels s.known s.sets (set_phrase_of t)
 
 -- the value that a phrase means
 abbrev pub value_by : Scope → Syntax → Option FieldValue

@@ -5,14 +5,14 @@ ghost use Rattle.syntax.specs.View.{shape, shapes};
 ghost use Rattle.values.specs.Tables.{behind, input, table};
 ghost use Rattle.values.specs.Values.{is_among};
 ghost use Rattle.values.specs.View.{Gives, value as value_of};
-ghost use Rattle.event_phrases.specs.EventForms.{given_value, within_by, values_behind, chosen as chosen_of};
+ghost use Rattle.event_phrases.specs.Events.{beginning as beginning_in, field_value, field_values, value_within, whole_event as whole_event_in};
+ghost use Rattle.event_phrases.specs.Forms.{event as event_with, event_of, field_of};
 ghost use Rattle.event_phrases.specs.Scopes.{within};
-ghost use Rattle.event_phrases.specs.Events.{beginning as beginning_in, field_value, whole_event as whole_event_in};
-ghost use Rattle.event_phrases.specs.Leading.{value_within};
 ghost use Rattle.event_phrases.specs.Shapes.{plain_field};
+ghost use Rattle.event_phrases.specs.Uses.{values_behind};
 ghost use Rattle.event_phrases.specs.View.{beginning as beginning_of, listed};
 
-use crate::forms::{FieldPhrase, branches, event_parts, field, in_brackets};
+use crate::forms::{EventPhrase, FieldPhrase, event_parts, event_phrase, field};
 use crate::global_scope::{GlobalScope, Set, Wanted};
 use crate::row::Row;
 use crate::scope::{Scope, reported_fault, truth};
@@ -33,7 +33,7 @@ pub(crate) fn is_one_of<A: Allocator>(value: &Value<A>, set: &[Value<A>]) -> boo
 }
 
 /// The value that a field of this form gives after these inputs.
-#[tactic(auto, unfolding(crate::specs::EventForms::given_value))]
+#[tactic(auto, unfolding(crate::specs::Events::field_value))]
 fn given_by<A: Allocator + Copy>(
     alloc: A,
     known: &Known<A>,
@@ -41,7 +41,7 @@ fn given_by<A: Allocator + Copy>(
     phrase: FieldPhrase<'_, A>,
     line: Position,
 ) -> Result<Value<A>, Unread>
-    ensures { Gives value_of result (given_value (behind (table known.now) (map input inputs.now)) (plain_field phrase.entry)) }
+    ensures { Gives value_of result (field_value (behind (table known.now) (map input inputs.now)) (plain_field phrase.entry)) }
 {
     match phrase {
         FieldPhrase::Given(tree) => {
@@ -60,7 +60,7 @@ pub(crate) fn given<A: Allocator + Copy>(
     inputs: &[Input<A>],
     tree: &Tree<A>,
 ) -> Result<Value<A>, Unread>
-    ensures { Gives value_of result (field_value (behind (table known.now) (map input inputs.now)) (shape tree.now)) }
+    ensures { Gives value_of result (field_value (behind (table known.now) (map input inputs.now)) (field_of (shape tree.now))) }
 {
     match field(tree) {
         Some(phrase) => given_by(alloc, known, inputs, phrase, tree.line()),
@@ -76,7 +76,7 @@ pub(crate) fn given_within<A: Allocator + Copy>(
     field: &Tree<A>,
     set: &Set<A>,
 ) -> Result<Value<A>, Unread>
-    ensures { Gives value_of result (value_within (field_value (behind (table known.now) (map input inputs.now)) (shape field.now)) (listed set.now.items)) }
+    ensures { Gives value_of result (value_within (field_value (behind (table known.now) (map input inputs.now)) (field_of (shape field.now))) (listed set.now.items)) }
 {
     let value = given(alloc, known, inputs, field)?;
     if is_one_of(&value, set) {
@@ -96,7 +96,7 @@ fn more_values<A: Allocator + Copy>(
     values: &mut Vec<Value<A>, A>,
     line: Position,
 ) -> Result<(), Unread>
-    ensures { Gives (λ u. listed values.new.items) result (values_behind (listed values.old.items) (within_by (behind (table known.now) (map input inputs.now)) (shapes fields.now) (map (λ v. listed v.items) sets.now))) }
+    ensures { Gives (λ u. listed values.new.items) result (values_behind (listed values.old.items) (field_values (behind (table known.now) (map input inputs.now)) (map field_of (shapes fields.now)) (map (λ v. listed v.items) sets.now))) }
 {
     match fields {
         [] => Ok(()),
@@ -120,7 +120,7 @@ fn begun<A: Allocator + Copy>(
     sets: &[Set<A>],
     line: Position,
 ) -> Result<Row<A>, Unread>
-    ensures { Gives (λ r. beginning_of r) result (option_map (λ vs. (channel.now, vs)) (within_by (behind (table known.now) (map input inputs.now)) (shapes fields.now) (map (λ v. listed v.items) sets.now))) }
+    ensures { Gives (λ r. beginning_of r) result (option_map (λ vs. (channel.now, vs)) (field_values (behind (table known.now) (map input inputs.now)) (map field_of (shapes fields.now)) (map (λ v. listed v.items) sets.now))) }
 {
     if fields.len() > sets.len() {
         return Err(fault(line, ScriptErrorKind::WrongFields));
@@ -139,7 +139,7 @@ pub(crate) fn beginning<A: Allocator + Copy, G: GlobalScope<A>>(
     scope: &Scope<'_, A, G>,
     tree: &Tree<A>,
 ) -> Result<Row<A>, Unread>
-    ensures { Gives (λ r. beginning_of r) result (beginning_in (G.scope scope.now.global.now).channels (within (G.scope scope.now.global.now) (map input scope.now.inputs.items)).known (shape tree.now)) }
+    ensures { Gives (λ r. beginning_of r) result (beginning_in (G.scope scope.now.global.now).channels (within (G.scope scope.now.global.now) (map input scope.now.inputs.items)).known (event_of (shape tree.now))) }
 {
     match event_parts(tree) {
         None => Err(fault(tree.line(), ScriptErrorKind::Expected)),
@@ -169,7 +169,7 @@ pub(crate) fn wanted_beginning<A: Allocator + Copy, G: GlobalScope<A>>(
     scope: &Scope<'_, A, G>,
     tree: &Tree<A>,
 ) -> Result<Row<A>, Unread>
-    ensures { Gives (λ r. beginning_of r) result (beginning_in (G.scope scope.now.global.now).channels (within (G.scope scope.now.global.now) (map input scope.now.inputs.items)).known (shape tree.now)) }
+    ensures { Gives (λ r. beginning_of r) result (beginning_in (G.scope scope.now.global.now).channels (within (G.scope scope.now.global.now) (map input scope.now.inputs.items)).known (event_of (shape tree.now))) }
 {
     match beginning(alloc, scope, tree) {
         Ok(row) => Ok(row),
@@ -183,27 +183,33 @@ pub(crate) fn wanted_beginning<A: Allocator + Copy, G: GlobalScope<A>>(
     }
 }
 
-/// The phrase that is left where brackets go and each condition chooses its branch. Its fault isn't the one that is reported.
-fn chosen<'t, A: Allocator + Copy>(
+/// The event of this channel and these fields, of which there is one for each field of the channel.
+#[tactic(auto, unfolding(crate::specs::Events::whole_event))]
+fn event<A: Allocator + Copy, G: GlobalScope<A>>(
     alloc: A,
-    known: &Known<A>,
-    inputs: &[Input<A>],
-    tree: &'t Tree<A>,
-) -> Result<&'t Tree<A>, Unread>
-    ensures { Gives (λ t. shape t.now) result (chosen_of (behind (table known.now) (map input inputs.now)) (shape tree.now)) }
+    scope: &Scope<'_, A, G>,
+    channel: &[u8],
+    fields: &[Tree<A>],
+    line: Position,
+) -> Result<Row<A>, Unread>
+    ensures { Gives (λ r. beginning_of r) result (whole_event_in (G.scope scope.now.global.now).channels (within (G.scope scope.now.global.now) (map input scope.now.inputs.items)).known (event_with channel.now (map field_of (shapes fields.now)))) }
 {
-    match in_brackets(tree) {
-        Some(inner) => chosen(alloc, known, inputs, inner),
-        None => match branches(tree) {
-            Some((condition, first, second)) => {
-                if truth(alloc, known, inputs, condition)? {
-                    chosen(alloc, known, inputs, first)
-                } else {
-                    chosen(alloc, known, inputs, second)
-                }
+    match scope.fields(channel) {
+        None => Err(fault(line, ScriptErrorKind::Expected)),
+        Some(sets) => {
+            if fields.len() != sets.len() {
+                return Err(fault(line, ScriptErrorKind::WrongFields));
             }
-            None => Ok(tree),
-        },
+            begun(
+                alloc,
+                scope.global.known(),
+                &scope.inputs,
+                channel,
+                fields,
+                sets,
+                line,
+            )
+        }
     }
 }
 
@@ -213,20 +219,21 @@ pub(crate) fn whole_event<A: Allocator + Copy, G: GlobalScope<A>>(
     scope: &Scope<'_, A, G>,
     tree: &Tree<A>,
 ) -> Result<Row<A>, Unread>
-    ensures { Gives (λ r. beginning_of r) result (whole_event_in (G.scope scope.now.global.now).channels (within (G.scope scope.now.global.now) (map input scope.now.inputs.items)).known (shape tree.now)) }
+    ensures { Gives (λ r. beginning_of r) result (whole_event_in (G.scope scope.now.global.now).channels (within (G.scope scope.now.global.now) (map input scope.now.inputs.items)).known (event_of (shape tree.now))) }
 {
-    let known = scope.global.known();
-    let inputs: &[Input<A>] = &scope.inputs;
-    let inner = chosen(alloc, known, inputs, tree)?;
-    match event_parts(inner) {
+    match event_phrase(tree) {
         None => Err(fault(tree.line(), ScriptErrorKind::Expected)),
-        Some((channel, fields)) => match scope.fields(channel) {
-            None => Err(fault(inner.line(), ScriptErrorKind::Expected)),
-            Some(sets) => {
-                if fields.len() != sets.len() {
-                    return Err(fault(inner.line(), ScriptErrorKind::WrongFields));
+        Some(phrase) => match phrase {
+            EventPhrase::Event(channel, fields) => {
+                event(alloc, scope, channel, fields, tree.line())
+            }
+            EventPhrase::Inside(inner) => whole_event(alloc, scope, inner),
+            EventPhrase::Chosen(condition, first, second) => {
+                if truth(alloc, scope.global.known(), &scope.inputs, condition)? {
+                    whole_event(alloc, scope, first)
+                } else {
+                    whole_event(alloc, scope, second)
                 }
-                begun(alloc, known, inputs, channel, fields, sets, inner.line())
             }
         },
     }

@@ -2,18 +2,17 @@
 ghost use Rattle.std.specs.Prelude.{◌≡◌, IfOk, Some, [], ◌∷◌, filter, map};
 ghost use Rattle.std.specs.Option.{option_map};
 ghost use Rattle.std.specs.Result.{MatchResult};
-ghost use Rattle.syntax.specs.Parsing.{syntaxes};
 ghost use Rattle.syntax.specs.View.{shape, shapes};
 ghost use Rattle.tokens.specs.declared.unread.Unread.TheVariants.{Memory};
 ghost use Rattle.values.specs.Tables.{input};
 ghost use Rattle.values.specs.Values.{is_among};
 ghost use Rattle.values.specs.View.{Fails, Gives, values};
-ghost use Rattle.event_phrases.specs.Forms.{given};
+ghost use Rattle.event_phrases.specs.Forms.{event_of, field_of, given};
 ghost use Rattle.event_phrases.specs.Leading.{leading as leading_in};
 ghost use Rattle.event_phrases.specs.Prefixes.{all_pass as all_pass_in, at_no_fault as at_no_fault_of, fields_pass as fields_pass_in, has_event as has_event_in, prefix_parts, scopes_after};
 ghost use Rattle.event_phrases.specs.Scopes.{Scope as PlainScope, with_input as with_input_of, within};
 ghost use Rattle.event_phrases.specs.Shapes.{plain_field};
-ghost use Rattle.event_phrases.specs.Uses.{chosen_values, field_passes, is_used as is_used_in, passes_after};
+ghost use Rattle.event_phrases.specs.Uses.{chosen_values, is_used as is_used_in, is_within as is_within_of, passes_after};
 ghost use Rattle.event_phrases.specs.View.{listed};
 
 use crate::beginning::is_one_of;
@@ -29,16 +28,29 @@ use syntax::Tree;
 use tokens::{Position, ScriptErrorKind, Unread, fault};
 use values::{Input, Value, Values, the_set, the_value};
 
+/// Whether the name is in the phrase that a field gives a value or a set by.
+#[tactic(auto, unfolding(crate::specs::Uses::is_within))]
+fn is_within<A: Allocator>(name: &[u8], tree: &Tree<A>) -> bool
+    ensures { result ≡ is_within_of name.now (field_of (shape tree.now)) }
+{
+    match field(tree) {
+        Some(FieldPhrase::Given(value)) => mentions(value, name),
+        Some(FieldPhrase::Input(_)) => false,
+        Some(FieldPhrase::InputFrom(_, set)) => mentions(set, name),
+        None => false,
+    }
+}
+
 /// Whether the name is in one of the fields up to the first without values.
 fn is_used<A: Allocator>(name: &[u8], fields: &[Tree<A>], sets: &[Set<A>]) -> bool
-    ensures { result ≡ is_used_in name.now (shapes fields.now) (map (λ v. listed v.items) sets.now) }
+    ensures { result ≡ is_used_in name.now (map field_of (shapes fields.now)) (map (λ v. listed v.items) sets.now) }
 {
     match fields {
         [] => false,
         [field, fields @ ..] => match sets {
             [] => false,
             [set, sets @ ..] => {
-                mentions(field, name) || !set.is_empty() && is_used(name, fields, sets)
+                is_within(name, field) || !set.is_empty() && is_used(name, fields, sets)
             }
         },
     }
@@ -68,7 +80,7 @@ fn looked_at<'a, A: Allocator + Copy>(
     values: &[Value<A>],
     rest: (&[Tree<A>], &[Set<A>]),
 ) -> Result<Option<(&'a [u8], Vec<Value<A>, A>)>, Unread>
-    ensures { MatchResult result (λ o. (s : PlainScope) → all_pass_in (fields_pass_in (syntaxes (shapes rest.entry.0.now)) (map (λ v. listed v.items) rest.entry.1.now)) (map (with_input_of s name.now) (listed values.now)) ≡ passes_after (shapes rest.entry.0.now) (map (λ v. listed v.items) rest.entry.1.now) s (option_map (λ p. (p.0.now, listed p.1.items)) o)) (λ e. e ≡ Memory) }
+    ensures { MatchResult result (λ o. (s : PlainScope) → all_pass_in (fields_pass_in (map field_of (shapes rest.entry.0.now)) (map (λ v. listed v.items) rest.entry.1.now)) (map (with_input_of s name.now) (listed values.now)) ≡ passes_after (map field_of (shapes rest.entry.0.now)) (map (λ v. listed v.items) rest.entry.1.now) s (option_map (λ p. (p.0.now, listed p.1.items)) o)) (λ e. e ≡ Memory) }
 {
     match values {
         [] => Ok(Some((name, Vec::new(alloc)))),
@@ -121,7 +133,7 @@ fn chosen<A: Allocator + Copy, G: GlobalScope<A>>(
 
 /// What is left to look at after a field of this form, whose values are this set: the fields after it for each value of an
 /// input that they use, or else once. A fault has the line of the phrase that is at fault.
-#[tactic(auto, unfolding(crate::specs::Prefixes::scopes_after, crate::specs::Uses::field_passes, crate::specs::Uses::passes_after))]
+#[tactic(auto, unfolding(crate::specs::Prefixes::scopes_after, crate::specs::Prefixes::fields_pass, crate::specs::Uses::passes_after))]
 fn passing<'a, A: Allocator + Copy, G: GlobalScope<A>>(
     alloc: A,
     global: &G,
@@ -131,7 +143,7 @@ fn passing<'a, A: Allocator + Copy, G: GlobalScope<A>>(
     rest: (&[Tree<A>], &[Set<A>]),
     line: Position,
 ) -> Result<Option<(&'a [u8], Vec<Value<A>, A>)>, Unread>
-    ensures { MatchResult result (λ o. (field_passes (shapes rest.entry.0.now) (map (λ v. listed v.items) rest.entry.1.now) (within (G.scope global.now) (map input inputs.now)) (plain_field phrase.entry) (listed set.now.items)) ≡ passes_after (shapes rest.entry.0.now) (map (λ v. listed v.items) rest.entry.1.now) (within (G.scope global.now) (map input inputs.now)) (option_map (λ p. (p.0.now, listed p.1.items)) o)) (λ e. Fails e (field_passes (shapes rest.entry.0.now) (map (λ v. listed v.items) rest.entry.1.now) (within (G.scope global.now) (map input inputs.now)) (plain_field phrase.entry) (listed set.now.items))) }
+    ensures { MatchResult result (λ o. (fields_pass_in (plain_field phrase.entry ∷ map field_of (shapes rest.entry.0.now)) (listed set.now.items ∷ map (λ v. listed v.items) rest.entry.1.now) (within (G.scope global.now) (map input inputs.now))) ≡ passes_after (map field_of (shapes rest.entry.0.now)) (map (λ v. listed v.items) rest.entry.1.now) (within (G.scope global.now) (map input inputs.now)) (option_map (λ p. (p.0.now, listed p.1.items)) o)) (λ e. Fails e (fields_pass_in (plain_field phrase.entry ∷ map field_of (shapes rest.entry.0.now)) (listed set.now.items ∷ map (λ v. listed v.items) rest.entry.1.now) (within (G.scope global.now) (map input inputs.now)))) }
 {
     match phrase {
         FieldPhrase::Given(tree) => {
@@ -164,7 +176,7 @@ fn all_pass<A: Allocator + Copy, G: GlobalScope<A>>(
     values: &[Value<A>],
     rest: (&[Tree<A>], &[Set<A>]),
 ) -> Result<(), Unread>
-    ensures { Gives (λ u. u) result (all_pass_in (λ v. fields_pass_in (syntaxes (shapes rest.entry.0.now)) (map (λ v. listed v.items) rest.entry.1.now) (with_input_of (within (G.scope global.now) (map input inputs.now)) name.now v)) (listed values.now)) }
+    ensures { Gives (λ u. u) result (all_pass_in (λ v. fields_pass_in (map field_of (shapes rest.entry.0.now)) (map (λ v. listed v.items) rest.entry.1.now) (with_input_of (within (G.scope global.now) (map input inputs.now)) name.now v)) (listed values.now)) }
 {
     for value in values {
         let mut inner = copies(alloc, inputs)?;
@@ -183,7 +195,7 @@ fn fields_pass<A: Allocator + Copy, G: GlobalScope<A>>(
     fields: &[Tree<A>],
     sets: &[Set<A>],
 ) -> Result<(), Unread>
-    ensures { Gives (λ u. u) result (fields_pass_in (syntaxes (shapes fields.now)) (map (λ v. listed v.items) sets.now) (within (G.scope global.now) (map input inputs.now))) }
+    ensures { Gives (λ u. u) result (fields_pass_in (map field_of (shapes fields.now)) (map (λ v. listed v.items) sets.now) (within (G.scope global.now) (map input inputs.now))) }
 {
     match fields {
         [] => Ok(()),
@@ -224,7 +236,7 @@ fn at_no_fault<A: Allocator + Copy, G: GlobalScope<A>>(
     fields: &[Tree<A>],
     sets: &[Set<A>],
 ) -> Result<(), Unread>
-    ensures { Gives (λ u. u) result (at_no_fault_of (syntaxes (shapes fields.now)) (map (λ v. listed v.items) sets.now) (within (G.scope scope.now.global.now) (map input scope.now.inputs.items))) }
+    ensures { Gives (λ u. u) result (at_no_fault_of (map field_of (shapes fields.now)) (map (λ v. listed v.items) sets.now) (within (G.scope scope.now.global.now) (map input scope.now.inputs.items))) }
 {
     if has_event(sets) {
         return Ok(());
@@ -240,9 +252,9 @@ pub fn prefix_of<'a, A: Allocator + Copy, G: GlobalScope<A>>(
     event: &'a Tree<A>,
     then: &'a Tree<A>,
 ) -> Result<Prefix<'a, A>, Unread>
-    ensures parts { Gives (λ p. (p.channel.now, syntaxes (shapes p.fields.now), map (λ v. listed v.items) p.sets.now)) result (prefix_parts (within (G.scope scope.now.global.now) (map input scope.now.inputs.items)) (shape event.now)) }
+    ensures parts { Gives (λ p. (p.channel.now, map field_of (shapes p.fields.now), map (λ v. listed v.items) p.sets.now)) result (prefix_parts (within (G.scope scope.now.global.now) (map input scope.now.inputs.items)) (event_of (shape event.now))) }
     ensures then { IfOk result (λ p. p.then.now ≡ then.now) }
-    ensures leading { IfOk result (λ p. listed p.leading.items ≡ leading_in (within (G.scope scope.now.global.now) (map input scope.now.inputs.items)).known (shapes p.fields.now) (map (λ v. listed v.items) p.sets.now)) }
+    ensures leading { IfOk result (λ p. listed p.leading.items ≡ leading_in (within (G.scope scope.now.global.now) (map input scope.now.inputs.items)).known (map field_of (shapes p.fields.now)) (map (λ v. listed v.items) p.sets.now)) }
 {
     match event_parts(event) {
         None => Err(fault(event.line(), ScriptErrorKind::Expected)),

@@ -5,8 +5,9 @@ ghost use Rattle.alphabet.specs.Channels.{events as events_of};
 ghost use Rattle.syntax.specs.View.{shape, shapes};
 ghost use Rattle.values.specs.Tables.{behind, input, table};
 ghost use Rattle.values.specs.View.{Gives, value as value_of};
-ghost use Rattle.event_phrases.specs.Events.{field_value};
-ghost use Rattle.event_phrases.specs.Leading.{first_fit, leading, led_fits, led_fitting as led_fitting_of, value_within};
+ghost use Rattle.event_phrases.specs.Events.{field_value, value_within};
+ghost use Rattle.event_phrases.specs.Forms.{field_of};
+ghost use Rattle.event_phrases.specs.Leading.{first_fit, leading, led_fits, led_fitting as led_fitting_of};
 ghost use Rattle.event_phrases.specs.Scopes.{within};
 ghost use Rattle.event_phrases.specs.View.{listed, row};
 
@@ -28,7 +29,7 @@ fn leading_value<A: Allocator + Copy>(
     field: &Tree<A>,
     set: &Set<A>,
 ) -> Result<Option<Value<A>>, Unread>
-    ensures { Gives (option_map value_of) result (Some (value_within (field_value (behind (table known.now) (map input inputs.now)) (shape field.now)) (listed set.now.items))) }
+    ensures { Gives (option_map value_of) result (Some (value_within (field_value (behind (table known.now) (map input inputs.now)) (field_of (shape field.now))) (listed set.now.items))) }
 {
     match given_within(alloc, known, inputs, field, set) {
         Ok(value) => Ok(Some(value)),
@@ -46,7 +47,7 @@ fn more_leading<A: Allocator + Copy>(
     sets: &[Set<A>],
     values: &mut Vec<Value<A>, A>,
 ) -> Result<(), Unread>
-    ensures { Gives (λ u. listed values.new.items) result (Some (listed values.old.items ++ leading (behind (table known.now) (map input inputs.now)) (shapes fields.now) (map (λ v. listed v.items) sets.now))) }
+    ensures { Gives (λ u. listed values.new.items) result (Some (listed values.old.items ++ leading (behind (table known.now) (map input inputs.now)) (map field_of (shapes fields.now)) (map (λ v. listed v.items) sets.now))) }
 {
     match fields {
         [] => Ok(()),
@@ -71,7 +72,7 @@ pub(crate) fn leading_values<A: Allocator + Copy>(
     fields: &[Tree<A>],
     sets: &[Set<A>],
 ) -> Result<Vec<Value<A>, A>, Unread>
-    ensures { Gives (λ v. listed v.items) result (Some (leading (behind (table known.now) (map input inputs.now)) (shapes fields.now) (map (λ v. listed v.items) sets.now))) }
+    ensures { Gives (λ v. listed v.items) result (Some (leading (behind (table known.now) (map input inputs.now)) (map field_of (shapes fields.now)) (map (λ v. listed v.items) sets.now))) }
 {
     let mut values = Vec::new(alloc);
     more_leading(alloc, known, inputs, fields, sets, &mut values)?;
@@ -88,7 +89,7 @@ fn led_fitting<A: Allocator + Copy, G: GlobalScope<A>>(
     values: &[Value<A>],
     line: Position,
 ) -> Result<Option<Vec<Input<A>, A>>, Unread>
-    ensures { Gives (option_map (λ v. within (G.scope scope.now.global.now) (map input v.items))) result (led_fitting_of (listed leading.now) (shapes fields.now) (map (λ v. listed v.items) sets.now) (listed values.now) (within (G.scope scope.now.global.now) (map input scope.now.inputs.items))) }
+    ensures { Gives (option_map (λ v. within (G.scope scope.now.global.now) (map input v.items))) result (led_fitting_of (listed leading.now) (map field_of (shapes fields.now)) (map (λ v. listed v.items) sets.now) (listed values.now) (within (G.scope scope.now.global.now) (map input scope.now.inputs.items))) }
 {
     match leading {
         [] => {
@@ -128,7 +129,7 @@ fn inputs_behind<A: Allocator + Copy, G: GlobalScope<A>>(
     prefix: &Prefix<'_, A>,
     event: &Row<A>,
 ) -> Result<Option<Vec<Input<A>, A>>, Unread>
-    ensures { Gives (option_map (λ v. within (G.scope scope.now.global.now) (map input v.items))) result (led_fits prefix.now.channel.now (listed prefix.now.leading.items) (shapes prefix.now.fields.now) (map (λ v. listed v.items) prefix.now.sets.now) (within (G.scope scope.now.global.now) (map input scope.now.inputs.items)) (row event.now)) }
+    ensures { Gives (option_map (λ v. within (G.scope scope.now.global.now) (map input v.items))) result (led_fits prefix.now.channel.now (listed prefix.now.leading.items) (map field_of (shapes prefix.now.fields.now)) (map (λ v. listed v.items) prefix.now.sets.now) (within (G.scope scope.now.global.now) (map input scope.now.inputs.items)) (row event.now)) }
 {
     if prefix.channel != event.channel.as_slice() {
         return Ok(None);
@@ -152,7 +153,7 @@ pub fn next_fitting<A: Allocator + Copy, G: GlobalScope<A>>(
     prefix: &Prefix<'_, A>,
     from: usize,
 ) -> Result<Option<(usize, Vec<Input<A>, A>)>, Unread>
-    ensures first { Gives (option_map (λ x. (x.0, within (G.scope scope.now.global.now) (map input x.1.items), drop (suc x.0) (events_of (G.scope scope.now.global.now).channels)))) result (first_fit (led_fits prefix.now.channel.now (listed prefix.now.leading.items) (shapes prefix.now.fields.now) (map (λ v. listed v.items) prefix.now.sets.now) (within (G.scope scope.now.global.now) (map input scope.now.inputs.items))) from (drop from (events_of (G.scope scope.now.global.now).channels))) }
+    ensures first { Gives (option_map (λ x. (x.0, within (G.scope scope.now.global.now) (map input x.1.items), drop (suc x.0) (events_of (G.scope scope.now.global.now).channels)))) result (first_fit (led_fits prefix.now.channel.now (listed prefix.now.leading.items) (map field_of (shapes prefix.now.fields.now)) (map (λ v. listed v.items) prefix.now.sets.now) (within (G.scope scope.now.global.now) (map input scope.now.inputs.items))) from (drop from (events_of (G.scope scope.now.global.now).channels))) }
     ensures number { IfOk result (λ o. IfSome o (λ x. (from ≤ x.0) × (x.0 < 256))) }
 {
     let events = scope.global.events();

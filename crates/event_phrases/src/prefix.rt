@@ -1,12 +1,11 @@
 //! Events held against the fields of a prefix.
 ghost use Rattle.std.specs.Prelude.{◌≡◌, Some, None, if◌then◌else◌, map};
 ghost use Rattle.std.specs.Option.{option_map};
-ghost use Rattle.syntax.specs.Parsing.{syntaxes};
 ghost use Rattle.syntax.specs.View.{shape, shapes};
 ghost use Rattle.values.specs.Tables.{input};
 ghost use Rattle.values.specs.Values.{is_among};
 ghost use Rattle.values.specs.View.{Gives, value as value_of, values};
-ghost use Rattle.event_phrases.specs.EventForms.{fits_by};
+ghost use Rattle.event_phrases.specs.Forms.{field_of};
 ghost use Rattle.event_phrases.specs.Scopes.{value_by, values_by, within};
 ghost use Rattle.event_phrases.specs.Fitting.{against, fits_field, fitting as fitting_of};
 ghost use Rattle.event_phrases.specs.Shapes.{plain_field};
@@ -92,7 +91,7 @@ fn fits_phrase<A: Allocator + Copy, G: GlobalScope<A>>(
     value: &Value<A>,
     line: Position,
 ) -> Result<bool, Unread>
-    ensures { Gives (λ fits. if fits then Some (within (G.scope global.now) (map input inputs.new.items)) else None) result (fits_by (plain_field phrase.entry) (listed set.now.items) (value_of value.now) (within (G.scope global.now) (map input inputs.old.items))) }
+    ensures { Gives (λ fits. if fits then Some (within (G.scope global.now) (map input inputs.new.items)) else None) result (fits_field (plain_field phrase.entry) (listed set.now.items) (value_of value.now) (within (G.scope global.now) (map input inputs.old.items))) }
 {
     match phrase {
         FieldPhrase::Given(tree) => is_given(alloc, global, inputs, tree, set, value),
@@ -125,7 +124,7 @@ fn fits<A: Allocator + Copy, G: GlobalScope<A>>(
     set: &Set<A>,
     value: &Value<A>,
 ) -> Result<bool, Unread>
-    ensures { Gives (λ fits. if fits then Some (within (G.scope global.now) (map input inputs.new.items)) else None) result (fits_field (shape tree.now) (listed set.now.items) (value_of value.now) (within (G.scope global.now) (map input inputs.old.items))) }
+    ensures { Gives (λ fits. if fits then Some (within (G.scope global.now) (map input inputs.new.items)) else None) result (fits_field (field_of (shape tree.now)) (listed set.now.items) (value_of value.now) (within (G.scope global.now) (map input inputs.old.items))) }
 {
     match field(tree) {
         Some(phrase) => fits_phrase(alloc, global, inputs, phrase, set, value, tree.line()),
@@ -143,7 +142,7 @@ pub(crate) fn fitting<A: Allocator + Copy, G: GlobalScope<A>>(
     values: &[Value<A>],
     line: Position,
 ) -> Result<bool, Unread>
-    ensures { Gives (λ fits. if fits then Some (within (G.scope global.now) (map input inputs.new.items)) else None) result (fitting_of (syntaxes (shapes fields.now)) (map (λ v. listed v.items) sets.now) (listed values.now) (within (G.scope global.now) (map input inputs.old.items))) }
+    ensures { Gives (λ fits. if fits then Some (within (G.scope global.now) (map input inputs.new.items)) else None) result (fitting_of (map field_of (shapes fields.now)) (map (λ v. listed v.items) sets.now) (listed values.now) (within (G.scope global.now) (map input inputs.old.items))) }
 {
     match fields {
         [] => match sets {

@@ -5,9 +5,9 @@ ghost use Rattle.syntax.specs.Parsing.{syntaxes};
 ghost use Rattle.syntax.specs.View.{shape, shapes};
 ghost use Rattle.values.specs.Tables.{input};
 ghost use Rattle.values.specs.View.{Gives};
-ghost use Rattle.event_phrases.specs.EventForms.{behind_pairs};
 ghost use Rattle.event_phrases.specs.Scopes.{within};
 ghost use Rattle.event_phrases.specs.Events.{pair_of, pairs_from as pairs_from_events, pairs_of as pairs_of_all};
+ghost use Rattle.event_phrases.specs.Uses.{behind_pairs};
 ghost use Rattle.event_phrases.specs.View.{beginning as beginning_of, listed, row};
 
 use crate::beginning::wanted_beginning;

@@ -3,8 +3,7 @@ ghost use Rattle.std.specs.Prelude.{◌≡◌, ◌++◌, IfOk};
 ghost use Rattle.std.specs.Cmp.Lexicographic.{pointwise};
 ghost use Rattle.values.specs.Values.{is_same};
 ghost use Rattle.values.specs.View.{value};
-ghost use Rattle.event_phrases.specs.Events.{begins as begins_with, begins_so as begins_so_with};
-ghost use Rattle.event_phrases.specs.EventForms.{is_event_of};
+ghost use Rattle.event_phrases.specs.Events.{begins as begins_with, begins_so as begins_so_with, is_event_of};
 ghost use Rattle.event_phrases.specs.View.{beginning, listed, row};
 
 use std::alloc::{AllocError, Allocator};

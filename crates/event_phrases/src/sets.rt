@@ -2,12 +2,11 @@
 ghost use Rattle.std.specs.Prelude.{◌≡◌, Some, map};
 ghost use Rattle.alphabet.specs.declared.events.Event.{Event};
 ghost use Rattle.alphabet.specs.EventSets.{member};
-ghost use Rattle.syntax.specs.Parsing.{syntaxes};
 ghost use Rattle.syntax.specs.View.{shape, shapes};
 ghost use Rattle.values.specs.Tables.{input};
 ghost use Rattle.values.specs.View.{Gives};
-ghost use Rattle.event_phrases.specs.EventForms.{gives_by, is_in_both, set_by, two_masked};
-ghost use Rattle.event_phrases.specs.Events.{event_set as event_set_in, masked, together};
+ghost use Rattle.event_phrases.specs.Events.{event_set as event_set_in, gives, is_in_both, masked, together, two_masked};
+ghost use Rattle.event_phrases.specs.Forms.{event_of, set_phrase_of};
 ghost use Rattle.event_phrases.specs.Scopes.{events_by, within};
 ghost use Rattle.event_phrases.specs.Shapes.{plain_set};
 
@@ -22,7 +21,7 @@ use syntax::Tree;
 use tokens::{Position, ScriptErrorKind, Unread, fault};
 
 /// What is made of two sets.
-#[tactic(auto, unfolding(crate::specs::EventForms::is_in_both))]
+#[tactic(auto, unfolding(crate::specs::Events::is_in_both))]
 fn combined(combination: Combination, first: EventSet, second: EventSet) -> EventSet
     ensures { (x : Event) → member result x ≡ is_in_both combination (member first x) (member second x) }
 {
@@ -40,7 +39,7 @@ fn events_of<A: Allocator + Copy, G: GlobalScope<A>>(
     extent: Extent,
     tree: &Tree<A>,
 ) -> Result<EventSet, Unread>
-    ensures { Gives (λ s. s) result (masked (G.scope scope.now.global.now).channels (gives_by (G.scope scope.now.global.now).channels (within (G.scope scope.now.global.now) (map input scope.now.inputs.items)).known extent (shape tree.now))) }
+    ensures { Gives (λ s. s) result (masked (G.scope scope.now.global.now).channels (gives (G.scope scope.now.global.now).channels (within (G.scope scope.now.global.now) (map input scope.now.inputs.items)).known extent (event_of (shape tree.now)))) }
 {
     let event = match extent {
         Extent::Beginnings => beginning(alloc, scope, tree)?,
@@ -56,7 +55,7 @@ fn several<A: Allocator + Copy, G: GlobalScope<A>>(
     extent: Extent,
     trees: &[Tree<A>],
 ) -> Result<EventSet, Unread>
-    ensures { Gives (λ s. s) result (masked (G.scope scope.now.global.now).channels (together (gives_by (G.scope scope.now.global.now).channels (within (G.scope scope.now.global.now) (map input scope.now.inputs.items)).known extent) (syntaxes (shapes trees.now)))) }
+    ensures { Gives (λ s. s) result (masked (G.scope scope.now.global.now).channels (together (gives (G.scope scope.now.global.now).channels (within (G.scope scope.now.global.now) (map input scope.now.inputs.items)).known extent) (map event_of (shapes trees.now)))) }
 {
     let mut set = EventSet::empty();
     for tree in trees {
@@ -73,7 +72,7 @@ fn event_set<A: Allocator + Copy, G: GlobalScope<A>>(
     scope: &Scope<'_, A, G>,
     tree: &Tree<A>,
 ) -> Result<EventSet, Unread>
-    ensures { Gives (λ s. s) result (masked (G.scope scope.now.global.now).channels (event_set_in (G.scope scope.now.global.now).channels (within (G.scope scope.now.global.now) (map input scope.now.inputs.items)).known (G.scope scope.now.global.now).sets (shape tree.now))) }
+    ensures { Gives (λ s. s) result (masked (G.scope scope.now.global.now).channels (event_set_in (G.scope scope.now.global.now).channels (within (G.scope scope.now.global.now) (map input scope.now.inputs.items)).known (G.scope scope.now.global.now).sets (set_phrase_of (shape tree.now)))) }
 {
     match set_phrase(tree) {
         Some(phrase) => set_of_phrase(alloc, scope, phrase, tree.line()),
@@ -89,7 +88,7 @@ fn set_of_phrase<A: Allocator + Copy, G: GlobalScope<A>>(
     phrase: SetPhrase<'_, A>,
     line: Position,
 ) -> Result<EventSet, Unread>
-    ensures { Gives (λ s. s) result (masked (G.scope scope.now.global.now).channels (set_by (G.scope scope.now.global.now).channels (within (G.scope scope.now.global.now) (map input scope.now.inputs.items)).known (G.scope scope.now.global.now).sets (plain_set phrase.entry))) }
+    ensures { Gives (λ s. s) result (masked (G.scope scope.now.global.now).channels (event_set_in (G.scope scope.now.global.now).channels (within (G.scope scope.now.global.now) (map input scope.now.inputs.items)).known (G.scope scope.now.global.now).sets (plain_set phrase.entry))) }
 {
     match phrase {
         SetPhrase::Inside(inner) => event_set(alloc, scope, inner),
@@ -127,7 +126,7 @@ pub fn wanted_events<A: Allocator + Copy, G: GlobalScope<A>>(
     scope: &Scope<'_, A, G>,
     tree: &Tree<A>,
 ) -> Result<EventSet, Unread>
-    ensures { Gives (λ s. s) result (masked (G.scope scope.now.global.now).channels (event_set_in (G.scope scope.now.global.now).channels (within (G.scope scope.now.global.now) (map input scope.now.inputs.items)).known (G.scope scope.now.global.now).sets (shape tree.now))) }
+    ensures { Gives (λ s. s) result (masked (G.scope scope.now.global.now).channels (event_set_in (G.scope scope.now.global.now).channels (within (G.scope scope.now.global.now) (map input scope.now.inputs.items)).known (G.scope scope.now.global.now).sets (set_phrase_of (shape tree.now)))) }
 {
     match event_set(alloc, scope, tree) {
         Ok(set) => Ok(set),
@@ -155,7 +154,7 @@ pub fn set_of_events<A: Allocator + Copy, G: GlobalScope<A>>(
     global: &G,
     tree: &Tree<A>,
 ) -> Result<EventSet, Unread>
-    ensures { Gives (λ s. s) result (masked (G.scope global.now).channels (event_set_in (G.scope global.now).channels (G.scope global.now).known (G.scope global.now).sets (shape tree.now))) }
+    ensures { Gives (λ s. s) result (masked (G.scope global.now).channels (event_set_in (G.scope global.now).channels (G.scope global.now).known (G.scope global.now).sets (set_phrase_of (shape tree.now)))) }
 {
     let scope = Scope {
         global,

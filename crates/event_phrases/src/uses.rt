@@ -25,8 +25,10 @@ pub(crate) fn mentions<A: Allocator>(tree: &Tree<A>, name: &[u8]) -> bool
 fn mention<A: Allocator>(trees: &[Tree<A>], name: &[u8]) -> bool
     ensures { result ≡ mention_of name.now (syntaxes (shapes trees.now)) }
 {
-    match trees {
-        [] => false,
-        [tree, trees @ ..] => mentions(tree, name) || mention(trees, name),
+    for tree in trees {
+        if mentions(tree, name) {
+            return true;
+        }
     }
+    false
 }

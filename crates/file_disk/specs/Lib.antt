@@ -1,2 +1,3 @@
 -- To believe.
 pub mod Files
+pub mod Kept

@@ -58,7 +58,7 @@ impl<R: Files<File = File>> FileSystem for R {
 
     fn keep_names(&self, name: &str) -> Result<(), DiskFault> {
         match OpenOptions::new().read(true).open(self, folder_of(name)) {
-            Ok(folder) => sync(&folder),
+            Ok(mut folder) => sync(&mut folder),
             Err(_) => Err(DiskFault),
         }
     }

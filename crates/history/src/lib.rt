@@ -12,8 +12,9 @@ mod history;
 mod legal;
 mod seat;
 
+pub use answers::Summary;
 pub use crossing::legal_crosses;
-pub use entry::{Entry, Summary};
+pub use entry::Entry;
 pub use history::{HISTORY_LIMIT, History, LARGE_HISTORY_LIMIT};
 pub use legal::{Candidate, LegalHistory};
 pub use monitor::{AfterFault, Monitor, crosses};

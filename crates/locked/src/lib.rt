@@ -9,16 +9,18 @@ mod closing;
 mod fault;
 mod locked;
 mod names;
+mod sharing;
 mod waiting;
 
 pub use alphabet::{EventSet, Report};
 pub use board::{Board, Counts, Front, Looker, Naming, Opened, Publisher, Source, Spine, look};
 pub use closing::close;
-pub use fault::{NameFault, SeatFault};
+pub use fault::NameFault;
 pub use locked::{Locked, is_of};
 pub use names::{LAST_NAME, Names};
 pub use session::{
     Entry, Failed, Fault, Recorder, SeatNumber, Session, SessionError, SessionOn, Summary, crosses,
     legal_crosses, names_of, read_as,
 };
+pub use sharing::Sharing;
 pub use waiting::Waiting;

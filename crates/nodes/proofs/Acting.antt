@@ -7,8 +7,9 @@ use Rattle.term.specs.Traces.{Pairs as Relation, In, images}
 use Rattle.term.specs.Limits.{Terms}
 use Rattle.term.specs.Proc.{Proc, stop, skip, prefix, ext, int, seq, par, hide, ren, intr, name}
 use Rattle.term.specs.Steps.{Act, a-prefix, a-ext-l, a-ext-r, a-seq, a-par-l, a-par-r, a-par-b, a-hide, a-ren, a-intr-l, a-intr-r}
-use Rattle.step.specs.Targets.{pairs_of, where_, sources}
-use Rattle.step.proofs.ActList.{In-append_l, image-source, source-image}
+use Rattle.targets.specs.Targets.{pairs_of, where_, sources}
+use Rattle.targets.proofs.Members.{In-append_l}
+use Rattle.targets.proofs.Sources.{image-source, source-image}
 use Rattle.targets.specs.Cuts.{CutOf}
 use Rattle.targets.specs.Among.{Joined}
 use Rattle.targets.proofs.Cutting.{Image, Pairs, no-longer, cut-to, cut-none, cut-one, cut-all, cut-map, cut-pairs}

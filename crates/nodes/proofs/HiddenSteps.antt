@@ -5,8 +5,8 @@ use Rattle.term.specs.Traces.{Pairs as Relation}
 use Rattle.term.specs.Limits.{Terms}
 use Rattle.term.specs.Proc.{Proc, stop, skip, prefix, ext, int, seq, par, hide, ren, intr, name}
 use Rattle.term.specs.Steps.{Hid, Ticks, is_skip}
-use Rattle.step.specs.Targets.{ticks}
-use Rattle.step.proofs.HidList.{ticks-Ticks, Ticks-ticks}
+use Rattle.targets.specs.Targets.{ticks}
+use Rattle.targets.proofs.Ticking.{ticks-Ticks, Ticks-ticks}
 use Rattle.targets.specs.Cuts.{CutOf}
 use Rattle.targets.specs.Among.{Joined, ActsIn}
 use Rattle.targets.proofs.Cutting.{Image, cut-to, cut-none, cut-one, cut-map}

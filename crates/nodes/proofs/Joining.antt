@@ -7,8 +7,8 @@ use Rattle.term.specs.Traces.{In, here, there}
 use Rattle.term.specs.Limits.{Distinct}
 use Rattle.term.specs.Proc.{Proc, stop}
 use Rattle.term.proofs.Bools.{or-cases, or-left, or-right}
-use Rattle.step.specs.Targets.{pairs_of}
-use Rattle.step.proofs.ActList.{append-In, In-append_l, In-append_r}
+use Rattle.targets.specs.Targets.{pairs_of}
+use Rattle.targets.proofs.Members.{append-In, In-append_l, In-append_r}
 use Rattle.targets.specs.Among.{InEither, Joined}
 use Rattle.targets.proofs.Cutting.{nothing, distinct-front, cut-all, cut-join, cut-to}
 use Rattle.targets.proofs.Lists.{joined-full}

@@ -4,9 +4,9 @@ use Rattle.term.proofs.Bools.{or-cases, or-left, or-right}
 use Rattle.term.specs.SameLaws.{and-cases, and-both}
 use Rattle.term.specs.Proc.{Proc}
 use Rattle.term.specs.Steps.{is_skip}
-use Rattle.step.specs.Targets.{ticks}
-use Rattle.step.specs.Resting.{Settled}
-use Rattle.step.proofs.Settling.{no_tick}
+use Rattle.targets.specs.Targets.{ticks}
+use Rattle.targets.specs.Resting.{Settled}
+use Rattle.targets.proofs.Settling.{no_tick}
 
 pub and-says : {X Y : Type 0} (a b : Bool) → IsTrue a ↔ X → IsTrue b ↔ Y → IsTrue (a && b) ↔ (X × Y)
 and-says a b f g = ((λ t. let (u, v) = and-cases a b t in (f.0 u, g.0 v)), (λ s. and-both a b (f.1 s.0) (g.1 s.1)))

@@ -5,9 +5,9 @@ use Rattle.term.specs.Events.{tick}
 use Rattle.term.specs.Proc.{Proc, stop}
 use Rattle.term.specs.Steps.{is_skip}
 use Rattle.term.specs.Sizes.{depth}
-use Rattle.step.specs.Offers.{offered}
-use Rattle.step.specs.Targets.{ticks}
-use Rattle.step.specs.Resting.{Resting}
+use Rattle.targets.specs.Offers.{offered}
+use Rattle.targets.specs.Targets.{ticks}
+use Rattle.targets.specs.Resting.{Resting}
 use Rattle.nodes.specs.declared.facts.Facts.{Facts}
 
 -- The facts are those of P.

@@ -6,7 +6,7 @@ use Rattle.term.specs.Steps.{Act, Hid, Ticks, is_skip}
 use Rattle.term.specs.Traces.{In}
 use Rattle.targets.specs.Among.{ActsIn}
 use Rattle.targets.specs.Cuts.{CutOf}
-use Rattle.step.specs.Targets.{sources}
+use Rattle.targets.specs.Targets.{sources}
 use Rattle.nodes.specs.declared.node.Node.{Node}
 use Rattle.nodes.specs.declared.node.Node.TheVariants as node
 use Rattle.nodes.specs.declared.places.Place.{Place}

@@ -3,7 +3,7 @@
 ghost use Rattle.std.specs.Prelude.{OnOk, ◌≡◌, ◌<◌, ◌∷◌, [], ℕ, length, nat_eq};
 ghost use Rattle.term.specs.Proc.{Proc, ext, hide, intr, par};
 ghost use Rattle.term.specs.Steps.{Act};
-ghost use Rattle.step.specs.Targets.{where_};
+ghost use Rattle.targets.specs.Targets.{where_};
 ghost use Rattle.targets.specs.Cuts.{CutOf};
 ghost use Rattle.nodes.specs.Shapes.{at, set_at, shape, IsWithin};
 ghost use Rattle.nodes.specs.Looks.{look, AllBelow, AreActsOfParts, IsCutIn};

@@ -1,11 +1,13 @@
 //! What is known of a process, from what is known of its parts.
 
 ghost use Rattle.std.specs.Prelude.{ℕ};
-ghost use Rattle.term.specs.Proc.{Proc, stop, skip, prefix, ext, int, seq, par, hide, ren, intr, name};
+ghost use Rattle.term.specs.Proc.{Proc, proc, stop, skip, prefix, ext, int, seq, par, hide, ren, intr, name};
 ghost use Rattle.nodes.specs.Known.{IsKnown};
 
 use crate::offers::{are_apart, joined, renamed};
 use alphabet::{Event, EventSet};
+use std::alloc::Allocator;
+use term::Term;
 
 /// What is known of a process.
 #[derive(Clone, Copy)]
@@ -20,6 +22,27 @@ pub struct Facts {
     pub ticks: bool,
     /// Whether it is `SKIP` itself.
     pub skip: bool,
+}
+
+/// What is known of the term's process, which needs no table. Takes no memory. A table finds the same of a process when it is
+/// put there, from what it knows of the parts (`Table::facts`). Goes over each node, and each pair of a renaming, once, in
+/// calls nested as deep as the term is.
+pub fn facts_of_term<A: Allocator>(term: &Term<A>) -> Facts
+    ensures { IsKnown result (proc term.now) }
+{
+    match term {
+        Term::Stop | Term::Prefix(Event::Tick, _) => of_stop(),
+        Term::Skip => of_skip(),
+        Term::Prefix(Event::Of(event), p) => of_prefix(*event, facts_of_term(p)),
+        Term::Ext(p, q) => of_ext(facts_of_term(p), facts_of_term(q)),
+        Term::Int(p, q) => of_int(facts_of_term(p), facts_of_term(q)),
+        Term::Seq(p, q) => of_seq(facts_of_term(p), facts_of_term(q)),
+        Term::Par(set, p, q) => of_par(*set, facts_of_term(p), facts_of_term(q)),
+        Term::Hide(set, p) => of_hide(*set, facts_of_term(p)),
+        Term::Ren(pairs, p) => of_ren(pairs, facts_of_term(p)),
+        Term::Intr(p, q) => of_intr(facts_of_term(p), facts_of_term(q)),
+        Term::Name(_) => of_name(),
+    }
 }
 
 /// Of `STOP`.
@@ -153,15 +176,15 @@ pub(crate) fn of_ren(pairs: &[(u8, u8)], part: Facts) -> Facts
     }
 }
 
-/// Of an interrupt.
-pub(crate) fn of_intr(left: Facts, right: Facts) -> Facts
-    ensures { (P Q : Proc) → IsKnown left P → IsKnown right Q → IsKnown result (intr P Q) }
+/// Of an interrupt by the second.
+pub(crate) fn of_intr(left: Facts, by: Facts) -> Facts
+    ensures { (P Q : Proc) → IsKnown left P → IsKnown by Q → IsKnown result (intr P Q) }
 {
     Facts {
-        depth: left.depth.max(right.depth).saturating_add(1),
-        offers: left.offers.union(right.offers),
-        rests: left.rests & right.rests,
-        ticks: left.ticks | right.ticks,
+        depth: left.depth.max(by.depth).saturating_add(1),
+        offers: left.offers.union(by.offers),
+        rests: left.rests & by.rests,
+        ticks: left.ticks | by.ticks,
         skip: false,
     }
 }

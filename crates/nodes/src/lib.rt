@@ -11,8 +11,9 @@ mod offers;
 mod places;
 mod table;
 mod terms;
+mod trees;
 
-pub use facts::Facts;
+pub use facts::{Facts, facts_of_term};
 pub use node::Node;
 pub use places::Place;
 pub use table::Table;

@@ -2,7 +2,7 @@
 
 ghost use Rattle.std.specs.Prelude.{OnOk, ◌<◌, ◌∷◌, [], length, map};
 ghost use Rattle.term.specs.Proc.{par};
-ghost use Rattle.step.specs.Targets.{pairs_of};
+ghost use Rattle.targets.specs.Targets.{pairs_of};
 ghost use Rattle.targets.specs.Among.{Joined};
 ghost use Rattle.nodes.specs.Shapes.{at, set_at};
 ghost use Rattle.nodes.specs.Looks.{look, around, AllBelow, IsPlaceIn};

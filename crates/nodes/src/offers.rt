@@ -4,8 +4,8 @@ ghost use Rattle.std.specs.Prelude.{◌≡◌, ◌↔◌, ℕ, IsTrue, true, fal
 ghost use Rattle.alphabet.specs.EventSets.{has, member};
 ghost use Rattle.alphabet.specs.declared.events.Event.{Event};
 ghost use Rattle.alphabet.specs.declared.events.Event.TheVariants.{Tick as tick};
-ghost use Rattle.step.specs.Offers.{both_or_one, some_passes};
-ghost use Rattle.step.specs.Targets.{sources};
+ghost use Rattle.targets.specs.Offers.{both_or_one, some_passes};
+ghost use Rattle.targets.specs.Targets.{sources};
 
 use alphabet::{Event, EventSet};
 

@@ -13,7 +13,7 @@ use term::Term;
 
 /// An operator over two processes alone.
 #[derive(Clone, Copy)]
-enum Operator {
+pub(crate) enum Operator {
     Ext,
     Int,
     Seq,
@@ -31,6 +31,18 @@ impl Operator {
             Operator::Int => Node::Int(left, right),
             Operator::Seq => Node::Seq(left, right),
             Operator::Intr => Node::Intr(left, right),
+        }
+    }
+
+    /// The operator's term over these.
+    pub(crate) fn term<B: Allocator>(self, left: Box<Term<B>, B>, right: Box<Term<B>, B>) -> Term<B>
+        ensures { proc result ≡ over self (proc left.value) (proc right.value) }
+    {
+        match self {
+            Operator::Ext => Term::Ext(left, right),
+            Operator::Int => Term::Int(left, right),
+            Operator::Seq => Term::Seq(left, right),
+            Operator::Intr => Term::Intr(left, right),
         }
     }
 }

@@ -25,8 +25,8 @@ fn wire_fault(name: &str) -> wire::Fault {
         "Behind" => wire::Fault::Behind,
         "Reader" => wire::Fault::Reader,
         "Taken" => wire::Fault::Taken,
-        "Journal" => wire::Fault::Journal,
-        "Closed" => wire::Fault::Closed,
+        "Journal" => wire::Fault::Journal(()),
+        "Closed" => wire::Fault::Closed(()),
         _ => wire::Fault::Memory,
     }
 }

@@ -1,7 +1,7 @@
 //! The steps of processes by number: how many targets they have, and whether one is too deep.
 
 ghost use Rattle.std.specs.Prelude.{◌<◌, ◌≤◌, length};
-ghost use Rattle.step.specs.HiddenSets.{SetsBelow};
+ghost use Rattle.targets.specs.HiddenSets.{SetsBelow};
 ghost use Rattle.term.specs.Limits.{deepest_state};
 ghost use Rattle.term.specs.Proc.{proc};
 ghost use Rattle.term.specs.Sizes.{depth};

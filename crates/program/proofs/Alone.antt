@@ -19,18 +19,18 @@ use Rattle.shared.specs.Beginnings.{StartsWith}
 use Rattle.shared.proofs.Beginnings.{begins_self}
 use Rattle.attending.proofs.AloneLemmas.{long_of}
 use Rattle.shared.proofs.Histories.{calls-le}
-use Rattle.shared.specs.Fault.{Fault as SessionFault}
-use Rattle.shared.specs.Fault.TheVariants as session
+use Rattle.shared.specs.SessionFaults.{Fault as SessionFault}
+use Rattle.answers.specs.declared.fault.Fault.TheVariants as session
 use Rattle.shared.specs.View.{SeatView}
 use Rattle.shared.specs.Faults.{Answers as Explains, closes as closing}
 use Rattle.shared.specs.Seats.{Answered, Refused, AllTold, answers_to, receipts}
 use Rattle.shared.proofs.Calls.{calls_all, calls-longer}
-use Rattle.seats.specs.Faults.{reported_as}
+use Rattle.answers.specs.Faults.{plain_of}
 use Rattle.seats.specs.Judges as seat
-use Rattle.wire.specs.declared.answers.Receipt.{Receipt}
-use Rattle.wire.specs.declared.answers.Status.{Status}
-use Rattle.wire.specs.declared.answers.Fault.{Fault}
-use Rattle.wire.specs.declared.answers.Tally.{Tally}
+use Rattle.answers.specs.declared.receipt.Receipt.{Receipt}
+use Rattle.answers.specs.declared.receipt.Status.{Status}
+use Rattle.wire.specs.Faults.{Fault}
+use Rattle.wire.specs.declared.answer.Tally.{Tally}
 use Rattle.wire.specs.declared.engine.End.{End}
 use Rattle.wire.specs.declared.engine.WireError.{WireError}
 use Rattle.wire.specs.Replies.{Noted, noted, TakesNoName, LineReplies}
@@ -114,10 +114,12 @@ answered_back B old new r receipt own alone a =
       },
     )
 
-closes_as : (f : SessionFault) → closing f ≡ closes (reported_as f)
+closes_as : (f : SessionFault) → closing f ≡ closes (plain_of f)
 closes_as session.Depth = refl
 closes_as session.States = refl
 closes_as session.Seats = refl
+closes_as session.Reader = refl
+closes_as session.Taken = refl
 closes_as session.History = refl
 closes_as session.Turn = refl
 closes_as session.Behind = refl
@@ -125,10 +127,12 @@ closes_as (session.Journal e) = refl
 closes_as (session.Closed e) = refl
 closes_as session.Memory = refl
 
-why_as : (spec : Specified) (h : List Entry) (k : ℕ) (mine : List Entry) (r : Report) (f : SessionFault) → calls h k ≡ mine → Explains spec h k mine r f → IsWhy spec h r (reported_as f)
+why_as : (spec : Specified) (h : List Entry) (k : ℕ) (mine : List Entry) (r : Report) (f : SessionFault) → calls h k ≡ mine → Explains spec h k mine r f → IsWhy spec h r (plain_of f)
 why_as spec h k mine r session.Depth all e = e
 why_as spec h k mine r session.States all e = e
 why_as spec h k mine r session.Seats all e = e
+why_as spec h k mine r session.Reader all e = e
+why_as spec h k mine r session.Taken all e = e
 why_as spec h k mine r session.History all e = long_of spec.names h (suc (length mine)) e (omega (arith, ap length all, calls-le h k))
 why_as spec h k mine r session.Turn all e = e all
 why_as spec h k mine r session.Behind all e = e
@@ -137,7 +141,7 @@ why_as spec h k mine r (session.Closed x) all e = tt
 why_as spec h k mine r session.Memory all e = tt
 
 refused_back : (spec : Specified) (old new : SeatView) (r : Report) (f : SessionFault) → IsOwn old → IsAlone new → Refused spec old new r f
-    → IsAlone old × Leaves spec (course old) r (reported_as f) (course new)
+    → IsAlone old × Leaves spec (course old) r (plain_of f) (course new)
 refused_back spec old new r f own alone a =
     let same : new.seen ≡ old.seen = stays old new a.begins a.same own alone in
     let before = looked_alone old new a.begins a.same alone in

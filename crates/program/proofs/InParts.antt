@@ -1,5 +1,5 @@
 -- What is shown of a journal in parts.
-use Rattle.std.proofs.Common.{◌≡◌, ◌<◌, ◌^◌, ℕ, IsTrue, List, [], ◌∷◌, ◌++◌, Option, Result, Ok, Err, IfErr, IsErrAnd, MatchResult, length, drop, inl, refl, sym, ◌∙◌, ap, subst}
+use Rattle.std.proofs.Common.{◌≡◌, ◌<◌, ◌^◌, ℕ, IsTrue, List, [], ◌∷◌, ◌++◌, Option, Result, Ok, Err, IfErr, IsErrAnd, MatchResult, OnOk, length, drop, inl, refl, sym, ◌∙◌, ap, subst}
 use Rattle.disk.specs.State.{FolderState}
 use Rattle.disk.specs.Calls.{Continues}
 use Rattle.disk.proofs.Moments.{continues_on}
@@ -72,6 +72,11 @@ ends_at state s size r f all claims script root spec h is start =
 pub no_display : (size : ℕ) (files : List (List ℕ)) (e : DisplayError) → IsBeyond e → HaveNoDisplay size files e
 no_display size files (Session error) beyond = inl beyond
 no_display size files Output beyond = tt
+
+-- what holds of each value, of a result that is one
+pub of_ok : {T E : Type 0} (result : Result T E) (P : Type 0) → ((e : E) → result ≡ Err e → ⊥) → OnOk result P → P
+of_ok (Ok x) P not holds = holds
+of_ok (Err e) P not holds = absurd (not e refl)
 
 -- what comes after a beginning
 drop_front : (front rest : List Entry) → drop (length front) (front ++ rest) ≡ rest

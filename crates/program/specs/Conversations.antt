@@ -5,7 +5,7 @@ use Rattle.term.specs.Specs.{Specified}
 use Rattle.shared.specs.Entry.{Entry}
 use Rattle.wire.specs.Replies.{LineReplies, TakesNoName, noted}
 use Rattle.wire.specs.Talks.{Serves}
-use Rattle.wire.specs.declared.answers.Tally.{Tally}
+use Rattle.wire.specs.declared.answer.Tally.{Tally}
 use Rattle.wire.specs.declared.engine.End.{End}
 use Rattle.wire.specs.declared.engine.WireError.{WireError}
 use Rattle.attending.specs.Courses.{Course, begun, Reports, Statuses, Nexts}

@@ -4,7 +4,7 @@ use Rattle.shared.specs.Entry.{Entry}
 use Rattle.shared.specs.Entries.{summary_of}
 use Rattle.attending.specs.declared.manner.Ending.{Ending}
 use Rattle.attending.specs.declared.manner.Ending.TheVariants.{By, Rejected as Rejecting}
-use Rattle.wire.specs.declared.answers.Tally.{Tally}
+use Rattle.wire.specs.declared.answer.Tally.{Tally}
 use Rattle.wire.specs.declared.engine.End.{End}
 use Rattle.wire.specs.declared.engine.End.TheVariants.{Line}
 use Rattle.wire.specs.declared.engine.WireError.{WireError}
@@ -14,17 +14,8 @@ use Rattle.shared.specs.SessionError.TheVariants as error
 use Rattle.tokens.specs.declared.error.ScriptError.{ScriptError}
 use Rattle.tokens.specs.declared.error.ScriptErrorKind.{ScriptErrorKind}
 use Rattle.tokens.specs.declared.error.ScriptErrorKind.TheVariants as kind
-use Rattle.program.specs.declared.exit.Exit.{Exit}
-use Rattle.program.specs.declared.exit.Exit.TheVariants.{Done, Rejected, Misuse, BadScript, BadJournal, FileFailed, Limit}
-
-abbrev pub exit_code : Exit → ℕ
-exit_code Done = 0
-exit_code Rejected = 1
-exit_code Misuse = 2
-exit_code BadScript = 3
-exit_code BadJournal = 4
-exit_code FileFailed = 5
-exit_code Limit = 6
+use Rattle.answers.specs.declared.exit.Exit.{Exit}
+use Rattle.answers.specs.declared.exit.Exit.TheVariants.{Done, Rejected, Misuse, BadScript, BadJournal, FileFailed, Limit}
 
 -- the conversation ended by a line that is too long
 abbrev pub is_too_long : End → Bool

@@ -16,12 +16,13 @@ ghost use Rattle.wire.specs.Talks.{Serves};
 ghost use Rattle.program.specs.Conversations.{Conversed, no_answers};
 ghost use Rattle.program.specs.Exits.{exit_of};
 
-use crate::exit::Exit;
+use crate::exit::exit_after;
 use alphabet::Alphabet;
+use answers::Exit;
 use disk::Disk;
 use journal::Journal;
 use seats::{SeatJudge, copy_of};
-use shared::{Naming, Opened, Recorder, Session, SessionError, Share, Shared};
+use shared::{Naming, Opened, Recorder, Session, SessionError, Share, Shared, Sharing};
 use std::alloc::{Allocator, Global};
 use std::marker::Brand;
 use std::sync::Wait;
@@ -58,7 +59,7 @@ fn has_room<N: Naming, A: Allocator>(shares: &mut Vec<Share<N, A>, A>) -> bool
 }
 
 // Answers the lines of the reader from a seat, whose share comes to the shares. `None` where there is no memory for that.
-fn hear<R: Wait, J: Recorder, A: Allocator + Copy + Drop, N: Naming, T: Source, W: Sink>(
+fn hear<R: Wait, J: Recorder, A: Allocator + Copy + Drop, N: Sharing<J>, T: Source, W: Sink>(
     rt: &R,
     alloc: A,
     shared: &Shared<J, A, N>,
@@ -92,7 +93,14 @@ fn hear<R: Wait, J: Recorder, A: Allocator + Copy + Drop, N: Naming, T: Source, 
 }
 
 // Answers the lines of the reader from the only seat of the session. The caller picks the names.
-fn hear_alone<R: Wait, D: Disk + Drop, A: Allocator + Copy + Drop, N: Naming, T: Source, W: Sink>(
+fn hear_alone<
+    R: Wait,
+    D: Disk + Drop,
+    A: Allocator + Copy + Drop,
+    N: Sharing<Journal<D>>,
+    T: Source,
+    W: Sink,
+>(
     rt: &R,
     alloc: A,
     session: Session<D, A>,
@@ -103,6 +111,7 @@ fn hear_alone<R: Wait, D: Disk + Drop, A: Allocator + Copy + Drop, N: Naming, T:
     writer: &mut W,
 ) -> Result<Checked<D, A>, SessionError>
     requires story { (session.spec ≡ N.spec) × (session.history ≡ N.opening) × (session.offered ≡ []) × (N.opening ≡ []) }
+    requires before { IfSome N.before (λ before. before ≡ session) }
     requires book { opened.seen.book ≡ N.book }
     requires ledger { (blank.name ≡ N.name) × (blank.parts ≡ N.parts) × (N.all ≡ N.parts) × (N.all ≡ 2) }
     requires alphabet { alphabet.now ≡ N.spec.alphabet }
@@ -128,7 +137,7 @@ fn hear_alone<R: Wait, D: Disk + Drop, A: Allocator + Copy + Drop, N: Naming, T:
             session,
             end: talk.end,
             tally: talk.tally,
-            exit: Exit::of(talk.end, talk.tally),
+            exit: exit_after(talk.end, talk.tally),
         }),
         None => {
             drop(session);

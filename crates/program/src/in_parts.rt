@@ -17,11 +17,11 @@ ghost use Rattle.program.specs.Exits.{replay_exit};
 ghost use Rattle.program.specs.Parts.{AreFollowed, HaveNoDisplay};
 ghost use Rattle.program.specs.Showings.{IsBeyond, WritesAll};
 
-use crate::exit::Exit;
 use crate::following::{FollowError, joined, show_on};
 use crate::replaying::exit_of;
 use crate::showing::{DisplayError, write_end};
 use crate::summaries::summary_line;
+use answers::Exit;
 use disk::Folder;
 use large_sessions::Replaying;
 use shared::{SessionError, names_of, read_as};
@@ -177,7 +177,10 @@ fn show_each<F: Folder + Drop, A: Allocator + Copy, W: Write>(
         → MatchResult result (λ r. r.taken.entries ≡ h) IsBeyond }
 {
     let mut replaying = replaying;
-    showing.take(alloc, replaying.entries(), output)?;
+    if let Err(error) = showing.take(alloc, replaying.entries(), output) {
+        drop(replaying);
+        return Err(error.into());
+    }
     while !replaying.is_done() {
         replaying.let_go();
         replaying = match replaying.next() {
@@ -187,7 +190,10 @@ fn show_each<F: Folder + Drop, A: Allocator + Copy, W: Write>(
                 return Err(DisplayError::Session(error));
             }
         };
-        showing.take(alloc, replaying.entries(), output)?;
+        if let Err(error) = showing.take(alloc, replaying.entries(), output) {
+            drop(replaying);
+            return Err(error.into());
+        }
     }
     Ok(replaying)
 }

@@ -13,9 +13,10 @@ mod replaying;
 mod showing;
 mod summaries;
 
+pub use answers::Exit;
 pub use attending::{Attended, Ending, Manner, attend};
 pub use checking::{Checked, check};
-pub use exit::Exit;
+pub use exit::{exit_after, exit_of_attended, exit_of_journal, exit_of_opening, exit_of_script};
 pub use following::{FollowError, follow};
 pub use forms::{PrintError, print};
 pub use in_parts::{DisplayedParts, ReplayedParts, follow_parts, replay_parts, show_parts};

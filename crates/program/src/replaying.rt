@@ -12,8 +12,8 @@ ghost use Rattle.wire.specs.Replies.{status_text};
 ghost use Rattle.attending.specs.Courses.{status_of};
 ghost use Rattle.program.specs.Exits.{rejected_exit, replay_exit};
 
-use crate::exit::Exit;
 use crate::summaries::summary_line;
+use answers::Exit;
 use disk::Disk;
 use journal::Header;
 use shared::{Session, SessionError};

@@ -14,9 +14,9 @@ ghost use Rattle.program.specs.Exits.{replay_exit};
 ghost use Rattle.program.specs.Showings.{HasNoDisplay, IsBeyond, WritesAll, summary_text};
 ghost use Rattle.program.specs.declared.showing.DisplayError.TheVariants.{Session as of_session};
 
-use crate::exit::Exit;
 use crate::replaying::{Replayed, replay};
 use crate::summaries::{add_json, add_line};
+use answers::Exit;
 use disk::Disk;
 use journal::Header;
 use shared::{Session, SessionError, Summary, names_of, read_as};

@@ -8,12 +8,12 @@ use Rattle.syntax.specs.Grammar.{Syntaxes, NoSyntax, MoreSyntax}
 use Rattle.values.specs.Values.{◌>>=◌}
 use Rattle.values.specs.Names.{is_process}
 use Rattle.event_phrases.specs.Events.{unless_value, pairs_of, set_of, masked}
-use Rattle.event_phrases.specs.Forms.{name_of, if_none, one_of, two_of, three_of, first_of}
+use Rattle.event_phrases.specs.Forms.{name_of, if_none, one_of, two_of, three_of, first_of, read_by, parts_by}
 use Rattle.denotation.specs.Bodies.{Body, prefix, ext, int, seq, par, hide, ren, intr, name}
 use Rattle.event_phrases.specs.Scopes.{Scope, events_by}
 use Rattle.denotation.specs.declared.draft.Joint.TheVariants as joints
 use Rattle.denotation.specs.declared.draft.Operation.TheVariants as operations
-use Rattle.denotation.specs.Phrases.{with_set, written, phrase_of, parts_of, form_phrase, operation_phrase, joined_phrase, join_of, joint_of, operation_of, composed, renamed, denoted}
+use Rattle.denotation.specs.Phrases.{with_set, other, written, phrase_of, form_phrase, operation_phrase, joined_phrase, join_of, joint_of, operation_of, composed, renamed, denoted}
 use Rattle.printing.specs.Printed.{reference}
 use Rattle.read_back.proofs.Trees.{phrases, pair_tree, set_tree, process_tree}
 use Rattle.read_back.proofs.Readable.{IsPrintedScope, IsRenaming, IsWritten, referred}
@@ -30,8 +30,8 @@ renamed_is n [] p h = absurd (omega (arith, h.some))
 renamed_is n (r ∷ R) p h = ap (λ S. ren S p) h.ordered
 
 -- the parts as they are written
-parts_back : (ts : Syntaxes) → written (parts_of ts) ≡ ts
-unfolding parts_of written
+parts_back : (ts : Syntaxes) → written (parts_by form_phrase other ts) ≡ ts
+unfolding parts_by written
 parts_back NoSyntax = refl
 parts_back (MoreSyntax t ts) = ap (λ us. MoreSyntax t us) (parts_back ts)
 
@@ -41,7 +41,7 @@ module _ (s : Scope) (primes m : ℕ) (h : IsPrintedScope s primes m) where
   means P = denoted (phrase_of (process_tree s.channels primes P)) s
 
   pub body_denoted : (P : Proc) → IsWritten (event_count s.channels) m P → means P ≡ Some (referred primes P)
-  unfolding process_tree phrase_of parts_of form_phrase operation_phrase joined_phrase name_of if_none one_of two_of three_of first_of join_of joint_of operation_of composed denoted masked
+  unfolding process_tree read_by parts_by form_phrase operation_phrase joined_phrase name_of if_none one_of two_of three_of first_of join_of joint_of operation_of composed denoted masked
   body_denoted procs.stop w = refl
   body_denoted procs.skip w = refl
   body_denoted (procs.prefix a P) w =
@@ -67,7 +67,7 @@ module _ (s : Scope) (primes m : ℕ) (h : IsPrintedScope s primes m) where
   body_denoted (procs.ren R P) w =
       let p = referred primes P in
       let ts = phrases (map (pair_tree s.channels) R) in
-      ap (λ o. o >>= λ p. pairs_of s.channels s.known (written (parts_of ts)) >>= λ R. Some (renamed (event_count s.channels) R p)) (body_denoted P w.1)
+      ap (λ o. o >>= λ p. pairs_of s.channels s.known (written (parts_by form_phrase other ts)) >>= λ R. Some (renamed (event_count s.channels) R p)) (body_denoted P w.1)
       ∙ ap (λ us. pairs_of s.channels s.known us >>= λ R. Some (renamed (event_count s.channels) R p)) (parts_back ts)
       ∙ ap (λ o. o >>= λ R. Some (renamed (event_count s.channels) R p)) (pairs_given s primes m h R w.0.lies)
       ∙ ap (λ b. Some b) (renamed_is (event_count s.channels) R p w.0)

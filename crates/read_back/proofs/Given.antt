@@ -7,17 +7,19 @@ use Rattle.std.specs.Cmp.Lexicographic.{pointwise, bytes_decides}
 use Rattle.std.specs.Ordering.{is_eq, ordering_reverse}
 use Rattle.std.specs.declared.cmp.Ordering.{Ordering}
 use Rattle.std.specs.declared.cmp.Ordering.TheVariants.{Less, Equal, Greater}
-use Rattle.alphabet.specs.Channels.{FieldValue, number, constant, Values, choices}
+use Rattle.alphabet.specs.Channels.{FieldValue, number, constant, Values, Parts, choices}
 use Rattle.alphabet.specs.Elements.{In, here, there}
 use Rattle.alphabet.proofs.Lists.{In-map, In-flat_map, and-left, and-right}
 use Rattle.syntax.specs.declared.form.Form.TheVariants as forms
+use Rattle.syntax.specs.Grammar.{Syntax}
 use Rattle.values.specs.Values.{◌>>=◌, Name, value_cmp, is_same, is_among, limited}
 use Rattle.values.specs.Worths.{Worth, one, worth, worths, formed, negated, the_only, the_number, the_value}
 use Rattle.values.specs.Order.{value_total}
 use Rattle.values.specs.Names.{same_name}
-use Rattle.event_phrases.specs.Events.{field_value, field_values, are_within}
+use Rattle.event_phrases.specs.Events.{field_value, value_within, field_values}
+use Rattle.event_phrases.specs.Forms.{part_list, node_of, name_of, if_none, first_of, one_of, read_by, parts_by, FieldPhrase, given, field_form, field_of, EventPhrase, event, no_event, event_form, event_of}
 use Rattle.event_phrases.specs.Scopes.{Scope}
-use Rattle.read_back.proofs.Trees.{node, value_tree, dotted_trees}
+use Rattle.read_back.proofs.Trees.{value_tree, dotted_trees, event_tree}
 use Rattle.read_back.proofs.Readable.{IsGiven}
 
 -- ---- values that are the same
@@ -123,20 +125,30 @@ value_given s (number (negsuc n)) h =
     ∙ ap (λ o. o >>= a_number) (limited_neg n h)
 value_given s (constant n) h = ap (λ o. (o >>= λ w. Some (w ∷ [])) >>= λ ws. formed forms.Event ws) h
 
-pub field_given : (s : Scope) (v : FieldValue) → IsGiven s v → field_value s.known (node forms.Dotted (value_tree v ∷ [])) ≡ Some v
+-- ---- an event as it is read
+
+abbrev pub given_fields : Values → List FieldPhrase
+given_fields vs = map (λ v. given (value_tree v)) vs
+
+dotted_fields : (vs : Values) → map (λ (t : Syntax × EventPhrase). field_of t.0) (parts_by event_form no_event (dotted_trees vs)) ≡ given_fields vs
+unfolding parts_by field_of field_form node_of part_list one_of if_none
+dotted_fields [] = refl
+dotted_fields (v ∷ vs) = ap (λ fs. given (value_tree v) ∷ fs) (dotted_fields vs)
+
+pub event_read : (p : Parts) → event_of (event_tree p) ≡ event p.channel (given_fields p.values)
+unfolding read_by parts_by event_form first_of name_of
+event_read p = ap (event p.channel) (dotted_fields p.values)
+
+pub field_given : (s : Scope) (v : FieldValue) → IsGiven s v → field_value s.known (given (value_tree v)) ≡ Some v
 unfolding field_value the_value
 field_given s v h = ap (λ o. o >>= the_value) (value_given s v h)
 
-pub fields_given : (s : Scope) (vs : Values) → AllGiven s vs → field_values s.known (dotted_trees vs) ≡ Some vs
-unfolding field_values
-fields_given s [] h = refl
-fields_given s (v ∷ vs) h =
-    ap (λ o. o >>= λ w. field_values s.known (dotted_trees vs) >>= λ ws. Some (w ∷ ws)) (field_given s v h.0)
-    ∙ ap (λ o. o >>= λ ws. Some (v ∷ ws)) (fields_given s vs h.1)
-
-pub within_sets : (vs : Values) (sets : List Values) → AreChosen vs sets → are_within vs sets ≡ true
-unfolding are_within
-within_sets [] [] h = refl
-within_sets [] (set ∷ sets) h = absurd h
-within_sets (v ∷ vs) [] h = absurd h
-within_sets (v ∷ vs) (set ∷ sets) h = ap₂ (λ a b. a && b) (among-In v set h.0) (within_sets vs sets h.1)
+pub fields_given : (s : Scope) (vs : Values) (sets : List Values) → AllGiven s vs → AreChosen vs sets → field_values s.known (given_fields vs) sets ≡ Some vs
+unfolding field_values value_within
+fields_given s [] [] h k = refl
+fields_given s [] (set ∷ sets) h k = absurd k
+fields_given s (v ∷ vs) [] h k = absurd k
+fields_given s (v ∷ vs) (set ∷ sets) h k =
+    ap (λ o. value_within o set >>= λ w. field_values s.known (given_fields vs) sets >>= λ ws. Some (w ∷ ws)) (field_given s v h.0)
+    ∙ ap (λ b. cond b (Some v) None >>= λ w. field_values s.known (given_fields vs) sets >>= λ ws. Some (w ∷ ws)) (among-In v set k.0)
+    ∙ ap (λ o. o >>= λ ws. Some (v ∷ ws)) (fields_given s vs sets h.1 k.1)

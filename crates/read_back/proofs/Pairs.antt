@@ -8,6 +8,7 @@ use Rattle.term.specs.Specs.{PairsInSigma}
 use Rattle.term.specs.Traces.{Pairs}
 use Rattle.values.specs.Values.{◌>>=◌, Name}
 use Rattle.event_phrases.specs.Events.{Beginning, beginning, begins_so, number_in, pairs_from, pair_of, pairs_of}
+use Rattle.event_phrases.specs.Forms.{part_list, node_of, if_none, first_of, one_of, two_of, event_of, pair_form, sides_of}
 use Rattle.event_phrases.specs.Scopes.{Scope}
 use Rattle.read_back.proofs.Trees.{phrases, tree_of_event, pair_tree}
 use Rattle.read_back.proofs.Readable.{IsPrintedScope}
@@ -59,7 +60,7 @@ nothing_left (v ∷ vs) = nothing_left vs
 module _ (s : Scope) (primes m : ℕ) (h : IsPrintedScope s primes m) where
   -- one pair
   pair_given : (a b : ℕ) → a < event_count s.channels → b < event_count s.channels → pair_of s.channels s.known (pair_tree s.channels (a, b)) ≡ Some ((a, b) ∷ [])
-  unfolding pair_of
+  unfolding pair_of sides_of node_of part_list pair_form two_of first_of one_of if_none
   pair_given a b l k =
       let p = parts s primes m h a l in
       let q = parts s primes m h b k in
@@ -70,7 +71,7 @@ module _ (s : Scope) (primes m : ℕ) (h : IsPrintedScope s primes m) where
       let there : number_in ps (q.channel, q.values ++ drop (length p.values) p.values) ≡ Some b =
       ap (λ vs. number_in ps (q.channel, q.values ++ vs)) (nothing_left p.values) ∙ ap (λ vs. number_in ps (q.channel, vs)) (append-nil q.values)
       ∙ number_found q.channel q.values ps b q f (row_itself q) (λ j r g ne. other_row s.channels q r b j h.sound f g ne) in
-      ap (λ o. o >>= λ left. beginning s.channels s.known (tree_of_event s.channels (ev b)) >>= λ right. pairs_from s.channels left right 0 ps) (its_beginning s primes m h a l)
+      ap (λ o. o >>= λ left. beginning s.channels s.known (event_of (tree_of_event s.channels (ev b))) >>= λ right. pairs_from s.channels left right 0 ps) (its_beginning s primes m h a l)
       ∙ ap (λ o. o >>= λ right. pairs_from s.channels (p.channel, p.values) right 0 ps) (its_beginning s primes m h b k)
       ∙ one_added s (p.channel, p.values) (q.channel, q.values) ps 0 a b p e
       (begins_row s primes m h a l p (In-at ps a e) ∙ row_itself p) there

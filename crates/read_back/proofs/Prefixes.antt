@@ -2,6 +2,7 @@
 use Rattle.std.proofs.Common.{◌≡◌, ◌≢◌, ℕ, zero, suc, ◌+◌, ◌<◌, List, [], ◌∷◌, map, length, get_or, slice_get, Bool, true, false, cond, ◌&&◌, not, nat_eq, Option, Some, None, refl, sym, ap, ap₂, ◌∙◌, subst, arith}
 use Rattle.std.proofs.lemmas.Bool.{false≢true, not-true}
 use Rattle.std.proofs.lemmas.Option.{none-some, same_Some}
+use Rattle.std.specs.Cmp.{nat_eq_equiv}
 use Rattle.std.specs.Cmp.Lexicographic.{pointwise, bytes_decides}
 use Rattle.alphabet.specs.Channels.{FieldValue, Values, Channel, Parts, choices, channel_events, events, names, event_text, event_count, is_declared, are_distinct, IsAlphabet}
 use Rattle.alphabet.specs.Elements.{In, here, there, Distinct}
@@ -9,19 +10,18 @@ use Rattle.alphabet.proofs.Lists.{In-map, In-flat_map, In-under_map, In-get_or, 
 use Rattle.alphabet.proofs.ChannelPlaces.{event_count-is}
 use Rattle.alphabet.proofs.DistinctNames.{names_distinct}
 use Rattle.alphabet.specs.declared.events.Event.TheVariants.{Of as ev}
-use Rattle.syntax.specs.Grammar.{Syntaxes}
 use Rattle.values.specs.Values.{◌>>=◌, Name, is_same}
 use Rattle.values.specs.Names.{same_name}
-use Rattle.event_phrases.specs.Events.{fields_named, channel_fields, unless_value}
+use Rattle.event_phrases.specs.Events.{fields_named, channel_fields, field_value, unless_value}
 use Rattle.denotation.specs.Bodies.{Body, prefix, choice_of, halved, halved_in}
-use Rattle.event_phrases.specs.EventForms.{event_fits}
-use Rattle.event_phrases.specs.Fitting.{against, fits_field, fitting, has_all, then_fits}
+use Rattle.event_phrases.specs.Fitting.{against, fits_field, fitting, event_fits, then_fits}
+use Rattle.event_phrases.specs.Forms.{FieldPhrase, event_of}
 use Rattle.event_phrases.specs.Prefixes.{fields_pass, has_event, at_no_fault, prefix_parts}
 use Rattle.event_phrases.specs.Scopes.{Scope}
 use Rattle.denotation.specs.Phrases.{branch_on, branches, prefixed_by}
-use Rattle.read_back.proofs.Trees.{dotted_trees, tree_of_event, no_parts}
+use Rattle.read_back.proofs.Trees.{tree_of_event, no_parts}
 use Rattle.read_back.proofs.Readable.{IsGiven, IsPrintedScope}
-use Rattle.read_back.proofs.Given.{all_same, all_themselves, name_itself, among-In, AreChosen, chosen, AllGiven, field_given}
+use Rattle.read_back.proofs.Given.{all_same, all_themselves, name_itself, among-In, AreChosen, chosen, AllGiven, field_given, given_fields, event_read}
 
 -- ---- the events of an alphabet
 
@@ -89,12 +89,14 @@ all_given s [] (v ∷ vs) g h = absurd h
 all_given s (set ∷ sets) [] g h = absurd h
 all_given s (set ∷ sets) (v ∷ vs) g h = (g set v here h.0, all_given s sets vs (λ t u i j. g t u (there i) j) h.1)
 
-pub all_fields : (vs : Values) (sets : List Values) → AreChosen vs sets → has_all (dotted_trees vs) sets ≡ true
-unfolding has_all
-all_fields [] [] h = refl
-all_fields [] (set ∷ sets) h = absurd h
-all_fields (v ∷ vs) [] h = absurd h
-all_fields (v ∷ vs) (set ∷ sets) h = all_fields vs sets h.1
+as_long : (vs : Values) (sets : List Values) → AreChosen vs sets → length (given_fields vs) ≡ length sets
+as_long [] [] h = refl
+as_long [] (set ∷ sets) h = absurd h
+as_long (v ∷ vs) [] h = absurd h
+as_long (v ∷ vs) (set ∷ sets) h = ap suc (as_long vs sets h.1)
+
+pub all_fields : (vs : Values) (sets : List Values) → AreChosen vs sets → nat_eq (length (given_fields vs)) (length sets) ≡ true
+all_fields vs sets h = ap (λ k. nat_eq k (length sets)) (as_long vs sets h) ∙ nat_eq_equiv.refl (length sets)
 
 -- a channel has an event where there is a value for each field
 an_event : (sets : List Values) (vs : Values) → AreChosen vs sets → has_event sets ≡ true
@@ -107,41 +109,41 @@ an_event ((u ∷ us) ∷ sets) (v ∷ vs) h = an_event sets vs h.1
 abbrev fit_or_not : Bool → Scope → Option (Option Scope)
 fit_or_not b s = Some (cond b (Some s) None)
 
-fits_given : (s : Scope) (ws vs : Values) (sets : List Values) → AllGiven s ws → AreChosen ws sets → AreChosen vs sets → fitting (dotted_trees ws) sets vs s ≡ fit_or_not (pointwise is_same ws vs) s
-unfolding fitting fits_field against
+fits_given : (s : Scope) (ws vs : Values) (sets : List Values) → AllGiven s ws → AreChosen ws sets → AreChosen vs sets → fitting (given_fields ws) sets vs s ≡ fit_or_not (pointwise is_same ws vs) s
+unfolding fitting fits_field against field_value
 fits_given s [] [] [] g h k = refl
 fits_given s [] (v ∷ vs) [] g h k = absurd k
 fits_given s [] vs (set ∷ sets) g h k = absurd h
 fits_given s (w ∷ ws) vs [] g h k = absurd h
 fits_given s (w ∷ ws) [] (set ∷ sets) g h k = absurd k
 fits_given s (w ∷ ws) (v ∷ vs) (set ∷ sets) g h k =
-    ap (λ o. then_fits (against set v s o) (λ inner. fitting (dotted_trees ws) sets vs inner)) (field_given s w g.0)
-    ∙ ap (λ b. then_fits (cond b (cond (is_same w v) (Some (Some s)) (Some None)) None) (λ inner. fitting (dotted_trees ws) sets vs inner)) (among-In w set h.0)
+    ap (λ o. then_fits (against set v s o) (λ inner. fitting (given_fields ws) sets vs inner)) (field_given s w g.0)
+    ∙ ap (λ b. then_fits (cond b (cond (is_same w v) (Some (Some s)) (Some None)) None) (λ inner. fitting (given_fields ws) sets vs inner)) (among-In w set h.0)
     ∙ by_test (is_same w v) (fits_given s ws vs sets g.1 h.1 k.1)
   where
-    by_test : (b : Bool) → fitting (dotted_trees ws) sets vs s ≡ fit_or_not (pointwise is_same ws vs) s → then_fits (cond b (Some (Some s)) (Some None)) (λ inner. fitting (dotted_trees ws) sets vs inner) ≡ fit_or_not (b && pointwise is_same ws vs) s
+    by_test : (b : Bool) → fitting (given_fields ws) sets vs s ≡ fit_or_not (pointwise is_same ws vs) s → then_fits (cond b (Some (Some s)) (Some None)) (λ inner. fitting (given_fields ws) sets vs inner) ≡ fit_or_not (b && pointwise is_same ws vs) s
     by_test true e = e
     by_test false e = refl
 
 -- ---- the branches
 
-module _ (next : Scope → Option Body) (s : Scope) (c : Name) (ts : Syntaxes) (sets : List Values) where
+module _ (next : Scope → Option Body) (s : Scope) (c : Name) (fs : List FieldPhrase) (sets : List Values) where
   -- the branches of these events, where k is the first one's number
   abbrev branches_from : ℕ → List Parts → Option (List Body)
-  branches_from k ps = branches (event_fits c ts sets s) next k ps
+  branches_from k ps = branches (event_fits c fs sets s) next k ps
 
   -- the event adds no branch
   abbrev Skips : Parts → Type 0
-  Skips p = event_fits c ts sets s p ≡ Some None
+  Skips p = event_fits c fs sets s p ≡ Some None
 
-  skips : (p : Parts) (b : Bool) → same_name c p.channel ≡ b → (b ≡ true → fitting ts sets p.values s ≡ Some None) → Skips p
+  skips : (p : Parts) (b : Bool) → same_name c p.channel ≡ b → (b ≡ true → fitting fs sets p.values s ≡ Some None) → Skips p
   unfolding event_fits
-  skips p true e f = ap (λ b. cond b (fitting ts sets p.values s) (Some None)) e ∙ f refl
-  skips p false e f = ap (λ b. cond b (fitting ts sets p.values s) (Some None)) e
+  skips p true e f = ap (λ b. cond b (fitting fs sets p.values s) (Some None)) e ∙ f refl
+  skips p false e f = ap (λ b. cond b (fitting fs sets p.values s) (Some None)) e
 
-  takes : (p : Parts) → same_name c p.channel ≡ true → fitting ts sets p.values s ≡ Some (Some s) → event_fits c ts sets s p ≡ Some (Some s)
+  takes : (p : Parts) → same_name c p.channel ≡ true → fitting fs sets p.values s ≡ Some (Some s) → event_fits c fs sets s p ≡ Some (Some s)
   unfolding event_fits
-  takes p e f = ap (λ b. cond b (fitting ts sets p.values s) (Some None)) e ∙ f
+  takes p e f = ap (λ b. cond b (fitting fs sets p.values s) (Some None)) e ∙ f
 
   none_taken : (ps : List Parts) (k : ℕ) → ((j : ℕ) (q : Parts) → slice_get ps j ≡ Some q → Skips q) → branches_from k ps ≡ Some []
   unfolding branches
@@ -149,12 +151,12 @@ module _ (next : Scope → Option Body) (s : Scope) (c : Name) (ts : Syntaxes) (
   none_taken (p ∷ ps) k h = ap (λ o. o >>= branch_on next k (branches_from (suc k) ps)) (h 0 p refl) ∙ none_taken ps (suc k) (λ j q e. h (suc j) q e)
 
   -- the only branch, in front
-  one_taken : (ps : List Parts) (k i : ℕ) (p : Parts) → slice_get ps i ≡ Some p → event_fits c ts sets s p ≡ Some (Some s) → ((j : ℕ) (q : Parts) → slice_get ps j ≡ Some q → j ≢ i → Skips q) → branches_from k ps ≡ (next s >>= λ q. Some (prefix (k + i) q ∷ []))
+  one_taken : (ps : List Parts) (k i : ℕ) (p : Parts) → slice_get ps i ≡ Some p → event_fits c fs sets s p ≡ Some (Some s) → ((j : ℕ) (q : Parts) → slice_get ps j ≡ Some q → j ≢ i → Skips q) → branches_from k ps ≡ (next s >>= λ q. Some (prefix (k + i) q ∷ []))
   unfolding branches
   one_taken [] k i p e t h = absurd (none-some p e)
   one_taken (r ∷ ps) k zero p e t h =
       let same : k ≡ k + 0 = omega arith in
-      ap (λ o. o >>= branch_on next k (branches_from (suc k) ps)) (ap (event_fits c ts sets s) (same_Some r p e) ∙ t)
+      ap (λ o. o >>= branch_on next k (branches_from (suc k) ps)) (ap (event_fits c fs sets s) (same_Some r p e) ∙ t)
       ∙ ap (λ o. next s >>= λ q. o >>= λ qs. Some (prefix k q ∷ qs)) (none_taken ps (suc k) (λ j q f. h (suc j) q f (λ z. omega arith)))
       ∙ ap (λ n. next s >>= λ q. Some (prefix n q ∷ [])) same
   one_taken (r ∷ ps) k (suc i) p e t h =
@@ -209,16 +211,16 @@ module _ (s : Scope) (primes m : ℕ) (h : IsPrintedScope s primes m) (a : ℕ) 
       sym (fields_are s.channels r.0 h.sound.distinct r.1) ∙ ap (fields_named s.channels) (sym n) ∙ fields_are s.channels its_channel h.sound.distinct is_channel in
       subst (λ fs. AreChosen q.values fs) (same_Some r.0.fields its_channel.fields f) (chosen r.0.fields q.values r.3)
 
-  fits_so : (q : Parts) → In q (events s.channels) → same_name parts.channel q.channel ≡ true → fitting (dotted_trees parts.values) its_channel.fields q.values s ≡ Some (cond (pointwise is_same parts.values q.values) (Some s) None)
+  fits_so : (q : Parts) → In q (events s.channels) → same_name parts.channel q.channel ≡ true → fitting (given_fields parts.values) its_channel.fields q.values s ≡ Some (cond (pointwise is_same parts.values q.values) (Some s) None)
   fits_so q i e = fits_given s parts.values q.values its_channel.fields is_given is_chosen (also_chosen q i e)
 
-  its_branches : (next : Scope → Option Body) → branches (event_fits parts.channel (dotted_trees parts.values) its_channel.fields s) next 0 (events s.channels) ≡ (next s >>= λ q. Some (prefix a q ∷ []))
+  its_branches : (next : Scope → Option Body) → branches (event_fits parts.channel (given_fields parts.values) its_channel.fields s) next 0 (events s.channels) ≡ (next s >>= λ q. Some (prefix a q ∷ []))
   its_branches next =
       let z : 0 + a ≡ a = omega arith in
-      one_taken next s parts.channel (dotted_trees parts.values) its_channel.fields (events s.channels) 0 a parts at
-      (takes next s parts.channel (dotted_trees parts.values) its_channel.fields parts (name_itself parts.channel)
+      one_taken next s parts.channel (given_fields parts.values) its_channel.fields (events s.channels) 0 a parts at
+      (takes next s parts.channel (given_fields parts.values) its_channel.fields parts (name_itself parts.channel)
       (fits_so parts stands (name_itself parts.channel) ∙ ap (λ b. Some (cond b (Some s) None)) (all_themselves parts.values)))
-      (λ j q e ne. skips next s parts.channel (dotted_trees parts.values) its_channel.fields q (same_name parts.channel q.channel) refl
+      (λ j q e ne. skips next s parts.channel (given_fields parts.values) its_channel.fields q (same_name parts.channel q.channel) refl
       (λ t. fits_so q (In-at (events s.channels) j e) t ∙ ap (λ b. Some (cond b (Some s) None)) (missed q t (other_row s.channels parts q a j h.sound at e ne))))
       ∙ ap (λ n. next s >>= λ q. Some (prefix n q ∷ [])) z
     where
@@ -233,12 +235,14 @@ module _ (s : Scope) (primes m : ℕ) (h : IsPrintedScope s primes m) (a : ℕ) 
   has_one : has_event its_channel.fields ≡ true
   has_one = an_event its_channel.fields parts.values is_chosen
 
-  its_parts : prefix_parts s (tree_of_event s.channels (ev a)) ≡ Some (parts.channel, dotted_trees parts.values, its_channel.fields)
+  its_parts : prefix_parts s (event_of (tree_of_event s.channels (ev a))) ≡ Some (parts.channel, given_fields parts.values, its_channel.fields)
   unfolding prefix_parts at_no_fault
   its_parts =
-      ap (λ o. o >>= λ sets. cond (has_all (dotted_trees parts.values) sets) (at_no_fault (dotted_trees parts.values) sets s >>= λ u. Some (parts.channel, dotted_trees parts.values, sets)) None) has_fields
-      ∙ ap (λ b. cond b (at_no_fault (dotted_trees parts.values) its_channel.fields s >>= λ u. Some (parts.channel, dotted_trees parts.values, its_channel.fields)) None) (all_fields parts.values its_channel.fields is_chosen)
-      ∙ ap (λ b. cond b (Some tt) (fields_pass (dotted_trees parts.values) its_channel.fields s) >>= λ u. Some (parts.channel, dotted_trees parts.values, its_channel.fields)) has_one
+      let fs = given_fields parts.values in
+      ap (prefix_parts s) (event_read parts)
+      ∙ ap (λ o. o >>= λ sets. cond (nat_eq (length fs) (length sets)) (at_no_fault fs sets s >>= λ u. Some (parts.channel, fs, sets)) None) has_fields
+      ∙ ap (λ b. cond b (at_no_fault fs its_channel.fields s >>= λ u. Some (parts.channel, fs, its_channel.fields)) None) (all_fields parts.values its_channel.fields is_chosen)
+      ∙ ap (λ b. cond b (Some tt) (fields_pass fs its_channel.fields s) >>= λ u. Some (parts.channel, fs, its_channel.fields)) has_one
 
   -- the process after the event, with the event before it
   pub prefix_denoted : (next : Scope → Option Body) → prefixed_by s (tree_of_event s.channels (ev a)) next ≡ (next s >>= λ q. Some (prefix a q))

@@ -2,7 +2,6 @@
 use Rattle.std.proofs.Common.{◌≡◌, ◌≢◌, ℕ, zero, suc, ◌+◌, ◌<◌, ◌≤◌, List, [], ◌∷◌, ◌++◌, map, filter, length, slice_get, Bool, true, false, cond, ◌&&◌, ◌||◌, nat_eq, nat_lt, Option, Some, None, refl, sym, ap, ap₂, ◌∙◌, inl, inr, arith, append-nil}
 use Rattle.std.proofs.lemmas.Bool.Decides.{eqb_tells}
 use Rattle.std.proofs.lemmas.Option.{none-some, same_Some}
-use Rattle.std.specs.Cmp.{nat_eq_equiv}
 use Rattle.std.specs.Cmp.Lexicographic.{pointwise}
 use Rattle.std.specs.List.{list_any, range_with_len}
 use Rattle.alphabet.specs.declared.events.Event.{Event}
@@ -16,13 +15,15 @@ use Rattle.term.specs.Specs.{SetInSigma}
 use Rattle.syntax.specs.Grammar.{Syntax}
 use Rattle.values.specs.Values.{◌>>=◌, is_same}
 use Rattle.values.specs.Names.{same_name}
-use Rattle.event_phrases.specs.Events.{Events, no_events, either, field_values, are_within, begins, begins_so, beginning, beginning_so, channel_fields, at_number, whole_event, together, event_set, set_of}
+use Rattle.event_phrases.specs.declared.forms.Extent.TheVariants as extents
+use Rattle.event_phrases.specs.Events.{Events, no_events, either, field_values, begins, begins_so, beginning, beginning_so, at_number, whole_event, gives, together, event_set, set_of}
+use Rattle.event_phrases.specs.Forms.{if_none, read_by, parts_by, EventPhrase, event_of, SetPhrase, no_set, set_form}
 use Rattle.event_phrases.specs.Scopes.{Scope, events_by}
 use Rattle.event_phrases.proofs.SetsBelow.{is_in, is_below, lt_is}
-use Rattle.read_back.proofs.Trees.{phrases, dotted_trees, tree_of_event, braced, set_tree}
+use Rattle.read_back.proofs.Trees.{phrases, tree_of_event, braced, set_tree}
 use Rattle.read_back.proofs.Readable.{IsPrintedScope}
-use Rattle.read_back.proofs.Given.{AreChosen, fields_given, within_sets}
-use Rattle.read_back.proofs.Prefixes.{is_row, row_itself, other_row, parts, at, its_channel, is_chosen, is_given, has_fields, also_chosen}
+use Rattle.read_back.proofs.Given.{AreChosen, fields_given, given_fields, event_read}
+use Rattle.read_back.proofs.Prefixes.{is_row, row_itself, other_row, parts, at, its_channel, is_chosen, is_given, has_fields, also_chosen, all_fields}
 
 -- numbers below n
 abbrev pub AllBelow : ℕ → List ℕ → Type 0
@@ -30,12 +31,6 @@ AllBelow n [] = Unit {0}
 AllBelow n (a ∷ ks) = (a < n) × AllBelow n ks
 
 -- ---- events that begin with all values of an event
-
-as_long : (vs : Values) (sets : List Values) → AreChosen vs sets → length vs ≡ length sets
-as_long [] [] h = refl
-as_long [] (set ∷ sets) h = absurd h
-as_long (v ∷ vs) [] h = absurd h
-as_long (v ∷ vs) (set ∷ sets) h = ap suc (as_long vs sets h.1)
 
 begins_same : (ws vs : Values) (sets : List Values) → AreChosen ws sets → AreChosen vs sets → begins ws vs ≡ pointwise is_same ws vs
 unfolding begins
@@ -52,29 +47,35 @@ number_at test [] b q e = absurd (none-some q e)
 number_at test (p ∷ ps) zero q e = ap test (same_Some p q e)
 number_at test (p ∷ ps) (suc b) q e = number_at test ps b q e
 
+-- the phrases in a set, as they are read
+set_parts : (ts : List Syntax) → map (λ (t : Syntax × SetPhrase). event_of t.0) (parts_by set_form no_set (phrases ts)) ≡ map event_of ts
+unfolding parts_by
+set_parts [] = refl
+set_parts (t ∷ ts) = ap (λ es. event_of t ∷ es) (set_parts ts)
+
 module _ (s : Scope) (primes m : ℕ) (h : IsPrintedScope s primes m) where
   abbrev n : ℕ
   n = event_count s.channels
 
   -- an event's text gives its channel and values
-  pub its_beginning : (a : ℕ) (l : a < n) → beginning s.channels s.known (tree_of_event s.channels (ev a)) ≡ Some ((parts s primes m h a l).channel, (parts s primes m h a l).values)
+  pub its_beginning : (a : ℕ) (l : a < n) → beginning s.channels s.known (event_of (tree_of_event s.channels (ev a))) ≡ Some ((parts s primes m h a l).channel, (parts s primes m h a l).values)
   unfolding beginning
   its_beginning a l =
       let p = parts s primes m h a l in
-      let fs = (its_channel s primes m h a l).fields in
-      ap (λ o. o >>= λ sets. field_values s.known (dotted_trees p.values) >>= λ vs. cond (are_within vs sets) (Some (p.channel, vs)) None) (has_fields s primes m h a l)
-      ∙ ap (λ o. o >>= λ vs. cond (are_within vs fs) (Some (p.channel, vs)) None) (fields_given s p.values (is_given s primes m h a l))
-      ∙ ap (λ b. cond b (Some (p.channel, p.values)) None) (within_sets p.values fs (is_chosen s primes m h a l))
+      ap (beginning s.channels s.known) (event_read p)
+      ∙ ap (λ o. o >>= λ sets. field_values s.known (given_fields p.values) sets >>= λ vs. Some (p.channel, vs)) (has_fields s primes m h a l)
+      ∙ ap (λ o. o >>= λ vs. Some (p.channel, vs)) (fields_given s p.values (its_channel s primes m h a l).fields (is_given s primes m h a l) (is_chosen s primes m h a l))
 
-  its_whole : (a : ℕ) (l : a < n) → whole_event s.channels s.known (tree_of_event s.channels (ev a)) ≡ Some ((parts s primes m h a l).channel, (parts s primes m h a l).values)
+  its_whole : (a : ℕ) (l : a < n) → whole_event s.channels s.known (event_of (tree_of_event s.channels (ev a))) ≡ Some ((parts s primes m h a l).channel, (parts s primes m h a l).values)
   unfolding whole_event
   its_whole a l =
       let p = parts s primes m h a l in
-      let fs = (its_channel s primes m h a l).fields in
-      let long : nat_eq (length p.values) (length fs) ≡ true = ap (λ k. nat_eq k (length fs)) (as_long p.values fs (is_chosen s primes m h a l)) ∙ nat_eq_equiv.refl (length fs) in
-      ap (λ o. o >>= λ b. channel_fields s.channels s.known p.channel >>= λ sets. cond (nat_eq (length b.1) (length sets)) (Some b) None) (its_beginning a l)
-      ∙ ap (λ o. o >>= λ sets. cond (nat_eq (length p.values) (length sets)) (Some (p.channel, p.values)) None) (has_fields s primes m h a l)
-      ∙ ap (λ b. cond b (Some (p.channel, p.values)) None) long
+      let fs = given_fields p.values in
+      let fields = (its_channel s primes m h a l).fields in
+      ap (whole_event s.channels s.known) (event_read p)
+      ∙ ap (λ o. o >>= λ sets. cond (nat_eq (length fs) (length sets)) (field_values s.known fs sets >>= λ vs. Some (p.channel, vs)) None) (has_fields s primes m h a l)
+      ∙ ap (λ b. cond b (field_values s.known fs fields >>= λ vs. Some (p.channel, vs)) None) (all_fields p.values fields (is_chosen s primes m h a l))
+      ∙ ap (λ o. o >>= λ vs. Some (p.channel, vs)) (fields_given s p.values fields (is_given s primes m h a l) (is_chosen s primes m h a l))
 
   pub begins_row : (a : ℕ) (l : a < n) (q : Parts) → In q (events s.channels) → begins_so ((parts s primes m h a l).channel, (parts s primes m h a l).values) q ≡ is_row (parts s primes m h a l).channel (parts s primes m h a l).values q
   unfolding begins_so
@@ -106,26 +107,30 @@ module _ (s : Scope) (primes m : ℕ) (h : IsPrintedScope s primes m) where
 
   -- ---- the events of a list of numbers
 
-  abbrev gives : Syntax → Option Events
-  gives t = whole_event s.channels s.known t >>= λ b. Some (beginning_so s.channels b)
+  abbrev one_event : EventPhrase → Option Events
+  one_event e = gives s.channels s.known extents.Events e
 
-  given_all : (ks : List ℕ) → AllBelow n ks → (A : Events) × (together gives (phrases (map (tree_of_event s.channels) (map ev ks))) ≡ Some A) × ((b : ℕ) → b < n → A b ≡ list_any (nat_eq b) ks)
-  unfolding together
+  abbrev their_events : List ℕ → List EventPhrase
+  their_events ks = map event_of (map (tree_of_event s.channels) (map ev ks))
+
+  given_all : (ks : List ℕ) → AllBelow n ks → (A : Events) × (together one_event (their_events ks) ≡ Some A) × ((b : ℕ) → b < n → A b ≡ list_any (nat_eq b) ks)
+  unfolding together gives
   given_all [] l = (no_events, refl, λ b k. refl)
   given_all (a ∷ ks) l =
       let r = given_all ks l.1 in
-      let p = parts s primes m h a l.0 in
-      let ts = phrases (map (tree_of_event s.channels) (map ev ks)) in (
+      let p = parts s primes m h a l.0 in (
         either (beginning_so s.channels (p.channel, p.values)) r.0,
-        ap (λ o. (o >>= λ b. Some (beginning_so s.channels b)) >>= λ A. together gives ts >>= λ B. Some (either A B)) (its_whole a l.0)
+        ap (λ o. (o >>= λ b. Some (beginning_so s.channels b)) >>= λ A. together one_event (their_events ks) >>= λ B. Some (either A B)) (its_whole a l.0)
             ∙ ap (λ o. o >>= λ B. Some (either (beginning_so s.channels (p.channel, p.values)) B)) r.1,
         λ b k. ap₂ (λ x y. x || y) (its_events a l.0 b k) (r.2 b k),
       )
 
   braced_given : (ks : List ℕ) → AllBelow n ks → (A : Events) × (events_by s (braced (map (tree_of_event s.channels) (map ev ks))) ≡ Some A) × ((b : ℕ) → b < n → A b ≡ list_any (nat_eq b) ks)
-  unfolding event_set
+  unfolding event_set read_by parts_by set_form if_none
   braced_given [] l = (no_events, refl, λ b k. refl)
-  braced_given (a ∷ ks) l = given_all (a ∷ ks) l
+  braced_given (a ∷ ks) l =
+      let r = given_all (a ∷ ks) l in
+      (r.0, ap (together one_event) (set_parts (map (tree_of_event s.channels) (map ev (a ∷ ks)))) ∙ r.1, r.2)
 
 -- ---- the members of a set
 

@@ -14,6 +14,7 @@ use Rattle.values.specs.Values.{◌>>=◌}
 use Rattle.values.specs.Worths.{Worth, one, many, truth, Known, calculated, computed, is_comparison, comparison, operated, two_numbers, formed, is_lazy, worth, worths}
 use Rattle.values.specs.Names.{Entry, Meaning, channel, datatype, constant_name, definition, parametric, meaning, worth_of, known_in, Stands, is_process_operator, is_process_form, is_process_by, is_process_meaning, is_process_in, is_process}
 use Rattle.values.proofs.Keeps.{strict_is}
+use Rattle.event_phrases.specs.Forms.{name_of, if_none, one_of, read_by, parts_by, set_form, set_phrase_of}
 use Rattle.event_phrases.specs.Events.{KnownEvents, EventsStand, unless_value, event_set, events_of, events_in}
 use Rattle.printing.specs.Names.{Name, constants}
 use Rattle.printing.specs.Printed.{reference}
@@ -63,8 +64,8 @@ no_events (Some (many vs)) = refl
 no_events (Some (truth b)) = refl
 
 module _ (cs : List Channel) (primes n m : ℕ) (known : Known) (sets : KnownEvents) (free : (k : ℕ) → k < m → sets (reference primes k) ≡ None) where
-  no_set : (P : Proc) → IsWritten n m P → event_set cs known sets (process_tree cs primes P) ≡ None
-  unfolding process_tree event_set
+  no_set : (P : Proc) → IsWritten n m P → event_set cs known sets (set_phrase_of (process_tree cs primes P)) ≡ None
+  unfolding process_tree event_set read_by parts_by set_form one_of if_none name_of
   no_set procs.stop w = refl
   no_set procs.skip w = refl
   no_set (procs.prefix a P) w = refl
@@ -177,7 +178,7 @@ module _ (spec : Specified) (sound : IsAlphabet spec.alphabet) (few : length spe
   none_of j n (Some (parametric xs t)) e = refl
   none_of j n (Some (definition t)) e =
       let (k, l, a, b) = definition_is spec sound few n t e in
-      ap (event_set cs printed_known (events_in cs printed_known entries j)) b
+      ap (λ t. event_set cs printed_known (events_in cs printed_known entries j) (set_phrase_of t)) b
       ∙ no_set cs primes (event_count cs) count printed_known (events_in cs printed_known entries j) (λ i a. body_no_set j i a) (bodies_of spec.bodies k) (written k l)
 
   none_in : (j : ℕ) (n : Name) → events_in cs printed_known entries j n ≡ None

@@ -12,17 +12,16 @@ use Rattle.alphabet.proofs.ChannelPlaces.{event_count-is}
 use Rattle.term.specs.Proc.{Proc, bodies_of}
 use Rattle.term.specs.Traces.{Pairs}
 use Rattle.term.specs.Specs.{SetInSigma}
-use Rattle.syntax.specs.declared.form.Form.TheVariants as forms
-use Rattle.syntax.specs.Grammar.{Syntax, Called, Node, Syntaxes, NoSyntax, MoreSyntax}
+use Rattle.syntax.specs.Grammar.{Syntax, Syntaxes, NoSyntax, MoreSyntax}
 use Rattle.values.specs.Values.{◌>>=◌, Name, is_among, is_same}
-use Rattle.values.specs.Worths.{Worth, one, many, truth, Known, worth, condition, the_set}
+use Rattle.values.specs.Worths.{Worth, one, many, truth, Known, condition}
 use Rattle.values.specs.Names.{Meaning, channel, datatype, constant_name, definition, parametric, is_constant, meaning, same_name, is_process}
-use Rattle.event_phrases.specs.Events.{Events, Beginning, unless_value, field_value, beginning, begins_so, number_in, pairs_from, pair_of, pairs_of, set_below, set_of, masked, both}
-use Rattle.event_phrases.specs.EventForms.{event_fits, two_masked, outside}
+use Rattle.event_phrases.specs.Events.{Events, Beginning, unless_value, beginning, begins_so, number_in, pairs_from, pair_of, pairs_of, set_below, set_of, masked, two_masked, both, outside}
+use Rattle.event_phrases.specs.Forms.{FieldPhrase, given, input, input_from, no_field, event_of, sides_of}
 use Rattle.denotation.specs.Bodies.{Key, Body, stop, skip, prefix, ext, int, seq, par, hide, ren, intr, name, names, numbered, half, halved_in, halved, choice_of}
-use Rattle.event_phrases.specs.Fitting.{Fitting, against, against_input, against_part, fits_field, then_fits, fitting}
+use Rattle.event_phrases.specs.Fitting.{Fitting, against, against_input, against_part, fits_field, then_fits, fitting, event_fits}
 use Rattle.event_phrases.specs.Prefixes.{prefix_parts}
-use Rattle.event_phrases.specs.Scopes.{Scope, within, with_input, events_by}
+use Rattle.event_phrases.specs.Scopes.{Scope, within, with_input, value_by, values_by, events_by}
 use Rattle.denotation.specs.declared.draft.Joint.TheVariants as joints
 use Rattle.denotation.specs.declared.draft.Operation.{Operation}
 use Rattle.denotation.specs.declared.draft.Operation.TheVariants as operations
@@ -134,22 +133,23 @@ part_same v s x (Some part) inner e = by (is_constant (meaning s.entries x)) (is
     by false true e = ap (λ (x : Scope). x.channels) (sym (some_same (some_same e)))
     by false false e = absurd cc
 
-field_same : (t : Syntax) (set : Values) (v : FieldValue) (s inner : Scope) → fits_field t set v s ≡ some_scope inner → inner.channels ≡ s.channels
+field_same : (f : FieldPhrase) (set : Values) (v : FieldValue) (s inner : Scope) → fits_field f set v s ≡ some_scope inner → inner.channels ≡ s.channels
 unfolding fits_field
-field_same (Node forms.Input (MoreSyntax (Called x) NoSyntax)) set v s inner e = input_same v s x inner e
-field_same (Node forms.RestrictedInput (MoreSyntax (Called x) (MoreSyntax t NoSyntax))) set v s inner e = part_same v s x (worth s.known t >>= the_set) inner e
-field_same t set v s inner e = against_same set v s (field_value s.known t) inner e
+field_same (given t) set v s inner e = against_same set v s (value_by s t) inner e
+field_same (input x) set v s inner e = input_same v s x inner e
+field_same (input_from x t) set v s inner e = part_same v s x (values_by s t) inner e
+field_same no_field set v s inner e = absurd cc
 
-fitting_same : (ts : Syntaxes) (sets : List Values) (vs : Values) (s inner : Scope) → fitting ts sets vs s ≡ some_scope inner → inner.channels ≡ s.channels
+fitting_same : (fs : List FieldPhrase) (sets : List Values) (vs : Values) (s inner : Scope) → fitting fs sets vs s ≡ some_scope inner → inner.channels ≡ s.channels
 unfolding fitting
-fitting_same NoSyntax [] [] s inner e = ap (λ (x : Scope). x.channels) (sym (some_same (some_same e)))
-fitting_same (MoreSyntax t ts) (set ∷ sets) (v ∷ vs) s inner e = by (fits_field t set v s) refl e (λ m f. fitting_same ts sets vs m inner f)
+fitting_same [] [] [] s inner e = ap (λ (x : Scope). x.channels) (sym (some_same (some_same e)))
+fitting_same (f ∷ fs) (set ∷ sets) (v ∷ vs) s inner e = by (fits_field f set v s) refl e (λ m g. fitting_same fs sets vs m inner g)
   where
-    by : (o : Fitting) → fits_field t set v s ≡ o → then_fits o (λ m. fitting ts sets vs m) ≡ some_scope inner → ((m : Scope) → fitting ts sets vs m ≡ some_scope inner → inner.channels ≡ m.channels) → inner.channels ≡ s.channels
+    by : (o : Fitting) → fits_field f set v s ≡ o → then_fits o (λ m. fitting fs sets vs m) ≡ some_scope inner → ((m : Scope) → fitting fs sets vs m ≡ some_scope inner → inner.channels ≡ m.channels) → inner.channels ≡ s.channels
     by None p q rec = absurd cc
     by (Some None) p q rec = absurd cc
-    by (Some (Some m)) p q rec = rec m q ∙ field_same t set v s m p
-fitting_same ts sets vs s inner e = absurd cc
+    by (Some (Some m)) p q rec = rec m q ∙ field_same f set v s m p
+fitting_same fs sets vs s inner e = absurd cc
 
 -- ---- branches
 
@@ -157,37 +157,37 @@ fitting_same ts sets vs s inner e = absurd cc
 abbrev NextLies : List Channel → (Scope → Option Body) → Type 0
 NextLies cs next = (s : Scope) (b : Body) → s.channels ≡ cs → next s ≡ Some b → Lies (event_count cs) b
 
-event_same : (c : Name) (ts : Syntaxes) (sets : List Values) (s : Scope) (r : Parts) (inner : Scope) → event_fits c ts sets s r ≡ some_scope inner → inner.channels ≡ s.channels
+event_same : (c : Name) (fs : List FieldPhrase) (sets : List Values) (s : Scope) (r : Parts) (inner : Scope) → event_fits c fs sets s r ≡ some_scope inner → inner.channels ≡ s.channels
 unfolding event_fits
-event_same c ts sets s r inner e = by (same_name c r.channel) e
+event_same c fs sets s r inner e = by (same_name c r.channel) e
   where
-    by : (b : Bool) → cond b (fitting ts sets r.values s) (Some None) ≡ some_scope inner → inner.channels ≡ s.channels
-    by true e = fitting_same ts sets r.values s inner e
+    by : (b : Bool) → cond b (fitting fs sets r.values s) (Some None) ≡ some_scope inner → inner.channels ≡ s.channels
+    by true e = fitting_same fs sets r.values s inner e
     by false e = absurd cc
 
-module _ (cs : List Channel) (next : Scope → Option Body) (h : NextLies cs next) (c : Name) (ts : Syntaxes) (sets : List Values) (s : Scope) (same : s.channels ≡ cs) where
+module _ (cs : List Channel) (next : Scope → Option Body) (h : NextLies cs next) (c : Name) (fs : List FieldPhrase) (sets : List Values) (s : Scope) (same : s.channels ≡ cs) where
   -- the branches of these events, where a is the first one's number
   abbrev branches_from : ℕ → List Parts → Option (List Body)
-  branches_from a rs = branches (event_fits c ts sets s) next a rs
+  branches_from a rs = branches (event_fits c fs sets s) next a rs
 
   branches_lie : (rs : List Parts) (a : ℕ) (ps : List Body) → a + length rs ≤ event_count cs → branches_from a rs ≡ Some ps → AllLie (event_count cs) ps
   unfolding branches
   branches_lie [] a ps l e = subst (AllLie (event_count cs)) (some_same e) tt
   branches_lie (r ∷ rs) a ps l e =
-      let (x, u, v) = bind_some (event_fits c ts sets s r) (branch_on next a (branches_from (suc a) rs)) ps e in
+      let (x, u, v) = bind_some (event_fits c fs sets s r) (branch_on next a (branches_from (suc a) rs)) ps e in
       by x u v (λ qs f. branches_lie rs (suc a) qs (omega (arith, l)) f)
     where
-      by : (x : Option Scope) → event_fits c ts sets s r ≡ Some x → branch_on next a (branches_from (suc a) rs) x ≡ Some ps → ((qs : List Body) → branches_from (suc a) rs ≡ Some qs → AllLie (event_count cs) qs) → AllLie (event_count cs) ps
+      by : (x : Option Scope) → event_fits c fs sets s r ≡ Some x → branch_on next a (branches_from (suc a) rs) x ≡ Some ps → ((qs : List Body) → branches_from (suc a) rs ≡ Some qs → AllLie (event_count cs) qs) → AllLie (event_count cs) ps
       by None u v rec = rec ps v
       by (Some m) u v rec =
           let (p, w, x) = bind_some (next m) (λ p. branches_from (suc a) rs >>= λ qs. Some (prefix a p ∷ qs)) ps v in
           let (qs, y, z) = bind_some (branches_from (suc a) rs) (λ qs. Some (prefix a p ∷ qs)) ps x in
-          subst (AllLie (event_count cs)) (some_same z) ((omega (arith, l), h m p (event_same c ts sets s r m u ∙ same) w), rec qs y)
+          subst (AllLie (event_count cs)) (some_same z) ((omega (arith, l), h m p (event_same c fs sets s r m u ∙ same) w), rec qs y)
 
 prefixed_lies : (cs : List Channel) (next : Scope → Option Body) → NextLies cs next → (s : Scope) (t : Syntax) (b : Body) → s.channels ≡ cs → prefixed_by s t next ≡ Some b → Lies (event_count cs) b
 unfolding prefixed_by
 prefixed_lies cs next h s t b same e =
-    let (p, u, v) = bind_some (prefix_parts s t) (λ p. branches (event_fits p.0 p.1 p.2 s) next 0 (events s.channels) >>= λ ps. Some (choice_of ps)) b e in
+    let (p, u, v) = bind_some (prefix_parts s (event_of t)) (λ p. branches (event_fits p.0 p.1 p.2 s) next 0 (events s.channels) >>= λ ps. Some (choice_of ps)) b e in
     let (ps, x, y) = bind_some (branches (event_fits p.0 p.1 p.2 s) next 0 (events s.channels)) (λ ps. Some (choice_of ps)) b v in
     let z : length (events s.channels) ≡ length (events cs) = ap (λ ds. length (events ds)) same in
     subst (Lies (event_count cs)) (some_same y) (choice_lies (event_count cs) ps (branches_lie cs next h p.0 p.1 p.2 s same (events s.channels) 0 ps (omega (arith, z, event_count-is cs)) x))
@@ -226,11 +226,11 @@ pairs_below cs left right (p ∷ ps) a R l e = by (begins_so left p) e (λ S f. 
 
 pair_below : (cs : List Channel) (known : Known) (t : Syntax) (R : Pairs) → pair_of cs known t ≡ Some R → AllPairs (event_count cs) R
 unfolding pair_of
-pair_below cs known (Node forms.Pair (MoreSyntax t (MoreSyntax u NoSyntax))) R e =
-    let (left, a, b) = bind_some (beginning cs known t) (λ left. beginning cs known u >>= λ right. pairs_from cs left right 0 (events cs)) R e in
-    let (right, c, d) = bind_some (beginning cs known u) (λ right. pairs_from cs left right 0 (events cs)) R b in
+pair_below cs known t R e =
+    let (p, u, v) = bind_some (sides_of t) (λ p. beginning cs known p.0 >>= λ left. beginning cs known p.1 >>= λ right. pairs_from cs left right 0 (events cs)) R e in
+    let (left, a, b) = bind_some (beginning cs known p.0) (λ left. beginning cs known p.1 >>= λ right. pairs_from cs left right 0 (events cs)) R v in
+    let (right, c, d) = bind_some (beginning cs known p.1) (λ right. pairs_from cs left right 0 (events cs)) R b in
     pairs_below cs left right (events cs) 0 R (omega (arith, event_count-is cs)) d
-pair_below cs known t R e = absurd cc
 
 all_below : (cs : List Channel) (known : Known) (ts : Syntaxes) (R : Pairs) → pairs_of cs known ts ≡ Some R → AllPairs (event_count cs) R
 unfolding pairs_of

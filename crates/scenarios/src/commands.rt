@@ -5,8 +5,8 @@ use crate::memory::Memory;
 use disk::Disk;
 use memory_disks::{Afterwards, FaultDisk};
 use program::{
-    DisplayError, Exit, Format, Options, PrintError, Selection, SessionError, check, print, replay,
-    show,
+    DisplayError, Exit, Format, Options, PrintError, Selection, SessionError, check,
+    exit_of_journal, exit_of_opening, exit_of_script, print, replay, show,
 };
 use rows::{Output, first_word, parts};
 use std::alloc::Allocator;
@@ -60,7 +60,7 @@ fn put_checked<T: Wait, D: Disk + Drop, A: Allocator + Copy + Drop>(
             put_exit(checked.exit, out);
             drop(checked);
         }
-        Err(error) => put_unopened(error, Exit::of_opening(&error), out),
+        Err(error) => put_unopened(error, exit_of_opening(&error), out),
     }
 }
 
@@ -72,7 +72,7 @@ fn put_replayed<D: Disk + Drop, A: Allocator + Copy + Drop>(alloc: A, disk: D, o
             put_exit(replayed.exit, out);
             drop(replayed);
         }
-        Err(error) => put_unopened(error, Exit::of_journal(&error), out),
+        Err(error) => put_unopened(error, exit_of_journal(&error), out),
     }
 }
 
@@ -97,7 +97,7 @@ fn put_displayed<D: Disk + Drop, A: Allocator + Copy + Drop>(
             put_exit(displayed.exit, out);
             drop(displayed);
         }
-        Err(DisplayError::Session(error)) => put_unopened(error, Exit::of_journal(&error), out),
+        Err(DisplayError::Session(error)) => put_unopened(error, exit_of_journal(&error), out),
         Err(DisplayError::Output) => put_exit(Exit::FileFailed, out),
     }
 }
@@ -112,7 +112,7 @@ fn put_printed(memory: Memory, text: &str, out: &mut Output) {
         }
         Err(PrintError::Script(fault)) => {
             out.put_shown(&fault);
-            Exit::of_script(&fault)
+            exit_of_script(&fault)
         }
         Err(PrintError::Memory) => {
             out.put("40 memory");

@@ -1,13 +1,12 @@
-//! A disk on a real file, and one in memory.
+//! A disk on a real file, one on a file in memory, and one in memory.
 
 use disk::{Disk, DiskFault};
-use file_disk::FileDisk;
+use file_disk::{FileDisk, MemoryFile, PlacedFile};
 use memory_disks::MemoryDisk;
 use rows::{Output, first_word, number_of, parts};
 use std::alloc::Global;
 use std::fs::{self, OpenOptions};
 use std::io;
-use std::os::unix::fs::FileExt;
 use std::rt::Files;
 
 /// The file, in the folder that the program is run in.
@@ -66,7 +65,7 @@ fn opened<R: Files>(rt: &R, text: &str) -> io::Result<R::File> {
 /// Appends what comes of the calls on a disk on a file of this text, and what the file is at the end. It is removed after that.
 fn put_file_disk<R: Files + AllocGlobal>(rt: &R, text: &str, calls: &str, out: &mut Output)
 where
-    R::File: FileExt,
+    R::File: PlacedFile,
 {
     match opened(rt, text) {
         Ok(file) => put_answers(&mut FileDisk::new(file), calls, out),
@@ -79,6 +78,22 @@ where
     let _ = fs::remove_file(rt, NAME);
 }
 
+/// Appends the same of a disk on a file in memory, which reads and writes no more than so many bytes in one call.
+fn put_short_disk(rest: &str, out: &mut Output) {
+    let (most, rest) = first_word(rest);
+    let (text, calls) = parts(rest);
+    let bytes = out.copy_of(text.as_bytes());
+    let alloc = *bytes.allocator();
+    match MemoryFile::new(alloc, bytes, number_of(most) as usize) {
+        Ok(file) => {
+            let mut disk = FileDisk::new(file);
+            put_answers(&mut disk, calls, out);
+            out.put_bytes(disk.into_file().bytes());
+        }
+        Err(_) => out.put("no file"),
+    }
+}
+
 /// Appends the same of a disk in memory.
 fn put_memory_disk(text: &str, calls: &str, out: &mut Output) {
     let mut disk = MemoryDisk::new(out.copy_of(text.as_bytes()));
@@ -89,12 +104,13 @@ fn put_memory_disk(text: &str, calls: &str, out: &mut Output) {
 /// Plays a row of these kinds. Whether it is one is answered.
 pub(crate) fn play<R: Files + AllocGlobal>(rt: &R, row: &str, out: &mut Output) -> bool
 where
-    R::File: FileExt,
+    R::File: PlacedFile,
 {
     let (kind, rest) = first_word(row);
     let (text, calls) = parts(rest);
     match kind {
         "file" => put_file_disk(rt, text, calls, out),
+        "short" => put_short_disk(rest, out),
         "disk" => put_memory_disk(text, calls, out),
         _ => return false,
     }

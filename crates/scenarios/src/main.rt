@@ -21,6 +21,7 @@
 //! | `seat NUMBER` | the seat with this number, and the one after it, where names are kept as steps, and as their bodies |
 //! | `fault_text session NAME`, `fault_text journal NAME` | a fault's number and word, and its text |
 //! | `file TEXT # CALLS`, `disk TEXT # CALLS` | a disk on a real file of this text, or in memory: what each call answers, and the bytes at the end |
+//! | `short N TEXT # CALLS` | the same of a disk on a file in memory that reads and writes no more than N bytes in one call |
 #![tactic(auto)]
 
 mod asks;
@@ -36,11 +37,11 @@ mod scenes;
 mod shortage;
 mod stops;
 
+use file_disk::PlacedFile;
 use playing::play;
 use rows::Output;
 use std::alloc::{AllocError, Global};
 use std::io;
-use std::os::unix::fs::FileExt;
 use std::rt::Files;
 use std::sync::Wait;
 
@@ -51,7 +52,7 @@ fn played<T: Wait + Files + AllocGlobal>(
     row: &str,
 ) -> Result<Output, AllocError>
 where
-    T::File: FileExt,
+    T::File: PlacedFile,
 {
     let row = row.replace(alloc, '$', "\n")?;
     let mut out = Output::new(alloc);
@@ -66,7 +67,7 @@ fn tell<T: Print + Eprint + Wait + Files + AllocGlobal>(
     row: &str,
 ) -> io::Result<()>
 where
-    T::File: FileExt,
+    T::File: PlacedFile,
 {
     match played(rt, alloc, row) {
         Ok(out) if !out.is_cut => {

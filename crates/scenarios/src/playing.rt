@@ -1,9 +1,9 @@
 //! What comes of a row.
 
 use crate::{crashes, faults, files, journals, scenes, shortage};
+use file_disk::PlacedFile;
 use rows::Output;
 use std::alloc::Global;
-use std::os::unix::fs::FileExt;
 use std::rt::Files;
 use std::sync::Wait;
 
@@ -15,7 +15,7 @@ pub(crate) fn play<T: Wait + Files + AllocGlobal>(
     out: &mut Output,
 )
 where
-    T::File: FileExt,
+    T::File: PlacedFile,
 {
     if row.is_empty() || row.starts_with('#') {
         out.put(row);

@@ -8,6 +8,7 @@ use Rattle.values.specs.Worths.{Known}
 use Rattle.values.specs.Names.{Entry, Meaning, channel, datatype, constant_name, definition, parametric, same_name, meaning}
 use Rattle.syntax.specs.Grammar.{Syntax}
 use Rattle.event_phrases.specs.Events.{Events, event_set, events_of, events_in, EventsStand, set_of, masked}
+use Rattle.event_phrases.specs.Forms.{set_phrase_of}
 use Rattle.event_phrases.proofs.EventSetLaws.{masked_none}
 use Rattle.declared_names.specs.Standing.{SettlesFirst}
 use Rattle.declared_names.proofs.Searching.{place_of, with_value}
@@ -80,7 +81,7 @@ module _ (cs : List Channel) (known : Known) (es : List Entry) where
 
   -- ---- what the definition of a name says
 
-  pub next_is : (f : KnownSets) (n : Name) (t : Syntax) → meaning es n ≡ Some (definition t) → masked cs (next_events cs known es (events_by f) n) ≡ masked cs (event_set cs known (events_by f) t)
+  pub next_is : (f : KnownSets) (n : Name) (t : Syntax) → meaning es n ≡ Some (definition t) → masked cs (next_events cs known es (events_by f) n) ≡ masked cs (event_set cs known (events_by f) (set_phrase_of t))
   unfolding next_events events_of
   next_is f n t h = ap (λ o. masked cs (o >>= events_of cs known (events_by f))) h
 

@@ -4,12 +4,15 @@ use Rattle.std.specs.Option.{option_map}
 use Rattle.alphabet.specs.Channels.{Channel, Parts, events, event_count}
 use Rattle.alphabet.specs.EventSets.{Set, has}
 use Rattle.alphabet.proofs.ChannelPlaces.{event_count-is}
-use Rattle.syntax.specs.declared.form.Form.TheVariants as forms
-use Rattle.syntax.specs.Grammar.{Syntax, Called, Node, Syntaxes, NoSyntax, MoreSyntax}
 use Rattle.values.specs.Values.{◌>>=◌, Name}
 use Rattle.values.specs.Worths.{Worth, one, many, truth, Known, condition}
 use Rattle.values.specs.Names.{Entry, Meaning, channel, datatype, constant_name, definition, parametric, meaning}
-use Rattle.event_phrases.specs.Events.{Events, KnownEvents, Beginning, unless_value, begins_so, at_number, beginning, beginning_so, whole_event, either, both, less, together, event_set, events_of, events_in, EventsStand, set_of}
+use Rattle.event_phrases.specs.declared.forms.Combination.{Combination}
+use Rattle.event_phrases.specs.declared.forms.Combination.TheVariants as combinations
+use Rattle.event_phrases.specs.declared.forms.Extent.{Extent}
+use Rattle.event_phrases.specs.declared.forms.Extent.TheVariants as extents
+use Rattle.event_phrases.specs.Forms.{EventPhrase, SetPhrase, set_inside, set_called, nothing, everything, several, set_chosen, combined, no_set, set_phrase_of}
+use Rattle.event_phrases.specs.Events.{Events, KnownEvents, Beginning, unless_value, begins_so, at_number, beginning, beginning_so, whole_event, either, is_in_both, combine, gives, together, event_set, events_of, events_in, EventsStand, set_of}
 use Rattle.event_phrases.proofs.SetsBelow.{below_same, inside_is, has_is, ge_is}
 use Rattle.script.specs.Standing.{KnownSets, events_by, next_events, AreReached, IsSettled}
 use Rattle.script.proofs.Copies.{some_same}
@@ -68,32 +71,26 @@ chosen_grows (Some false) o p q r A h k e = k e
 module _ (cs : List Channel) (known : Known) where
   -- ---- more sets that are known
 
-  set_grows : (f g : KnownEvents) → IsWithin f g → (t : Syntax) (A : Events) → event_set cs known f t ≡ Some A → event_set cs known g t ≡ Some A
+  set_grows : (f g : KnownEvents) → IsWithin f g → (p : SetPhrase) (A : Events) → event_set cs known f p ≡ Some A → event_set cs known g p ≡ Some A
   unfolding event_set
-  set_grows f g h (Node forms.Brackets (MoreSyntax t NoSyntax)) A e = set_grows f g h t A e
-  set_grows f g h (Node forms.Event (MoreSyntax (Called n) NoSyntax)) A e = still (known n) (f n) (g n) A e (h n A (seen (known n) (f n) A e))
-  set_grows f g h (Node forms.Union (MoreSyntax t (MoreSyntax u NoSyntax))) A e =
-      let p = two_of (event_set cs known f t) (event_set cs known f u) either A e in
-      two_is (event_set cs known g t) (event_set cs known g u) either p.left p.right A (set_grows f g h t p.left p.first) (set_grows f g h u p.right p.second) p.made
-  set_grows f g h (Node forms.Intersection (MoreSyntax t (MoreSyntax u NoSyntax))) A e =
-      let p = two_of (event_set cs known f t) (event_set cs known f u) both A e in
-      two_is (event_set cs known g t) (event_set cs known g u) both p.left p.right A (set_grows f g h t p.left p.first) (set_grows f g h u p.right p.second) p.made
-  set_grows f g h (Node forms.Difference (MoreSyntax t (MoreSyntax u NoSyntax))) A e =
-      let p = two_of (event_set cs known f t) (event_set cs known f u) less A e in
-      two_is (event_set cs known g t) (event_set cs known g u) less p.left p.right A (set_grows f g h t p.left p.first) (set_grows f g h u p.right p.second) p.made
-  set_grows f g h (Node forms.If (MoreSyntax c (MoreSyntax t (MoreSyntax u NoSyntax)))) A e =
-      chosen_grows (condition known c) (event_set cs known f t) (event_set cs known f u) (event_set cs known g t) (event_set cs known g u) A (set_grows f g h t A) (set_grows f g h u A) e
-  set_grows f g h (Node forms.EmptySet NoSyntax) A e = e
-  set_grows f g h (Node forms.Events NoSyntax) A e = e
-  set_grows f g h (Node forms.NoProductions NoSyntax) A e = e
-  set_grows f g h t A e = e
+  set_grows f g h (set_inside p) A e = set_grows f g h p A e
+  set_grows f g h (set_called n) A e = still (known n) (f n) (g n) A e (h n A (seen (known n) (f n) A e))
+  set_grows f g h (combined c p q) A e =
+      let t = two_of (event_set cs known f p) (event_set cs known f q) (combine c) A e in
+      two_is (event_set cs known g p) (event_set cs known g q) (combine c) t.left t.right A (set_grows f g h p t.left t.first) (set_grows f g h q t.right t.second) t.made
+  set_grows f g h (set_chosen c p q) A e =
+      chosen_grows (condition known c) (event_set cs known f p) (event_set cs known f q) (event_set cs known g p) (event_set cs known g q) A (set_grows f g h p A) (set_grows f g h q A) e
+  set_grows f g h nothing A e = e
+  set_grows f g h everything A e = e
+  set_grows f g h (several k es) A e = e
+  set_grows f g h no_set A e = e
 
   of_grows : (f g : KnownEvents) → IsWithin f g → (m : Meaning) (A : Events) → events_of cs known f m ≡ Some A → events_of cs known g m ≡ Some A
   unfolding events_of
   of_grows f g h (channel ts) A e = absurd cc
   of_grows f g h (datatype ns) A e = absurd cc
   of_grows f g h constant_name A e = absurd cc
-  of_grows f g h (definition t) A e = set_grows f g h t A e
+  of_grows f g h (definition t) A e = set_grows f g h (set_phrase_of t) A e
   of_grows f g h (parametric xs t) A e = absurd cc
 
   -- ---- all sets are of events of Sigma
@@ -114,44 +111,44 @@ module _ (cs : List Channel) (known : Known) where
   by_beginning None A h = absurd cc
   by_beginning (Some b) A h = subst IsInside (some_same h) (so_inside b)
 
-  together_inside : (gives : Syntax → Option Events) → ((t : Syntax) (A : Events) → gives t ≡ Some A → IsInside A) → (ts : Syntaxes) (A : Events) → together gives ts ≡ Some A → IsInside A
+  gives_inside : (k : Extent) (e : EventPhrase) (A : Events) → gives cs known k e ≡ Some A → IsInside A
+  unfolding gives
+  gives_inside extents.Beginnings e = by_beginning (beginning cs known e)
+  gives_inside extents.Events e = by_beginning (whole_event cs known e)
+
+  together_inside : (k : Extent) (es : List EventPhrase) (A : Events) → together (gives cs known k) es ≡ Some A → IsInside A
   unfolding together
-  together_inside gives h NoSyntax A e = subst IsInside (some_same e) (λ a k. refl)
-  together_inside gives h (MoreSyntax t ts) A e =
-      let p = two_of (gives t) (together gives ts) either A e in
-      subst IsInside p.made (λ a k. ap₂ (λ x y. x || y) (h t p.left p.first a k) (together_inside gives h ts p.right p.second a k))
+  together_inside k [] A e = subst IsInside (some_same e) (λ a l. refl)
+  together_inside k (p ∷ ps) A e =
+      let t = two_of (gives cs known k p) (together (gives cs known k) ps) either A e in
+      subst IsInside t.made (λ a l. ap₂ (λ x y. x || y) (gives_inside k p t.left t.first a l) (together_inside k ps t.right t.second a l))
 
-  and_not : (x y : Bool) → x ≡ false → (x && not y) ≡ false
-  and_not x y h = ap (λ x. x && not y) h
+  combined_inside : (c : Combination) (A B : Events) → IsInside A → IsInside B → IsInside (combine c A B)
+  unfolding combine is_in_both
+  combined_inside combinations.Union A B h k a l = ap₂ (λ x y. x || y) (h a l) (k a l)
+  combined_inside combinations.Intersection A B h k a l = ap (λ x. x && B a) (h a l)
+  combined_inside combinations.Difference A B h k a l = ap (λ x. x && not (B a)) (h a l)
 
-  set_inside : (f : KnownEvents) → ((n : Name) (A : Events) → f n ≡ Some A → IsInside A) → (t : Syntax) (A : Events) → event_set cs known f t ≡ Some A → IsInside A
+  lies_inside : (f : KnownEvents) → ((n : Name) (A : Events) → f n ≡ Some A → IsInside A) → (p : SetPhrase) (A : Events) → event_set cs known f p ≡ Some A → IsInside A
   unfolding event_set
-  set_inside f h (Node forms.Brackets (MoreSyntax t NoSyntax)) A e = set_inside f h t A e
-  set_inside f h (Node forms.Event (MoreSyntax (Called n) NoSyntax)) A e = h n A (seen (known n) (f n) A e)
-  set_inside f h (Node forms.EmptySet NoSyntax) A e = subst IsInside (some_same e) (λ a k. refl)
-  set_inside f h (Node forms.Events NoSyntax) A e = subst IsInside (some_same e) (λ a k. ge_is a (event_count cs) k)
-  set_inside f h (Node forms.NoProductions NoSyntax) A e = subst IsInside (some_same e) (λ a k. refl)
-  set_inside f h (Node forms.Productions ts) A e = together_inside (λ t. beginning cs known t >>= λ b. Some (beginning_so cs b)) (λ t. by_beginning (beginning cs known t)) ts A e
-  set_inside f h (Node forms.Set ts) A e = together_inside (λ t. whole_event cs known t >>= λ b. Some (beginning_so cs b)) (λ t. by_beginning (whole_event cs known t)) ts A e
-  set_inside f h (Node forms.Union (MoreSyntax t (MoreSyntax u NoSyntax))) A e =
-      let p = two_of (event_set cs known f t) (event_set cs known f u) either A e in
-      subst IsInside p.made (λ a k. ap₂ (λ x y. x || y) (set_inside f h t p.left p.first a k) (set_inside f h u p.right p.second a k))
-  set_inside f h (Node forms.Intersection (MoreSyntax t (MoreSyntax u NoSyntax))) A e =
-      let p = two_of (event_set cs known f t) (event_set cs known f u) both A e in
-      subst IsInside p.made (λ a k. ap (λ x. x && p.right a) (set_inside f h t p.left p.first a k))
-  set_inside f h (Node forms.Difference (MoreSyntax t (MoreSyntax u NoSyntax))) A e =
-      let p = two_of (event_set cs known f t) (event_set cs known f u) less A e in
-      subst IsInside p.made (λ a k. and_not (p.left a) (p.right a) (set_inside f h t p.left p.first a k))
-  set_inside f h (Node forms.If (MoreSyntax c (MoreSyntax t (MoreSyntax u NoSyntax)))) A e =
-      chosen (condition known c) (event_set cs known f t) (event_set cs known f u) A (set_inside f h t A) (set_inside f h u A) e
-  set_inside f h t A e = absurd cc
+  lies_inside f h (set_inside p) A e = lies_inside f h p A e
+  lies_inside f h (set_called n) A e = h n A (seen (known n) (f n) A e)
+  lies_inside f h nothing A e = subst IsInside (some_same e) (λ a k. refl)
+  lies_inside f h everything A e = subst IsInside (some_same e) (λ a k. ge_is a (event_count cs) k)
+  lies_inside f h (several k es) A e = together_inside k es A e
+  lies_inside f h (combined c p q) A e =
+      let t = two_of (event_set cs known f p) (event_set cs known f q) (combine c) A e in
+      subst IsInside t.made (combined_inside c t.left t.right (lies_inside f h p t.left t.first) (lies_inside f h q t.right t.second))
+  lies_inside f h (set_chosen c p q) A e =
+      chosen (condition known c) (event_set cs known f p) (event_set cs known f q) A (lies_inside f h p A) (lies_inside f h q A) e
+  lies_inside f h no_set A e = absurd cc
 
   of_inside : (f : KnownEvents) → ((n : Name) (A : Events) → f n ≡ Some A → IsInside A) → (m : Meaning) (A : Events) → events_of cs known f m ≡ Some A → IsInside A
   unfolding events_of
   of_inside f h (channel ts) A e = absurd cc
   of_inside f h (datatype ns) A e = absurd cc
   of_inside f h constant_name A e = absurd cc
-  of_inside f h (definition t) A e = set_inside f h t A e
+  of_inside f h (definition t) A e = lies_inside f h (set_phrase_of t) A e
   of_inside f h (parametric xs t) A e = absurd cc
 
   -- such a set is given by its number
@@ -211,48 +208,42 @@ module _ (cs : List Channel) (known : Known) where
     abbrev IsSound : KnownEvents → Type 0
     IsSound f = (n : Name) (A : Events) → f n ≡ Some A → (k : ℕ) × (events_in cs known es k n ≡ Some A)
 
-    abbrev SetIn : Syntax → Events → Type 0
-    SetIn t A = (k : ℕ) × (event_set cs known (events_in cs known es k) t ≡ Some A)
+    abbrev SetIn : SetPhrase → Events → Type 0
+    SetIn p A = (k : ℕ) × (event_set cs known (events_in cs known es k) p ≡ Some A)
 
-    two_sound : (t u : Syntax) (c : Events → Events → Events) (A B R : Events) → SetIn t A → SetIn u B → c A B ≡ R → (k : ℕ) × ((event_set cs known (events_in cs known es k) t >>= λ A. event_set cs known (events_in cs known es k) u >>= λ B. Some (c A B)) ≡ Some R)
-    two_sound t u c A B R p q m =
-        let (j, a) = p in
-        let (k, b) = q in
-        (k + j, two_is (event_set cs known (events_in cs known es (k + j)) t) (event_set cs known (events_in cs known es (k + j)) u) c A B R (set_grows (events_in cs known es j) (events_in cs known es (k + j)) (other j k) t A a) (set_grows (events_in cs known es k) (events_in cs known es (k + j)) (this j k) u B b) m)
+    two_sound : (p q : SetPhrase) (c : Events → Events → Events) (A B R : Events) → SetIn p A → SetIn q B → c A B ≡ R → (k : ℕ) × ((event_set cs known (events_in cs known es k) p >>= λ A. event_set cs known (events_in cs known es k) q >>= λ B. Some (c A B)) ≡ Some R)
+    two_sound p q c A B R h i m =
+        let (j, a) = h in
+        let (k, b) = i in
+        (k + j, two_is (event_set cs known (events_in cs known es (k + j)) p) (event_set cs known (events_in cs known es (k + j)) q) c A B R (set_grows (events_in cs known es j) (events_in cs known es (k + j)) (other j k) p A a) (set_grows (events_in cs known es k) (events_in cs known es (k + j)) (this j k) q B b) m)
 
-    chosen_sound : (c : Option Bool) (f : KnownEvents) (t u : Syntax) (A : Events) → (event_set cs known f t ≡ Some A → SetIn t A) → (event_set cs known f u ≡ Some A → SetIn u A) → (c >>= λ b. cond b (event_set cs known f t) (event_set cs known f u)) ≡ Some A
-        → (k : ℕ) × ((c >>= λ b. cond b (event_set cs known (events_in cs known es k) t) (event_set cs known (events_in cs known es k) u)) ≡ Some A)
-    chosen_sound None f t u A h k e = absurd cc
-    chosen_sound (Some true) f t u A h k e = h e
-    chosen_sound (Some false) f t u A h k e = k e
+    chosen_sound : (c : Option Bool) (f : KnownEvents) (p q : SetPhrase) (A : Events) → (event_set cs known f p ≡ Some A → SetIn p A) → (event_set cs known f q ≡ Some A → SetIn q A) → (c >>= λ b. cond b (event_set cs known f p) (event_set cs known f q)) ≡ Some A
+        → (k : ℕ) × ((c >>= λ b. cond b (event_set cs known (events_in cs known es k) p) (event_set cs known (events_in cs known es k) q)) ≡ Some A)
+    chosen_sound None f p q A h k e = absurd cc
+    chosen_sound (Some true) f p q A h k e = h e
+    chosen_sound (Some false) f p q A h k e = k e
 
-    sound_set : (f : KnownEvents) → IsSound f → (t : Syntax) (A : Events) → event_set cs known f t ≡ Some A → SetIn t A
+    sound_set : (f : KnownEvents) → IsSound f → (p : SetPhrase) (A : Events) → event_set cs known f p ≡ Some A → SetIn p A
     unfolding event_set
-    sound_set f h (Node forms.Brackets (MoreSyntax t NoSyntax)) A e = sound_set f h t A e
-    sound_set f h (Node forms.Event (MoreSyntax (Called n) NoSyntax)) A e =
+    sound_set f h (set_inside p) A e = sound_set f h p A e
+    sound_set f h (set_called n) A e =
         let (k, p) = h n A (seen (known n) (f n) A e) in
         (k, still (known n) (f n) (events_in cs known es k n) A e p)
-    sound_set f h (Node forms.Union (MoreSyntax t (MoreSyntax u NoSyntax))) A e =
-        let p = two_of (event_set cs known f t) (event_set cs known f u) either A e in
-        two_sound t u either p.left p.right A (sound_set f h t p.left p.first) (sound_set f h u p.right p.second) p.made
-    sound_set f h (Node forms.Intersection (MoreSyntax t (MoreSyntax u NoSyntax))) A e =
-        let p = two_of (event_set cs known f t) (event_set cs known f u) both A e in
-        two_sound t u both p.left p.right A (sound_set f h t p.left p.first) (sound_set f h u p.right p.second) p.made
-    sound_set f h (Node forms.Difference (MoreSyntax t (MoreSyntax u NoSyntax))) A e =
-        let p = two_of (event_set cs known f t) (event_set cs known f u) less A e in
-        two_sound t u less p.left p.right A (sound_set f h t p.left p.first) (sound_set f h u p.right p.second) p.made
-    sound_set f h (Node forms.If (MoreSyntax c (MoreSyntax t (MoreSyntax u NoSyntax)))) A e = chosen_sound (condition known c) f t u A (sound_set f h t A) (sound_set f h u A) e
-    sound_set f h (Node forms.EmptySet NoSyntax) A e = (0, e)
-    sound_set f h (Node forms.Events NoSyntax) A e = (0, e)
-    sound_set f h (Node forms.NoProductions NoSyntax) A e = (0, e)
-    sound_set f h t A e = (0, e)
+    sound_set f h (combined c p q) A e =
+        let t = two_of (event_set cs known f p) (event_set cs known f q) (combine c) A e in
+        two_sound p q (combine c) t.left t.right A (sound_set f h p t.left t.first) (sound_set f h q t.right t.second) t.made
+    sound_set f h (set_chosen c p q) A e = chosen_sound (condition known c) f p q A (sound_set f h p A) (sound_set f h q A) e
+    sound_set f h nothing A e = (0, e)
+    sound_set f h everything A e = (0, e)
+    sound_set f h (several k es) A e = (0, e)
+    sound_set f h no_set A e = (0, e)
 
     sound_of : (f : KnownEvents) → IsSound f → (m : Meaning) (A : Events) → events_of cs known f m ≡ Some A → (k : ℕ) × (events_of cs known (events_in cs known es k) m ≡ Some A)
     unfolding events_of
     sound_of f h (channel ts) A e = absurd cc
     sound_of f h (datatype ns) A e = absurd cc
     sound_of f h constant_name A e = absurd cc
-    sound_of f h (definition t) A e = sound_set f h t A e
+    sound_of f h (definition t) A e = sound_set f h (set_phrase_of t) A e
     sound_of f h (parametric xs t) A e = absurd cc
 
     -- what definitions say of sound sets is sound

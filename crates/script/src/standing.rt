@@ -1,6 +1,7 @@
 //! Which sets of events names mean.
 ghost use Rattle.std.specs.Prelude.{IfOk, is_some};
 ghost use Rattle.event_phrases.specs.Events.{EventsStand, event_set, masked};
+ghost use Rattle.event_phrases.specs.Forms.{set_phrase_of};
 ghost use Rattle.syntax.specs.View.{shape};
 ghost use Rattle.values.specs.Tables.{table};
 ghost use Rattle.values.specs.View.{Gives};
@@ -27,7 +28,7 @@ fn set_of_body<'a, A: Allocator + Copy>(
     body: &'a Tree<A>,
 ) -> Result<EventSet, Unread>
     requires { AreReachedBy names.now (said sets.now) }
-    ensures { Gives (λ s. s) result (masked names.now.sigma.alphabet (event_set names.now.sigma.alphabet (table names.now.known) (events_by (said sets.now)) (shape body.now))) }
+    ensures { Gives (λ s. s) result (masked names.now.sigma.alphabet (event_set names.now.sigma.alphabet (table names.now.known) (events_by (said sets.now)) (set_phrase_of (shape body.now)))) }
 {
     let script = Script { names, sets, alloc };
     set_of_events(alloc, &script, body)

@@ -4,15 +4,15 @@ use Rattle.std.specs.List.{AllByRecursion}
 use Rattle.alphabet.specs.declared.events.Report.{Report}
 use Rattle.term.specs.Proc.{bodies_of}
 use Rattle.term.specs.Specs.{Specified}
-use Rattle.shared.specs.Fault.{Fault as SessionFault}
+use Rattle.shared.specs.SessionFaults.{Fault as SessionFault}
 use Rattle.shared.specs.View.{SeatView}
 use Rattle.shared.specs.Seats.{Refused}
 use Rattle.shared.specs.Turns.{AllAnswered, CameTo, Ends}
 use Rattle.wire.specs.Groups.{AllReported}
-use Rattle.wire.specs.declared.answers.Receipt.{Receipt}
-use Rattle.wire.specs.declared.answers.Fault.{Fault}
+use Rattle.answers.specs.declared.receipt.Receipt.{Receipt}
+use Rattle.wire.specs.Faults.{Fault}
 use Rattle.wire.proofs.GroupLemmas.{reported_push}
-use Rattle.seats.specs.Faults.{reported_as}
+use Rattle.answers.specs.Faults.{plain_of}
 use Rattle.seats.specs.Groups.{receipts_of}
 use Rattle.seats.specs.Judges.{Reports}
 
@@ -57,18 +57,18 @@ all_after P (x ∷ xs) ys (one, all) = all_after P xs ys all
 
 -- the next report is refused
 pub part_reported : (spec : Specified) (old new : SeatView) (reports : List Report) (vs : List Bool) (count place : ℕ) (fault : Option SessionFault) (f : SessionFault) → fault ≡ Some f
-    → CameTo spec old reports vs count place fault new → AllReported (Reports spec) old (take (count + 1) reports) (receipts_of (take count vs) place ++ Err (reported_as f) ∷ []) new
+    → CameTo spec old reports vs count place fault new → AllReported (Reports spec) old (take (count + 1) reports) (receipts_of (take count vs) place ++ Err (plain_of f) ∷ []) new
 part_reported spec old new reports vs count place None f some c = absurd (let no : ⊥ = cc (some) in no)
 part_reported spec old new reports vs count place (Some g) f some c = by (drop count reports) refl c.ends
   where
     by : (left : List Report) → drop count reports ≡ left → Ends spec c.mid left (Some g) new
-        → AllReported (Reports spec) old (take (count + 1) reports) (receipts_of (take count vs) place ++ Err (reported_as f) ∷ []) new
+        → AllReported (Reports spec) old (take (count + 1) reports) (receipts_of (take count vs) place ++ Err (plain_of f) ∷ []) new
     by [] is e = absurd e
     by (r ∷ rest) is e =
         let same : g ≡ f = cc (some) in
         let one : Refused spec c.mid new r f = subst (λ (x : SessionFault). Refused spec c.mid new r x) same e in
-        subst (λ (l : List Report). AllReported (Reports spec) old l (receipts_of (take count vs) place ++ Err (reported_as f) ∷ []) new) (sym (take_next count reports rest r is))
-        (reported_push (Reports spec) (take count reports) (receipts_of (take count vs) place) old c.mid new r (Err (reported_as f))
+        subst (λ (l : List Report). AllReported (Reports spec) old l (receipts_of (take count vs) place ++ Err (plain_of f) ∷ []) new) (sym (take_next count reports rest r is))
+        (reported_push (Reports spec) (take count reports) (receipts_of (take count vs) place) old c.mid new r (Err (plain_of f))
         (receipts_reported spec old c.mid (take count reports) (take count vs) place c.receipts) (f, refl, one))
 
 -- some answers, and then more

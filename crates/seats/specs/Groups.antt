@@ -1,7 +1,7 @@
 -- The answers to some reports of a seat.
 use Rattle.std.specs.Prelude.{ℕ, ◌+◌, List, [], ◌∷◌, Bool, Result, Ok}
-use Rattle.wire.specs.declared.answers.Receipt.{Receipt}
-use Rattle.wire.specs.declared.answers.Fault.{Fault}
+use Rattle.answers.specs.declared.receipt.Receipt.{Receipt}
+use Rattle.wire.specs.Faults.{Fault}
 
 -- receipts with these verdicts, and with places one after the other from this one on
 abbrev pub receipts_of : List Bool → ℕ → List (Result Receipt Fault)

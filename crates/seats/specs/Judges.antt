@@ -9,20 +9,20 @@ use Rattle.term.specs.Meaning.{Trace}
 use Rattle.shared.specs.Entries.{events, summary_of}
 use Rattle.shared.specs.Legal.{Legal}
 use Rattle.shared.specs.Beginnings.{StartsWith}
-use Rattle.shared.specs.Fault.{Fault as SessionFault}
+use Rattle.shared.specs.SessionFaults.{Fault as SessionFault}
 use Rattle.shared.specs.View.{SeatView}
 use Rattle.shared.specs.Seats.{Answered, Refused, Named}
-use Rattle.wire.specs.declared.answers.Receipt.{Receipt}
-use Rattle.wire.specs.declared.answers.Status.{Status}
-use Rattle.wire.specs.declared.answers.Fault.{Fault}
-use Rattle.wire.specs.declared.answers.Fault.TheVariants.{Taken, Closed}
-use Rattle.seats.specs.Faults.{reported_as}
+use Rattle.answers.specs.declared.receipt.Receipt.{Receipt}
+use Rattle.answers.specs.declared.receipt.Status.{Status}
+use Rattle.wire.specs.Faults.{Fault}
+use Rattle.answers.specs.declared.fault.Fault.TheVariants.{Taken, Closed}
+use Rattle.answers.specs.Faults.{plain_of}
 
 -- A receipt is of the report's own entry, which ends what the seat has then seen: a legal history that begins with what it had seen.
 -- A fault leaves the seat's own reports as they were, and says why.
 abbrev pub Reports : Specified → SeatView → Report → Result Receipt Fault → SeatView → Type 0
 Reports spec old report (Ok receipt) new = Answered (bodies_of spec.bodies) old new report receipt.verdict receipt.place
-Reports spec old report (Err fault) new = (f : SessionFault) × (fault ≡ reported_as f) × Refused spec old new report f
+Reports spec old report (Err fault) new = (f : SessionFault) × (fault ≡ plain_of f) × Refused spec old new report f
 
 -- The seat has seen a legal history that begins with what it had seen, and has reported nothing.
 pub record HasLooked (B : ℕ → Proc) (old new : SeatView) : Type 0 where
@@ -53,4 +53,4 @@ pub record Nexts (B : ℕ → Proc) (old : SeatView) (set : Set) (new : SeatView
 abbrev pub Identifies : (ℕ → Proc) → SeatView → ℕ → Option (Result ℕ Fault) → SeatView → Type 0
 Identifies B old name None new = new ≡ old
 Identifies B old name (Some (Ok count)) new = Named B old new name count
-Identifies B old name (Some (Err fault)) new = (new ≡ old) × ((fault ≡ Taken) ⊎ (fault ≡ Closed))
+Identifies B old name (Some (Err fault)) new = (new ≡ old) × ((fault ≡ Taken) ⊎ (fault ≡ Closed tt))

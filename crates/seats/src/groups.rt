@@ -4,15 +4,14 @@ ghost use Rattle.std.specs.List.{AllByRecursion};
 ghost use Rattle.alphabet.specs.Channels.{event_count};
 ghost use Rattle.wire.specs.Requests.{IsReportBelow};
 ghost use Rattle.wire.specs.Groups.{AllReported};
-ghost use Rattle.wire.specs.declared.answers.Receipt.{Receipt};
-ghost use Rattle.wire.specs.declared.answers.Fault.{Fault};
+ghost use Rattle.answers.specs.declared.receipt.Receipt.{Receipt};
+ghost use Rattle.wire.specs.Faults.{Fault};
 ghost use Rattle.seats.specs.Judges.{Reports};
 ghost use Rattle.seats.specs.Groups.{receipts_of};
 
-use crate::faults::reported;
 use crate::judge::SeatJudge;
 use alphabet::Report;
-use shared::{GROUP, Naming, Recorder};
+use shared::{GROUP, Recorder, Sharing};
 use std::alloc::Allocator;
 use std::sync::Wait;
 use wire::{Fault, Receipt};
@@ -57,7 +56,7 @@ fn add_receipts<B: Allocator>(
     }
 }
 
-impl<J: Recorder, A: Allocator + Copy, N: Naming, R: Wait> SeatJudge<'_, J, A, N, R> {
+impl<J: Recorder, A: Allocator + Copy, N: Sharing<J>, R: Wait> SeatJudge<'_, J, A, N, R> {
     /// Reports in one turn of the seat, up to the first that is refused, and adds the answers, for which there is room. The result is how
     /// many they are.
     pub(crate) fn report_some<B: Allocator>(
@@ -81,7 +80,7 @@ impl<J: Recorder, A: Allocator + Copy, N: Naming, R: Wait> SeatJudge<'_, J, A, N
         add_receipts(answers, &verdicts[..count], round.place);
         match round.fault {
             Some(fault) => {
-                add(answers, Err(reported(fault)));
+                add(answers, Err(fault.plain()));
                 count + 1
             }
             None => count,

@@ -6,16 +6,15 @@ ghost use Rattle.wire.specs.Replies.{LineReplies, TakesNoName, noted};
 ghost use Rattle.wire.specs.Talks.{Serves};
 ghost use Rattle.seats.specs.Judges.{Reports, Statuses, Nexts};
 
-use crate::faults::reported;
 use alphabet::{Alphabet, EventSet, Report};
 use left_right::Absorb;
-use shared::{Board, Naming, Recorder, Seat, Share, Summary};
+use shared::{Board, Recorder, Seat, Share, Sharing, Summary};
 use std::alloc::Allocator;
 use std::sync::Wait;
 use wire::{End, Fault, Judge, Receipt, Sink, Source, Status, Tally, WireError};
 
 /// A seat, and the right to wait for the lock. It isn't `Drop`: end it by `end`.
-pub struct SeatJudge<'a, J: Recorder, A: Allocator, N: Naming, R: Wait>
+pub struct SeatJudge<'a, J: Recorder, A: Allocator, N: Sharing<J>, R: Wait>
 where
     Board<N, A>: Absorb<Summary, State = Summary>,
 {
@@ -23,7 +22,7 @@ where
     pub(crate) rt: &'a R,
 }
 
-impl<'a, J: Recorder, A: Allocator + Copy, N: Naming, R: Wait> SeatJudge<'a, J, A, N, R> {
+impl<'a, J: Recorder, A: Allocator + Copy, N: Sharing<J>, R: Wait> SeatJudge<'a, J, A, N, R> {
     /// The judge of this seat. With it `wire::serve` answers the lines of a connection from a seat of a shared session. `rt` is the
     /// right to wait for the session's lock: a report and `next` wait for it, a status doesn't. Nothing is reported here, and the
     /// seat has seen what it had seen. Constant cost; takes no memory.
@@ -48,7 +47,7 @@ impl<'a, J: Recorder, A: Allocator + Copy, N: Naming, R: Wait> SeatJudge<'a, J, 
     }
 }
 
-impl<J: Recorder, A: Allocator + Copy, N: Naming, R: Wait> Judge for SeatJudge<'_, J, A, N, R> {
+impl<J: Recorder, A: Allocator + Copy, N: Sharing<J>, R: Wait> Judge for SeatJudge<'_, J, A, N, R> {
     ghost use Rattle.alphabet.specs.Channels.{event_count};
     ghost use Rattle.term.specs.Proc.{bodies_of};
     ghost use Rattle.seats.specs.Judges.{Reports, Statuses, Nexts};
@@ -66,11 +65,8 @@ impl<J: Recorder, A: Allocator + Copy, N: Naming, R: Wait> Judge for SeatJudge<'
 
     fn report(&mut self, report: Report) -> Result<Receipt, Fault> {
         match self.seat.report(self.rt, report) {
-            Ok(receipt) => Ok(Receipt {
-                verdict: receipt.verdict,
-                place: receipt.place,
-            }),
-            Err(fault) => Err(reported(fault)),
+            Ok(receipt) => Ok(receipt),
+            Err(fault) => Err(fault.plain()),
         }
     }
 
@@ -90,16 +86,7 @@ impl<J: Recorder, A: Allocator + Copy, N: Naming, R: Wait> Judge for SeatJudge<'
     }
 
     fn status(&mut self) -> Status {
-        let status = self.seat.status();
-        Status {
-            summary: wire::Summary {
-                judged: status.summary.judged,
-                events: status.summary.events,
-                refusals: status.summary.refusals,
-                rejected: status.summary.rejected,
-            },
-            closed: status.closed,
-        }
+        self.seat.status()
     }
 
     fn identify(&mut self, _seat: u16) -> Option<Result<u64, Fault>> {
@@ -111,7 +98,7 @@ impl<J: Recorder, A: Allocator + Copy, N: Naming, R: Wait> Judge for SeatJudge<'
     }
 }
 
-impl<J: Recorder, A: Allocator + Copy + Drop, N: Naming, R: Wait> SeatJudge<'_, J, A, N, R> {
+impl<J: Recorder, A: Allocator + Copy + Drop, N: Sharing<J>, R: Wait> SeatJudge<'_, J, A, N, R> {
     /// Answers the lines of the reader by lines to the writer, as `wire::serve` does, each report as the next one of this seat.
     /// The alphabet's events are those of the session's specification.
     pub fn serve<T: Source, W: Sink, B: Allocator>(

@@ -6,12 +6,10 @@
 #![tactic(auto)]
 
 mod copying;
-mod faults;
 mod groups;
 mod judge;
 mod service;
 
 pub use copying::copy_of;
-pub use faults::refusal_of;
 pub use judge::SeatJudge;
 pub use service::ServiceJudge;

@@ -9,20 +9,20 @@ ghost use Rattle.seats.specs.Judges.{Reports, Statuses, Nexts, Identifies};
 use crate::judge::SeatJudge;
 use alphabet::{Alphabet, EventSet, Report};
 use left_right::Absorb;
-use shared::{Board, NameFault, Naming, Recorder, Seat, SeatNumber, Share, Summary};
+use shared::{Board, NameFault, Recorder, Seat, SeatNumber, Share, Sharing, Summary};
 use std::alloc::Allocator;
 use std::sync::Wait;
 use wire::{End, Fault, Judge, Receipt, Sink, Source, Status, Tally, WireError};
 
 /// A seat of a service, where a client may say by its first line (`I n`) that it is the seat n. It isn't `Drop`: end it by `end`.
-pub struct ServiceJudge<'a, J: Recorder, A: Allocator, N: Naming, R: Wait>
+pub struct ServiceJudge<'a, J: Recorder, A: Allocator, N: Sharing<J>, R: Wait>
 where
     Board<N, A>: Absorb<Summary, State = Summary>,
 {
     pub judge: SeatJudge<'a, J, A, N, R>,
 }
 
-impl<'a, J: Recorder, A: Allocator + Copy, N: Naming, R: Wait> ServiceJudge<'a, J, A, N, R> {
+impl<'a, J: Recorder, A: Allocator + Copy, N: Sharing<J>, R: Wait> ServiceJudge<'a, J, A, N, R> {
     /// The judge of this seat, as `SeatJudge::new` makes one.
     pub fn new(rt: &'a R, seat: Seat<'a, J, A, N>) -> ServiceJudge<'a, J, A, N, R>
         ensures { result.judge.seat.share ≡ seat.entry.share }
@@ -41,7 +41,8 @@ impl<'a, J: Recorder, A: Allocator + Copy, N: Naming, R: Wait> ServiceJudge<'a, 
     }
 }
 
-impl<J: Recorder, A: Allocator + Copy, N: Naming, R: Wait> Judge for ServiceJudge<'_, J, A, N, R> {
+impl<J: Recorder, A: Allocator + Copy, N: Sharing<J>, R: Wait> Judge
+    for ServiceJudge<'_, J, A, N, R> {
     ghost use Rattle.alphabet.specs.Channels.{event_count};
     ghost use Rattle.term.specs.Proc.{bodies_of};
     ghost use Rattle.seats.specs.Judges.{Reports, Statuses, Nexts, Identifies};
@@ -82,7 +83,7 @@ impl<J: Recorder, A: Allocator + Copy, N: Naming, R: Wait> Judge for ServiceJudg
             Ok(count) => Some(Ok(u64::from(count))),
             Err(NameFault::Nameless) => None,
             Err(NameFault::Taken) => Some(Err(Fault::Taken)),
-            Err(NameFault::Closed(_)) => Some(Err(Fault::Closed)),
+            Err(NameFault::Closed(_)) => Some(Err(Fault::Closed(()))),
         }
     }
 
@@ -91,7 +92,7 @@ impl<J: Recorder, A: Allocator + Copy, N: Naming, R: Wait> Judge for ServiceJudg
     }
 }
 
-impl<J: Recorder, A: Allocator + Copy + Drop, N: Naming, R: Wait> ServiceJudge<'_, J, A, N, R> {
+impl<J: Recorder, A: Allocator + Copy + Drop, N: Sharing<J>, R: Wait> ServiceJudge<'_, J, A, N, R> {
     /// Answers the lines of the reader by lines to the writer, as `wire::serve` does, each report as the next one of this seat.
     /// The alphabet's events are those of the session's specification.
     pub fn serve<T: Source, W: Sink, B: Allocator>(

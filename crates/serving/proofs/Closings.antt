@@ -5,7 +5,7 @@ use Rattle.term.specs.Specs.{Specified}
 use Rattle.shared.specs.Entry.{Entry}
 use Rattle.shared.specs.View.{SeatView}
 use Rattle.shared.specs.Seats.{AllTold, receipts}
-use Rattle.wire.specs.declared.answers.Fault.{Fault}
+use Rattle.wire.specs.Faults.{Fault}
 use Rattle.connections.specs.declared.outcome.Ending.{Ending}
 use Rattle.connections.specs.declared.outcome.Outcome.{Outcome}
 use Rattle.connections.specs.Outcomes.{ending_of, places_of}

@@ -4,16 +4,15 @@ use Rattle.term.specs.Proc.{bodies_of}
 use Rattle.term.specs.Specs.{Specified}
 use Rattle.shared.specs.Entry.{Entry}
 use Rattle.shared.specs.Beginnings.{StartsWith}
-use Rattle.wire.specs.declared.answers.Fault.{Fault}
-use Rattle.wire.specs.declared.answers.Tally.{Tally}
+use Rattle.wire.specs.Faults.{Fault}
+use Rattle.wire.specs.declared.answer.Tally.{Tally}
 use Rattle.wire.specs.declared.engine.End.{End}
 use Rattle.wire.specs.declared.engine.WireError.{WireError}
 use Rattle.wire.specs.Replies.{LineReplies, TakesNoName, noted}
 use Rattle.wire.specs.Talks.{Serves}
-use Rattle.shared.specs.SeatFault.{SeatFault}
 use Rattle.shared.specs.View.{SeatView}
 use Rattle.shared.specs.Seats.{AllTold, receipts}
-use Rattle.seats.specs.Faults.{refused_as}
+use Rattle.answers.specs.Faults.{IsNoSeat}
 use Rattle.seats.specs.Judges.{Reports, Statuses, Nexts}
 use Rattle.connections.specs.declared.outcome.Ending.{Ending}
 use Rattle.connections.specs.declared.outcome.Outcome.{Outcome}
@@ -26,10 +25,6 @@ no_answers = record { begun = false; rejected = false; unjudged = 0; limit = fal
 -- a new seat of a session that began with this history: it has seen that, and reported nothing
 abbrev pub IsNewSeat : List Entry → SeatView → Type 0
 IsNewSeat opening seat = (seat.mine ≡ []) × (seat.begun ≡ 0) × (seat.closed ≡ false) × StartsWith seat.seen opening
-
--- this is why there is no seat, as it is reported to a connection
-abbrev pub IsRefusal : Fault → Type 0
-IsRefusal fault = (why : SeatFault) × (fault ≡ refused_as why)
 
 -- The lines of a connection are answered at a seat of a session of this specification: each `OK n` or `NO n` for a report is the verdict
 -- and the place of that line's own entry, in a legal history that begins with all that the seat had seen.
@@ -46,7 +41,7 @@ module _ {L R W : Type 0} (takes : L → R → W → L → Type 0) (fails : L �
   abbrev pub CameTo : L → ℕ → Specified → List Entry → List (Outcome SeatView) → Bool → Type 0
   CameTo accept count spec opening outcomes accept_failed =
       (last : L)
-      × InTurn takes (λ reader writer. IsOutcome (IsNewSeat opening) IsRefusal (IsAnsweredAt spec) (WasClosed left closed) (tells writer) (left reader) (contents writer)) accept outcomes last
+      × InTurn takes (λ reader writer. IsOutcome (IsNewSeat opening) IsNoSeat (IsAnsweredAt spec) (WasClosed left closed) (tells writer) (left reader) (contents writer)) accept outcomes last
       × IsLast fails last (length outcomes) count accept_failed
 
   -- The same, with the history at the end, how each connection ended, and how many reports were answered with `OK` or `NO`. Where that is

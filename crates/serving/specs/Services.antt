@@ -3,8 +3,8 @@ use Rattle.std.specs.Prelude.{◌≡◌, ◌+◌, ℕ, Bool, List, [], length, m
 use Rattle.term.specs.Proc.{bodies_of}
 use Rattle.term.specs.Specs.{Specified}
 use Rattle.shared.specs.Entry.{Entry}
-use Rattle.wire.specs.declared.answers.Fault.{Fault}
-use Rattle.wire.specs.declared.answers.Tally.{Tally}
+use Rattle.wire.specs.Faults.{Fault}
+use Rattle.wire.specs.declared.answer.Tally.{Tally}
 use Rattle.wire.specs.declared.engine.End.{End}
 use Rattle.wire.specs.declared.engine.WireError.{WireError}
 use Rattle.wire.specs.Replies.{LineReplies, noted}
@@ -17,7 +17,8 @@ use Rattle.connections.specs.declared.totals.Totals.{Totals}
 use Rattle.connections.specs.declared.services.Terms.{Terms}
 use Rattle.connections.specs.Outcomes.{IsOutcome, WasClosed, ending_of, places_of}
 use Rattle.connections.specs.Services.{Goes, IsHeld, IsLook, IsStep, IsSum, IsWithout, Step, beginning, nothing_held, refusal_of, steps_by, taken_of}
-use Rattle.serving.specs.Runs.{IsNewSeat, IsRefusal, no_answers}
+use Rattle.serving.specs.Runs.{IsNewSeat, no_answers}
+use Rattle.answers.specs.Faults.{IsNoSeat}
 
 -- The lines of a connection are answered at a seat of a service of this specification: as at any seat, and by its first line the client may
 -- say which seat it is, and go on from that seat's entries.
@@ -38,8 +39,8 @@ module _ {L R W : Type 0} (takes : L → R → W → L → Type 0) (fails waits 
     pub last : L
     pub failures : ℕ
     pub any : Bool
-    pub looks : Goes (IsLook takes fails waits (λ reader writer. IsOutcome (IsNewSeat opening) (IsWithout IsRefusal) (IsServedAt spec) (WasClosed left closed) (tells writer) (left reader) (contents writer))) accept steps last
-    pub stands : Goes (IsStep IsRefusal terms room) beginning (steps_by refusal_of steps) (record { there = 0; any = any; failures = failures; ended = Some accept_failed })
+    pub looks : Goes (IsLook takes fails waits (λ reader writer. IsOutcome (IsNewSeat opening) (IsWithout IsNoSeat) (IsServedAt spec) (WasClosed left closed) (tells writer) (left reader) (contents writer))) accept steps last
+    pub stands : Goes (IsStep IsNoSeat terms room) beginning (steps_by refusal_of steps) (record { there = 0; any = any; failures = failures; ended = Some accept_failed })
     pub held : Goes IsHeld nothing_held (steps_by refusal_of steps) (record { by = []; taken = length (taken_of steps) })
     pub sum : IsSum (map ending_of (taken_of steps)) totals
     pub counted : length history ≡ length opening + answered

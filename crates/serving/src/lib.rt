@@ -4,6 +4,7 @@
 
 mod opening;
 mod opening_parts;
+mod runs;
 mod service_gate;
 mod services;
 mod sessions;
@@ -11,11 +12,12 @@ mod shared_gate;
 
 pub use connections::{
     Accept, AcceptFault, Account, Closed, Connections, Ending, Gate, Listen, Outcome, Over,
-    Reusable, RunStatus, Served, TcpAccept, Terms, Totals, UnixAccept, serve_all, serve_on,
+    Reusable, Served, TcpAccept, Terms, Totals, UnixAccept, serve_all, serve_on,
 };
 pub use large_sessions::Parts;
 pub use opening::{OpenError, open};
 pub use opening_parts::open_parts;
+pub use runs::{Plan, Run, serve};
 pub use service_gate::ServiceGate;
 pub use services::{ClosedService, serve_service};
 pub use sessions::{Closing, serve_session};

@@ -5,15 +5,15 @@ ghost use Rattle.std.specs.Prelude.{◌≡◌};
 use alphabet::Alphabet;
 use connections::{Gate, Over, Reusable};
 use left_right::Absorb;
-use seats::{ServiceJudge, refusal_of};
-use shared::{Board, Naming, Places, Recorder, SeatFault, Share, Shared, Summary};
+use seats::ServiceJudge;
+use shared::{Board, Places, Recorder, Share, Shared, Sharing, Summary};
 use std::alloc::Global;
 use std::sync::Wait;
 use wire::{Fault, Sink, Source, Tally};
 
 /// A service at which connections are served, each at a seat of its own, which leaves once its connection is over. Its places are the
 /// seats' shares. It isn't `Drop`: end it by `end`.
-pub struct ServiceGate<'a, J: Recorder, N: Naming>
+pub struct ServiceGate<'a, J: Recorder, N: Sharing<J>>
 where
     Board<N, Global>: Absorb<Summary, State = Summary>,
 {
@@ -22,7 +22,7 @@ where
     ghost same: { alphabet.now ≡ N.spec.alphabet },
 }
 
-impl<'a, J: Recorder, N: Naming> ServiceGate<'a, J, N> {
+impl<'a, J: Recorder, N: Sharing<J>> ServiceGate<'a, J, N> {
     /// The gate to this service. The alphabet is that of its specification; it may be a copy (`seats::copy_of`), which all threads read
     /// without the session's lock. By it `connections::serve_on` serves the session, with the places that `Shared::service` made.
     /// Constant cost; takes no memory.
@@ -44,21 +44,22 @@ impl<'a, J: Recorder, N: Naming> ServiceGate<'a, J, N> {
     }
 }
 
-impl<J: Recorder, N: Naming + Send + Sync> Gate for ServiceGate<'_, J, N> {
+impl<J: Recorder, N: Sharing<J> + Send + Sync> Gate for ServiceGate<'_, J, N> {
     type Place = Share<N, Global>;
 
-    ghost use Rattle.serving.specs.Runs.{IsNewSeat, IsRefusal};
+    ghost use Rattle.serving.specs.Runs.{IsNewSeat};
+    ghost use Rattle.answers.specs.Faults.{IsNoSeat};
     ghost use Rattle.serving.specs.Services.{IsServedAt};
 
     ghost gives = { λ _ share. IsNewSeat N.opening share };
 
-    ghost refuses = { λ _ fault. IsRefusal fault };
+    ghost refuses = { λ _ fault. IsNoSeat fault };
 
     ghost serves = { λ _ share last tally left rest old new end. IsServedAt N.spec share last tally left rest old new end };
 
     // Without the places there is none.
     fn place<T: Wait>(&self, _rt: &T, _alloc: Global) -> Result<Share<N, Global>, Fault> {
-        Err(refusal_of(SeatFault::Seats))
+        Err(Fault::Seats)
     }
 
     fn serve<T: Wait, R: Source, W: Sink>(
@@ -80,7 +81,7 @@ impl<J: Recorder, N: Naming + Send + Sync> Gate for ServiceGate<'_, J, N> {
     }
 }
 
-impl<J: Recorder, N: Naming + Send + Sync> Reusable for ServiceGate<'_, J, N> {
+impl<J: Recorder, N: Sharing<J> + Send + Sync> Reusable for ServiceGate<'_, J, N> {
     type Places = Places<N>;
 
     ghost use Rattle.std.specs.Prelude.{◌≡◌};
@@ -102,7 +103,7 @@ impl<J: Recorder, N: Naming + Send + Sync> Reusable for ServiceGate<'_, J, N> {
     ) -> Result<Share<N, Global>, Fault> {
         match self.shared.take_place(rt, places) {
             Ok(seat) => Ok(seat.end()),
-            Err(fault) => Err(refusal_of(fault)),
+            Err(fault) => Err(fault.plain()),
         }
     }
 

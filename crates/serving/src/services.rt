@@ -1,16 +1,17 @@
 //! A session as a service: connections come and go, until it ends.
 
-ghost use Rattle.std.specs.Prelude.{◌≡◌, ◌+◌, [], ℕ, List, IfOk, IfErr, IsSome, Some, Ok, Err, length};
+ghost use Rattle.std.specs.Prelude.{◌≡◌, ◌+◌, [], ℕ, List, IfOk, IfErr, IfSome, IsSome, Some, Ok, Err, length};
 ghost use Rattle.term.specs.Proc.{bodies_of};
+ghost use Rattle.shared.specs.Lasting.{Lasts};
 ghost use Rattle.shared.specs.Legal.{Legal};
 ghost use Rattle.shared.specs.Beginnings.{StartsWith};
 ghost use Rattle.shared.specs.Seats.{answers_to};
-ghost use Rattle.shared.specs.SessionView.{IsRecorded};
 ghost use Rattle.shared.specs.View.{PlacesView};
 ghost use Rattle.connections.specs.declared.services.Closed.{Closed as ClosedAt};
 ghost use Rattle.connections.specs.Outcomes.{WasTold};
 ghost use Rattle.connections.specs.Services.{Came};
-ghost use Rattle.serving.specs.Runs.{IsNewSeat, IsRefusal};
+ghost use Rattle.serving.specs.Runs.{IsNewSeat};
+ghost use Rattle.answers.specs.Faults.{IsNoSeat};
 ghost use Rattle.serving.specs.Services.{IsServedAt, Ran};
 
 use crate::service_gate::ServiceGate;
@@ -20,7 +21,7 @@ use connections::{Closed, Listen, Terms, Totals, serve_on};
 use journal::Prepared;
 use seats::copy_of;
 use shared::{
-    Counts, Failed, Names, Naming, Opened, Places, Publisher, Recorder, SessionOn, Shared, Source,
+    Counts, Failed, Names, Opened, Places, Publisher, Recorder, SessionOn, Shared, Sharing, Source,
     Spine, Waiting, crosses, legal_crosses,
 };
 use std::alloc::{AllocError, Global};
@@ -49,7 +50,7 @@ pub struct ClosedService<J: Recorder> {
 // Serves connections at places of the shared session, until the service ends.
 fn serve_at<
     J: Recorder + Send,
-    N: Naming + Send + Sync,
+    N: Sharing<J> + Send + Sync,
     T: Threads + Wait + Clock + Sync,
     L: Listen + Drop,
 >(
@@ -63,7 +64,7 @@ fn serve_at<
 ) -> Result<Closed<Places<N>>, (AllocError, L, Places<N>)>
     requires alphabet { alphabet.now ≡ N.spec.alphabet }
     requires ledger { N.all ≡ N.parts }
-    ensures served { IfOk result (Came (IsNewSeat N.opening) IsRefusal (IsServedAt N.spec) answers_to (λ (p : PlacesView). p.free) (λ (p : PlacesView). p.receipts) L.takes L.fails L.waits L.Reader.left L.Reader.is_closed L.Writer.contents (WasTold L.Writer.contents L.Writer.has_handed_on L.Writer.failures) accept places terms) }
+    ensures served { IfOk result (Came (IsNewSeat N.opening) IsNoSeat (IsServedAt N.spec) answers_to (λ (p : PlacesView). p.free) (λ (p : PlacesView). p.receipts) L.takes L.fails L.waits L.Reader.left L.Reader.is_closed L.Writer.contents (WasTold L.Writer.contents L.Writer.has_handed_on L.Writer.failures) accept places terms) }
     ensures memory { IfErr result (λ error. error.1 ≡ accept) }
 {
     // The parts of what lies under the lock: the proof that the whole may go to another thread asks for each.
@@ -98,7 +99,7 @@ fn known(answered: Option<u64>) -> u64
 }
 
 // Gives back the session of a service whose connections are over, and whose places are all free.
-fn close<J: Recorder, N: Naming, R: Wait>(
+fn close<J: Recorder, N: Sharing<J>, R: Wait>(
     rt: &R,
     alloc: Global,
     shared: Shared<J, Global, N>,
@@ -107,7 +108,7 @@ fn close<J: Recorder, N: Naming, R: Wait>(
     requires ledger { N.all ≡ N.parts }
     requires free { closed.places.free + 2 ≡ N.all }
     ensures session { (result.session.spec ≡ N.spec) × StartsWith result.session.history N.opening × Legal (bodies_of N.spec.bodies) result.session.history }
-    ensures kept { (script : List ℕ) × (root : List ℕ) × IsRecorded J.recording script root result.session }
+    ensures lasts { IfSome N.before (λ before. Lasts J.recording before result.session) }
     ensures counted { (length result.session.history ≡ length N.opening + result.answered) × (result.answered ≡ closed.places.receipts) }
     ensures same { (result.totals ≡ closed.totals) × (result.accept_failed ≡ closed.accept_failed) }
 {
@@ -126,7 +127,7 @@ fn close<J: Recorder, N: Naming, R: Wait>(
 }
 
 // Ends a service that had no connection because memory ran out.
-fn drop_service<J: Recorder + Drop, N: Naming, R: Wait>(
+fn drop_service<J: Recorder + Drop, N: Sharing<J>, R: Wait>(
     rt: &R,
     alloc: Global,
     shared: Shared<J, Global, N>,
@@ -139,7 +140,7 @@ fn drop_service<J: Recorder + Drop, N: Naming, R: Wait>(
 }
 
 // Gives back the session of a service whose connections are over; or ends it, where it had none because memory ran out.
-fn end<J: Recorder + Drop, N: Naming, R: Wait, L>(
+fn end<J: Recorder + Drop, N: Sharing<J>, R: Wait, L>(
     rt: &R,
     alloc: Global,
     shared: Shared<J, Global, N>,
@@ -148,7 +149,7 @@ fn end<J: Recorder + Drop, N: Naming, R: Wait, L>(
     requires ledger { N.all ≡ N.parts }
     requires free { IfOk served (λ closed. closed.places.free + 2 ≡ N.all) }
     ensures session { IfOk result (λ c. (c.session.spec ≡ N.spec) × StartsWith c.session.history N.opening × Legal (bodies_of N.spec.bodies) c.session.history) }
-    ensures kept { IfOk result (λ c. (script : List ℕ) × (root : List ℕ) × IsRecorded J.recording script root c.session) }
+    ensures lasts { IfOk result (λ c. IfSome N.before (λ before. Lasts J.recording before c.session)) }
     ensures ended { IfOk result (λ c. (closed : ClosedAt PlacesView) × (served ≡ Ok closed) × (c.totals ≡ closed.totals) × (c.accept_failed ≡ closed.accept_failed)
         × (length c.session.history ≡ length N.opening + c.answered) × (c.answered ≡ closed.places.receipts)) }
     ensures memory { IfErr result (λ error. (places : PlacesView) × (served ≡ Err (error.0, error.1, places))) }
@@ -164,7 +165,7 @@ fn end<J: Recorder + Drop, N: Naming, R: Wait, L>(
 
 // Serves connections at the places of a service, until it ends, and gives its session back.
 fn run<
-    N: Naming + Send + Sync,
+    N: Sharing<J> + Send + Sync,
     J: Recorder + Drop + Send,
     T: Threads + Wait + Clock + Sync,
     L: Listen + Drop,
@@ -181,7 +182,7 @@ fn run<
     requires ledger { N.all ≡ N.parts }
     requires places { (places.free + 2 ≡ N.all) × (places.receipts ≡ 0) }
     ensures session { IfOk result (λ c. (c.session.spec ≡ N.spec) × StartsWith c.session.history N.opening × Legal (bodies_of N.spec.bodies) c.session.history) }
-    ensures kept { IfOk result (λ c. (script : List ℕ) × (root : List ℕ) × IsRecorded J.recording script root c.session) }
+    ensures lasts { IfOk result (λ c. IfSome N.before (λ before. Lasts J.recording before c.session)) }
     ensures ran { IfOk result (λ c. Ran L.takes L.fails L.waits L.Reader.left L.Reader.is_closed L.Writer.contents (WasTold L.Writer.contents L.Writer.has_handed_on L.Writer.failures) accept terms places.free N.spec N.opening c.session.history c.totals c.accept_failed c.answered) }
     ensures memory { IfErr result (λ error. error.1 ≡ accept) }
 {
@@ -191,7 +192,7 @@ fn run<
 
 // Shares the session, and serves connections. The caller picks the names.
 fn over_places<
-    N: Naming + Send + Sync,
+    N: Sharing<J> + Send + Sync,
     J: Recorder + Drop + Send,
     T: Threads + Wait + Clock + Sync,
     L: Listen + Drop,
@@ -206,11 +207,12 @@ fn over_places<
     terms: Terms,
 ) -> Result<ClosedService<J>, (AllocError, L)>
     requires story { (session.spec ≡ N.spec) × (session.history ≡ N.opening) × (session.offered ≡ []) }
+    requires before { IfSome N.before (λ before. before ≡ session) }
     requires book { opened.seen.book ≡ N.book }
     requires ledger { (blank.name ≡ N.name) × (blank.parts ≡ N.parts) × (N.all ≡ N.parts) × (N.all ≡ 66) }
     requires alphabet { alphabet.now ≡ N.spec.alphabet }
     ensures session { IfOk result (λ c. (c.session.spec ≡ N.spec) × StartsWith c.session.history N.opening × Legal (bodies_of N.spec.bodies) c.session.history) }
-    ensures kept { IfOk result (λ c. (script : List ℕ) × (root : List ℕ) × IsRecorded J.recording script root c.session) }
+    ensures lasts { IfOk result (λ c. IfSome N.before (λ before. Lasts J.recording before c.session)) }
     ensures ran { IfOk result (λ c. Ran L.takes L.fails L.waits L.Reader.left L.Reader.is_closed L.Writer.contents (WasTold L.Writer.contents L.Writer.has_handed_on L.Writer.failures) accept terms 64 N.spec N.opening c.session.history c.totals c.accept_failed c.answered) }
     ensures memory { IfErr result (λ error. error.1 ≡ accept) }
 {
@@ -238,7 +240,9 @@ pub fn serve_service<J: Recorder + Drop + Send, T: Threads + Wait + Clock + Sync
 ) -> Result<ClosedService<J>, (AllocError, L)>
     requires { session.offered ≡ [] }
     ensures session { IfOk result (λ c. (c.session.spec ≡ session.spec) × StartsWith c.session.history session.history × Legal (bodies_of session.spec.bodies) c.session.history) }
-    ensures kept { IfOk result (λ c. (script : List ℕ) × (root : List ℕ) × IsRecorded J.recording script root c.session) }
+
+    // For the script and root for which the journal was one, it is one of the longer history; and so was each content that a crash left meanwhile.
+    ensures lasts { IfOk result (λ c. Lasts J.recording session c.session) }
 
     // What came of each connection, in the order in which they were taken, and of all together; when one was refused by 22; why and when it ended;
     // and how many reports were answered.

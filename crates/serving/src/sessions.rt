@@ -1,11 +1,11 @@
 //! A session, served from its first connection to its last.
 
-ghost use Rattle.std.specs.Prelude.{◌≡◌, ◌≤◌, ◌+◌, [], ℕ, List, Ok, Err, IfOk, IfErr, IsErr, length, map, vec_capacity};
+ghost use Rattle.std.specs.Prelude.{◌≡◌, ◌≤◌, ◌+◌, [], ℕ, List, Ok, Err, IfOk, IfErr, IfSome, IsErr, length, map, vec_capacity};
 ghost use Rattle.std.specs.List.{list_any};
 ghost use Rattle.term.specs.Proc.{bodies_of};
+ghost use Rattle.shared.specs.Lasting.{Lasts};
 ghost use Rattle.shared.specs.Legal.{Legal};
 ghost use Rattle.shared.specs.Beginnings.{StartsWith};
-ghost use Rattle.shared.specs.SessionView.{IsRecorded};
 ghost use Rattle.shared.specs.View.{SeatView};
 ghost use Rattle.connections.specs.declared.outcome.Outcome.{Outcome};
 ghost use Rattle.connections.specs.Accounts.{has_rejected, met_limit};
@@ -18,7 +18,7 @@ use connections::{Accept, Account, Connections, Ending, part, serve_all};
 use journal::Prepared;
 use seats::copy_of;
 use shared::{
-    Counts, Failed, Names, Naming, Opened, Publisher, Recorder, SessionOn, Share, Shared, Source,
+    Counts, Failed, Names, Opened, Publisher, Recorder, SessionOn, Share, Shared, Sharing, Source,
     Spine, Waiting, crosses, legal_crosses,
 };
 use std::alloc::{AllocError, Global};
@@ -75,7 +75,7 @@ pub(crate) fn give_up<J: Recorder + Drop, L, C>(
 // Serves the connections at seats of the shared session. Their shares come to the shares, and how each ended to the endings.
 fn serve_at<
     J: Recorder + Send,
-    N: Naming + Send + Sync,
+    N: Sharing<J> + Send + Sync,
     T: Threads + Wait + Sync,
     L: Accept + Drop,
 >(
@@ -126,7 +126,7 @@ fn serve_at<
 // The same, once there is room for the shares.
 fn serve_in<
     J: Recorder + Send,
-    N: Naming + Send + Sync,
+    N: Sharing<J> + Send + Sync,
     T: Threads + Wait + Sync,
     L: Accept + Drop,
 >(
@@ -183,7 +183,7 @@ fn close<J: Recorder + Drop, L>(
 
 // Shares the session, and serves its connections. The caller picks the names.
 fn over_seats<
-    N: Naming + Send + Sync,
+    N: Sharing<J> + Send + Sync,
     J: Recorder + Drop + Send,
     T: Threads + Wait + Sync,
     L: Accept + Drop,
@@ -199,12 +199,13 @@ fn over_seats<
 ) -> Result<Closing<J>, (AllocError, L)>
     requires count { (1 ≤ count) × (count ≤ 64) }
     requires story { (session.spec ≡ N.spec) × (session.history ≡ N.opening) × (session.offered ≡ []) }
+    requires before { IfSome N.before (λ before. before ≡ session) }
     requires book { opened.seen.book ≡ N.book }
     requires ledger { (blank.name ≡ N.name) × (blank.parts ≡ N.parts) × (N.all ≡ N.parts) × (N.all ≡ count + 1) }
     requires alphabet { room.alphabet ≡ N.spec.alphabet }
     requires endings { (room.endings.items ≡ []) × (count ≤ vec_capacity room.endings) }
     ensures session { IfOk result (λ c. (c.session.spec ≡ N.spec) × StartsWith c.session.history N.opening × Legal (bodies_of N.spec.bodies) c.session.history) }
-    ensures kept { IfOk result (λ c. (script : List ℕ) × (root : List ℕ) × IsRecorded J.recording script root c.session) }
+    ensures lasts { IfOk result (λ c. IfSome N.before (λ before. Lasts J.recording before c.session)) }
     ensures went { IfOk result (λ c. Went L.takes L.fails L.Reader.left L.Reader.is_closed L.Writer.contents (WasTold L.Writer.contents L.Writer.has_handed_on L.Writer.failures) accept count N.spec N.opening c.session.history c.endings.items c.account.accept_failed c.answered) }
     ensures account { IfOk result (λ c. (c.account.rejected ≡ list_any has_rejected c.endings.items) × (c.account.limit ≡ list_any met_limit c.endings.items)) }
     ensures memory { IfErr result (λ error. error.1 ≡ accept) }
@@ -252,7 +253,9 @@ pub fn serve_session<J: Recorder + Drop + Send, T: Threads + Wait + Sync, L: Acc
 ) -> Result<Closing<J>, (AllocError, L)>
     requires { session.offered ≡ [] }
     ensures session { IfOk result (λ c. (c.session.spec ≡ session.spec) × StartsWith c.session.history session.history × Legal (bodies_of session.spec.bodies) c.session.history) }
-    ensures kept { IfOk result (λ c. (script : List ℕ) × (root : List ℕ) × IsRecorded J.recording script root c.session) }
+
+    // For the script and root for which the journal was one, it is one of the longer history; and so was each content that a crash left meanwhile.
+    ensures lasts { IfOk result (λ c. Lasts J.recording session c.session) }
 
     // What came of each connection, in the order in which they were taken.
     ensures went { IfOk result (λ c. Went L.takes L.fails L.Reader.left L.Reader.is_closed L.Writer.contents (WasTold L.Writer.contents L.Writer.has_handed_on L.Writer.failures) accept connections session.spec session.history c.session.history c.endings.items c.account.accept_failed c.answered) }

@@ -5,15 +5,15 @@ ghost use Rattle.std.specs.Prelude.{◌≡◌};
 use alphabet::Alphabet;
 use connections::{Gate, Over};
 use left_right::Absorb;
-use seats::{SeatJudge, refusal_of};
-use shared::{Board, Naming, Recorder, Share, Shared, Summary};
+use seats::SeatJudge;
+use shared::{Board, Recorder, Share, Shared, Sharing, Summary};
 use std::alloc::Global;
 use std::sync::Wait;
 use wire::{Fault, Sink, Source, Tally};
 
 /// A shared session at which connections are served, each at a seat of its own. Its places are the seats' shares. It isn't `Drop`:
 /// end it by `end`.
-pub struct SharedGate<'a, J: Recorder, N: Naming>
+pub struct SharedGate<'a, J: Recorder, N: Sharing<J>>
 where
     Board<N, Global>: Absorb<Summary, State = Summary>,
 {
@@ -22,10 +22,10 @@ where
     ghost same: { alphabet.now ≡ N.spec.alphabet },
 }
 
-impl<'a, J: Recorder, N: Naming> SharedGate<'a, J, N> {
+impl<'a, J: Recorder, N: Sharing<J>> SharedGate<'a, J, N> {
     /// The gate to this session. The alphabet is that of its specification. By it `connections::serve_all` serves the session, each
     /// connection at a seat of its own. The alphabet may be a copy (`seats::copy_of`): all threads read it, without the session's
-    /// lock. No seat is given yet: `place` gives one for each connection, or answers 22, 26, 31 or 40 (`seats::refusal_of`).
+    /// lock. No seat is given yet: `place` gives one for each connection, or answers 22, 26 or 31.
     /// Constant cost; takes no memory.
     pub fn new(
         shared: &'a Shared<J, Global, N>,
@@ -45,21 +45,22 @@ impl<'a, J: Recorder, N: Naming> SharedGate<'a, J, N> {
     }
 }
 
-impl<J: Recorder, N: Naming + Send + Sync> Gate for SharedGate<'_, J, N> {
+impl<J: Recorder, N: Sharing<J> + Send + Sync> Gate for SharedGate<'_, J, N> {
     type Place = Share<N, Global>;
 
-    ghost use Rattle.serving.specs.Runs.{IsAnsweredAt, IsNewSeat, IsRefusal};
+    ghost use Rattle.serving.specs.Runs.{IsAnsweredAt, IsNewSeat};
+    ghost use Rattle.answers.specs.Faults.{IsNoSeat};
 
     ghost gives = { λ _ share. IsNewSeat N.opening share };
 
-    ghost refuses = { λ _ fault. IsRefusal fault };
+    ghost refuses = { λ _ fault. IsNoSeat fault };
 
     ghost serves = { λ _ share last tally left rest old new end. IsAnsweredAt N.spec share last tally left rest old new end };
 
     fn place<T: Wait>(&self, rt: &T, alloc: Global) -> Result<Share<N, Global>, Fault> {
         match self.shared.seat(rt, alloc) {
             Ok(seat) => Ok(seat.end()),
-            Err(fault) => Err(refusal_of(fault)),
+            Err(fault) => Err(fault.plain()),
         }
     }
 

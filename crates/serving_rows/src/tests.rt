@@ -47,7 +47,7 @@ const TURNS: [Result<Stop, Fault>; 5] = [
         tally: REJECTED,
     }),
     Err(Fault::Memory),
-    Err(Fault::Closed),
+    Err(Fault::Closed(())),
     Ok(Stop {
         out_of_memory: true,
         tally: NONE,
@@ -58,7 +58,7 @@ const TURNS: [Result<Stop, Fault>; 5] = [
 const ENDINGS: [Ending; 5] = [
     Ending::Served(Ok(End::Quit), REJECTED),
     Ending::Refused(Fault::Memory),
-    Ending::Refused(Fault::Closed),
+    Ending::Refused(Fault::Closed(())),
     Ending::Served(Err(WireError::Memory), NONE),
     Ending::Refused(Fault::Seats),
 ];

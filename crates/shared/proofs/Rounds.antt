@@ -7,7 +7,7 @@ use Rattle.term.specs.Proc.{Proc, bodies_of}
 use Rattle.term.specs.Specs.{Specified}
 use Rattle.locked.specs.Entry.{Entry}
 use Rattle.locked.specs.Entries.{calls}
-use Rattle.locked.specs.Fault.{Fault}
+use Rattle.locked.specs.SessionFaults.{Fault}
 use Rattle.locked.specs.Legal.{Legal, seat_limit}
 use Rattle.locked.specs.Beginnings.{StartsWith}
 use Rattle.locked.specs.Groups.{HasEntries}

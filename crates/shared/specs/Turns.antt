@@ -6,7 +6,7 @@ use Rattle.term.specs.Proc.{Proc, bodies_of}
 use Rattle.term.specs.Specs.{Specified}
 use Rattle.locked.specs.Entry.{Entry}
 use Rattle.locked.specs.Faults.{Explained}
-use Rattle.locked.specs.Fault.{Fault}
+use Rattle.locked.specs.SessionFaults.{Fault}
 use Rattle.shared.specs.View.{SeatView}
 use Rattle.shared.specs.Seats.{Answered, Refused}
 

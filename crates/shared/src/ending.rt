@@ -3,6 +3,7 @@
 ghost use Rattle.std.specs.Prelude.{◌≡◌, ◌≤◌, ◌<◌, ◌+◌, ◌^◌, ◌++◌, ◌∷◌, [], suc, length, true, ℕ, List, IfSome, IsSome, MatchOption};
 ghost use Rattle.term.specs.Proc.{bodies_of};
 ghost use Rattle.locked.specs.Entry.{Entry};
+ghost use Rattle.locked.specs.Lasting.{Lasts};
 ghost use Rattle.locked.specs.Legal.{Legal};
 ghost use Rattle.locked.specs.SessionView.{IsRecorded};
 ghost use Rattle.locked.specs.Beginnings.{StartsWith};
@@ -12,12 +13,12 @@ ghost use Rattle.shared.specs.Seats.{AllWithin, AllTold, receipts, apart, all_op
 use crate::places::Places;
 use crate::seat::Shared;
 use crate::share::Share;
-use locked::{Counts, Naming, Recorder, SeatNumber, SessionOn, close};
+use locked::{Counts, Naming, Recorder, SeatNumber, SessionOn, Sharing, close};
 use std::alloc::Allocator;
 use std::sync::ledger::Book;
 use std::sync::{Wait, ledger};
 
-impl<J: Recorder, A: Allocator + Copy, N: Naming> Shared<J, A, N> {
+impl<J: Recorder, A: Allocator + Copy, N: Sharing<J>> Shared<J, A, N> {
     /// Ends the board. It gives back the session, and how many reports were answered with a receipt: `None` where the shares aren't
     /// as many as the seats given, or two have one seat number.
     ///
@@ -29,10 +30,13 @@ impl<J: Recorder, A: Allocator + Copy, N: Naming> Shared<J, A, N> {
     ) -> (SessionOn<J, A>, Option<u64>)
         requires { N.all ≡ N.parts }
         ensures session { (result.0.spec ≡ N.spec) × StartsWith result.0.history N.opening × Legal (bodies_of N.spec.bodies) result.0.history }
-        ensures kept { (script : List ℕ) × (root : List ℕ) × IsRecorded J.recording script root result.0 }
+
+        // The journal is then one for the same script and root, and so is each content that a crash has left since the session began to be shared.
+        ensures lasts { IfSome N.before (λ before. Lasts J.recording before result.0) }
         ensures counted { IfSome result.1 (λ n. (length result.0.history ≡ length N.opening + n) × (n ≡ receipts shares.items)) }
         ensures told { IfSome result.1 (λ n. AllTold result.0.history shares.items) }
-        ensures crash { IfSome result.1 (λ n. AllLeft J.recording result.0 shares.items) }
+        ensures crash { (script root : List ℕ) → IsRecorded J.recording script root result.0
+            → IfSome result.1 (λ n. AllLeft J.recording script root result.0 shares.items) }
 
         // The ledger has a part more than there are places at least. So where the shares have all other parts, they are all.
         ensures whole { suc (length shares.items) ≡ N.all → apart shares.items ≡ true → IsSome result.1 }
@@ -51,7 +55,7 @@ impl<J: Recorder, A: Allocator + Copy, N: Naming> Shared<J, A, N> {
     }
 }
 
-impl<J: Recorder, A: Allocator + Copy, N: Naming> Shared<J, A, N> {
+impl<J: Recorder, A: Allocator + Copy, N: Sharing<J>> Shared<J, A, N> {
     /// Ends a service. It gives back the session, and how many reports were answered with a receipt, to the seats that have left and to those
     /// of these shares: `None` where a seat hasn't left and its share isn't among them.
     ///
@@ -64,10 +68,13 @@ impl<J: Recorder, A: Allocator + Copy, N: Naming> Shared<J, A, N> {
     ) -> (SessionOn<J, A>, Option<u64>)
         requires { N.all ≡ N.parts }
         ensures session { (result.0.spec ≡ N.spec) × StartsWith result.0.history N.opening × Legal (bodies_of N.spec.bodies) result.0.history }
-        ensures kept { (script : List ℕ) × (root : List ℕ) × IsRecorded J.recording script root result.0 }
+
+        // The journal is then one for the same script and root, and so is each content that a crash has left since the session began to be shared.
+        ensures lasts { IfSome N.before (λ before. Lasts J.recording before result.0) }
         ensures counted { IfSome result.1 (λ n. (length result.0.history ≡ length N.opening + n) × (n ≡ places.receipts + receipts shares.items)) }
         ensures within { IfSome result.1 (λ n. (all : List Entry) × (result.0.history ≡ N.opening ++ all) × AllWithin N.opening all shares.items) }
-        ensures crash { IfSome result.1 (λ n. AllLeft J.recording result.0 shares.items) }
+        ensures crash { (script root : List ℕ) → IsRecorded J.recording script root result.0
+            → IfSome result.1 (λ n. AllLeft J.recording script root result.0 shares.items) }
 
         // The ledger has a part for each place, one for what lies under the lock and one for the receipts of the seats that left. So where the
         // shares and the free places have all others, they are all.

@@ -13,11 +13,12 @@ mod seat;
 mod share;
 mod turns;
 
+pub use answers::{Receipt, Status};
 pub use locked::{
     Board, Counts, Entry, Failed, Fault, Front, LAST_NAME, NameFault, Names, Naming, Opened,
-    Publisher, Recorder, SeatFault, SeatNumber, Session, SessionError, SessionOn, Source, Spine,
+    Publisher, Recorder, SeatNumber, Session, SessionError, SessionOn, Sharing, Source, Spine,
     Summary, Waiting, crosses, legal_crosses, names_of, read_as,
 };
 pub use places::Places;
 pub use seat::{Seat, Shared};
-pub use share::{GROUP, Receipt, Round, Share, Status};
+pub use share::{GROUP, Round, Share};

@@ -1,13 +1,15 @@
 //! The places of a service: seats that come and go.
 
-ghost use Rattle.std.specs.Prelude.{◌≡◌, ◌≤◌, ◌<◌, ◌+◌, [], false, IfOk, IfErr};
+ghost use Rattle.std.specs.Prelude.{◌≡◌, ◌≤◌, ◌<◌, ◌+◌, [], false, IfOk, IfErr, IfSome};
 ghost use Rattle.locked.specs.Beginnings.{StartsWith};
 ghost use Rattle.shared.specs.Seats.{answers_to};
+ghost use Rattle.answers.specs.declared.fault.Fault.TheVariants as faults;
+ghost use Rattle.answers.specs.Faults.{IsNoSeat};
 
 use crate::seat::{Seat, Shared};
 use crate::share::Share;
 use crate::turns::lock;
-use locked::{Fault, Locked, Naming, Opened, Recorder, SeatFault, SeatNumber, SessionOn};
+use locked::{Fault, Locked, Naming, Opened, Recorder, SeatNumber, SessionOn, Sharing};
 use std::alloc::Allocator;
 use std::marker::Model;
 use std::sync::atomic::AtomicU64;
@@ -87,6 +89,8 @@ impl<N: Naming> Places<N> {
         answered: u64,
         part: ledger::Share<N>,
     )
+    where
+        N: Sharing<J>,
         requires all { N.all ≡ N.parts }
         requires part { (part.parts ≡ 1) × (answered ≤ part.amount) }
         ensures free { self.new.free ≡ self.old.free + 1 }
@@ -99,7 +103,7 @@ impl<N: Naming> Places<N> {
     }
 }
 
-impl<J: Recorder + Drop, A: Allocator + Copy, N: Naming> Shared<J, A, N> {
+impl<J: Recorder + Drop, A: Allocator + Copy, N: Sharing<J>> Shared<J, A, N> {
     /// A service: a session that up to so many seats share at one time, to which nothing is offered, with names from 1 to 1,000; and its places,
     /// which are all free. Where memory is refused, the session is gone, and its file stays.
     pub fn service<R: Wait>(
@@ -111,11 +115,12 @@ impl<J: Recorder + Drop, A: Allocator + Copy, N: Naming> Shared<J, A, N> {
         places: u64,
     ) -> Result<(Shared<J, A, N>, Places<N>), Fault>
         requires story { (session.spec ≡ N.spec) × (session.history ≡ N.opening) × (session.offered ≡ []) }
+        requires before { IfSome N.before (λ before. before ≡ session) }
         requires book { opened.seen.book ≡ N.book }
         requires ledger { (blank.name ≡ N.name) × (blank.parts ≡ N.parts) × (N.all ≡ N.parts) }
         requires places { (0 < places) × (places ≤ 64) × (N.all ≡ places + 2) }
         ensures places { IfOk result (λ s. (s.1.free ≡ places) × (s.1.receipts ≡ 0)) }
-        ensures fault { IfErr result (λ f. f ≡ Fault.Memory) }
+        ensures fault { IfErr result (λ f. f ≡ faults.Memory) }
     {
         match Locked::service(rt, alloc, session, opened, blank, places) {
             Ok((locked, part)) => Ok((
@@ -133,7 +138,7 @@ impl<J: Recorder + Drop, A: Allocator + Copy, N: Naming> Shared<J, A, N> {
     }
 }
 
-impl<J: Recorder, A: Allocator + Copy, N: Naming> Shared<J, A, N> {
+impl<J: Recorder, A: Allocator + Copy, N: Sharing<J>> Shared<J, A, N> {
     /// Gives a free place to a seat without a name, which has seen the history as it stands. Its number is above 1,000. A seat takes no memory
     /// of the allocator.
     ///
@@ -142,15 +147,16 @@ impl<J: Recorder, A: Allocator + Copy, N: Naming> Shared<J, A, N> {
         &self,
         rt: &R,
         places: &mut Places<N>,
-    ) -> Result<Seat<'_, J, A, N>, SeatFault>
+    ) -> Result<Seat<'_, J, A, N>, Fault>
         ensures seat { IfOk result (λ s. (s.share.mine ≡ []) × (s.share.closed ≡ false) × StartsWith s.share.seen N.opening) }
         ensures begun { IfOk result (λ s. s.share.begun ≡ 0) }
         ensures taken { IfOk result (λ _. places.new.free + 1 ≡ places.old.free) }
         ensures stay { IfErr result (λ _. places.new.free ≡ places.old.free) }
+        ensures why { IfErr result IsNoSeat }
         ensures receipts { places.new.receipts ≡ places.old.receipts }
     {
         if places.free() == 0 {
-            return Err(SeatFault::Seats);
+            return Err(Fault::Seats);
         }
         let mut locked = lock(rt, &self.locked);
         let admitted = locked.admit();

@@ -13,13 +13,15 @@ ghost use Rattle.locked.specs.Beginnings.{StartsWith};
 ghost use Rattle.shared.specs.Seats.{Answered, Refused, Named};
 ghost use Rattle.shared.specs.Turns.{CameTo};
 ghost use Rattle.std.specs.List.{AllByRecursion};
+ghost use Rattle.answers.specs.declared.fault.Fault.TheVariants as faults;
+ghost use Rattle.answers.specs.Faults.{IsNoSeat};
 
-use crate::share::{GROUP, Receipt, Round, Share, Status};
+use crate::share::{GROUP, Round, Share};
 use alphabet::{EventSet, Report};
+use answers::{Receipt, Status};
 use left_right::Absorb;
 use locked::{
-    Board, Fault, Locked, NameFault, Naming, Opened, Recorder, SeatFault, SeatNumber, SessionOn,
-    Summary,
+    Board, Fault, Locked, NameFault, Opened, Recorder, SeatNumber, SessionOn, Sharing, Summary,
 };
 use std::alloc::Allocator;
 use std::sync::atomic::AtomicU64;
@@ -27,7 +29,7 @@ use std::sync::ledger::Blank;
 use std::sync::{Condvar, Mutex, MutexGuard, Wait};
 
 /// A session that seats share. It isn't `Drop`: end it by `finish`.
-pub struct Shared<J: Recorder, A: Allocator, N: Naming>
+pub struct Shared<J: Recorder, A: Allocator, N: Sharing<J>>
 where
     Board<N, A>: Absorb<Summary, State = Summary>,
 {
@@ -42,7 +44,7 @@ where
 }
 
 /// A seat at a shared session. It isn't `Drop`: end it by `end`. What may be dropped, and moved to a thread, is its `Share`.
-pub struct Seat<'a, J: Recorder, A: Allocator, N: Naming>
+pub struct Seat<'a, J: Recorder, A: Allocator, N: Sharing<J>>
 where
     Board<N, A>: Absorb<Summary, State = Summary>,
 {
@@ -50,7 +52,7 @@ where
     pub share: Share<N, A>,
 }
 
-impl<J: Recorder + Drop, A: Allocator + Copy, N: Naming> Shared<J, A, N> {
+impl<J: Recorder + Drop, A: Allocator + Copy, N: Sharing<J>> Shared<J, A, N> {
     /// A session that up to so many seats share, to which nothing is offered. Where memory is refused, the session is gone, and its file stays.
     pub fn new<R: Wait>(
         rt: &R,
@@ -61,10 +63,11 @@ impl<J: Recorder + Drop, A: Allocator + Copy, N: Naming> Shared<J, A, N> {
         places: u64,
     ) -> Result<Shared<J, A, N>, Fault>
         requires story { (session.spec ≡ N.spec) × (session.history ≡ N.opening) × (session.offered ≡ []) }
+        requires before { IfSome N.before (λ before. before ≡ session) }
         requires book { opened.seen.book ≡ N.book }
         requires ledger { (blank.name ≡ N.name) × (blank.parts ≡ N.parts) × (N.all ≡ N.parts) }
         requires places { (0 < places) × (places ≤ 64) × (places < N.all) }
-        ensures fault { IfErr result (λ f. f ≡ Fault.Memory) }
+        ensures fault { IfErr result (λ f. f ≡ faults.Memory) }
     {
         match Locked::new(rt, alloc, session, opened, blank, places) {
             Ok(locked) => Ok(Shared {
@@ -79,13 +82,14 @@ impl<J: Recorder + Drop, A: Allocator + Copy, N: Naming> Shared<J, A, N> {
     }
 }
 
-impl<J: Recorder, A: Allocator + Copy, N: Naming> Shared<J, A, N> {
+impl<J: Recorder, A: Allocator + Copy, N: Sharing<J>> Shared<J, A, N> {
     /// Gives a seat, which has seen the history as it stands. A seat takes no memory of the allocator.
     ///
     /// The faults are asked for in this order: `Closed`, `Seats`, `Reader`. After `Reader` a seat number is used up.
-    pub fn seat<R: Wait>(&self, rt: &R, _alloc: A) -> Result<Seat<'_, J, A, N>, SeatFault>
+    pub fn seat<R: Wait>(&self, rt: &R, _alloc: A) -> Result<Seat<'_, J, A, N>, Fault>
         ensures seat { IfOk result (λ s. (s.share.mine ≡ []) × (s.share.closed ≡ false) × StartsWith s.share.seen N.opening) }
         ensures begun { IfOk result (λ s. s.share.begun ≡ 0) }
+        ensures why { IfErr result IsNoSeat }
     {
         let mut locked = self.locked.lock(rt);
         let given = locked.seat();
@@ -108,7 +112,7 @@ impl<J: Recorder, A: Allocator + Copy, N: Naming> Shared<J, A, N> {
     }
 }
 
-impl<J: Recorder, A: Allocator + Copy, N: Naming> Seat<'_, J, A, N> {
+impl<J: Recorder, A: Allocator + Copy, N: Sharing<J>> Seat<'_, J, A, N> {
     /// Reports. The receipt has the verdict and the place of the report's entry in the history.
     ///
     /// The faults: `Depth` or `States` where judging met that limit; `History` at 1,000,000 entries, or where names are kept as their bodies at 2^62, or at

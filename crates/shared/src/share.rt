@@ -15,26 +15,20 @@ ghost use Rattle.shared.specs.Faults.{closes};
 ghost use Rattle.shared.specs.Seats.{Answered, Refused, Named, IsWithin, answers_to};
 ghost use Rattle.shared.specs.Turns.{CameTo};
 ghost use Rattle.std.specs.List.{AllByRecursion};
+ghost use Rattle.answers.specs.declared.fault.Fault.TheVariants as faults;
 
 use crate::seat::Shared;
 use crate::turns::{locked_for, named_at, take_turn};
 use alphabet::{EventSet, Report};
+use answers::{Receipt, Status};
 use core::mem::replace_with;
 use locked::{
-    Counts, Failed, Fault, Looker, NameFault, Naming, Recorder, SeatNumber, Summary, is_of, look,
+    Counts, Failed, Fault, Looker, NameFault, Naming, Recorder, SeatNumber, Sharing, Summary,
+    is_of, look,
 };
 use std::alloc::Allocator;
 use std::marker::Model;
 use std::sync::{MutexGuard, Wait, ledger};
-
-/// The answer to a report.
-#[derive(Clone, Copy, PartialEq, Eq, Debug)]
-pub struct Receipt {
-    /// Whether the report was accepted.
-    pub verdict: bool,
-    /// The place of the report's entry in the history, counted from 1.
-    pub place: u64,
-}
 
 /// The most reports of a seat in one turn.
 pub const GROUP: usize = 1024;
@@ -59,14 +53,6 @@ impl Round {
             fault: Some(fault),
         }
     }
-}
-
-/// The counts of a history, and whether this seat knows the session to be closed.
-#[derive(Clone, Copy, PartialEq, Eq, Debug)]
-pub struct Status {
-    pub summary: Summary,
-    /// Whether a report of this seat was answered with `Journal` or `Closed`.
-    pub closed: bool,
 }
 
 /// What a seat knows and has done: a settled history, how many of its entries it has seen, and how many of its own reports were answered,
@@ -120,8 +106,8 @@ impl<N: Naming, A: Allocator> Model for Share<N, A> {
 
 // 30 for the report whose entry is the first that the disk failed on, and 31 for all others.
 fn closing(failed: Failed, seat: SeatNumber, number: u32, report: &Report) -> Fault
-    ensures first { IsOf failed seat number report.now → result ≡ Fault.Journal failed }
-    ensures others { ((result ≡ Fault.Journal failed) × IsOf failed seat number report.now) ⊎ (result ≡ Fault.Closed failed) }
+    ensures first { IsOf failed seat number report.now → result ≡ faults.Journal failed }
+    ensures others { ((result ≡ faults.Journal failed) × IsOf failed seat number report.now) ⊎ (result ≡ faults.Closed failed) }
 {
     if is_of(&failed.entry(), seat, number, report) {
         Fault::Journal(failed)
@@ -286,6 +272,8 @@ impl<N: Naming, A: Allocator + Copy> Share<N, A> {
         reports: &[Report],
         verdicts: &mut [bool],
     ) -> Round
+    where
+        N: Sharing<J>,
         requires reports { AllByRecursion (IsReport N.spec.alphabet) reports.now }
         requires count { (0 < length reports.now) × (length reports.now ≤ GROUP) × (length reports.now ≤ length verdicts.old) }
         ensures count { (result.count ≤ length reports.now) × (result.place + result.count ≤ 2 ^ 62 + 1) }
@@ -337,6 +325,8 @@ impl<N: Naming, A: Allocator + Copy> Share<N, A> {
         shared: &Shared<J, A, N>,
         report: Report,
     ) -> Result<Receipt, Fault>
+    where
+        N: Sharing<J>,
         requires { IsReport N.spec.alphabet report }
         ensures answered { IfOk result (λ r. Answered (bodies_of N.spec.bodies) self.old self.new report r.verdict r.place) }
         ensures refused { IfErr result (λ f. Refused N.spec self.old self.new report f) }
@@ -360,6 +350,8 @@ impl<N: Naming, A: Allocator + Copy> Share<N, A> {
         shared: &Shared<J, A, N>,
         name: SeatNumber,
     ) -> Result<u32, NameFault>
+    where
+        N: Sharing<J>,
         ensures named { IfOk result (λ count. Named (bodies_of N.spec.bodies) self.old self.new name count) }
         ensures unnamed { IfErr result (λ _. self.new ≡ self.old) }
     {
@@ -389,6 +381,8 @@ impl<N: Naming, A: Allocator + Copy> Share<N, A> {
         rt: &R,
         shared: &Shared<J, A, N>,
     ) -> EventSet
+    where
+        N: Sharing<J>,
         ensures next { (x : Event) → IsTrue (member result x) ↔ Trace (bodies_of N.spec.bodies) root (events self.new.seen ++ x ∷ []) }
         ensures seen { StartsWith self.new.seen self.old.seen × Legal (bodies_of N.spec.bodies) self.new.seen }
         ensures same { (self.new.seat ≡ self.old.seat) × (self.new.mine ≡ self.old.mine) × (self.new.closed ≡ self.old.closed) × (self.new.begun ≡ self.old.begun) }

@@ -12,7 +12,7 @@ ghost use Rattle.shared.specs.Turns.{IsRefused};
 
 use crate::seat::Shared;
 use alphabet::Report;
-use locked::{Counts, Failed, Fault, Locked, NameFault, Naming, Recorder, SeatNumber};
+use locked::{Counts, Failed, Fault, Locked, NameFault, Naming, Recorder, SeatNumber, Sharing};
 use std::alloc::Allocator;
 use std::hint::spin_loop;
 use std::sync::atomic::Ordering;
@@ -49,7 +49,7 @@ fn pause(pauses: u32) {
 
 // Takes the lock. Most reports are over sooner than a thread that sleeps is woken. Where more threads wait than there are processors,
 // the one that holds the lock may be waiting for a processor.
-pub(crate) fn lock<'a, J: Recorder, A: Allocator + Copy, N: Naming, R: Wait>(
+pub(crate) fn lock<'a, J: Recorder, A: Allocator + Copy, N: Sharing<J>, R: Wait>(
     rt: &R,
     mutex: &'a Mutex<Locked<J, A, N>>,
 ) -> MutexGuard<'a, Locked<J, A, N>> {
@@ -67,7 +67,7 @@ pub(crate) fn lock<'a, J: Recorder, A: Allocator + Copy, N: Naming, R: Wait>(
 }
 
 // The lock, where the settled list is no shorter than what the seat knows. Otherwise it is released.
-fn once_no_shorter<'a, J: Recorder, A: Allocator + Copy, N: Naming>(
+fn once_no_shorter<'a, J: Recorder, A: Allocator + Copy, N: Sharing<J>>(
     known: &Counts<N>,
     locked: MutexGuard<'a, Locked<J, A, N>>,
 ) -> Option<MutexGuard<'a, Locked<J, A, N>>>
@@ -81,7 +81,7 @@ fn once_no_shorter<'a, J: Recorder, A: Allocator + Copy, N: Naming>(
 }
 
 // Takes the lock once the settled list is no shorter than what the seat knows. No seat knows more than that, so the first turn ends it.
-pub(crate) fn locked_for<'a, J: Recorder, A: Allocator + Copy, N: Naming, R: Wait>(
+pub(crate) fn locked_for<'a, J: Recorder, A: Allocator + Copy, N: Sharing<J>, R: Wait>(
     rt: &R,
     shared: &'a Shared<J, A, N>,
     known: &Counts<N>,
@@ -97,7 +97,7 @@ pub(crate) fn locked_for<'a, J: Recorder, A: Allocator + Copy, N: Naming, R: Wai
 }
 
 // Takes the lock to judge. Until then the thread is counted, so that whoever has judged leaves the settling to it.
-fn locked_to_judge<'a, J: Recorder, A: Allocator + Copy, N: Naming, R: Wait>(
+fn locked_to_judge<'a, J: Recorder, A: Allocator + Copy, N: Sharing<J>, R: Wait>(
     rt: &R,
     shared: &'a Shared<J, A, N>,
     known: &Counts<N>,
@@ -112,7 +112,7 @@ fn locked_to_judge<'a, J: Recorder, A: Allocator + Copy, N: Naming, R: Wait>(
 }
 
 // Settles all that is offered, and wakes those that wait for it.
-fn settle<J: Recorder, A: Allocator + Copy, N: Naming, R: Wait>(
+fn settle<J: Recorder, A: Allocator + Copy, N: Sharing<J>, R: Wait>(
     rt: &R,
     shared: &Shared<J, A, N>,
     locked: &mut Locked<J, A, N>,
@@ -129,7 +129,7 @@ fn settle<J: Recorder, A: Allocator + Copy, N: Naming, R: Wait>(
 
 // Waits for a moment, where more than one thread has judged between the last two settlings, and fewer have since: those whose replies
 // came by the last one may be about to report again. The lock is released meanwhile.
-fn await_others<'a, J: Recorder, A: Allocator + Copy, N: Naming, R: Wait>(
+fn await_others<'a, J: Recorder, A: Allocator + Copy, N: Sharing<J>, R: Wait>(
     rt: &R,
     shared: &'a Shared<J, A, N>,
     locked: MutexGuard<'a, Locked<J, A, N>>,
@@ -148,7 +148,7 @@ fn await_others<'a, J: Recorder, A: Allocator + Copy, N: Naming, R: Wait>(
 
 // Waits for the next settling. The lock is released meanwhile. Where syncs are fast, all is settled by the time that the threads which are
 // ready have run once, sooner than one that sleeps is woken.
-fn await_settling<'a, J: Recorder, A: Allocator + Copy, N: Naming, R: Wait>(
+fn await_settling<'a, J: Recorder, A: Allocator + Copy, N: Sharing<J>, R: Wait>(
     rt: &R,
     shared: &'a Shared<J, A, N>,
     locked: MutexGuard<'a, Locked<J, A, N>>,
@@ -169,7 +169,7 @@ fn await_settling<'a, J: Recorder, A: Allocator + Copy, N: Naming, R: Wait>(
 
 // Waits until so many entries are settled, or the session is closed. Where nobody waits to judge, it settles all itself; otherwise the last of
 // those does.
-fn await_len<'a, J: Recorder, A: Allocator + Copy, N: Naming, R: Wait>(
+fn await_len<'a, J: Recorder, A: Allocator + Copy, N: Sharing<J>, R: Wait>(
     rt: &R,
     shared: &'a Shared<J, A, N>,
     locked: MutexGuard<'a, Locked<J, A, N>>,
@@ -196,7 +196,7 @@ fn await_len<'a, J: Recorder, A: Allocator + Copy, N: Naming, R: Wait>(
 
 // Waits until the entries of these reports of the seat are settled, from this place on; where too many seats wait, it settles them itself.
 // `Err` where the session was closed before.
-fn await_settled<'a, J: Recorder, A: Allocator + Copy, N: Naming, R: Wait>(
+fn await_settled<'a, J: Recorder, A: Allocator + Copy, N: Sharing<J>, R: Wait>(
     rt: &R,
     shared: &'a Shared<J, A, N>,
     locked: MutexGuard<'a, Locked<J, A, N>>,
@@ -241,7 +241,7 @@ fn await_settled<'a, J: Recorder, A: Allocator + Copy, N: Naming, R: Wait>(
 
 // Settles all, since a report of this seat was refused: so what is told of it is told of the settled history, in which the entries of those
 // before it stand from this place on. `Err` where the session is closed.
-fn settled_at_once<'a, J: Recorder, A: Allocator + Copy, N: Naming, R: Wait>(
+fn settled_at_once<'a, J: Recorder, A: Allocator + Copy, N: Sharing<J>, R: Wait>(
     rt: &R,
     shared: &'a Shared<J, A, N>,
     locked: MutexGuard<'a, Locked<J, A, N>>,
@@ -278,7 +278,7 @@ fn settled_at_once<'a, J: Recorder, A: Allocator + Copy, N: Naming, R: Wait>(
 }
 
 // Offers reports of a seat one after the other, until one is refused. The answer is how many were taken, and why the next one wasn't.
-fn offer_all<J: Recorder, A: Allocator + Copy, N: Naming>(
+fn offer_all<J: Recorder, A: Allocator + Copy, N: Sharing<J>>(
     locked: &mut Locked<J, A, N>,
     seat: SeatNumber,
     number: u32,
@@ -325,7 +325,7 @@ pub(crate) struct Turn<N: Naming> {
 
 /// Reports of a seat that knows this much are judged in one turn under the lock, up to the first that is refused, and settled with all that
 /// is offered. `Err` where the session is closed, with how many of them were offered and lost.
-pub(crate) fn take_turn<J: Recorder, A: Allocator + Copy, N: Naming, R: Wait>(
+pub(crate) fn take_turn<J: Recorder, A: Allocator + Copy, N: Sharing<J>, R: Wait>(
     rt: &R,
     shared: &Shared<J, A, N>,
     known: &Counts<N>,
@@ -374,7 +374,7 @@ pub(crate) fn take_turn<J: Recorder, A: Allocator + Copy, N: Naming, R: Wait>(
 
 // Gives a name to a seat that has another number so far and has reported nothing, once all that is offered is settled. The answer is how
 // many entries of the name the settled list has with the opening, and that list.
-fn name_under<J: Recorder, A: Allocator + Copy, N: Naming, R: Wait>(
+fn name_under<J: Recorder, A: Allocator + Copy, N: Sharing<J>, R: Wait>(
     rt: &R,
     shared: &Shared<J, A, N>,
     locked: &mut Locked<J, A, N>,
@@ -393,7 +393,7 @@ fn name_under<J: Recorder, A: Allocator + Copy, N: Naming, R: Wait>(
 }
 
 /// The same for a seat that knows this much, under the lock.
-pub(crate) fn named_at<J: Recorder, A: Allocator + Copy, N: Naming, R: Wait>(
+pub(crate) fn named_at<J: Recorder, A: Allocator + Copy, N: Sharing<J>, R: Wait>(
     rt: &R,
     shared: &Shared<J, A, N>,
     known: &Counts<N>,

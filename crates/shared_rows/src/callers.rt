@@ -5,7 +5,7 @@ use alphabet::{Event, EventSet, Report};
 use journal::Prepared;
 use shared::{
     Counts, Entry, Failed, Names, Naming, Publisher, Receipt, Recorder, SeatNumber, Share, Shared,
-    Source, Spine, Summary, Waiting, crosses, legal_crosses,
+    Sharing, Source, Spine, Summary, Waiting, crosses, legal_crosses,
 };
 use std::alloc::{AllocError, Global};
 use std::sync::{Wait, ledger};
@@ -60,7 +60,7 @@ fn is_of(receipt: &Receipt, index: usize, entry: &Entry) -> bool {
 }
 
 /// Reports tick so many times. A receipt for which there is no memory is left out, and so the history doesn't explain the others.
-fn ticks<J: Recorder, N: Naming, T: Wait>(
+fn ticks<J: Recorder, N: Sharing<J>, T: Wait>(
     rt: &T,
     alloc: Global,
     shared: &Shared<J, Global, N>,
@@ -78,7 +78,7 @@ fn ticks<J: Recorder, N: Naming, T: Wait>(
 }
 
 /// Looks while a sync is held. Sees nothing where none is.
-fn look_meanwhile<J: Recorder, N: Naming, C: Clock>(
+fn look_meanwhile<J: Recorder, N: Sharing<J>, C: Clock>(
     clock: &C,
     gate: &Gate,
     shared: &Shared<J, Global, N>,
@@ -94,7 +94,7 @@ fn look_meanwhile<J: Recorder, N: Naming, C: Clock>(
 }
 
 /// Does what the caller is to do.
-fn run<J: Recorder, N: Naming, T: Wait + Clock>(
+fn run<J: Recorder, N: Sharing<J>, T: Wait + Clock>(
     rt: &T,
     alloc: Global,
     gate: &Gate,
@@ -124,7 +124,7 @@ fn run<J: Recorder, N: Naming, T: Wait + Clock>(
 /// Runs each caller on a thread of its own, in the order of the list where no thread can be made.
 pub(crate) fn run_all<
     J: Recorder + Send,
-    N: Naming + Send + Sync,
+    N: Sharing<J> + Send + Sync,
     R: Threads + Wait + Clock + Sync,
 >(
     rt: &R,

@@ -1,6 +1,6 @@
 //! A service, whose seats come and go.
 
-ghost use Rattle.std.specs.Prelude.{[], ◌≡◌, ◌+◌, ◌<◌, ◌≤◌};
+ghost use Rattle.std.specs.Prelude.{[], ◌≡◌, ◌+◌, ◌<◌, ◌≤◌, IfSome};
 ghost use Rattle.alphabet.specs.Channels.{event_count};
 
 use crate::ends::{put_kept, put_session, put_talk, put_unopened};
@@ -9,8 +9,8 @@ use disk::Disk;
 use journal::Journal;
 use memory_disks::{Afterwards, FaultDisk};
 use rows::{Output, first_word, number_of, parts};
-use seats::{ServiceJudge, copy_of, refusal_of};
-use shared::{Naming, Opened, Places, Session, Share, Shared};
+use seats::{ServiceJudge, copy_of};
+use shared::{Opened, Places, Session, Share, Shared, Sharing};
 use std::alloc::Global;
 use std::marker::Brand;
 use std::sync::Wait;
@@ -42,7 +42,7 @@ impl<'a> Visits<'a> {
 }
 
 /// A seat comes. It is the last one of the list then.
-fn come<D: Disk, N: Naming, T: Wait>(
+fn come<D: Disk, N: Sharing<Journal<D>>, T: Wait>(
     rt: &T,
     shared: &Shared<Journal<D>, Global, N>,
     places: &mut Places<N>,
@@ -56,14 +56,14 @@ fn come<D: Disk, N: Naming, T: Wait>(
             }
         }
         Err(fault) => {
-            out.put_shown(&refusal_of(fault));
+            out.put_shown(&fault.plain());
             out.put("; ");
         }
     }
 }
 
 /// Appends what comes of a conversation at the seat of this share.
-fn talk_at<D: Disk, N: Naming, T: Wait>(
+fn talk_at<D: Disk, N: Sharing<Journal<D>>, T: Wait>(
     rt: &T,
     alloc: Global,
     shared: &Shared<Journal<D>, Global, N>,
@@ -84,7 +84,7 @@ fn talk_at<D: Disk, N: Naming, T: Wait>(
 }
 
 /// A seat talks, or leaves.
-fn act<D: Disk, N: Naming, T: Wait>(
+fn act<D: Disk, N: Sharing<Journal<D>>, T: Wait>(
     rt: &T,
     alloc: Global,
     shared: &Shared<Journal<D>, Global, N>,
@@ -116,7 +116,7 @@ fn act<D: Disk, N: Naming, T: Wait>(
 }
 
 /// Plays the steps, one after the other.
-fn play_all<D: Disk, N: Naming, T: Wait>(
+fn play_all<D: Disk, N: Sharing<Journal<D>>, T: Wait>(
     rt: &T,
     alloc: Global,
     shared: &Shared<Journal<D>, Global, N>,
@@ -140,7 +140,7 @@ fn play_all<D: Disk, N: Naming, T: Wait>(
 
 /// Appends what comes of the steps in a service over this session, what it has then, and what a session of its file has. The caller
 /// picks the names.
-fn serve<D: Disk + Drop, N: Naming, T: Wait>(
+fn serve<D: Disk + Drop, N: Sharing<Journal<D>>, T: Wait>(
     rt: &T,
     alloc: Global,
     session: Session<D, Global>,
@@ -151,6 +151,7 @@ fn serve<D: Disk + Drop, N: Naming, T: Wait>(
     out: &mut Output,
 )
     requires story { (session.spec ≡ N.spec) × (session.history ≡ N.opening) × (session.offered ≡ []) }
+    requires before { IfSome N.before (λ before. before ≡ session) }
     requires book { opened.seen.book ≡ N.book }
     requires ledger { (blank.name ≡ N.name) × (blank.parts ≡ N.parts) × (N.all ≡ N.parts) × (N.all ≡ visits.now.places + 2) }
     requires events { event_count N.spec.alphabet ≡ event_count alphabet.now }

@@ -1,6 +1,6 @@
 //! Conversations with the seats of a shared session, one after the other.
 
-ghost use Rattle.std.specs.Prelude.{[], ◌≡◌, ◌<◌, ◌≤◌};
+ghost use Rattle.std.specs.Prelude.{[], ◌≡◌, ◌<◌, ◌≤◌, IfSome};
 ghost use Rattle.alphabet.specs.Channels.{event_count};
 
 use crate::ends::{put_kept, put_looks, put_session, put_talk, put_unopened};
@@ -9,8 +9,8 @@ use alphabet::Alphabet;
 use disk::Disk;
 use journal::Journal;
 use rows::{Output, first_word, number_of, parts};
-use seats::{SeatJudge, copy_of, refusal_of};
-use shared::{Naming, Opened, Session, Share, Shared};
+use seats::{SeatJudge, copy_of};
+use shared::{Opened, Session, Share, Shared, Sharing};
 use std::alloc::{Allocator, Global};
 use std::marker::Brand;
 use std::sync::Wait;
@@ -45,7 +45,7 @@ impl<'a> Talks<'a> {
 }
 
 /// Appends what comes of a conversation.
-fn talk<D: Disk, A: Allocator + Copy + Drop, N: Naming, T: Wait>(
+fn talk<D: Disk, A: Allocator + Copy + Drop, N: Sharing<Journal<D>>, T: Wait>(
     alloc: A,
     judge: &mut SeatJudge<'_, Journal<D>, A, N, T>,
     alphabet: &Alphabet<A>,
@@ -62,7 +62,7 @@ fn talk<D: Disk, A: Allocator + Copy + Drop, N: Naming, T: Wait>(
 }
 
 /// Appends what comes of a conversation at the seat of this share.
-fn talk_at<D: Disk, A: Allocator + Copy + Drop, N: Naming, T: Wait>(
+fn talk_at<D: Disk, A: Allocator + Copy + Drop, N: Sharing<Journal<D>>, T: Wait>(
     rt: &T,
     alloc: A,
     shared: &Shared<Journal<D>, A, N>,
@@ -79,7 +79,7 @@ fn talk_at<D: Disk, A: Allocator + Copy + Drop, N: Naming, T: Wait>(
 }
 
 /// Appends what comes of a conversation at the seat with this place.
-fn talk_with<D: Disk, A: Allocator + Copy + Drop, N: Naming, T: Wait>(
+fn talk_with<D: Disk, A: Allocator + Copy + Drop, N: Sharing<Journal<D>>, T: Wait>(
     rt: &T,
     alloc: A,
     shared: &Shared<Journal<D>, A, N>,
@@ -102,7 +102,7 @@ fn talk_with<D: Disk, A: Allocator + Copy + Drop, N: Naming, T: Wait>(
 }
 
 /// Appends what comes of the conversations, one after the other.
-fn talk_all<D: Disk, A: Allocator + Copy + Drop, N: Naming, T: Wait>(
+fn talk_all<D: Disk, A: Allocator + Copy + Drop, N: Sharing<Journal<D>>, T: Wait>(
     rt: &T,
     alloc: A,
     shared: &Shared<Journal<D>, A, N>,
@@ -123,7 +123,7 @@ fn talk_all<D: Disk, A: Allocator + Copy + Drop, N: Naming, T: Wait>(
 }
 
 /// Takes the places of the session, for whose shares there is room. Answers why one isn't given.
-fn take_places<D: Disk, A: Allocator + Copy, N: Naming, T: Wait>(
+fn take_places<D: Disk, A: Allocator + Copy, N: Sharing<Journal<D>>, T: Wait>(
     rt: &T,
     alloc: A,
     shared: &Shared<Journal<D>, A, N>,
@@ -135,14 +135,14 @@ fn take_places<D: Disk, A: Allocator + Copy, N: Naming, T: Wait>(
             Ok(seat) => {
                 let _ = shares.push(seat.end());
             }
-            Err(fault) => return Some(refusal_of(fault)),
+            Err(fault) => return Some(fault.plain()),
         }
     }
     None
 }
 
 /// Appends why there is no further seat.
-fn put_refusal<D: Disk, A: Allocator + Copy, N: Naming, T: Wait>(
+fn put_refusal<D: Disk, A: Allocator + Copy, N: Sharing<Journal<D>>, T: Wait>(
     rt: &T,
     alloc: A,
     shared: &Shared<Journal<D>, A, N>,
@@ -153,13 +153,13 @@ fn put_refusal<D: Disk, A: Allocator + Copy, N: Naming, T: Wait>(
             let _ = seat.end();
             out.put("a seat");
         }
-        Err(fault) => out.put_shown(&refusal_of(fault)),
+        Err(fault) => out.put_shown(&fault.plain()),
     }
     out.put("; ");
 }
 
 /// Appends what each seat answers without a report.
-fn look_at_all<D: Disk, A: Allocator + Copy, N: Naming, T: Wait>(
+fn look_at_all<D: Disk, A: Allocator + Copy, N: Sharing<Journal<D>>, T: Wait>(
     rt: &T,
     shared: &Shared<Journal<D>, A, N>,
     shares: &mut Vec<Share<N, A>, A>,
@@ -176,7 +176,7 @@ fn look_at_all<D: Disk, A: Allocator + Copy, N: Naming, T: Wait>(
 }
 
 /// Appends what comes of the conversations, and why there is no further seat then.
-fn talk_in_turn<D: Disk, A: Allocator + Copy + Drop, N: Naming, T: Wait>(
+fn talk_in_turn<D: Disk, A: Allocator + Copy + Drop, N: Sharing<Journal<D>>, T: Wait>(
     rt: &T,
     alloc: A,
     shared: &Shared<Journal<D>, A, N>,
@@ -210,7 +210,7 @@ fn talk_in_turn<D: Disk, A: Allocator + Copy + Drop, N: Naming, T: Wait>(
 
 /// Appends what comes of the conversations at the seats of this session, what it has then, and what a session of its file has. The caller
 /// picks the names.
-fn share<D: Disk + Drop, A: Allocator + Copy + Drop, N: Naming, T: Wait>(
+fn share<D: Disk + Drop, A: Allocator + Copy + Drop, N: Sharing<Journal<D>>, T: Wait>(
     rt: &T,
     alloc: A,
     session: Session<D, A>,
@@ -222,6 +222,7 @@ fn share<D: Disk + Drop, A: Allocator + Copy + Drop, N: Naming, T: Wait>(
     out: &mut Output,
 )
     requires story { (session.spec ≡ N.spec) × (session.history ≡ N.opening) × (session.offered ≡ []) }
+    requires before { IfSome N.before (λ before. before ≡ session) }
     requires book { opened.seen.book ≡ N.book }
     requires ledger { (blank.name ≡ N.name) × (blank.parts ≡ N.parts) × (N.all ≡ N.parts) × (N.all ≡ 65) }
     requires events { event_count N.spec.alphabet ≡ event_count alphabet.now }

@@ -1,7 +1,7 @@
 //! A session of a process that ends at once, shared by callers on threads of their own. The first report of tick is accepted, and
 //! each further one rejected.
 
-ghost use Rattle.std.specs.Prelude.{[], ◌≡◌};
+ghost use Rattle.std.specs.Prelude.{[], ◌≡◌, IfSome};
 
 use crate::callers::{Answers, Caller, Task, run_all};
 use crate::ends::put_receipts;
@@ -9,7 +9,7 @@ use crate::held::{Gate, HeldDisk};
 use disk::Disk;
 use memory_disks::MemoryDisk;
 use rows::{Output, first_word, number_of};
-use shared::{Entry, Naming, Opened, Recorder, Session, SessionOn, Share, Shared};
+use shared::{Entry, Naming, Opened, Recorder, Session, SessionOn, Share, Shared, Sharing};
 use std::alloc::{AllocError, Global};
 use std::marker::Brand;
 use std::sync::Wait;
@@ -43,7 +43,7 @@ impl Plan {
 }
 
 /// A place for each task.
-fn callers_of<J: Recorder, N: Naming, T: Wait>(
+fn callers_of<J: Recorder, N: Sharing<J>, T: Wait>(
     rt: &T,
     alloc: Global,
     shared: &Shared<J, Global, N>,
@@ -63,7 +63,7 @@ fn callers_of<J: Recorder, N: Naming, T: Wait>(
 }
 
 /// Gives each task its place, arms the gate, and runs them all.
-fn done_at<J: Recorder + Send, N: Naming + Send + Sync, T: Threads + Wait + Clock + Sync>(
+fn done_at<J: Recorder + Send, N: Sharing<J> + Send + Sync, T: Threads + Wait + Clock + Sync>(
     rt: &T,
     alloc: Global,
     gate: &Gate,
@@ -92,7 +92,7 @@ fn part<N: Naming>(
 }
 
 /// Runs all tasks. Their answers, and so many of their shares, are appended to the lists.
-fn run_plan<J: Recorder + Send, N: Naming + Send + Sync, T: Threads + Wait + Clock + Sync>(
+fn run_plan<J: Recorder + Send, N: Sharing<J> + Send + Sync, T: Threads + Wait + Clock + Sync>(
     rt: &T,
     alloc: Global,
     gate: &Gate,
@@ -144,14 +144,11 @@ fn are_explained(all: &[Answers], history: &[Entry]) -> bool {
 }
 
 /// Appends what comes of the tasks at the seats of this shared session.
-fn put_shared<J: Recorder + Drop + Send, N: Naming + Send + Sync, T: Threads + Wait + Clock + Sync>(
-    rt: &T,
-    alloc: Global,
-    shared: Shared<J, Global, N>,
-    gate: &Gate,
-    plan: &Plan,
-    out: &mut Output,
-)
+fn put_shared<
+    J: Recorder + Drop + Send,
+    N: Sharing<J> + Send + Sync,
+    T: Threads + Wait + Clock + Sync,
+>(rt: &T, alloc: Global, shared: Shared<J, Global, N>, gate: &Gate, plan: &Plan, out: &mut Output)
     requires { N.all ≡ N.parts }
 {
     let (mut shares, mut all) = (Vec::new(alloc), Vec::new(alloc));
@@ -164,7 +161,7 @@ fn put_shared<J: Recorder + Drop + Send, N: Naming + Send + Sync, T: Threads + W
 }
 
 /// Appends what comes of the tasks at the seats of this session. The caller picks the names.
-fn share<J: Recorder + Drop + Send, N: Naming + Send + Sync, T: Threads + Wait + Clock + Sync>(
+fn share<J: Recorder + Drop + Send, N: Sharing<J> + Send + Sync, T: Threads + Wait + Clock + Sync>(
     rt: &T,
     alloc: Global,
     session: SessionOn<J, Global>,
@@ -175,6 +172,7 @@ fn share<J: Recorder + Drop + Send, N: Naming + Send + Sync, T: Threads + Wait +
     out: &mut Output,
 )
     requires story { (session.spec ≡ N.spec) × (session.history ≡ N.opening) × (session.offered ≡ []) }
+    requires before { IfSome N.before (λ before. before ≡ session) }
     requires book { opened.seen.book ≡ N.book }
     requires ledger { (blank.name ≡ N.name) × (blank.parts ≡ N.parts) × (N.all ≡ N.parts) × (N.all ≡ 65) }
 {

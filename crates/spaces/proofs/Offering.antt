@@ -8,8 +8,8 @@ use Rattle.alphabet.specs.EventSets.{Set, has, member}
 use Rattle.alphabet.specs.declared.events.Event.{Event}
 use Rattle.alphabet.specs.declared.events.Event.TheVariants.{Tick as tick, Of as ev}
 use Rattle.closures.specs.Offers.{Offers, offered}
-use Rattle.closures.proofs.ActList.{append-In, In-append_l, In-append_r}
-use Rattle.closures.proofs.HidList.{ticks-Ticks, Ticks-ticks}
+use Rattle.closures.proofs.Members.{append-In, In-append_l, In-append_r}
+use Rattle.closures.proofs.Ticking.{ticks-Ticks, Ticks-ticks}
 use Rattle.closures.proofs.Offered.{offered-Offers, Act-offered}
 use Rattle.closures.proofs.Rest.{resting-says}
 use Rattle.closures.proofs.Cutting.{only as one-In}

@@ -1,71 +1,14 @@
 -- The list of an event's targets has just the targets of the table.
-use Rattle.std.proofs.Common.{◌≡◌, ℕ, Bool, true, false, ◌⊎◌, inl, inr, List, [], ◌∷◌, ◌++◌, map, nat_eq, refl, sym, subst, ap, ◌∙◌}
+use Rattle.std.proofs.Common.{◌≡◌, ℕ, Bool, true, false, inl, inr, List, [], ◌∷◌, ◌++◌, map, nat_eq, refl, sym, subst}
 use Rattle.std.proofs.lemmas.Bool.{eqb-true, eq-eqb}
 use Rattle.alphabet.specs.EventSets.{Set, has}
-use Rattle.term.specs.Traces.{Pairs, partners, or_itself, images, In, here, there}
+use Rattle.term.specs.Traces.{In, here, there}
 use Rattle.term.specs.Proc.{Proc, stop, skip, prefix, ext, int, seq, par, hide, ren, intr, name}
 use Rattle.term.specs.Steps.{Act, a-prefix, a-ext-l, a-ext-r, a-seq, a-par-l, a-par-r, a-par-b, a-hide, a-ren, a-intr-l, a-intr-r}
-use Rattle.term.proofs.Bools.{not-both}
-use Rattle.step.specs.Targets.{acts, pairs_of, each, origins, sources, where_, is_empty, par_targets}
-
--- ---- membership
-module _ {A : Type 0} where
-  pub In-append_l : {x : A} {xs : List A} → In x xs → (ys : List A) → In x (xs ++ ys)
-  In-append_l here ys = here
-  In-append_l (there i) ys = there (In-append_l i ys)
-
-  pub In-append_r : (xs : List A) {x : A} {ys : List A} → In x ys → In x (xs ++ ys)
-  In-append_r [] i = i
-  In-append_r (z ∷ xs) i = there (In-append_r xs i)
-
-  In-first : {x y : A} {xs : List A} → In x (y ∷ xs) → (x ≡ y) ⊎ In x xs
-  In-first here = inl refl
-  In-first (there i) = inr i
-
-  In-of : {x y : A} {xs : List A} → x ≡ y → In x (y ∷ xs)
-  In-of {y} {xs} e = subst (λ v. In v (y ∷ xs)) (sym e) here
-
-  pub append-In : (xs ys : List A) (x : A) → In x (xs ++ ys) → In x xs ⊎ In x ys
-  append-In [] ys x i = inr i
-  append-In (z ∷ xs) ys x i =
-      elim (In-first i) [
-        | inl e ↦ inl (In-of e)
-        | inr j ↦ elim (append-In xs ys x j) [ inl k ↦ inl (there k) | inr k ↦ inr k ]
-      ]
-
-  pub where_-In : (b : Bool) (xs : List A) (x : A) → In x (where_ b xs) → (b ≡ true) × In x xs
-  where_-In true xs x i = (refl, i)
-  where_-In false xs x i = elim i [ ]
-
-  pub In-where_ : (b : Bool) (xs : List A) (x : A) → b ≡ true → In x xs → In x (where_ b xs)
-  In-where_ true xs x e i = i
-  In-where_ false xs x e i = absurd (cc)
-
-module _ (f : Proc → Proc) where
-  pub In-map : {x : Proc} {xs : List Proc} → In x xs → In (f x) (map f xs)
-  In-map here = here
-  In-map (there i) = there (In-map i)
-
-  pub map-In : (xs : List Proc) (y : Proc) → In y (map f xs) → (x : Proc) × In x xs × (f x ≡ y)
-  map-In [] y i = elim i [ ]
-  map-In (x ∷ xs) y i =
-      elim (In-first i) [
-        | inl e ↦ (x, here, sym e)
-        | inr j ↦ let (z, k, e) = map-In xs y j in (z, there k, e)
-      ]
-
-module _ (f : Proc → Proc → Proc) where
-  pub In-pairs : {x y : Proc} {xs : List Proc} → In x xs → (ys : List Proc) → In y ys → In (f x y) (pairs_of f xs ys)
-  In-pairs (here {x = x} {xs = xs}) ys j = In-append_l (In-map (f x) j) (pairs_of f xs ys)
-  In-pairs (there {y = z} i) ys j = In-append_r (map (f z) ys) (In-pairs i ys j)
-
-  pub pairs-In : (xs ys : List Proc) (z : Proc) → In z (pairs_of f xs ys) → (x y : Proc) × In x xs × In y ys × (f x y ≡ z)
-  pairs-In [] ys z i = elim i [ ]
-  pairs-In (x ∷ xs) ys z i =
-      elim (append-In (map (f x) ys) (pairs_of f xs ys) z i) [
-        | inl j ↦ let (y, k, e) = map-In (f x) ys z j in (x, y, here, k, e)
-        | inr j ↦ let (x', y, k, l, e) = pairs-In xs ys z j in (x', y, there k, l, e)
-      ]
+use Rattle.targets.specs.Targets.{pairs_of, sources, where_}
+use Rattle.targets.proofs.Members.{In-append_l, In-append_r, In-first, append-In, where_-In, In-where_, In-map, map-In, In-pairs, pairs-In}
+use Rattle.targets.proofs.Sources.{image-source, source-image}
+use Rattle.step.specs.Targets.{acts, each, par_targets}
 
 module _ (f : ℕ → List Proc) where
   pub In-each : {a : ℕ} {as' : List ℕ} {y : Proc} → In a as' → In y (f a) → In y (each as' f)
@@ -79,68 +22,6 @@ module _ (f : ℕ → List Proc) where
         | inl j ↦ (a, here, j)
         | inr j ↦ let (b, k, l) = each-In as' y j in (b, there k, l)
       ]
-
--- ---- where a renaming takes an event from
-partners-origins : (R : Pairs) (a b : ℕ) → In b (partners R a) → In a (origins R b)
-partners-origins [] a b i = elim i [ ]
-partners-origins (p ∷ R) a b i = go (partners-origins R a b) (nat_eq p.0 a) refl i
-  where
-    go : (In b (partners R a) → In a (origins R b)) → (v : Bool) → nat_eq p.0 a ≡ v → In b (elim v [ true ↦ p.1 ∷ partners R a | false ↦ partners R a ]) → In a (where_ (nat_eq p.1 b) (p.0 ∷ []) ++ origins R b)
-    go ih true e i =
-        elim (In-first i) [
-          | inl q ↦ In-append_l (In-where_ (nat_eq p.1 b) (p.0 ∷ []) a (eq-eqb p.1 b (sym q)) (In-of (sym (eqb-true p.0 a e)))) (origins R b)
-          | inr j ↦ In-append_r (where_ (nat_eq p.1 b) (p.0 ∷ [])) (ih j)
-        ]
-    go ih false e i = In-append_r (where_ (nat_eq p.1 b) (p.0 ∷ [])) (ih i)
-
-origins-partners : (R : Pairs) (a b : ℕ) → In a (origins R b) → In b (partners R a)
-origins-partners [] a b i = elim i [ ]
-origins-partners (p ∷ R) a b i = go (origins-partners R a b) (nat_eq p.0 a) refl
-  where
-    one : In a (p.0 ∷ []) → a ≡ p.0
-    one j = elim (In-first j) [ inl q ↦ q | inr k ↦ elim k [ ] ]
-
-    go : (In a (origins R b) → In b (partners R a)) → (v : Bool) → nat_eq p.0 a ≡ v → In b (elim v [ true ↦ p.1 ∷ partners R a | false ↦ partners R a ])
-    go ih true e =
-        elim (append-In (where_ (nat_eq p.1 b) (p.0 ∷ [])) (origins R b) a i) [
-          | inl j ↦ let (t, k) = where_-In (nat_eq p.1 b) (p.0 ∷ []) a j in In-of (sym (eqb-true p.1 b t))
-          | inr j ↦ there (ih j)
-        ]
-    go ih false e =
-        elim (append-In (where_ (nat_eq p.1 b) (p.0 ∷ [])) (origins R b) a i) [
-          | inl j ↦ let (t, k) = where_-In (nat_eq p.1 b) (p.0 ∷ []) a j in absurd (not-both (eq-eqb p.0 a (sym (one k))) e)
-          | inr j ↦ ih j
-        ]
-
-itself_or : (bs : List ℕ) (a b : ℕ) → In b (or_itself bs a) → (In b bs ⊎ ((bs ≡ []) × (b ≡ a)))
-itself_or [] a b i = elim (In-first i) [ inl e ↦ inr (refl, e) | inr j ↦ elim j [ ] ]
-itself_or (c ∷ bs) a b i = inl i
-
-In-or_itself : {b : ℕ} {bs : List ℕ} → In b bs → (a : ℕ) → In b (or_itself bs a)
-In-or_itself here a = here
-In-or_itself (there i) a = there i
-
-empty-is : (bs : List ℕ) → is_empty bs ≡ true → bs ≡ []
-empty-is [] e = refl
-empty-is (b ∷ bs) e = absurd (cc)
-
-pub image-source : (R : Pairs) (a b : ℕ) → In b (images R a) → In a (sources R b)
-image-source R a b i =
-    elim (itself_or (partners R a) a b i) [
-      | inl j ↦ In-append_l (partners-origins R a b j) (where_ (is_empty (partners R b)) (b ∷ []))
-      | inr p ↦ In-append_r (origins R b) (In-where_ (is_empty (partners R b)) (b ∷ []) a (ap is_empty (ap (partners R) p.1 ∙ p.0)) (In-of (sym p.1)))
-    ]
-
-pub source-image : (R : Pairs) (a b : ℕ) → In a (sources R b) → In b (images R a)
-source-image R a b i =
-    elim (append-In (origins R b) (where_ (is_empty (partners R b)) (b ∷ [])) a i) [
-      | inl j ↦ In-or_itself (origins-partners R a b j) a
-      | inr j ↦
-          let (t, k) = where_-In (is_empty (partners R b)) (b ∷ []) a j in
-          let e : a ≡ b = elim (In-first k) [ inl q ↦ q | inr l ↦ elim l [ ] ] in
-          let n : partners R a ≡ [] = ap (partners R) e ∙ empty-is (partners R b) t in
-          subst (λ l. In b (or_itself l a)) (sym n) (In-of (sym e))
-    ]
 
 -- ---- both ways
 pub Act-acts : {P Q : Proc} {a : ℕ} → Act P a Q → In Q (acts P a)

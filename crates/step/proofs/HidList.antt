@@ -4,11 +4,13 @@ use Rattle.std.proofs.lemmas.Bool.{cases_eq}
 use Rattle.alphabet.specs.EventSets.{Set, has}
 use Rattle.term.specs.Traces.{In, here, there}
 use Rattle.term.specs.Proc.{Proc, stop, skip, prefix, ext, int, seq, par, hide, ren, intr, name}
-use Rattle.term.specs.Steps.{is_skip, Ticks, t-skip, t-ext-l, t-ext-r, t-par, t-hide, t-ren, t-intr-l, t-intr-r, Hid, h-int-l, h-int-r, h-ext-l, h-ext-r, h-seq, h-seq-t, h-par-l, h-par-r, h-par-tl, h-par-tr, h-hide, h-hide-a, h-ren, h-intr-l, h-intr-r, h-name}
-use Rattle.term.proofs.Decide.{skips-tick}
-use Rattle.step.specs.HiddenSets.{SetsBelow}
-use Rattle.step.specs.Targets.{acts, hids, each, elements, where_, ticks}
-use Rattle.step.proofs.ActList.{In-append_l, In-append_r, append-In, where_-In, In-where_, In-map, map-In, In-each, each-In, acts-Act, Act-acts}
+use Rattle.term.specs.Steps.{is_skip, Hid, h-int-l, h-int-r, h-ext-l, h-ext-r, h-seq, h-seq-t, h-par-l, h-par-r, h-par-tl, h-par-tr, h-hide, h-hide-a, h-ren, h-intr-l, h-intr-r, h-name}
+use Rattle.targets.specs.HiddenSets.{SetsBelow}
+use Rattle.targets.specs.Targets.{where_, ticks}
+use Rattle.targets.proofs.Ticking.{ticks-Ticks, Ticks-ticks}
+use Rattle.step.specs.Targets.{acts, hids, each, elements}
+use Rattle.targets.proofs.Members.{In-append_l, In-append_r, append-In, where_-In, In-where_, In-map, map-In}
+use Rattle.step.proofs.ActList.{In-each, each-In, acts-Act, Act-acts}
 
 only : {a n : ℕ} → In a (n ∷ []) → a ≡ n
 only i = first i refl
@@ -38,46 +40,6 @@ In-elements A (suc n) a h t =
       | inl e ↦ In-append_r (elements A n) (In-where_ (has A n) (n ∷ []) a (ap (has A) (sym e) ∙ t) (subst (λ v. In v (n ∷ [])) (sym e) here))
       | inr d ↦ In-append_l (In-elements A n a (omega arith) t) (where_ (has A n) (n ∷ []))
     ]
-
--- ---- the tick test
-or-tests : (b c : Bool) → (b || c) ≡ true → (b ≡ true) ⊎ (c ≡ true)
-or-tests true c e = inl refl
-or-tests false c e = inr e
-
-or-test_l : (b c : Bool) → b ≡ true → (b || c) ≡ true
-or-test_l true c e = refl
-or-test_l false c e = absurd (cc)
-
-or-test_r : (b c : Bool) → c ≡ true → (b || c) ≡ true
-or-test_r true c e = refl
-or-test_r false c e = e
-
-and-tests : (b c : Bool) → (b && c) ≡ true → (b ≡ true) × (c ≡ true)
-and-tests true c e = (refl, e)
-and-tests false c e = absurd (cc)
-
-pub ticks-Ticks : (P : Proc) → ticks P ≡ true → Ticks P
-ticks-Ticks stop e = absurd (cc)
-ticks-Ticks skip e = t-skip
-ticks-Ticks (prefix a P) e = absurd (cc)
-ticks-Ticks (ext P Q) e = elim (or-tests (ticks P) (ticks Q) e) [ inl h ↦ t-ext-l (ticks-Ticks P h) | inr h ↦ t-ext-r (ticks-Ticks Q h) ]
-ticks-Ticks (int P Q) e = absurd (cc)
-ticks-Ticks (seq P Q) e = absurd (cc)
-ticks-Ticks (par A P Q) e = let (f, g) = and-tests (is_skip P) (is_skip Q) e in skips-tick P Q f g
-ticks-Ticks (hide A P) e = t-hide (ticks-Ticks P e)
-ticks-Ticks (ren R P) e = t-ren (ticks-Ticks P e)
-ticks-Ticks (intr P Q) e = elim (or-tests (ticks P) (ticks Q) e) [ inl h ↦ t-intr-l (ticks-Ticks P h) | inr h ↦ t-intr-r (ticks-Ticks Q h) ]
-ticks-Ticks (name k) e = absurd (cc)
-
-pub Ticks-ticks : {P : Proc} → Ticks P → ticks P ≡ true
-Ticks-ticks t-skip = refl
-Ticks-ticks (t-ext-l {P = P} {Q = Q} t) = or-test_l (ticks P) (ticks Q) (Ticks-ticks t)
-Ticks-ticks (t-ext-r {P = P} {Q = Q} t) = or-test_r (ticks P) (ticks Q) (Ticks-ticks t)
-Ticks-ticks t-par = refl
-Ticks-ticks (t-hide t) = Ticks-ticks t
-Ticks-ticks (t-ren t) = Ticks-ticks t
-Ticks-ticks (t-intr-l {P = P} {Q = Q} t) = or-test_l (ticks P) (ticks Q) (Ticks-ticks t)
-Ticks-ticks (t-intr-r {P = P} {Q = Q} t) = or-test_r (ticks P) (ticks Q) (Ticks-ticks t)
 
 and-true : (b c : Bool) → (b && c) ≡ true → (b ≡ true) × (c ≡ true)
 and-true true c e = (refl, e)

@@ -9,13 +9,16 @@ use Rattle.term.specs.Sizes.{depth}
 use Rattle.term.specs.Limits.{deepest_state}
 use Rattle.term.specs.Specs.{LiesIn}
 use Rattle.term.proofs.Bools.{or-cases, or-left, or-right}
-use Rattle.step.specs.declared.targets.Label.{Label}
-use Rattle.step.specs.declared.targets.Label.TheVariants as label
-use Rattle.step.specs.HiddenSets.{SetsBelow}
-use Rattle.step.specs.Targets.{ticks}
-use Rattle.step.specs.Labels.{Step, AppendsTargets, HasDeepTarget, targets, some_deep}
-use Rattle.step.proofs.ActList.{acts-Act, Act-acts, where_-In, In-where_}
-use Rattle.step.proofs.HidList.{hids-Hid, Hid-hids, ticks-Ticks, Ticks-ticks}
+use Rattle.targets.specs.declared.labels.Label.{Label}
+use Rattle.targets.specs.declared.labels.Label.TheVariants as label
+use Rattle.targets.specs.HiddenSets.{SetsBelow}
+use Rattle.targets.specs.Targets.{ticks}
+use Rattle.targets.specs.Labels.{Step}
+use Rattle.step.specs.Labels.{AppendsTargets, HasDeepTarget, targets, some_deep}
+use Rattle.targets.proofs.Members.{where_-In, In-where_}
+use Rattle.step.proofs.ActList.{acts-Act, Act-acts}
+use Rattle.targets.proofs.Ticking.{ticks-Ticks, Ticks-ticks}
+use Rattle.step.proofs.HidList.{hids-Hid, Hid-hids}
 
 lies-below : (n m : ℕ) (P : Proc) → LiesIn n m P → SetsBelow n P
 lies-below n m stop l = tt

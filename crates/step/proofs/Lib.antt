@@ -3,8 +3,3 @@ pub mod Parts
 pub mod ActList
 pub mod HidList
 pub mod Labelled
-pub mod Offered
-pub mod Rest
-pub mod Renamed
-pub mod Settling
-pub mod Lying

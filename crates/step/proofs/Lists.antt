@@ -7,7 +7,8 @@ use Rattle.term.specs.declared.terms.Term.{Term}
 use Rattle.alphabet.specs.EventSets.{Set, has}
 use Rattle.term.specs.Traces.{Pairs, partners}
 use Rattle.term.specs.Proc.{Proc, proc}
-use Rattle.step.specs.Targets.{pairs_of, each, origins, where_, is_empty, sources, elements}
+use Rattle.targets.specs.Targets.{pairs_of, origins, where_, is_empty, sources}
+use Rattle.step.specs.Targets.{each, elements}
 
 pub each_push : (xs : List ℕ) (a : ℕ) (f : ℕ → List Proc) → each (xs ++ a ∷ []) f ≡ each xs f ++ f a
 each_push [] a f = append-nil (f a)
@@ -17,17 +18,6 @@ pub pairs_of_push : (f : Proc → Proc → Proc) (xs ys : List Proc) (x : Proc) 
 pairs_of_push f [] ys x = append-nil (map (f x) ys)
 pairs_of_push f (y ∷ xs) ys x = rw (pairs_of_push f xs ys x) (sym (append_assoc (map (f y) ys) (pairs_of f xs ys) (map (f x) ys)))
 
-origins_push : (R : Pairs) (p : ℕ × ℕ) (b : ℕ) → origins (R ++ p ∷ []) b ≡ origins R b ++ where_ (nat_eq p.1 b) (p.0 ∷ [])
-origins_push [] p b = append-nil (where_ (nat_eq p.1 b) (p.0 ∷ []))
-origins_push (q ∷ R) p b = rw (origins_push R p b) (sym (append_assoc (where_ (nat_eq q.1 b) (q.0 ∷ [])) (origins R b) (where_ (nat_eq p.1 b) (p.0 ∷ []))))
-
-module _ (R : Pairs) (i b : ℕ) (d : ℕ × ℕ) (h : i < length R) where
-  pub origins_yes : (get_or R i d).1 ≡ b → origins (take (i + 1) R) b ≡ origins (take i R) b ++ (get_or R i d).0 ∷ []
-  origins_yes e = rw (take_more R i d h, origins_push (take i R) (get_or R i d) b, eq-eqb ((get_or R i d).1) b e) refl
-
-  pub origins_no : ((get_or R i d).1 ≡ b → ⊥) → origins (take (i + 1) R) b ≡ origins (take i R) b
-  origins_no e = rw (take_more R i d h, origins_push (take i R) (get_or R i d) b, ne_eqb ((get_or R i d).1) b e) (append-nil (origins (take i R) b))
-
 pub map_more : {A : Type 0} (f : Term A → Proc) (xs : List (Term A)) (i : ℕ) (d : Term A) → i < length xs → map f (take (i + 1) xs) ≡ map f (take i xs) ++ f (get_or xs i d) ∷ []
 map_more f xs i d h = ap (map f) (take_more xs i d h) ∙ map-append f (take i xs) (get_or xs i d ∷ [])
 
@@ -36,13 +26,6 @@ pairs_of_more g f xs i d ys h = rw (map_more f xs i d h) (pairs_of_push g (map f
 
 pub each_more : (as' : List ℕ) (i : ℕ) (f : ℕ → List Proc) → i < length as' → each (take (i + 1) as') f ≡ each (take i as') f ++ f (get_or as' i 0)
 each_more as' i f h = rw (take_more as' i 0 h) (each_push (take i as') (get_or as' i 0) f)
-
--- at the end of the loop
-pub sources_yes : (R : Pairs) (i b : ℕ) → length R ≤ i → is_empty (partners R b) ≡ true → origins (take i R) b ++ b ∷ [] ≡ sources R b
-sources_yes R i b h e = rw (take_all i R h, e) refl
-
-pub sources_no : (R : Pairs) (i b : ℕ) → length R ≤ i → is_empty (partners R b) ≡ false → origins (take i R) b ≡ sources R b
-sources_no R i b h e = rw (take_all i R h, e) (sym (append-nil (origins R b)))
 
 -- ---- the events of a set, one number on
 pub elements_none : (A : Set) → elements A 0 ≡ []

@@ -5,7 +5,8 @@ use Rattle.std.proofs.lemmas.Result.{IfOk-equal}
 use Rattle.term.specs.declared.terms.Term.{Term}
 use Rattle.alphabet.specs.EventSets.{Set, has}
 use Rattle.term.specs.Proc.{Proc, proc, hide, par}
-use Rattle.step.specs.Targets.{acts, pairs_of, par_targets}
+use Rattle.targets.specs.Targets.{pairs_of}
+use Rattle.step.specs.Targets.{acts, par_targets}
 
 -- what was appended to a list that was empty
 pub fresh : {A : Type 0} (start parts : List (Term A)) (l : List Proc) → start ≡ [] → map proc parts ≡ map proc start ++ l → map proc parts ≡ l

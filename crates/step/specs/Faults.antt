@@ -1,7 +1,7 @@
 -- The numbers and words of the faults.
 use Rattle.std.specs.Prelude.{ℕ, List, codes}
-use Rattle.step.specs.declared.targets.StepFault.{StepFault}
-use Rattle.step.specs.declared.targets.StepFault.TheVariants.{Depth, Memory}
+use Rattle.step.specs.declared.fault.StepFault.{StepFault}
+use Rattle.step.specs.declared.fault.StepFault.TheVariants.{Depth, Memory}
 
 abbrev pub code_of : StepFault → ℕ
 code_of Depth = 20

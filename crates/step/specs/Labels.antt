@@ -1,20 +1,15 @@
--- Steps by their labels.
+-- The targets of a term's steps.
 use Rattle.std.specs.Prelude.{◌≡◌, ◌<◌, ℕ, Bool, false, ◌||◌, ◌↔◌, List, [], ◌∷◌, ◌++◌, nat_lt}
 use Rattle.alphabet.specs.declared.events.Event.TheVariants.{Tick as tick, Of as ev}
 use Rattle.term.specs.Traces.{In}
 use Rattle.term.specs.Proc.{Proc, stop}
-use Rattle.term.specs.Steps.{Act, Hid, Ticks}
 use Rattle.term.specs.Sizes.{depth}
 use Rattle.term.specs.Limits.{deepest_state}
-use Rattle.step.specs.declared.targets.Label.{Label}
-use Rattle.step.specs.declared.targets.Label.TheVariants as label
-use Rattle.step.specs.Targets.{acts, hids, ticks, where_}
-
--- P has a step with this label to Q, where B has the bodies.
-abbrev pub Step : (ℕ → Proc) → Proc → Label → Proc → Type 0
-Step B P label.Tau Q = Hid B P Q
-Step B P (label.Event tick) Q = Ticks P × (Q ≡ stop)
-Step B P (label.Event (ev a)) Q = Act P a Q
+use Rattle.targets.specs.declared.labels.Label.{Label}
+use Rattle.targets.specs.declared.labels.Label.TheVariants as label
+use Rattle.targets.specs.Labels.{Step}
+use Rattle.targets.specs.Targets.{ticks, where_}
+use Rattle.step.specs.Targets.{acts, hids}
 
 -- The new list is the old one and after it just the targets of the steps, in any order, one perhaps twice.
 abbrev pub AppendsTargets : (ℕ → Proc) → Proc → Label → List Proc → List Proc → Type 0

@@ -1,48 +1,13 @@
 -- The targets of a term's steps, as lists.
-use Rattle.std.specs.Prelude.{ℕ, zero, suc, Bool, true, false, List, [], ◌∷◌, ◌++◌, map, nat_eq, ◌&&◌, ◌||◌, not}
+use Rattle.std.specs.Prelude.{ℕ, zero, suc, true, false, List, [], ◌∷◌, ◌++◌, map, nat_eq, ◌&&◌, not}
 use Rattle.alphabet.specs.EventSets.{Set, has}
-use Rattle.term.specs.Traces.{Pairs, partners}
 use Rattle.term.specs.Proc.{Proc, stop, skip, prefix, ext, int, seq, par, hide, ren, intr, name}
 use Rattle.term.specs.Steps.{is_skip}
-
-abbrev pub ticks : Proc → Bool
-ticks stop = false
-ticks skip = true
-ticks (prefix a P) = false
-ticks (ext P Q) = ticks P || ticks Q
-ticks (int P Q) = false
-ticks (seq P Q) = false
-ticks (par A P Q) = is_skip P && is_skip Q
-ticks (hide A P) = ticks P
-ticks (ren R P) = ticks P
-ticks (intr P Q) = ticks P || ticks Q
-ticks (name k) = false
-
--- xs where the test holds, else nothing
-abbrev pub where_ {ℓ} : {A : Type ℓ} → Bool → List A → List A
-where_ true xs = xs
-where_ false xs = []
-
-abbrev pub pairs_of : (Proc → Proc → Proc) → List Proc → List Proc → List Proc
-pairs_of f [] ys = []
-pairs_of f (x ∷ xs) ys = map (f x) ys ++ pairs_of f xs ys
+use Rattle.targets.specs.Targets.{ticks, where_, pairs_of, sources}
 
 abbrev pub each : List ℕ → (ℕ → List Proc) → List Proc
 each [] f = []
 each (a ∷ as') f = f a ++ each as' f
-
--- the left sides of the pairs with this right side
-abbrev pub origins : Pairs → ℕ → List ℕ
-origins [] b = []
-origins (p ∷ ps) b = where_ (nat_eq p.1 b) (p.0 ∷ []) ++ origins ps b
-
-abbrev pub is_empty {ℓ} : {A : Type ℓ} → List A → Bool
-is_empty [] = true
-is_empty (x ∷ xs) = false
-
--- the events that are related to b
-abbrev pub sources : Pairs → ℕ → List ℕ
-sources R b = origins R b ++ where_ (is_empty (partners R b)) (b ∷ [])
 
 -- what a parallel term does with an event, from what its sides do with it
 abbrev pub par_targets : Set → ℕ → Proc → Proc → List Proc → List Proc → List Proc

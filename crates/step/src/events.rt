@@ -4,7 +4,8 @@ ghost use Rattle.std.specs.Prelude.{IfOk, ◌≡◌, ◌++◌, map};
 ghost use Rattle.term.specs.Proc.{par, proc, ren};
 ghost use Rattle.step.specs.Around.{around};
 ghost use Rattle.term.specs.Traces.{partners};
-ghost use Rattle.step.specs.Targets.{acts, each, is_empty, pairs_of, par_targets, sources};
+ghost use Rattle.targets.specs.Targets.{is_empty, pairs_of, sources};
+ghost use Rattle.step.specs.Targets.{acts, each, par_targets};
 
 use crate::around::{Around, Sides};
 use crate::hidden::put_if;

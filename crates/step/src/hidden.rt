@@ -4,7 +4,8 @@ ghost use Rattle.std.specs.Prelude.{IfOk, ◌≡◌, ◌≤◌, ◌&&◌, not, [
 ghost use Rattle.term.specs.Proc.{bodies_of, hide, par, proc, skip};
 ghost use Rattle.term.specs.Steps.{is_skip};
 ghost use Rattle.step.specs.Around.{around};
-ghost use Rattle.step.specs.Targets.{acts, each, elements, hids, ticks, where_};
+ghost use Rattle.targets.specs.Targets.{ticks, where_};
+ghost use Rattle.step.specs.Targets.{acts, each, elements, hids};
 
 use crate::around::Around;
 use crate::events::put_each_acts_within;

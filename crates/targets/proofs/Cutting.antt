@@ -5,8 +5,8 @@ use Rattle.std.proofs.lemmas.Bool.{cases_lt}
 use Rattle.term.specs.Traces.{In, here, there}
 use Rattle.term.specs.Proc.{Proc}
 use Rattle.term.specs.Limits.{Terms, Distinct}
-use Rattle.step.specs.Targets.{pairs_of}
-use Rattle.step.proofs.ActList.{append-In, In-append_l, In-map, map-In, In-pairs, pairs-In}
+use Rattle.targets.specs.Targets.{pairs_of}
+use Rattle.targets.proofs.Members.{append-In, In-append_l, In-map, map-In, In-pairs, pairs-In}
 use Rattle.targets.specs.Cuts.{CutOf}
 use Rattle.targets.specs.Among.{InEither}
 

@@ -1,3 +1,12 @@
+pub mod Members
+pub mod Sources
+pub mod Ticking
+pub mod Offered
+pub mod Rest
+pub mod Settling
+pub mod Renamed
+pub mod Lying
+pub mod Depths
 pub mod Cutting
 pub mod Lists
 pub mod Inverting

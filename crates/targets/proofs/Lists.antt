@@ -3,7 +3,7 @@ use Rattle.std.proofs.Common.{◌≡◌, ◌↔◌, ℕ, ◌<◌, ◌⊎◌, inl
 use Rattle.term.specs.Traces.{In}
 use Rattle.term.specs.Proc.{Proc}
 use Rattle.term.specs.Limits.{Terms, Distinct}
-use Rattle.step.proofs.ActList.{append-In, In-append_l, In-append_r}
+use Rattle.targets.proofs.Members.{append-In, In-append_l, In-append_r}
 use Rattle.targets.specs.Cuts.{CutOf}
 use Rattle.targets.specs.Among.{InEither, Joined}
 use Rattle.targets.proofs.Cutting.{nothing, only, distinct-push, distinct-front, cut-all, cut-join, cut-to}

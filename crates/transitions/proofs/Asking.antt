@@ -6,13 +6,13 @@ use Rattle.term.specs.Traces.{In, here, there}
 use Rattle.term.specs.Limits.{Terms}
 use Rattle.term.specs.Proc.{Proc, stop}
 use Rattle.term.specs.Steps.{Act, Hid, Ticks}
-use Rattle.step.specs.Offers.{offered}
-use Rattle.step.specs.Resting.{Resting}
-use Rattle.step.specs.Targets.{ticks}
-use Rattle.step.proofs.ActList.{append-In, In-append_l, In-append_r}
-use Rattle.step.proofs.HidList.{ticks-Ticks, Ticks-ticks}
-use Rattle.step.proofs.Offered.{Act-offered}
-use Rattle.step.proofs.Rest.{resting-says}
+use Rattle.targets.specs.Offers.{offered}
+use Rattle.targets.specs.Resting.{Resting}
+use Rattle.targets.specs.Targets.{ticks}
+use Rattle.targets.proofs.Members.{append-In, In-append_l, In-append_r}
+use Rattle.targets.proofs.Ticking.{ticks-Ticks, Ticks-ticks}
+use Rattle.targets.proofs.Offered.{Act-offered}
+use Rattle.targets.proofs.Rest.{resting-says}
 use Rattle.targets.specs.Cuts.{CutOf}
 use Rattle.targets.specs.Among.{ActsIn, Joined}
 use Rattle.targets.proofs.Cutting.{cut-to, cut-none, cut-one}

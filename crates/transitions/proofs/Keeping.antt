@@ -2,9 +2,9 @@
 use Rattle.std.proofs.Common.{◌≡◌, ℕ, ◌<◌, List, length, refl, sym, ap, ◌∙◌, subst, arith}
 use Rattle.term.specs.Proc.{Proc, bodies_of, prefix}
 use Rattle.term.specs.Limits.{Terms, most_states}
-use Rattle.step.specs.declared.targets.Label.{Label}
-use Rattle.step.specs.HiddenSets.{SetsBelow}
-use Rattle.step.specs.Labels.{Step}
+use Rattle.targets.specs.declared.labels.Label.{Label}
+use Rattle.targets.specs.HiddenSets.{SetsBelow}
+use Rattle.targets.specs.Labels.{Step}
 use Rattle.nodes.specs.declared.node.Node.{Node}
 use Rattle.nodes.specs.declared.node.Node.TheVariants.{Stop, Skip, Prefix, Ext, Int, Seq, Par, Hide, Ren, Intr, Name}
 use Rattle.nodes.specs.Shapes.{at, set_at, relation_at, shape, IsWithin}

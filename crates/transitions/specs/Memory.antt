@@ -3,8 +3,8 @@ use Rattle.std.specs.Prelude.{◌≡◌, ◌⊎◌, ℕ, ◌+◌, ◌*◌, ◌<�
 use Rattle.std.specs.Map.{lookup}
 use Rattle.alphabet.specs.declared.events.Event.TheVariants.{Tick as tick, Of as ev}
 use Rattle.term.specs.Proc.{bodies_of}
-use Rattle.step.specs.declared.targets.Label.{Label}
-use Rattle.step.specs.declared.targets.Label.TheVariants as label
+use Rattle.targets.specs.declared.labels.Label.{Label}
+use Rattle.targets.specs.declared.labels.Label.TheVariants as label
 use Rattle.nodes.specs.Tables.{Tabled}
 use Rattle.nodes.specs.Looks.{look, AllBelow}
 use Rattle.transitions.specs.Numbered.{Numbered, numbered, AreTargets}

@@ -5,9 +5,9 @@ use Rattle.std.proofs.Common.{refl}
 use Rattle.term.specs.Codes.{proc_code}
 use Rattle.term.specs.Proc.{Proc, bodies_of}
 use Rattle.term.specs.Limits.{most_states}
-use Rattle.step.specs.declared.targets.Label.{Label}
-use Rattle.step.specs.HiddenSets.{SetsBelow}
-use Rattle.step.specs.Labels.{Step}
+use Rattle.targets.specs.declared.labels.Label.{Label}
+use Rattle.targets.specs.HiddenSets.{SetsBelow}
+use Rattle.targets.specs.Labels.{Step}
 use Rattle.nodes.specs.Shapes.{at}
 use Rattle.nodes.specs.Tables.{Tabled, tabled_code, HasGrown}
 use Rattle.nodes.specs.Looks.{look, IsCutIn}

@@ -3,7 +3,7 @@
 ghost use Rattle.std.specs.Prelude.{◌≡◌, ◌<◌, ℕ, IfOk, true};
 ghost use Rattle.alphabet.specs.EventSets.{has};
 ghost use Rattle.term.specs.Traces.{In, partners};
-ghost use Rattle.step.specs.Targets.{is_empty, sources};
+ghost use Rattle.targets.specs.Targets.{is_empty, sources};
 
 use alphabet::{Event, EventSet};
 use std::alloc::{AllocError, Allocator};

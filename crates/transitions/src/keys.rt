@@ -4,7 +4,7 @@ ghost use Rattle.std.specs.Prelude.{◌≡◌, ◌<◌};
 ghost use Rattle.transitions.specs.Memory.{IsSmall, key, label_code};
 
 use alphabet::Event;
-use step::Label;
+use targets::Label;
 
 /// A number for a process's number and a label: different for different ones.
 pub(crate) fn key_of(number: u32, label: Label) -> u64

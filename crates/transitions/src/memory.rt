@@ -8,7 +8,7 @@ use crate::keys::key_of;
 use crate::lists::Lists;
 use std::alloc::Allocator;
 use std::marker::Model;
-use step::Label;
+use targets::Label;
 
 /// What processes become by steps, by the process's number and the label. Hidden steps are asked for most often, and by all
 /// processes that can take them: they are found by the number alone.

@@ -6,10 +6,10 @@ ghost use Rattle.alphabet.specs.declared.events.Event.TheVariants.{Tick as tick,
 ghost use Rattle.term.specs.Limits.{most_states};
 ghost use Rattle.term.specs.Proc.{Proc, bodies_of};
 ghost use Rattle.term.specs.Steps.{Act, Hid};
-ghost use Rattle.step.specs.declared.targets.Label.TheVariants as label;
-ghost use Rattle.step.specs.HiddenSets.{SetsBelow};
-ghost use Rattle.step.specs.Labels.{Step};
-ghost use Rattle.step.specs.Targets.{sources};
+ghost use Rattle.targets.specs.declared.labels.Label.TheVariants as label;
+ghost use Rattle.targets.specs.HiddenSets.{SetsBelow};
+ghost use Rattle.targets.specs.Labels.{Step};
+ghost use Rattle.targets.specs.Targets.{sources};
 ghost use Rattle.targets.specs.Among.{ActsIn};
 ghost use Rattle.nodes.specs.Shapes.{at, relation_at, set_at, shape, IsWithin};
 ghost use Rattle.nodes.specs.Looks.{ActsBy, AllBelow, AreActsOfParts, AreHidsOfParts, IsCutIn, OrEnd};
@@ -20,7 +20,7 @@ use crate::transitions::Transitions;
 use alphabet::Event;
 use nodes::Node;
 use std::alloc::{AllocError, Allocator};
-use step::Label;
+use targets::Label;
 
 impl<A: Allocator + Copy> Transitions<A> {
     /// Appends to the empty list the numbers of what the process becomes by a step with this label, each once: of all of

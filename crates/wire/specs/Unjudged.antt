@@ -1,6 +1,6 @@
 -- The lines of a connection that weren't judged.
 use Rattle.std.specs.Prelude.{ℕ, Result, Ok}
-use Rattle.wire.specs.declared.answers.Tally.{Tally}
+use Rattle.wire.specs.declared.answer.Tally.{Tally}
 use Rattle.wire.specs.declared.engine.End.{End}
 use Rattle.wire.specs.declared.engine.End.TheVariants.{Line}
 use Rattle.wire.specs.declared.engine.WireError.{WireError}

@@ -11,13 +11,14 @@ ghost use Rattle.wire.specs.Unjudged.{unjudged_lines};
 ghost use Rattle.wire.specs.Waiting.{AllAsk, Waits, Quits, Passes, CutsOff, GoesOn};
 ghost use Rattle.wire.specs.declared.engine.TheConstants.{GROUP, REPLIES};
 
-use crate::answers::{Fault, Receipt, Tally};
+use crate::answer::{Fault, Tally, reply_of};
 use crate::ends::{Sink, SinkFault, Source};
 use crate::judging::Judge;
 use crate::lines::cut;
 use crate::replies::{add, add_replies, answer};
 use crate::requests::{Request, read_request};
 use alphabet::{Alphabet, Report};
+use answers::Receipt;
 use std::alloc::{AllocError, Allocator};
 use std::sync::Wait;
 use thiserror::Error;
@@ -130,7 +131,7 @@ pub fn refuse<W: Sink>(writer: &mut W, fault: Fault) -> Result<(), SinkFault>
     ensures cut { OnErr result ((n : ℕ) × Appends (W.contents writer.old) (W.contents writer.new) (take n (fault_text fault))) }
     ensures failed { OnErr result (W.failures writer.old < W.failures writer.new) }
 {
-    send(writer, fault.reply())
+    send(writer, reply_of(fault))
 }
 
 // Replies to a line that is too long, which ends the connection.

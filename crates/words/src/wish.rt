@@ -7,7 +7,7 @@ use std::net::SocketAddrV4;
 /// What the words ask for. The words for a file are its name.
 #[derive(Clone, Copy)]
 pub enum Wish<'a> {
-    /// To judge the reports on standard input by the process of the script in the file `spec`.
+    /// To judge the reports on standard input by a process of the script in the file `spec`.
     Check(Check<'a>),
     /// To print what the script in the file `spec` denotes for the process.
     Print {
@@ -26,7 +26,7 @@ pub enum Wish<'a> {
         options: Options,
         follow: bool,
     },
-    /// To judge the reports of connections by the process of the script in the file `spec`, with the journal in its file.
+    /// To judge the reports of connections by a process of the script in the file `spec`, with the journal in its file.
     Serve(Service<'a>),
 }
 
@@ -35,7 +35,7 @@ pub enum Wish<'a> {
 pub struct Check<'a> {
     /// The file of the script.
     pub spec: &'a str,
-    /// The process of the script to judge by.
+    /// The process to judge by: a phrase of the script.
     pub process: &'a str,
     /// Whether the limits are those for large systems.
     pub large: bool,
@@ -72,7 +72,7 @@ pub enum Until {
 pub struct Service<'a> {
     /// The file of the script.
     pub spec: &'a str,
-    /// The process of the script to judge by.
+    /// The process to judge by: a phrase of the script.
     pub process: &'a str,
     /// The file of the journal.
     pub journal: &'a str,

@@ -1,5 +1,5 @@
 use Rattle.std.proofs.Common.{◌≡◌, ◌++◌, ◌∷◌, [], ap, sym, subst, arith, length, length-append}
-use Rattle.wire.specs.declared.answers.Fault.{Fault}
+use Rattle.wire.specs.Faults.{Fault}
 use Rattle.attending.specs.Courses.{Leaves}
 use Rattle.attending.specs.Standing.{course_of}
 use Rattle.attending.proofs.AloneLemmas.{judged, refused}
@@ -16,7 +16,7 @@ pub returns-in-Err-clause-reports : goal.returns-in-Err-clause-reports
 returns-in-Err-clause-reports g c =
     let s = c.args.alone.now.session in
     let n = c.report.new.self in
-    subst (λ (x : Fault). Leaves s.spec (course_of s.history s.failed) c.args.report.now x (course_of n.history n.failed)) (sym c.reported.ensures)
+    subst (λ (x : Fault). Leaves s.spec (course_of s.history s.failed) c.args.report.now x (course_of n.history n.failed)) (sym c.plain.ensures.plain)
     (refused s n c.args.alone.now.seat c.next_number-number.result c.args.report.now c.in-Err.fault
     c.args.alone.now.idle c.args.alone.now.first c.next_number-number.ensures
     c.in-Err.ensures.stays c.in-Err.ensures.fault)

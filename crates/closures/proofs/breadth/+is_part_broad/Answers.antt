@@ -1,7 +1,7 @@
 use Rattle.std.proofs.Common.{ℕ}
 use Rattle.alphabet.specs.declared.events.Event.TheVariants.{Of as ev}
 use Rattle.term.specs.Proc.{Proc, bodies_of, ext, seq, par, hide, ren, intr}
-use Rattle.step.specs.declared.targets.Label.TheVariants as label
+use Rattle.targets.specs.declared.labels.Label.TheVariants as label
 use Rattle.nodes.specs.Shapes.{at, set_at, relation_at}
 use Rattle.transitions.specs.Numbered.{Numbered}
 use Rattle.closures.proofs.Broadening.{ext-broad, intr-broad, par-broad, seq-broad, hide-broad, ext-hid-broad, intr-hid-broad, par-hid-broad, seq-hid-broad, hide-hid-broad, ren-hid-broad, broad-arm, arm-offers, if-broad}

@@ -3,7 +3,7 @@ use Rattle.term.specs.Proc.{Proc, bodies_of}
 use Rattle.term.specs.Sizes.{depth}
 use Rattle.term.specs.Steps.{Hid}
 use Rattle.term.specs.Limits.{HasDeep, deepest_state}
-use Rattle.step.specs.declared.targets.Label.TheVariants as label
+use Rattle.targets.specs.declared.labels.Label.TheVariants as label
 use Rattle.nodes.specs.Shapes.{at}
 use Rattle.nodes.specs.Looks.{look}
 use Rattle.nodes.proofs.Looking.{below-at}

@@ -1,7 +1,7 @@
 use Rattle.std.proofs.Common.{◌≡◌, take}
 use Rattle.term.specs.Limits.{HasDeep}
 use Rattle.term.specs.Proc.{bodies_of}
-use Rattle.step.specs.declared.targets.Label.TheVariants as label
+use Rattle.targets.specs.declared.labels.Label.TheVariants as label
 use Rattle.nodes.specs.Looks.{look}
 use Rattle.after.specs.Closing.{TargetOf}
 use Rattle.closures.proofs.closing.any_deep_target.Given as goal

@@ -3,7 +3,7 @@ use Rattle.std.proofs.lemmas.List.{length-map}
 use Rattle.alphabet.specs.Channels.{event_count}
 use Rattle.term.specs.Limits.{most_states}
 use Rattle.term.specs.Proc.{Proc, bodies_of}
-use Rattle.step.specs.declared.targets.Label.TheVariants as label
+use Rattle.targets.specs.declared.labels.Label.TheVariants as label
 use Rattle.targets.specs.Cuts.{CutOf}
 use Rattle.nodes.specs.Shapes.{at}
 use Rattle.nodes.specs.Looks.{look, AllBelow}
@@ -11,7 +11,7 @@ use Rattle.nodes.proofs.Looking.{below-at}
 use Rattle.transitions.proofs.Keeping.{at-kept, within-kept, hides-kept}
 use Rattle.keeping.proofs.Growing.{stays-same, stays-on}
 use Rattle.after.specs.Closing.{TargetOf}
-use Rattle.step.proofs.Lying.{lies-small}
+use Rattle.targets.proofs.Lying.{lies-small}
 use Rattle.closures.proofs.Putting.{look-more}
 use Rattle.closures.proofs.Levels.{In-look, first-put, first-many}
 use Rattle.targets.proofs.Cutting.{cut-none}

@@ -1,7 +1,7 @@
 use Rattle.std.proofs.Common.{◌≤◌, length, take}
 use Rattle.term.specs.Limits.{most_states}
 use Rattle.term.specs.Proc.{bodies_of}
-use Rattle.step.specs.declared.targets.Label.TheVariants as label
+use Rattle.targets.specs.declared.labels.Label.TheVariants as label
 use Rattle.targets.specs.Cuts.{CutOf}
 use Rattle.nodes.specs.Looks.{look, AllBelow}
 use Rattle.keeping.specs.Kept.{StaysKept}

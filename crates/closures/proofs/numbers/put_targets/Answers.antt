@@ -1,7 +1,7 @@
 use Rattle.std.proofs.Common.{ℕ, List, length, sym, subst}
 use Rattle.term.specs.Limits.{most_states}
 use Rattle.term.specs.Proc.{Proc, bodies_of}
-use Rattle.step.specs.Labels.{Step}
+use Rattle.targets.specs.Labels.{Step}
 use Rattle.targets.specs.Cuts.{CutOf}
 use Rattle.nodes.specs.Shapes.{at}
 use Rattle.nodes.specs.Looks.{look, AllBelow}

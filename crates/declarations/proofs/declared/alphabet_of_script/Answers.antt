@@ -3,7 +3,7 @@ use Rattle.syntax.specs.Parsing.{syntaxes}
 use Rattle.syntax.specs.View.{shape, shapes}
 use Rattle.values.specs.Tables.{table}
 use Rattle.declared_names.specs.View.{entries}
-use Rattle.declarations.proofs.Whole.{parts_fail, keeps_declared, found_in, found_only}
+use Rattle.declarations.proofs.Whole.{parts_fail, all_follow, found_in, found_only}
 use Rattle.declarations.proofs.declared.alphabet_of_script.Goals as goal
 
 pub returns-in_err-declarations-clause-only : goal.returns-in_err-declarations-clause-only
@@ -13,7 +13,7 @@ returns-in_err-declarations-clause-only g c = λ es known cs d.
 
 pub declared_alphabet-requires : goal.declared_alphabet-requires
 declared_alphabet-requires g c =
-    keeps_declared (shape c.args.tree.now) (syntaxes (shapes c.in_ok-declarations.declarations.now)) (entries c.args.entries.now) (table c.args.known.now) c.requires.named c.in_ok-declarations.ensures c.requires.entered c.requires.stands
+    all_follow (shape c.args.tree.now) (syntaxes (shapes c.in_ok-declarations.declarations.now)) (entries c.args.entries.now) (table c.args.known.now) c.requires.named c.in_ok-declarations.ensures c.requires.entered c.requires.stands
 
 pub returns-clause-found : goal.returns-clause-found
 returns-clause-found g c =

@@ -7,7 +7,8 @@ use Rattle.syntax.specs.View.{shape, shapes}
 use Rattle.syntax.proofs.Failing.{fails_none}
 use Rattle.values.specs.Tables.{input}
 use Rattle.values.specs.View.{Gives, Fails}
-use Rattle.event_phrases.specs.EventForms.{event_fits}
+use Rattle.event_phrases.specs.Fitting.{event_fits}
+use Rattle.event_phrases.specs.Forms.{field_of}
 use Rattle.event_phrases.specs.Leading.{led_fits}
 use Rattle.event_phrases.specs.Scopes.{within}
 use Rattle.event_phrases.specs.View.{listed}
@@ -219,11 +220,11 @@ prefixed-returns-in_err-drafts g t c =
     let q = c.in_ok-prefix.prefix in
     let sets = map (λ v. listed v.items) q.sets.now in
     let same : denoted (phrase_of (shape q.then.now)) ≡ denoted (phrase_of (shape c.args.then.now)) = ap (λ t. denoted (phrase_of (shape t))) c.in_ok-prefix.ensures.then in
-    let all = led_branches (denoted (phrase_of (shape q.then.now))) q.channel.now (shapes q.fields.now) sets s (listed q.leading.items) 0 (events s.channels) c.in_ok-prefix.ensures.leading
-    ∙ ap (λ next. branches (event_fits q.channel.now (syntaxes (shapes q.fields.now)) sets s) next 0 (events s.channels)) same in
+    let all = led_branches (denoted (phrase_of (shape q.then.now))) q.channel.now (map field_of (shapes q.fields.now)) sets s (listed q.leading.items) 0 (events s.channels) c.in_ok-prefix.ensures.leading
+    ∙ ap (λ next. branches (event_fits q.channel.now (map field_of (shapes q.fields.now)) sets s) next 0 (events s.channels)) same in
     let k = c.in_err-drafts.field-0.0 in
     let p = err_from_is_err_and c.from_residual-in_err-drafts.result c.from_residual-in_err-drafts.ensures.1 in
-    rw (p.1, p.2) (branches_fail s c.args.room.now (shape c.args.event.now) (denoted (phrase_of (shape c.args.then.now))) q.channel.now (syntaxes (shapes q.fields.now)) sets c.in_ok-prefix.ensures.parts k (subst (λ o. Fails k (all_fit c.args.room.now o)) all c.in_err-drafts.ensures))
+    rw (p.1, p.2) (branches_fail s c.args.room.now (shape c.args.event.now) (denoted (phrase_of (shape c.args.then.now))) q.channel.now (map field_of (shapes q.fields.now)) sets c.in_ok-prefix.ensures.parts k (subst (λ o. Fails k (all_fit c.args.room.now o)) all c.in_err-drafts.ensures))
 
 pub prefixed-returns : goal.prefixed-returns
 prefixed-returns g t c =
@@ -231,17 +232,17 @@ prefixed-returns g t c =
     let q = c.in_ok-prefix.prefix in
     let sets = map (λ v. listed v.items) q.sets.now in
     let same : denoted (phrase_of (shape q.then.now)) ≡ denoted (phrase_of (shape c.args.then.now)) = ap (λ t. denoted (phrase_of (shape t))) c.in_ok-prefix.ensures.then in
-    let all = led_branches (denoted (phrase_of (shape q.then.now))) q.channel.now (shapes q.fields.now) sets s (listed q.leading.items) 0 (events s.channels) c.in_ok-prefix.ensures.leading
-    ∙ ap (λ next. branches (event_fits q.channel.now (syntaxes (shapes q.fields.now)) sets s) next 0 (events s.channels)) same in
+    let all = led_branches (denoted (phrase_of (shape q.then.now))) q.channel.now (map field_of (shapes q.fields.now)) sets s (listed q.leading.items) 0 (events s.channels) c.in_ok-prefix.ensures.leading
+    ∙ ap (λ next. branches (event_fits q.channel.now (map field_of (shapes q.fields.now)) sets s) next 0 (events s.channels)) same in
     subst (λ o. Gives (λ b. (body b, c.chosen.new.room)) c.chosen.result o)
-    (sym (branches_made s c.args.room.now (shape c.args.event.now) (denoted (phrase_of (shape c.args.then.now))) q.channel.now (syntaxes (shapes q.fields.now)) sets c.in_ok-prefix.ensures.parts (map body c.in_ok-drafts.drafts.items, c.branches.new.room) (sym (ap (all_fit c.args.room.now) all) ∙ c.in_ok-drafts.ensures))) c.chosen.ensures
+    (sym (branches_made s c.args.room.now (shape c.args.event.now) (denoted (phrase_of (shape c.args.then.now))) q.channel.now (map field_of (shapes q.fields.now)) sets c.in_ok-prefix.ensures.parts (map body c.in_ok-drafts.drafts.items, c.branches.new.room) (sym (ap (all_fit c.args.room.now) all) ∙ c.in_ok-drafts.ensures))) c.chosen.ensures
 
 pub next_branch-returns-in_err-found-clause-branch : goal.next_branch-returns-in_err-found-clause-branch
 next_branch-returns-in_err-found-clause-branch g t c =
     let s = within (g.G.GlobalScope.scope c.args.scope.now.global.now) (map input c.args.scope.now.inputs.items) in
     let es = events (g.G.GlobalScope.scope c.args.scope.now.global.now).channels in
     let q = c.args.prefix.now in
-    let test = led_fits q.channel.now (listed q.leading.items) (shapes q.fields.now) (map (λ v. listed v.items) q.sets.now) s in
+    let test = led_fits q.channel.now (listed q.leading.items) (map field_of (shapes q.fields.now)) (map (λ v. listed v.items) q.sets.now) s in
     let next = denoted (phrase_of (shape q.then.now)) in
     let p = err_from_is_err_and c.from_residual.result c.from_residual.ensures.1 in
     rw (p.1, p.2) (fit_fails test next c.args.from (drop c.args.from es) c.args.room.now c.in_err-found.field-0.0 c.in_err-found.ensures.first)
@@ -251,7 +252,7 @@ next_branch-returns-in-None-clause-branch g t c =
     let s = within (g.G.GlobalScope.scope c.args.scope.now.global.now) (map input c.args.scope.now.inputs.items) in
     let es = events (g.G.GlobalScope.scope c.args.scope.now.global.now).channels in
     let q = c.args.prefix.now in
-    let test = led_fits q.channel.now (listed q.leading.items) (shapes q.fields.now) (map (λ v. listed v.items) q.sets.now) s in
+    let test = led_fits q.channel.now (listed q.leading.items) (map field_of (shapes q.fields.now)) (map (λ v. listed v.items) q.sets.now) s in
     let next = denoted (phrase_of (shape q.then.now)) in
     none_fits test next c.args.from (drop c.args.from es) c.args.room.now (c.in_ok-found.ensures.first ∙ ap (λ o. some_fit (option_map (λ x. (x.0, within (g.G.GlobalScope.scope c.args.scope.now.global.now) (map input x.1.items), drop (suc x.0) es)) o)) c.in-None.is)
 
@@ -265,7 +266,7 @@ next_branch-returns-in_err-then-in-Some-clause-branch g t c =
     let s = within (g.G.GlobalScope.scope c.args.scope.now.global.now) (map input c.args.scope.now.inputs.items) in
     let es = events (g.G.GlobalScope.scope c.args.scope.now.global.now).channels in
     let q = c.args.prefix.now in
-    let test = led_fits q.channel.now (listed q.leading.items) (shapes q.fields.now) (map (λ v. listed v.items) q.sets.now) s in
+    let test = led_fits q.channel.now (listed q.leading.items) (map field_of (shapes q.fields.now)) (map (λ v. listed v.items) q.sets.now) s in
     let next = denoted (phrase_of (shape q.then.now)) in
     let number = c.in-Some.number in
     let inner = within (g.G.GlobalScope.scope c.args.scope.now.global.now) (map input c.in-Some.inputs.items) in
@@ -283,7 +284,7 @@ next_branch-returns-in_err-branch-in-Some-clause-branch g t c =
     let s = within (g.G.GlobalScope.scope c.args.scope.now.global.now) (map input c.args.scope.now.inputs.items) in
     let es = events (g.G.GlobalScope.scope c.args.scope.now.global.now).channels in
     let q = c.args.prefix.now in
-    let test = led_fits q.channel.now (listed q.leading.items) (shapes q.fields.now) (map (λ v. listed v.items) q.sets.now) s in
+    let test = led_fits q.channel.now (listed q.leading.items) (map field_of (shapes q.fields.now)) (map (λ v. listed v.items) q.sets.now) s in
     let next = denoted (phrase_of (shape q.then.now)) in
     let number = c.in-Some.number in
     let inner = within (g.G.GlobalScope.scope c.args.scope.now.global.now) (map input c.in-Some.inputs.items) in
@@ -296,7 +297,7 @@ next_branch-returns-in_ok-branch-in-Some-clause-branch g t c =
     let s = within (g.G.GlobalScope.scope c.args.scope.now.global.now) (map input c.args.scope.now.inputs.items) in
     let es = events (g.G.GlobalScope.scope c.args.scope.now.global.now).channels in
     let q = c.args.prefix.now in
-    let test = led_fits q.channel.now (listed q.leading.items) (shapes q.fields.now) (map (λ v. listed v.items) q.sets.now) s in
+    let test = led_fits q.channel.now (listed q.leading.items) (map field_of (shapes q.fields.now)) (map (λ v. listed v.items) q.sets.now) s in
     let next = denoted (phrase_of (shape q.then.now)) in
     let number = c.in-Some.number in
     let inner = within (g.G.GlobalScope.scope c.args.scope.now.global.now) (map input c.in-Some.inputs.items) in
@@ -308,7 +309,7 @@ branches-loop-drafts-init g t c =
     let s = within (g.G.GlobalScope.scope c.args.scope.now.global.now) (map input c.args.scope.now.inputs.items) in
     let es = events (g.G.GlobalScope.scope c.args.scope.now.global.now).channels in
     let q = c.args.prefix.now in
-    let test = led_fits q.channel.now (listed q.leading.items) (shapes q.fields.now) (map (λ v. listed v.items) q.sets.now) s in
+    let test = led_fits q.channel.now (listed q.leading.items) (map field_of (shapes q.fields.now)) (map (λ v. listed v.items) q.sets.now) s in
     let next = denoted (phrase_of (shape q.then.now)) in
     none_before (map body c.new-drafts.result.items) (all_fit c.args.room.now (branches test next 0 es)) (ap (map body) c.new-drafts.ensures.items)
 
@@ -322,7 +323,7 @@ branches-returns-in_err-found g t c =
     let s = within (g.G.GlobalScope.scope c.args.scope.now.global.now) (map input c.args.scope.now.inputs.items) in
     let es = events (g.G.GlobalScope.scope c.args.scope.now.global.now).channels in
     let q = c.args.prefix.now in
-    let test = led_fits q.channel.now (listed q.leading.items) (shapes q.fields.now) (map (λ v. listed v.items) q.sets.now) s in
+    let test = led_fits q.channel.now (listed q.leading.items) (map field_of (shapes q.fields.now)) (map (λ v. listed v.items) q.sets.now) s in
     let next = denoted (phrase_of (shape q.then.now)) in
     let p = err_from_is_err_and c.from_residual.result c.from_residual.ensures.1 in
     rw (p.1, p.2) (turn_fails test next c.loop-drafts.from (drop c.loop-drafts.from es) c.loop-drafts.room (map body c.loop-drafts.drafts.items) (all_fit c.args.room.now (branches test next 0 es)) c.loop-drafts.invariant c.in_err-found.field-0.0 c.in_err-found.ensures.branch)
@@ -332,7 +333,7 @@ branches-returns-in-None g t c =
     let s = within (g.G.GlobalScope.scope c.args.scope.now.global.now) (map input c.args.scope.now.inputs.items) in
     let es = events (g.G.GlobalScope.scope c.args.scope.now.global.now).channels in
     let q = c.args.prefix.now in
-    let test = led_fits q.channel.now (listed q.leading.items) (shapes q.fields.now) (map (λ v. listed v.items) q.sets.now) s in
+    let test = led_fits q.channel.now (listed q.leading.items) (map field_of (shapes q.fields.now)) (map (λ v. listed v.items) q.sets.now) s in
     let next = denoted (phrase_of (shape q.then.now)) in
     last_turn test next c.loop-drafts.from (drop c.loop-drafts.from es) c.loop-drafts.room (map body c.loop-drafts.drafts.items) (all_fit c.args.room.now (branches test next 0 es)) c.loop-drafts.invariant c.next_branch.new.room (c.in_ok-found.ensures.branch ∙ ap (λ o. some_branch (option_map (λ p. (p.0, body p.1, drop (suc p.0) es)) o) c.next_branch.new.room) c.in-None.is)
 
@@ -346,7 +347,7 @@ branches-loop-drafts-preserved g t c =
     let s = within (g.G.GlobalScope.scope c.args.scope.now.global.now) (map input c.args.scope.now.inputs.items) in
     let es = events (g.G.GlobalScope.scope c.args.scope.now.global.now).channels in
     let q = c.args.prefix.now in
-    let test = led_fits q.channel.now (listed q.leading.items) (shapes q.fields.now) (map (λ v. listed v.items) q.sets.now) s in
+    let test = led_fits q.channel.now (listed q.leading.items) (map field_of (shapes q.fields.now)) (map (λ v. listed v.items) q.sets.now) s in
     let next = denoted (phrase_of (shape q.then.now)) in
     next_turn test next c.loop-drafts.from (drop c.loop-drafts.from es) c.loop-drafts.room (map body c.loop-drafts.drafts.items) (all_fit c.args.room.now (branches test next 0 es)) c.loop-drafts.invariant c.in-Some.number (body c.in-Some.branch) es c.next_branch.new.room (map body c.push.new.self.items) (c.in_ok-found.ensures.branch ∙ ap (λ o. some_branch (option_map (λ p. (p.0, body p.1, drop (suc p.0) es)) o) c.next_branch.new.room) c.in-Some.is) (put_behind body c.loop-drafts.drafts.items c.push.new.self.items c.in-Some.branch c.in_ok-push-in-Some.ensures.items)
 

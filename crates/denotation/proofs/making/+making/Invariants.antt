@@ -2,6 +2,7 @@ use Rattle.std.proofs.Common.{◌≡◌, ◌+◌, ◌-◌, ◌*◌, map, drop, l
 use Rattle.alphabet.specs.Channels.{events}
 use Rattle.syntax.specs.View.{shape, shapes}
 use Rattle.values.specs.Tables.{input}
+use Rattle.event_phrases.specs.Forms.{field_of}
 use Rattle.event_phrases.specs.Leading.{led_fits}
 use Rattle.event_phrases.specs.Scopes.{within}
 use Rattle.event_phrases.specs.View.{listed}
@@ -65,6 +66,6 @@ abbrev pub invariant-branches-loop-drafts : goal.invariant-branches-loop-drafts
 invariant-branches-loop-drafts g l =
     let s = within (g.G.GlobalScope.scope l.scope.global.now) (map input l.scope.inputs.items) in
     let es = events (g.G.GlobalScope.scope l.scope.global.now).channels in
-    let test = led_fits l.prefix.channel.now (listed l.prefix.leading.items) (shapes l.prefix.fields.now) (map (λ v. listed v.items) l.prefix.sets.now) s in
+    let test = led_fits l.prefix.channel.now (listed l.prefix.leading.items) (map field_of (shapes l.prefix.fields.now)) (map (λ v. listed v.items) l.prefix.sets.now) s in
     let next = denoted (phrase_of (shape l.prefix.then.now)) in
     behind (map body l.drafts.items) (all_fit l.room (branches test next l.from (drop l.from es))) ≡ all_fit l.fn.room (branches test next 0 es)

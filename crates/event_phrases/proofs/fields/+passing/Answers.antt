@@ -2,16 +2,16 @@ use Rattle.std.proofs.Common.{rules, ◌≡◌, ◌++◌, ◌∷◌, [], ◌+◌
 use Rattle.std.proofs.lemmas.List.{length-drop}
 use Rattle.std.proofs.lemmas.Result.{err_from_is_err_and}
 use Rattle.alphabet.specs.Channels.{FieldValue}
-use Rattle.syntax.specs.Parsing.{syntaxes}
 use Rattle.syntax.specs.View.{shape, shapes}
 use Rattle.values.specs.Tables.{input}
 use Rattle.values.specs.View.{Fails, Gives, value}
-use Rattle.event_phrases.specs.Prefixes.{all_pass, fields_pass}
+use Rattle.event_phrases.specs.Forms.{field_of, no_field}
+use Rattle.event_phrases.specs.Prefixes.{all_pass, fields_pass, scopes_after}
 use Rattle.event_phrases.specs.Scopes.{with_input, within}
 use Rattle.event_phrases.specs.Shapes.{plain_field}
-use Rattle.event_phrases.specs.Uses.{field_passes, passes_after}
+use Rattle.event_phrases.specs.Uses.{passes_after}
 use Rattle.event_phrases.specs.View.{listed}
-use Rattle.event_phrases.proofs.Passing.{turn_passes, turn_fails, all_passed, field_is, no_field_is}
+use Rattle.event_phrases.proofs.Passing.{turn_passes, turn_fails, all_passed, first_field}
 use Rattle.event_phrases.proofs.Scopes.{behind_input, first_item, no_items, rest_is}
 use Rattle.syntax.proofs.Failing.{fails_none}
 use Rattle.event_phrases.proofs.fields.+passing.Goals as goal
@@ -23,7 +23,7 @@ pub all_pass-loop-value-preserved : goal.all_pass-loop-value-preserved
 all_pass-loop-value-preserved g t c =
     let scope = g.G.GlobalScope.scope c.args.global.now in
     let s = within scope (map input c.args.inputs.now) in
-    let ts = syntaxes (shapes c.args.rest.0.now) in
+    let ts = map field_of (shapes c.args.rest.0.now) in
     let sets = map (λ v. listed v.items) c.args.rest.1.now in
     let x = c.args.name.now in
     let test = λ (v : FieldValue). fields_pass ts sets (with_input s x v) in
@@ -36,7 +36,7 @@ pub all_pass-returns-in_err-fields_pass : goal.all_pass-returns-in_err-fields_pa
 all_pass-returns-in_err-fields_pass g t c =
     let scope = g.G.GlobalScope.scope c.args.global.now in
     let s = within scope (map input c.args.inputs.now) in
-    let ts = syntaxes (shapes c.args.rest.0.now) in
+    let ts = map field_of (shapes c.args.rest.0.now) in
     let sets = map (λ v. listed v.items) c.args.rest.1.now in
     let x = c.args.name.now in
     let test = λ (v : FieldValue). fields_pass ts sets (with_input s x v) in
@@ -51,7 +51,7 @@ pub all_pass-returns : goal.all_pass-returns
 all_pass-returns g t c =
     let scope = g.G.GlobalScope.scope c.args.global.now in
     let s = within scope (map input c.args.inputs.now) in
-    let ts = syntaxes (shapes c.args.rest.0.now) in
+    let ts = map field_of (shapes c.args.rest.0.now) in
     let sets = map (λ v. listed v.items) c.args.rest.1.now in
     let x = c.args.name.now in
     let test = λ (v : FieldValue). fields_pass ts sets (with_input s x v) in
@@ -60,16 +60,8 @@ all_pass-returns g t c =
 pub fields_pass-returns-in_err-passing-in-Some : goal.fields_pass-returns-in_err-passing-in-Some
 fields_pass-returns-in_err-passing-in-Some g t c =
     let s = within (g.G.GlobalScope.scope c.args.global.now) (map input c.args.inputs.now) in
-    let ef = first_item c.args.fields.now c.tree-item.result c.in-len1-up.len_at_least c.tree-item.is in
-    let es = first_item c.args.sets.now c.set-item.result c.in-len1-up-sets.len_at_least c.set-item.is in
-    let set = listed c.set-item.result.items in
     let phrase = plain_field c.in-Some.phrase in
-    let rest = take (length c.args.fields.now - 1) (drop 1 c.args.fields.now) in
-    let others = take (length c.args.sets.now - 1) (drop 1 c.args.sets.now) in
-    let whole : fields_pass (syntaxes (shapes c.args.fields.now)) (map (λ v. listed v.items) c.args.sets.now) s ≡ field_passes (shapes rest) (map (λ v. listed v.items) others) s phrase set =
-    ap₂ (λ ts vs. fields_pass (syntaxes (shapes ts)) (map (λ v. listed v.items) vs) s) ef es
-    ∙ field_is (shapes (drop 1 c.args.fields.now)) (map (λ v. listed v.items) (drop 1 c.args.sets.now)) s set (shape c.tree-item.result) phrase (sym c.in-Some.ensures)
-    ∙ ap₂ (λ ts vs. field_passes (shapes ts) (map (λ v. listed v.items) vs) s phrase set) (sym (rest_is c.args.fields.now)) (sym (rest_is c.args.sets.now)) in
+    let whole = first_field shape (λ v. listed v.items) c.args.fields.now c.args.sets.now c.tree-item.result c.set-item.result phrase s c.in-len1-up.len_at_least c.in-len1-up-sets.len_at_least c.tree-item.is c.set-item.is c.in-Some.ensures in
     let k = c.in_err-passing-in-Some.field-0.0 in
     let p = err_from_is_err_and c.from_residual.result c.from_residual.ensures.1 in
     rw (p.1, p.2) (subst (λ o. Fails k o) (sym whole) c.in_err-passing-in-Some.ensures)
@@ -78,58 +70,46 @@ pub fields_pass-returns-in-None-2 : goal.fields_pass-returns-in-None-2
 unfolding passes_after
 fields_pass-returns-in-None-2 g t c =
     let s = within (g.G.GlobalScope.scope c.args.global.now) (map input c.args.inputs.now) in
-    let ef = first_item c.args.fields.now c.tree-item.result c.in-len1-up.len_at_least c.tree-item.is in
-    let es = first_item c.args.sets.now c.set-item.result c.in-len1-up-sets.len_at_least c.set-item.is in
     let set = listed c.set-item.result.items in
     let phrase = plain_field c.in-Some.phrase in
     let rest = take (length c.args.fields.now - 1) (drop 1 c.args.fields.now) in
     let others = take (length c.args.sets.now - 1) (drop 1 c.args.sets.now) in
-    let whole : fields_pass (syntaxes (shapes c.args.fields.now)) (map (λ v. listed v.items) c.args.sets.now) s ≡ field_passes (shapes rest) (map (λ v. listed v.items) others) s phrase set =
-    ap₂ (λ ts vs. fields_pass (syntaxes (shapes ts)) (map (λ v. listed v.items) vs) s) ef es
-    ∙ field_is (shapes (drop 1 c.args.fields.now)) (map (λ v. listed v.items) (drop 1 c.args.sets.now)) s set (shape c.tree-item.result) phrase (sym c.in-Some.ensures)
-    ∙ ap₂ (λ ts vs. field_passes (shapes ts) (map (λ v. listed v.items) vs) s phrase set) (sym (rest_is c.args.fields.now)) (sym (rest_is c.args.sets.now)) in
-    let onward : field_passes (shapes rest) (map (λ v. listed v.items) others) s phrase set ≡ fields_pass (syntaxes (shapes rest)) (map (λ v. listed v.items) others) s = rw c.in-None-2.is at c.in_ok-passing-in-Some.ensures in
+    let whole = first_field shape (λ v. listed v.items) c.args.fields.now c.args.sets.now c.tree-item.result c.set-item.result phrase s c.in-len1-up.len_at_least c.in-len1-up-sets.len_at_least c.tree-item.is c.set-item.is c.in-Some.ensures in
+    let onward : fields_pass (phrase ∷ map field_of (shapes rest)) (set ∷ map (λ v. listed v.items) others) s ≡ fields_pass (map field_of (shapes rest)) (map (λ v. listed v.items) others) s = rw c.in-None-2.is at c.in_ok-passing-in-Some.ensures in
     subst (λ o. Gives (λ u. u) c.fields_pass.result o) (sym (whole ∙ onward)) c.fields_pass.ensures
 
 pub fields_pass-returns-in-Some-2 : goal.fields_pass-returns-in-Some-2
 unfolding passes_after
 fields_pass-returns-in-Some-2 g t c =
     let s = within (g.G.GlobalScope.scope c.args.global.now) (map input c.args.inputs.now) in
-    let ef = first_item c.args.fields.now c.tree-item.result c.in-len1-up.len_at_least c.tree-item.is in
-    let es = first_item c.args.sets.now c.set-item.result c.in-len1-up-sets.len_at_least c.set-item.is in
     let set = listed c.set-item.result.items in
     let phrase = plain_field c.in-Some.phrase in
     let rest = take (length c.args.fields.now - 1) (drop 1 c.args.fields.now) in
     let others = take (length c.args.sets.now - 1) (drop 1 c.args.sets.now) in
-    let whole : fields_pass (syntaxes (shapes c.args.fields.now)) (map (λ v. listed v.items) c.args.sets.now) s ≡ field_passes (shapes rest) (map (λ v. listed v.items) others) s phrase set =
-    ap₂ (λ ts vs. fields_pass (syntaxes (shapes ts)) (map (λ v. listed v.items) vs) s) ef es
-    ∙ field_is (shapes (drop 1 c.args.fields.now)) (map (λ v. listed v.items) (drop 1 c.args.sets.now)) s set (shape c.tree-item.result) phrase (sym c.in-Some.ensures)
-    ∙ ap₂ (λ ts vs. field_passes (shapes ts) (map (λ v. listed v.items) vs) s phrase set) (sym (rest_is c.args.fields.now)) (sym (rest_is c.args.sets.now)) in
-    let each = all_pass (λ v. fields_pass (syntaxes (shapes rest)) (map (λ v. listed v.items) others) (with_input s c.in-Some-2.name.now v)) in
-    let onward : field_passes (shapes rest) (map (λ v. listed v.items) others) s phrase set ≡ each (listed c.in-Some-2.values.items) = rw c.in-Some-2.is at c.in_ok-passing-in-Some.ensures in
+    let whole = first_field shape (λ v. listed v.items) c.args.fields.now c.args.sets.now c.tree-item.result c.set-item.result phrase s c.in-len1-up.len_at_least c.in-len1-up-sets.len_at_least c.tree-item.is c.set-item.is c.in-Some.ensures in
+    let each = all_pass (λ v. fields_pass (map field_of (shapes rest)) (map (λ v. listed v.items) others) (with_input s c.in-Some-2.name.now v)) in
+    let onward : fields_pass (phrase ∷ map field_of (shapes rest)) (set ∷ map (λ v. listed v.items) others) s ≡ each (listed c.in-Some-2.values.items) = rw c.in-Some-2.is at c.in_ok-passing-in-Some.ensures in
     subst (λ o. Gives (λ u. u) c.all_pass.result o) (sym (whole ∙ onward ∙ ap (λ vs. each (listed vs)) (sym c.deref.ensures.value))) c.all_pass.ensures
 
 pub fields_pass-returns-in-empty : goal.fields_pass-returns-in-empty
 unfolding fields_pass
 fields_pass-returns-in-empty g t c =
     let s = within (g.G.GlobalScope.scope c.args.global.now) (map input c.args.inputs.now) in
-    ap (λ ts. fields_pass (syntaxes (shapes ts)) (map (λ v. listed v.items) c.args.sets.now) s) (no_items c.args.fields.now c.in-empty.len_below)
+    ap (λ ts. fields_pass (map field_of (shapes ts)) (map (λ v. listed v.items) c.args.sets.now) s) (no_items c.args.fields.now c.in-empty.len_below)
 
 pub fields_pass-returns-in-empty-sets : goal.fields_pass-returns-in-empty-sets
 unfolding fields_pass
 fields_pass-returns-in-empty-sets g t c =
     let s = within (g.G.GlobalScope.scope c.args.global.now) (map input c.args.inputs.now) in
     let ef = first_item c.args.fields.now c.tree-item.result c.in-len1-up.len_at_least c.tree-item.is in
-    ap₂ (λ ts vs. fields_pass (syntaxes (shapes ts)) (map (λ v. listed v.items) vs) s) ef (no_items c.args.sets.now c.in-empty-sets.len_below)
+    ap₂ (λ ts vs. fields_pass (map field_of (shapes ts)) (map (λ v. listed v.items) vs) s) ef (no_items c.args.sets.now c.in-empty-sets.len_below)
 
 pub fields_pass-returns-in-None : goal.fields_pass-returns-in-None
+unfolding fields_pass scopes_after
 fields_pass-returns-in-None g t c =
     let s = within (g.G.GlobalScope.scope c.args.global.now) (map input c.args.inputs.now) in
-    let ef = first_item c.args.fields.now c.tree-item.result c.in-len1-up.len_at_least c.tree-item.is in
-    let es = first_item c.args.sets.now c.set-item.result c.in-len1-up-sets.len_at_least c.set-item.is in
-    fails_none c.fault.result (fields_pass (syntaxes (shapes c.args.fields.now)) (map (λ v. listed v.items) c.args.sets.now) s)
-    (ap₂ (λ ts vs. fields_pass (syntaxes (shapes ts)) (map (λ v. listed v.items) vs) s) ef es
-    ∙ no_field_is (shapes (drop 1 c.args.fields.now)) (map (λ v. listed v.items) (drop 1 c.args.sets.now)) s (listed c.set-item.result.items) (shape c.tree-item.result) (sym c.in-None.ensures))
+    fails_none c.fault.result (fields_pass (map field_of (shapes c.args.fields.now)) (map (λ v. listed v.items) c.args.sets.now) s)
+    (first_field shape (λ v. listed v.items) c.args.fields.now c.args.sets.now c.tree-item.result c.set-item.result no_field s c.in-len1-up.len_at_least c.in-len1-up-sets.len_at_least c.tree-item.is c.set-item.is c.in-None.ensures)
 
 pub all_pass-fields_pass-requires : goal.all_pass-fields_pass-requires
 all_pass-fields_pass-requires g t c κs within =

@@ -1,4 +1,4 @@
-use Rattle.event_phrases.proofs.Shapes.{node_parts}
+use Rattle.event_phrases.proofs.Views.{node_parts}
 use Rattle.event_phrases.proofs.forms.node.Goals as goal
 
 pub returns-in-Node : goal.returns-in-Node

@@ -2,12 +2,12 @@ use Rattle.std.proofs.Common.{List, map, subst, sym, ap, ◌∙◌}
 use Rattle.std.specs.Option.{option_map}
 use Rattle.std.proofs.lemmas.Result.{err_from_is_err_and}
 use Rattle.alphabet.specs.Channels.{FieldValue}
-use Rattle.syntax.specs.Parsing.{syntaxes}
 use Rattle.syntax.specs.View.{shape, shapes}
 use Rattle.values.specs.Tables.{input}
 use Rattle.values.specs.Values.{Name}
 use Rattle.values.specs.View.{Fails, Gives, value}
 use Rattle.event_phrases.specs.Fitting.{fitting}
+use Rattle.event_phrases.specs.Forms.{field_of}
 use Rattle.event_phrases.specs.Scopes.{within}
 use Rattle.event_phrases.specs.View.{listed}
 use Rattle.event_phrases.proofs.FieldSteps.{fit_if, led_by_none, led_no_fields, led_no_sets, led_no_values, led_other, led_same}
@@ -43,7 +43,7 @@ returns-else-is_equal g t c =
 pub returns-in_err-fitting-in-empty : goal.returns-in_err-fitting-in-empty
 returns-in_err-fitting-in-empty g t c =
     let global = g.G.GlobalScope.scope c.args.scope.now.global.now in
-    let fit = λ (is : List (Name × FieldValue)). fitting (syntaxes (shapes c.args.fields.now)) (map (λ v. listed v.items) c.args.sets.now) (listed c.args.values.now) (within global is) in
+    let fit = λ (is : List (Name × FieldValue)). fitting (map field_of (shapes c.args.fields.now)) (map (λ v. listed v.items) c.args.sets.now) (listed c.args.values.now) (within global is) in
     let start = led_by_none value shape (λ v. listed v.items) value (within global (map input c.args.scope.now.inputs.items)) c.args.leading.now c.args.fields.now c.args.sets.now c.args.values.now c.in-empty.len_below
     ∙ ap fit (sym (c.in_ok-inputs-in-empty.ensures ∙ ap (map input) c.deref.ensures.value)) in
     let k = c.in_err-fitting-in-empty.field-0.0 in
@@ -53,7 +53,7 @@ returns-in_err-fitting-in-empty g t c =
 pub returns-then-branch : goal.returns-then-branch
 returns-then-branch g t c =
     let global = g.G.GlobalScope.scope c.args.scope.now.global.now in
-    let fit = λ (is : List (Name × FieldValue)). fitting (syntaxes (shapes c.args.fields.now)) (map (λ v. listed v.items) c.args.sets.now) (listed c.args.values.now) (within global is) in
+    let fit = λ (is : List (Name × FieldValue)). fitting (map field_of (shapes c.args.fields.now)) (map (λ v. listed v.items) c.args.sets.now) (listed c.args.values.now) (within global is) in
     led_by_none value shape (λ v. listed v.items) value (within global (map input c.args.scope.now.inputs.items)) c.args.leading.now c.args.fields.now c.args.sets.now c.args.values.now c.in-empty.len_below
     ∙ ap fit (sym (c.in_ok-inputs-in-empty.ensures ∙ ap (map input) c.deref.ensures.value))
     ∙ c.in_ok-fitting-in-empty.ensures
@@ -62,7 +62,7 @@ returns-then-branch g t c =
 pub returns-else-branch : goal.returns-else-branch
 returns-else-branch g t c =
     let global = g.G.GlobalScope.scope c.args.scope.now.global.now in
-    let fit = λ (is : List (Name × FieldValue)). fitting (syntaxes (shapes c.args.fields.now)) (map (λ v. listed v.items) c.args.sets.now) (listed c.args.values.now) (within global is) in
+    let fit = λ (is : List (Name × FieldValue)). fitting (map field_of (shapes c.args.fields.now)) (map (λ v. listed v.items) c.args.sets.now) (listed c.args.values.now) (within global is) in
     led_by_none value shape (λ v. listed v.items) value (within global (map input c.args.scope.now.inputs.items)) c.args.leading.now c.args.fields.now c.args.sets.now c.args.values.now c.in-empty.len_below
     ∙ ap fit (sym (c.in_ok-inputs-in-empty.ensures ∙ ap (map input) c.deref.ensures.value))
     ∙ c.in_ok-fitting-in-empty.ensures

@@ -2,7 +2,7 @@ use Rattle.std.proofs.Common.{◌≡◌, ℕ, ◌+◌, ◌++◌, arith, drop, le
 use Rattle.std.proofs.lemmas.List.{length-map}
 use Rattle.alphabet.specs.Channels.{events}
 use Rattle.event_phrases.specs.Events.{number_in, pairs_from}
-use Rattle.event_phrases.specs.EventForms.{behind_pairs}
+use Rattle.event_phrases.specs.Uses.{behind_pairs}
 use Rattle.event_phrases.specs.View.{beginning, listed, row}
 use Rattle.values.specs.View.{value}
 use Rattle.event_phrases.proofs.Renamings.{image_of, pairs_behind, pair_more, pair_less, no_image, pairs_end}

@@ -1,6 +1,6 @@
 use Rattle.std.proofs.Common.{◌≡◌, List, map}
 use Rattle.alphabet.specs.Channels.{Channel, events}
-use Rattle.event_phrases.specs.EventForms.{behind_pairs}
+use Rattle.event_phrases.specs.Uses.{behind_pairs}
 use Rattle.event_phrases.specs.Events.{pairs_from}
 use Rattle.event_phrases.specs.View.{beginning, row}
 use Rattle.event_phrases.proofs.Renamings.{pairs_behind}

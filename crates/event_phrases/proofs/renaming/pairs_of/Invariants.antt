@@ -2,7 +2,7 @@ use Rattle.std.proofs.Common.{◌≡◌, map}
 use Rattle.syntax.specs.Parsing.{syntaxes}
 use Rattle.syntax.specs.View.{shapes}
 use Rattle.values.specs.Tables.{input}
-use Rattle.event_phrases.specs.EventForms.{behind_pairs}
+use Rattle.event_phrases.specs.Uses.{behind_pairs}
 use Rattle.event_phrases.specs.Scopes.{within}
 use Rattle.event_phrases.specs.Events.{pairs_of}
 use Rattle.event_phrases.proofs.Renamings.{others}

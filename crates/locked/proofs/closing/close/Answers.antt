@@ -10,3 +10,6 @@ returns-clause-book g c none =
     let open_now : v.failed ≡ None = sym (ap (λ (t : LockedView). t.failed) is) ∙ none in
     let whole : v.entries ≡ o ++ v.settled = c.settle.ensures.whole open_now in
     omega (arith, c.locked.invariant.3, ap length (ap (λ (t : LockedView). t.entries) is), ap length whole, length-append o v.settled, ap length (ap (λ (t : LockedView). t.settled) is))
+
+pub returns-clause-lasts : goal.returns-clause-lasts
+returns-clause-lasts g c = c.locked.invariant.8

@@ -1,7 +1,7 @@
 use Rattle.std.proofs.Common.{not, ◌&&◌, refl, ap, sym, ◌∙◌, arith}
 use Rattle.alphabet.specs.EventSets.{has, member}
 use Rattle.alphabet.specs.declared.events.Event.TheVariants.{Tick as tick, Of as ev}
-use Rattle.step.proofs.Renamed.{and-none}
+use Rattle.targets.proofs.Renamed.{and-none}
 use Rattle.nodes.proofs.Knowing.{and-says}
 use Rattle.nodes.proofs.facts.of_hide.Goals as goal
 

@@ -1,8 +1,8 @@
 use Rattle.std.proofs.Common.{◌&&◌, refl, ◌∙◌, arith}
 use Rattle.alphabet.specs.EventSets.{has, member}
 use Rattle.alphabet.specs.declared.events.Event.TheVariants.{Tick as tick, Of as ev}
-use Rattle.step.specs.Offers.{both_or_one}
-use Rattle.step.proofs.Renamed.{joined-none}
+use Rattle.targets.specs.Offers.{both_or_one}
+use Rattle.targets.proofs.Renamed.{joined-none}
 use Rattle.nodes.proofs.Knowing.{and-says, settled-says, alike}
 use Rattle.nodes.proofs.facts.of_par.Goals as goal
 

@@ -1,7 +1,7 @@
 use Rattle.std.proofs.Common.{nat_eq, refl, ◌∙◌, arith}
 use Rattle.alphabet.specs.EventSets.{member}
 use Rattle.alphabet.specs.declared.events.Event.TheVariants.{Tick as tick, Of as ev}
-use Rattle.step.proofs.Renamed.{or-last}
+use Rattle.targets.proofs.Renamed.{or-last}
 use Rattle.nodes.proofs.facts.of_prefix.Goals as goal
 
 pub returns : goal.returns

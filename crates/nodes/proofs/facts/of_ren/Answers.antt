@@ -1,8 +1,8 @@
 use Rattle.std.proofs.Common.{refl, ◌∙◌, arith}
 use Rattle.alphabet.specs.EventSets.{has}
-use Rattle.step.specs.Offers.{offered}
-use Rattle.step.specs.Targets.{sources}
-use Rattle.step.proofs.Renamed.{passes-same}
+use Rattle.targets.specs.Offers.{offered}
+use Rattle.targets.specs.Targets.{sources}
+use Rattle.targets.proofs.Renamed.{passes-same}
 use Rattle.nodes.proofs.facts.of_ren.Goals as goal
 
 pub returns : goal.returns

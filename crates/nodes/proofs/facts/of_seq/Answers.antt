@@ -1,5 +1,5 @@
 use Rattle.std.proofs.Common.{refl, arith}
-use Rattle.step.proofs.Settling.{no_tick}
+use Rattle.targets.proofs.Settling.{no_tick}
 use Rattle.nodes.proofs.Knowing.{and-says}
 use Rattle.nodes.proofs.facts.of_seq.Goals as goal
 

@@ -1,6 +1,6 @@
 use Rattle.std.proofs.Common.{not, ◌&&◌, ap, ◌∙◌}
 use Rattle.alphabet.specs.EventSets.{member}
-use Rattle.step.proofs.Renamed.{apart-says}
+use Rattle.targets.proofs.Renamed.{apart-says}
 use Rattle.nodes.proofs.Knowing.{not-back}
 use Rattle.nodes.proofs.offers.are_apart.Goals as goal
 

@@ -3,9 +3,9 @@ use Rattle.std.proofs.lemmas.List.{take_more, take_all}
 use Rattle.alphabet.specs.EventSets.{has, member}
 use Rattle.alphabet.specs.declared.events.Event.TheVariants.{Tick as tick, Of as ev}
 use Rattle.term.specs.Traces.{partners}
-use Rattle.step.specs.Targets.{is_empty, origins}
-use Rattle.step.specs.Offers.{some_passes}
-use Rattle.step.proofs.Renamed.{and-true, or-last, and-not-none, origins-yes, origins-no, sources-passes, kept-push}
+use Rattle.targets.specs.Targets.{is_empty, origins}
+use Rattle.targets.specs.Offers.{some_passes}
+use Rattle.targets.proofs.Renamed.{and-true, or-last, and-not-none, origins-yes, origins-no, sources-passes, kept-push}
 use Rattle.nodes.proofs.offers.renamed.Goals as goal
 use Rattle.nodes.proofs.offers.renamed.Goals.{then-contains, else-contains}
 

@@ -2,8 +2,8 @@ use Rattle.std.proofs.Common.{◌≡◌, ℕ, false, ◌&&◌, take}
 use Rattle.alphabet.specs.EventSets.{has, member}
 use Rattle.alphabet.specs.declared.events.Event.TheVariants.{Tick as tick}
 use Rattle.term.specs.Traces.{partners}
-use Rattle.step.specs.Targets.{is_empty, origins}
-use Rattle.step.specs.Offers.{some_passes}
+use Rattle.targets.specs.Targets.{is_empty, origins}
+use Rattle.targets.specs.Offers.{some_passes}
 use Rattle.nodes.proofs.offers.renamed.Given as goal
 
 abbrev pub invariant-loop-pair : goal.invariant-loop-pair

@@ -1,7 +1,7 @@
 use Rattle.std.proofs.Common.{◌≤◌, length}
 use Rattle.alphabet.specs.Channels.{event_count}
 use Rattle.term.specs.Proc.{proc}
-use Rattle.step.proofs.Lying.{lies-small}
+use Rattle.targets.proofs.Lying.{lies-small}
 use Rattle.part_scenarios.proofs.numbers.put_numbered.Goals as goal
 
 pub put_both-requires : goal.put_both-requires

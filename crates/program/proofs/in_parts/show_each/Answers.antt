@@ -6,10 +6,7 @@ use Rattle.large_sessions.proofs.Going.{fewer_left, parts_left}
 use Rattle.large_sessions.proofs.Went.{Went, failed_fault, failed_only, went_gone, went_none, went_on}
 use Rattle.shown.specs.Shows.{Sends}
 use Rattle.shown.proofs.Sending.{sends_more}
-use Rattle.program.proofs.InParts.{AreShown, IsFrom, ends_at, err_and, err_match, judged_on, let_go_of, no_display, replay_from, shown_first, shown_on}
-use Rattle.program.specs.Parts.{HaveNoDisplay}
-use Rattle.program.specs.Showings.{IsBeyond}
-use Rattle.program.specs.declared.showing.DisplayError.{DisplayError}
+use Rattle.program.proofs.InParts.{AreShown, IsFrom, ends_at, judged_on, let_go_of, no_display, of_ok, replay_from, shown_first, shown_on}
 use Rattle.program.proofs.in_parts.show_each.Goals as goal
 
 pub take-requires : goal.take-requires
@@ -24,14 +21,17 @@ pub loop-alloc-init : goal.loop-alloc-init
 loop-alloc-init g c =
     let t = c.args.replaying.taken in
     let s = c.args.showing.now in
-    let e = c.in_ok-take.ensures in
+    let e = c.take.ensures in
+    let now = c.take.new in
+    let history = of_ok c.take.result (now.self.history ≡ s.history ++ c.entries.result.now) c.in_default.not-Err e.history in
+    let sends = of_ok c.take.result (Sends (g.W.Write.contents c.args.output.now) (g.W.Write.contents now.output) s.written now.self.written) c.in_default.not-Err e.sends in
     record {
       went = went_none g.F.Folder.state c.args.replaying;
       spec_is = c.take.ensures.spec ∙ c.requires.spec;
       same = c.take.ensures.spec;
       options_are = c.take.ensures.options;
-      history_is = e.history ∙ ap (λ (l : List Entry). s.history ++ l) c.entries.ensures.entries ∙ shown_first s.history t.entries t.gone c.requires.none.0 c.requires.none.2;
-      sends = subst (λ (w : List ℕ). Sends (g.W.Write.contents c.args.output.now) (g.W.Write.contents c.take.new.output) w c.take.new.self.written) c.requires.none.1 e.sends;
+      history_is = history ∙ ap (λ (l : List Entry). s.history ++ l) c.entries.ensures.entries ∙ shown_first s.history t.entries t.gone c.requires.none.0 c.requires.none.2;
+      sends = subst (λ (w : List ℕ). Sends (g.W.Write.contents c.args.output.now) (g.W.Write.contents c.take.new.output) w c.take.new.self.written) c.requires.none.1 sends;
     }
 
 pub take-requires-in-loop-alloc : goal.take-requires-in-loop-alloc
@@ -61,16 +61,19 @@ loop-alloc-preserved g c =
     let go = c.let_go.new.self in
     let w = went_gone state c.args.replaying c.loop-alloc.replaying go i.went c.let_go.ensures.opened taken.0 taken.1 in
     let n : Went state go c.in-Ok.next = record { alike = e.alike; spec_is = e.spec; longer = e.longer; goes = e.continues; bytes = e.untouched; moment = e.any_moment; only = e.only } in
-    let f = c.in_ok-take-2.ensures in
+    let f = c.take-in-loop-alloc.ensures in
+    let now = c.take-in-loop-alloc.new in
+    let history = of_ok c.take-in-loop-alloc.result (now.self.history ≡ s.history ++ c.entries-in-loop-alloc.result.now) c.in_default-take.not-Err f.history in
+    let sends = of_ok c.take-in-loop-alloc.result (Sends (contents c.loop-alloc.output) (contents now.output) s.written now.self.written) c.in_default-take.not-Err f.sends in
     record {
       went = went_on state c.args.replaying go w c.in-Ok.next n;
       spec_is = c.take-in-loop-alloc.ensures.spec ∙ i.spec_is ∙ sym taken.0 ∙ sym e.spec;
       same = c.take-in-loop-alloc.ensures.spec ∙ i.same;
       options_are = c.take-in-loop-alloc.ensures.options ∙ i.options_are;
-      history_is = f.history ∙ ap (λ (l : List Entry). s.history ++ l) c.entries-in-loop-alloc.ensures.entries
+      history_is = history ∙ ap (λ (l : List Entry). s.history ++ l) c.entries-in-loop-alloc.ensures.entries
           ∙ shown_on s.history go.taken.entries t.entries t.gone (i.history_is ∙ sym taken.1)
           (e.gone ∙ taken.2 ∙ sym (ap length taken.1)) e.longer;
-      sends = sends_more (contents c.args.output.now) (contents c.loop-alloc.output) (contents c.take-in-loop-alloc.new.output) [] s.written c.take-in-loop-alloc.new.self.written i.sends f.sends;
+      sends = sends_more (contents c.args.output.now) (contents c.loop-alloc.output) (contents c.take-in-loop-alloc.new.output) [] s.written c.take-in-loop-alloc.new.self.written i.sends sends;
     }
 
 pub loop-alloc-smaller : goal.loop-alloc-smaller
@@ -82,39 +85,29 @@ loop-alloc-smaller g c =
     let going : IsDone go.opened → ⊥ = λ done. false≢true (sym c.loop-alloc-test.true ∙ c.is_done.ensures.done.1 (subst (λ (o : Opened _). IsDone o) opened done)) in
     subst (λ (o : Opened _). parts_left next.opened < parts_left o) opened (fewer_left go.opened next.opened c.in-Ok.field-0-1 going (λ none. (e.none none).0) e.further)
 
-pub returns-in_err-take-clause-fault : goal.returns-in_err-take-clause-fault
-returns-in_err-take-clause-fault g c =
-    let held = c.args.replaying.opened.held in
-    let s = g.F.Folder.state held.folder in
-    err_and c.from_residual.result IsBeyond (λ (e : DisplayError). IsTrue s.claims_bytes → HaveNoDisplay held.size s.bytes e) c.from_residual.ensures.1 (λ e beyond claims. no_display held.size s.bytes e beyond)
-
-pub returns-in_err-take-clause-only : goal.returns-in_err-take-clause-only
-returns-in_err-take-clause-only g c claims script root spec h is small start = err_match c.from_residual.result IsBeyond _ IsBeyond c.from_residual.ensures.1 (λ e beyond. beyond)
-
-pub returns-in_err-take-2-clause-fault : goal.returns-in_err-take-2-clause-fault
-returns-in_err-take-2-clause-fault g c =
-    let held = c.args.replaying.opened.held in
-    let s = g.F.Folder.state held.folder in
-    err_and c.from_residual-in_err-take-2.result IsBeyond (λ (e : DisplayError). IsTrue s.claims_bytes → HaveNoDisplay held.size s.bytes e) c.from_residual-in_err-take-2.ensures.1 (λ e beyond claims. no_display held.size s.bytes e beyond)
-
-pub returns-in_err-take-2-clause-only : goal.returns-in_err-take-2-clause-only
-returns-in_err-take-2-clause-only g c claims script root spec h is small start = err_match c.from_residual-in_err-take-2.result IsBeyond _ IsBeyond c.from_residual-in_err-take-2.ensures.1 (λ e beyond. beyond)
-
 pub returns-in-Err-clause-fault : goal.returns-in-Err-clause-fault
 returns-in-Err-clause-fault g c claims =
-    let state = g.F.Folder.state in
-    let taken = let_go_of c.loop-alloc.replaying c.let_go.new.self c.let_go.ensures.taken in
-    let go = c.let_go.new.self in
-    let w = went_gone state c.args.replaying c.loop-alloc.replaying go c.loop-alloc.invariant.went c.let_go.ensures.opened taken.0 taken.1 in
-    failed_fault state c.args.replaying go w c.in-Err.error c.in-Err.ensures.fault claims
+    let held = c.args.replaying.opened.held in no_display held.size (g.F.Folder.state held.folder).bytes c.into.result c.into.ensures
 
-pub returns-in-Err-clause-only : goal.returns-in-Err-clause-only
-returns-in-Err-clause-only g c claims script root spec h is small start =
+pub returns-in-Err-take-clause-fault : goal.returns-in-Err-take-clause-fault
+returns-in-Err-take-clause-fault g c claims =
+    let held = c.args.replaying.opened.held in no_display held.size (g.F.Folder.state held.folder).bytes c.into-in-Err-take.result c.into-in-Err-take.ensures
+
+pub returns-in-Err-next-clause-fault : goal.returns-in-Err-next-clause-fault
+returns-in-Err-next-clause-fault g c claims =
     let state = g.F.Folder.state in
     let taken = let_go_of c.loop-alloc.replaying c.let_go.new.self c.let_go.ensures.taken in
     let go = c.let_go.new.self in
     let w = went_gone state c.args.replaying c.loop-alloc.replaying go c.loop-alloc.invariant.went c.let_go.ensures.opened taken.0 taken.1 in
-    failed_only state c.args.replaying go w c.in-Err.error c.in-Err.ensures.only claims script root spec h is small start
+    failed_fault state c.args.replaying go w c.in-Err-next.error c.in-Err-next.ensures.fault claims
+
+pub returns-in-Err-next-clause-only : goal.returns-in-Err-next-clause-only
+returns-in-Err-next-clause-only g c claims script root spec h is small start =
+    let state = g.F.Folder.state in
+    let taken = let_go_of c.loop-alloc.replaying c.let_go.new.self c.let_go.ensures.taken in
+    let go = c.let_go.new.self in
+    let w = went_gone state c.args.replaying c.loop-alloc.replaying go c.loop-alloc.invariant.went c.let_go.ensures.opened taken.0 taken.1 in
+    failed_only state c.args.replaying go w c.in-Err-next.error c.in-Err-next.ensures.only claims script root spec h is small start
 
 pub returns-clause-held : goal.returns-clause-held
 returns-clause-held g c claims =

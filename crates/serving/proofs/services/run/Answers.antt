@@ -1,4 +1,4 @@
-use Rattle.std.proofs.Common.{◌≡◌, ◌+◌, ℕ, Ok, Err, IfOk, IfErr, arith, length, subst, sym}
+use Rattle.std.proofs.Common.{◌≡◌, ◌+◌, Ok, Err, IfOk, IfErr, arith, length, subst, sym}
 use Rattle.shared.specs.View.{PlacesView}
 use Rattle.shared.proofs.Keeping.{if_ok}
 use Rattle.shared.proofs.ScriptLemmas.{if_err}

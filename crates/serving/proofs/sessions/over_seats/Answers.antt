@@ -1,10 +1,10 @@
-use Rattle.std.proofs.Common.{◌≡◌, ℕ, List, Ok, Err, IfOk, IfErr, subst, sym}
+use Rattle.std.proofs.Common.{◌≡◌, List, Ok, Err, IfOk, IfErr, IfSome, subst, sym}
 use Rattle.std.specs.Prelude.{map}
 use Rattle.shared.specs.View.{SeatView}
 use Rattle.term.specs.Proc.{bodies_of}
+use Rattle.shared.specs.Lasting.{Lasts}
 use Rattle.shared.specs.Legal.{Legal}
 use Rattle.shared.specs.Beginnings.{StartsWith}
-use Rattle.shared.specs.SessionView.{IsRecorded}
 use Rattle.shared.proofs.Keeping.{if_ok}
 use Rattle.shared.proofs.ScriptLemmas.{if_err}
 use Rattle.connections.specs.declared.outcome.Outcome.{Outcome}
@@ -50,14 +50,14 @@ returns-clause-session g c =
     (λ k is. subst (λ s. (s.spec ≡ spec) × StartsWith s.history g.N.Naming.opening × Legal (bodies_of spec.bodies) s.history) (sym is.0) finish.ensures.session)
     c.close.ensures.closed
 
-pub returns-clause-kept : goal.returns-clause-kept
-returns-clause-kept g c =
+pub returns-clause-lasts : goal.returns-clause-lasts
+returns-clause-lasts g c =
     let served = c.serve_in-served in
     let finish = c.finish-session in
     if_ok (λ k. (k.session ≡ finish.result.0) × (k.answered ≡ finish.result.1) × (k.endings ≡ served.new.endings) × (served.result ≡ Ok k.account.accept_failed))
-    (λ k. (script : List ℕ) × (root : List ℕ) × IsRecorded g.J.Recorder.recording script root k.session)
+    (λ k. IfSome g.N.Sharing.before (λ before. Lasts g.J.Recorder.recording before k.session))
     c.close.result
-    (λ k is. subst (λ s. (script : List ℕ) × (root : List ℕ) × IsRecorded g.J.Recorder.recording script root s) (sym is.0) finish.ensures.kept)
+    (λ k is. subst (λ s. IfSome g.N.Sharing.before (λ before. Lasts g.J.Recorder.recording before s)) (sym is.0) finish.ensures.lasts)
     c.close.ensures.closed
 
 pub returns-clause-memory : goal.returns-clause-memory

@@ -43,7 +43,7 @@ serve_all-served-requires-sync-G g c κs within =
         ),
       ),
     ) in
-    let shared = shared_sync (param 0 g.row.J) (param 1 g.row.N) g.N.Naming g.N.Ledger _ g.J.Recorder (
+    let shared = shared_sync (param 0 g.row.J) (param 1 g.row.N) g.N.Sharing g.N.Naming g.N.Ledger _ g.J.Recorder (
       record { owned = session.owned; leaving = session.leaving },
       (
         record { owned = c.crosses-3.ensures.owned; leaving = λ k x w. search sendable },

@@ -1,7 +1,7 @@
 use Rattle.std.proofs.Common.{◌≡◌, ◌++◌, map, ap, ◌∙◌, take, length, arith, ◌<◌, ◌≤◌, get_or}
 use Rattle.std.proofs.lemmas.List.{take_all}
 use Rattle.term.specs.Proc.{proc, par}
-use Rattle.step.specs.Targets.{pairs_of}
+use Rattle.targets.specs.Targets.{pairs_of}
 use Rattle.step.proofs.Lists.{pairs_of_more}
 use Rattle.step.proofs.Parts.{then_more}
 use Rattle.step.proofs.events.put_pairs.Goals as goal

@@ -1,6 +1,6 @@
 use Rattle.std.proofs.Common.{◌≡◌, ◌++◌, map, take}
 use Rattle.term.specs.Proc.{proc, par}
-use Rattle.step.specs.Targets.{pairs_of}
+use Rattle.targets.specs.Targets.{pairs_of}
 use Rattle.step.proofs.events.put_pairs.Given as goal
 
 abbrev pub invariant-loop-left : goal.invariant-loop-left

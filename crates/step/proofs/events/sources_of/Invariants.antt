@@ -1,5 +1,5 @@
 use Rattle.std.proofs.Common.{◌≡◌, take}
-use Rattle.step.specs.Targets.{origins}
+use Rattle.targets.specs.Targets.{origins}
 use Rattle.step.proofs.events.sources_of.Given as goal
 
 abbrev pub invariant-loop-pair : goal.invariant-loop-pair

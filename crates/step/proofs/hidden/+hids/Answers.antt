@@ -1,7 +1,8 @@
 use Rattle.std.proofs.Common.{[], ◌∷◌, map, ◌&&◌, not}
 use Rattle.term.specs.Proc.{proc, bodies_of, ext, seq, par, hide, intr, skip}
 use Rattle.term.specs.Steps.{is_skip}
-use Rattle.step.specs.Targets.{acts, each, elements, hids, ticks, where_}
+use Rattle.targets.specs.Targets.{ticks, where_}
+use Rattle.step.specs.Targets.{acts, each, elements, hids}
 use Rattle.step.proofs.Parts.{then_ends, then_more, then_result}
 use Rattle.step.proofs.hidden.+hids.Goals as goal
 

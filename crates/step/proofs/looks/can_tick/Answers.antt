@@ -1,6 +1,6 @@
 use Rattle.std.proofs.Common.{sym, ◌∙◌}
 use Rattle.term.specs.Proc.{proc}
-use Rattle.step.proofs.HidList.{ticks-Ticks, Ticks-ticks}
+use Rattle.targets.proofs.Ticking.{ticks-Ticks, Ticks-ticks}
 use Rattle.step.proofs.looks.can_tick.Goals as goal
 
 pub returns : goal.returns

@@ -1,5 +1,5 @@
 use Rattle.std.proofs.Common.{sym, ◌∙◌, length, arith, ◌<◌}
-use Rattle.step.proofs.Lists.{origins_yes, origins_no, sources_yes, sources_no}
+use Rattle.targets.proofs.Sources.{origins_yes, origins_no, sources_yes, sources_no}
 use Rattle.transitions.proofs.events.sources_of.Goals as goal
 use Rattle.transitions.proofs.events.sources_of.Goals.{then-pair-event+in_ok-push, else-pair-event, then-is_alone+in_ok-push-2, else-is_alone}
 

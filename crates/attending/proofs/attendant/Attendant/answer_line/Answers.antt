@@ -13,9 +13,9 @@ use Rattle.wire.proofs.GroupLemmas.{not_quit}
 use Rattle.attending.specs.Lines.{ExplainsIf, is_acceptance}
 use Rattle.attending.specs.Preparing.{HasLast}
 use Rattle.alphabet.specs.EventSets.{Set}
-use Rattle.wire.specs.declared.answers.Answer.{Answer}
-use Rattle.wire.specs.declared.answers.Answer.TheVariants as answered
-use Rattle.wire.specs.declared.answers.Fault.TheVariants as faults
+use Rattle.wire.specs.declared.answer.Answer.{Answer}
+use Rattle.wire.specs.declared.answer.Answer.TheVariants as answered
+use Rattle.answers.specs.declared.fault.Fault.TheVariants as faults
 use Rattle.attending.specs.Standing.{course_of}
 use Rattle.attending.proofs.AttendLemmas.{follows, given_as, moves_by, prepares_of, ready_some, some_ready}
 use Rattle.attending.proofs.attendant.Attendant.answer_line.Goals as goal

@@ -1,7 +1,7 @@
 use Rattle.std.proofs.Common.{◌≡◌, ℕ, ◌≤◌, ◌+◌, ◌++◌, List, length, map, take, get_or, sym, ap, subst, arith}
 use Rattle.std.proofs.lemmas.List.{take_all}
 use Rattle.term.specs.Proc.{Proc, par}
-use Rattle.step.specs.Targets.{pairs_of}
+use Rattle.targets.specs.Targets.{pairs_of}
 use Rattle.targets.specs.Among.{Joined}
 use Rattle.nodes.specs.Shapes.{at, set_at}
 use Rattle.nodes.specs.Looks.{look, around}

@@ -1,6 +1,6 @@
 use Rattle.std.proofs.Common.{length, take}
 use Rattle.term.specs.Proc.{par}
-use Rattle.step.specs.Targets.{pairs_of}
+use Rattle.targets.specs.Targets.{pairs_of}
 use Rattle.targets.specs.Among.{Joined}
 use Rattle.nodes.specs.Shapes.{set_at}
 use Rattle.nodes.specs.Looks.{look, AllBelow}

@@ -2,11 +2,11 @@ use Rattle.std.proofs.Common.{◌<◌, ◌+◌, ◌++◌, ◌∷◌, [], List, B
 use Rattle.std.specs.Prelude.{IfSome}
 use Rattle.alphabet.specs.declared.events.Report.{Report}
 use Rattle.shared.specs.View.{SeatView}
-use Rattle.shared.specs.Fault.{Fault as SessionFault}
+use Rattle.shared.specs.SessionFaults.{Fault as SessionFault}
 use Rattle.wire.specs.Groups.{AllReported}
-use Rattle.wire.specs.declared.answers.Receipt.{Receipt}
-use Rattle.wire.specs.declared.answers.Fault.{Fault}
-use Rattle.seats.specs.Faults.{reported_as}
+use Rattle.answers.specs.declared.receipt.Receipt.{Receipt}
+use Rattle.wire.specs.Faults.{Fault}
+use Rattle.answers.specs.Faults.{plain_of}
 use Rattle.seats.specs.Groups.{receipts_of}
 use Rattle.seats.specs.Judges.{Reports}
 use Rattle.seats.proofs.GroupLemmas.{all_reported, part_reported, take_within}
@@ -26,10 +26,10 @@ returns-in-Some-clause-answered g c =
     let xs : List (Result Receipt Fault) = receipts_of (take t.result.count vs) t.result.place in
     let answers : List (Result Receipt Fault) = c.args.answers.now.items in
     let more = part_reported spec old new some vs t.result.count t.result.place t.result.fault f c.in-Some.is t.ensures.came in (
-      xs ++ Err (reported_as f) ∷ [],
-      c.add.ensures.items ∙ ap (λ (l : List (Result Receipt Fault)). l ++ Err c.reported.result ∷ []) c.add_receipts.ensures.items
-          ∙ append_assoc answers xs (Err c.reported.result ∷ []) ∙ ap (λ (x : Fault). answers ++ (xs ++ Err x ∷ [])) (c.reported.ensures ∙ ap reported_as c.in-Some.fault-is),
-      subst (λ (l : List Report). AllReported (Reports spec) old l (xs ++ Err (reported_as f) ∷ []) new) (take_within (t.result.count + 1) c.min.result reports (omega (arith, left))) more,
+      xs ++ Err (plain_of f) ∷ [],
+      c.add.ensures.items ∙ ap (λ (l : List (Result Receipt Fault)). l ++ Err c.plain.result ∷ []) c.add_receipts.ensures.items
+          ∙ append_assoc answers xs (Err c.plain.result ∷ []) ∙ ap (λ (x : Fault). answers ++ (xs ++ Err x ∷ [])) (c.plain.ensures.plain ∙ ap plain_of c.in-Some.fault-is),
+      subst (λ (l : List Report). AllReported (Reports spec) old l (xs ++ Err (plain_of f) ∷ []) new) (take_within (t.result.count + 1) c.min.result reports (omega (arith, left))) more,
     )
 
 pub returns-in-None-clause-answered : goal.returns-in-None-clause-answered

@@ -6,8 +6,8 @@ use Rattle.alphabet.specs.declared.events.Report.{Report}
 use Rattle.shared.specs.View.{SeatView}
 use Rattle.wire.specs.Requests.{IsReportBelow}
 use Rattle.wire.specs.Groups.{AllReported}
-use Rattle.wire.specs.declared.answers.Receipt.{Receipt}
-use Rattle.wire.specs.declared.answers.Fault.{Fault}
+use Rattle.answers.specs.declared.receipt.Receipt.{Receipt}
+use Rattle.wire.specs.Faults.{Fault}
 use Rattle.seats.specs.Judges.{Reports}
 use Rattle.seats.specs.declared.judge.SeatJudge.{SeatJudge}
 use Rattle.seats.proofs.GroupLemmas.{all_after, reported_more, reported_by}

@@ -29,9 +29,8 @@ pub returns-clause-told : goal.returns-clause-told
 returns-clause-told g c = told g c
 
 pub returns-clause-crash : goal.returns-clause-crash
-returns-clause-crash g c =
-    let kept = c.history.ensures.kept in
-    IfSome_then c.audited-count.result (told g c) (λ n t. all_left g.J.Recorder.recording c.close-session.result.0 kept.0 kept.1 c.args.shares.items kept.2 t)
+returns-clause-crash g c script root kept =
+    IfSome_then c.audited-count.result (told g c) (λ n t. all_left g.J.Recorder.recording c.close-session.result.0 script root c.args.shares.items kept t)
 
 pub returns-clause-whole : goal.returns-clause-whole
 returns-clause-whole g c many alone = c.audited-count.ensures.whole many alone

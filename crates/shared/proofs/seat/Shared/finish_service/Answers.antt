@@ -20,10 +20,9 @@ pub returns-clause-within : goal.returns-clause-within
 returns-clause-within g c = IfSome_then c.audited_with-count.result c.audited_with-count.ensures.told (λ n t. (c.close-session.result.1, history g c, t.0))
 
 pub returns-clause-crash : goal.returns-clause-crash
-returns-clause-crash g c =
-    let kept = c.history.ensures.kept in
+returns-clause-crash g c script root kept =
     IfSome_then c.audited_with-count.result c.audited_with-count.ensures.told
-    (λ n t. all_left_within g.J.Recorder.recording c.close-session.result.0 kept.0 kept.1 g.N.Naming.opening c.close-session.result.1 c.args.shares.items (history g c) kept.2 t.0)
+    (λ n t. all_left_within g.J.Recorder.recording c.close-session.result.0 script root g.N.Naming.opening c.close-session.result.1 c.args.shares.items (history g c) kept t.0)
 
 pub returns-clause-whole : goal.returns-clause-whole
 returns-clause-whole g c many = c.audited_with-count.ensures.whole many

@@ -6,8 +6,8 @@ use Rattle.term.specs.Proc.{bodies_of}
 use Rattle.term.specs.Specs.{Specified}
 use Rattle.locked.specs.Entry.{Entry}
 use Rattle.locked.specs.Entries.{calls}
-use Rattle.locked.specs.Fault.{Fault}
-use Rattle.locked.specs.Fault.TheVariants.{Journal, Closed}
+use Rattle.locked.specs.SessionFaults.{Fault}
+use Rattle.answers.specs.declared.fault.Fault.TheVariants.{Journal, Closed}
 use Rattle.locked.specs.Legal.{Legal}
 use Rattle.locked.specs.SessionView.{IsOf}
 use Rattle.locked.proofs.Beginnings.{begins_self}

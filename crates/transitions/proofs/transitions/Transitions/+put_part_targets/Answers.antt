@@ -4,7 +4,7 @@ use Rattle.alphabet.specs.EventSets.{Set}
 use Rattle.term.specs.Limits.{most_states}
 use Rattle.term.specs.Proc.{Proc, bodies_of}
 use Rattle.term.specs.Steps.{Act, Hid}
-use Rattle.step.specs.Labels.{Step}
+use Rattle.targets.specs.Labels.{Step}
 use Rattle.targets.specs.Among.{ActsIn}
 use Rattle.nodes.specs.Shapes.{at, set_at, shape}
 use Rattle.nodes.specs.Looks.{ActsBy, AllBelow, IsCutIn, OrEnd}

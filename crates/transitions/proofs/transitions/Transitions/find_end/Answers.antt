@@ -2,7 +2,7 @@ use Rattle.std.proofs.Common.{◌≡◌, sym, ap, ◌∙◌}
 use Rattle.term.specs.Limits.{most_states}
 use Rattle.term.specs.Proc.{stop}
 use Rattle.term.specs.Steps.{Ticks}
-use Rattle.step.specs.Targets.{ticks}
+use Rattle.targets.specs.Targets.{ticks}
 use Rattle.nodes.specs.Shapes.{at}
 use Rattle.transitions.proofs.Keeping.{at-kept}
 use Rattle.transitions.proofs.Asking.{none-in, single-in, no-end, one-end, not-on, not-off}

@@ -3,9 +3,9 @@ use Rattle.alphabet.specs.EventSets.{has}
 use Rattle.alphabet.specs.declared.events.Event.{Event}
 use Rattle.alphabet.specs.declared.events.Event.TheVariants.{Tick as tick, Of as ev}
 use Rattle.term.specs.Proc.{bodies_of}
-use Rattle.step.specs.Labels.{Step}
-use Rattle.step.specs.declared.targets.Label.{Label}
-use Rattle.step.specs.declared.targets.Label.TheVariants as label
+use Rattle.targets.specs.Labels.{Step}
+use Rattle.targets.specs.declared.labels.Label.{Label}
+use Rattle.targets.specs.declared.labels.Label.TheVariants as label
 use Rattle.nodes.specs.Shapes.{at}
 use Rattle.transitions.proofs.Asking.{no-act, no-hidden, no-end, not-off}
 use Rattle.transitions.proofs.transitions.Transitions.may_step.Goals as goal

@@ -1,6 +1,6 @@
 use Rattle.term.specs.Limits.{most_states}
 use Rattle.term.specs.Proc.{bodies_of}
-use Rattle.step.specs.Labels.{Step}
+use Rattle.targets.specs.Labels.{Step}
 use Rattle.nodes.specs.Shapes.{at}
 use Rattle.transitions.proofs.Asking.{none-in}
 use Rattle.transitions.proofs.transitions.Transitions.put_new_targets.Goals as goal

@@ -1,0 +1,3 @@
+-- To believe.
+pub mod Faults
+pub mod Exits

@@ -1,0 +1,3 @@
+pub mod Crashing
+pub mod Runs
+pub mod Tears

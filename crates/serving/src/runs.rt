@@ -1,0 +1,187 @@
+//! A run of a server, by its plan, up to the status that it ends with.
+
+ghost use Rattle.std.specs.Prelude.{◌≡◌, ◌||◌, [], ℕ, List, Option, cond, not, is_some, sum_by, IfOk, IfErr};
+ghost use Rattle.term.specs.Proc.{bodies_of};
+ghost use Rattle.shared.specs.Beginnings.{StartsWith};
+ghost use Rattle.shared.specs.Lasting.{Lasts};
+ghost use Rattle.shared.specs.Legal.{Legal};
+ghost use Rattle.connections.specs.declared.outcome.Ending.{Ending as EndingOf};
+ghost use Rattle.connections.specs.Accounts.{service_status};
+ghost use Rattle.connections.specs.Outcomes.{WasTold};
+ghost use Rattle.connections.specs.Services.{capped, unjudged_of};
+ghost use Rattle.serving.specs.Plans.{IsTotal, WentBy, terms_of};
+ghost use Rattle.serving.specs.Runs.{Went};
+ghost use Rattle.serving.specs.Services.{Ran};
+
+use crate::services::{ClosedService, serve_service};
+use crate::sessions::{Closing, serve_session};
+use answers::Exit;
+use connections::{Connections, Ending, Listen, Totals};
+use shared::{Recorder, SessionOn};
+use std::alloc::{AllocError, Global};
+use std::sync::Wait;
+use std::thread::Threads;
+use std::time::Clock;
+
+/// How long a server runs.
+#[derive(Clone, Copy, PartialEq, Eq, Debug)]
+pub enum Plan {
+    /// Until so many connections are over, each at a seat of its own.
+    Over(Connections),
+    /// As a service, until no connection is left and there was one.
+    Idle,
+    /// As a service, without end.
+    Stopped,
+}
+
+/// A run that has ended.
+#[derive(Drop)]
+pub struct Run<J: Recorder> {
+    /// The session.
+    pub session: SessionOn<J, Global>,
+    /// What came of all connections together.
+    pub totals: Totals,
+    /// A connection couldn't be taken.
+    pub accept_failed: bool,
+}
+
+impl<J: Recorder> Run<J> {
+    /// How the run ends, if its end could be told or not: an output that failed counts as an accept that did.
+    #[tactic(auto, using(crate::proofs::Plans::some_is))]
+    pub fn status(&self, is_told: bool) -> Exit
+        ensures { result ≡ service_status (is_some self.now.session.failed) (self.now.accept_failed || not is_told) self.now.totals }
+    {
+        self.totals
+            .status(self.session.is_closed(), self.accept_failed || !is_told)
+    }
+}
+
+// How many lines weren't judged, as far as 64 bits go.
+fn unjudged_in(endings: &[Ending]) -> u64
+    ensures { result ≡ capped (sum_by unjudged_of endings.now) }
+{
+    match endings {
+        [] => 0,
+        [first, rest @ ..] => first.unjudged().saturating_add(unjudged_in(rest)),
+    }
+}
+
+// What is left of a run of so many connections.
+fn run_of<J: Recorder>(closing: Closing<J>, counts: bool) -> Run<J>
+    ensures session { result.session ≡ closing.session }
+    ensures rejected { result.totals.rejected ≡ closing.account.rejected }
+    ensures limit { result.totals.limit ≡ closing.account.limit }
+    ensures unjudged { result.totals.unjudged ≡ cond counts (capped (sum_by unjudged_of closing.endings.items)) 0 }
+    ensures accept { result.accept_failed ≡ closing.account.accept_failed }
+{
+    let Closing {
+        session,
+        endings,
+        account,
+        answered: _,
+    } = closing;
+    let unjudged = if counts { unjudged_in(&endings) } else { 0 };
+    Run {
+        session,
+        totals: Totals {
+            rejected: account.rejected,
+            limit: account.limit,
+            unjudged,
+        },
+        accept_failed: account.accept_failed,
+    }
+}
+
+// What is left of a service.
+fn run_of_service<J: Recorder>(closed: ClosedService<J>) -> Run<J>
+    ensures { (result.session ≡ closed.session) × (result.totals ≡ closed.totals) × (result.accept_failed ≡ closed.accept_failed) }
+{
+    let ClosedService {
+        session,
+        totals,
+        accept_failed,
+        answered: _,
+    } = closed;
+    Run {
+        session,
+        totals,
+        accept_failed,
+    }
+}
+
+// Serves so many connections.
+fn run_some<J: Recorder + Drop + Send, T: Threads + Wait + Sync, L: Listen + Drop>(
+    rt: &T,
+    alloc: Global,
+    session: SessionOn<J, Global>,
+    accept: L,
+    connections: Connections,
+    counts: bool,
+) -> Result<Run<J>, (AllocError, L)>
+    requires { session.offered ≡ [] }
+    ensures session { IfOk result (λ run. (run.session.spec ≡ session.spec) × StartsWith run.session.history session.history × Legal (bodies_of session.spec.bodies) run.session.history) }
+    ensures lasts { IfOk result (λ run. Lasts J.recording session run.session) }
+    ensures went { IfOk result (λ run. (endings : List EndingOf) × (answered : Option ℕ)
+        × Went L.takes L.fails L.Reader.left L.Reader.is_closed L.Writer.contents (WasTold L.Writer.contents L.Writer.has_handed_on L.Writer.failures) accept connections session.spec session.history run.session.history endings run.accept_failed answered
+        × IsTotal counts endings run.totals) }
+    ensures memory { IfErr result (λ error. error.1 ≡ accept) }
+{
+    match serve_session(rt, alloc, session, accept, connections) {
+        Ok(closing) => Ok(run_of(closing, counts)),
+        Err(refused) => Err(refused),
+    }
+}
+
+// Serves connections as a service.
+fn run_service<J: Recorder + Drop + Send, T: Threads + Wait + Clock + Sync, L: Listen + Drop>(
+    rt: &T,
+    alloc: Global,
+    session: SessionOn<J, Global>,
+    accept: L,
+    until_idle: bool,
+    retries: u8,
+) -> Result<Run<J>, (AllocError, L)>
+    requires { session.offered ≡ [] }
+    ensures session { IfOk result (λ run. (run.session.spec ≡ session.spec) × StartsWith run.session.history session.history × Legal (bodies_of session.spec.bodies) run.session.history) }
+    ensures lasts { IfOk result (λ run. Lasts J.recording session run.session) }
+    ensures ran { IfOk result (λ run. (answered : ℕ)
+        × Ran L.takes L.fails L.waits L.Reader.left L.Reader.is_closed L.Writer.contents (WasTold L.Writer.contents L.Writer.has_handed_on L.Writer.failures) accept (terms_of until_idle retries) 64 session.spec session.history run.session.history run.totals run.accept_failed answered) }
+    ensures memory { IfErr result (λ error. error.1 ≡ accept) }
+{
+    match serve_service(rt, alloc, session, accept, until_idle, retries) {
+        Ok(closed) => Ok(run_of_service(closed)),
+        Err(refused) => Err(refused),
+    }
+}
+
+/// Serves connections at this session by the plan, each in a thread of its own at a seat of its own, as `serve_session` or `serve_service` does;
+/// a service ends where so many accepts in a row and one more have failed. The lines of a run of so many connections that weren't judged are counted,
+/// or passed over. It gives the session back, with what came of the connections: from that the run's status is found. The error is that memory ran
+/// out before the first connection, and comes with where connections come from; the session is gone then, and its file stays.
+pub fn serve<J: Recorder + Drop + Send, T: Threads + Wait + Clock + Sync, L: Listen + Drop>(
+    rt: &T,
+    alloc: Global,
+    session: SessionOn<J, Global>,
+    accept: L,
+    plan: Plan,
+    retries: u8,
+    counts: bool,
+) -> Result<Run<J>, (AllocError, L)>
+    requires { session.offered ≡ [] }
+
+    // The history at the end is legal, and begins with the one before.
+    ensures session { IfOk result (λ run. (run.session.spec ≡ session.spec) × StartsWith run.session.history session.history × Legal (bodies_of session.spec.bodies) run.session.history) }
+
+    // For the script and root for which the journal was one, it is one of the longer history; and so was each content that a crash left meanwhile.
+    ensures lasts { IfOk result (λ run. Lasts J.recording session run.session) }
+
+    // What came of the connections, one by one and together.
+    ensures went { IfOk result (λ run. WentBy L.takes L.fails L.waits L.Reader.left L.Reader.is_closed L.Writer.contents (WasTold L.Writer.contents L.Writer.has_handed_on L.Writer.failures) accept plan retries counts session.spec session.history run.session.history run.totals run.accept_failed) }
+    ensures memory { IfErr result (λ error. error.1 ≡ accept) }
+{
+    match plan {
+        Plan::Over(connections) => run_some(rt, alloc, session, accept, connections, counts),
+        Plan::Idle => run_service(rt, alloc, session, accept, true, retries),
+        Plan::Stopped => run_service(rt, alloc, session, accept, false, retries),
+    }
+}
