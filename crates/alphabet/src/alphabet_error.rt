@@ -1,7 +1,7 @@
 //! Why a channel isn't declared.
 
-ghost use Rattle.std.specs.Prelude.{◌≡◌};
-ghost use Rattle.alphabet.specs.AlphabetErrors.{code_of, word_of};
+ghost use Rattle.std.specs.Prelude.{◌≡◌, Some};
+ghost use Rattle.alphabet.specs.AlphabetErrors.{code_of, word_of, error_text};
 
 use std::fmt;
 
@@ -41,6 +41,8 @@ impl AlphabetError {
 }
 
 impl fmt::Display for AlphabetError {
+    ghost output = { λ error. Some (error_text error) };
+
     fn fmt<W: fmt::Write>(&self, f: &mut fmt::Formatter<W>) -> fmt::Result {
         write!(f, "{} {}", self.code(), self.word())
     }

@@ -1,5 +1,5 @@
 -- The faults of reports and seats: their numbers and words.
-use Rattle.std.specs.Prelude.{ℕ, List, codes}
+use Rattle.std.specs.Prelude.{ℕ, List, ◌++◌, codes, decimal}
 use Rattle.answers.specs.declared.fault.Fault.{Fault}
 use Rattle.answers.specs.declared.fault.Fault.TheVariants.{Depth, States, Seats, History, Turn, Behind, Reader, Taken, Journal, Closed, Memory}
 
@@ -31,6 +31,10 @@ module _ {F : Type 0} where
   word_of (Journal f) = codes "journal"
   word_of (Closed f) = codes "closed"
   word_of Memory = codes "memory"
+
+  -- as replies and messages show it
+  abbrev pub fault_text : Fault F → List ℕ
+  fault_text fault = decimal (code_of fault) ++ codes " " ++ word_of fault
 
   -- the same fault, without what closed the session
   abbrev pub plain_of : Fault F → Fault (Unit {0})

@@ -1,7 +1,7 @@
 //! Why a report isn't judged, or a seat isn't given.
 
-ghost use Rattle.std.specs.Prelude.{◌≡◌};
-ghost use Rattle.answers.specs.Faults.{code_of, word_of, plain_of, IsNoSeat};
+ghost use Rattle.std.specs.Prelude.{◌≡◌, Some};
+ghost use Rattle.answers.specs.Faults.{code_of, word_of, fault_text, plain_of, IsNoSeat};
 
 use std::fmt;
 
@@ -94,6 +94,8 @@ impl<F: Copy> Fault<F> {
 }
 
 impl<F: Copy> fmt::Display for Fault<F> {
+    ghost output = { λ fault. Some (fault_text fault) };
+
     fn fmt<W: fmt::Write>(&self, f: &mut fmt::Formatter<W>) -> fmt::Result {
         write!(f, "{} {}", self.code(), self.word())
     }

@@ -1,5 +1,5 @@
 -- The numbers and words of the faults of a script.
-use Rattle.std.specs.Prelude.{ℕ, List, codes}
+use Rattle.std.specs.Prelude.{ℕ, List, ◌++◌, codes, decimal}
 use Rattle.tokens.specs.declared.error.ScriptErrorKind.{ScriptErrorKind}
 use Rattle.tokens.specs.declared.error.ScriptErrorKind.TheVariants.{BadByte, BadToken, Expected, UnknownName, Redeclared, WrongFields, OutOfRange, TooManyEvents, TooDeep, TooLarge, Unsupported, NoSuchProcess, Memory}
 
@@ -32,3 +32,7 @@ word_of TooLarge = codes "large"
 word_of Unsupported = codes "unsupported"
 word_of NoSuchProcess = codes "process"
 word_of Memory = codes "memory"
+
+-- as messages show it
+abbrev pub kind_text : ScriptErrorKind → List ℕ
+kind_text kind = decimal (code_of kind) ++ codes " " ++ word_of kind

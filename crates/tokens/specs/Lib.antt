@@ -1,5 +1,6 @@
 -- To believe.
 pub mod ErrorKind
+pub mod Positions
 pub mod Unreads
 pub mod Spelling
 pub mod Lexeme

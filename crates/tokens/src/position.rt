@@ -1,4 +1,7 @@
 //! Where tokens stand.
+ghost use Rattle.std.specs.Prelude.{Some};
+ghost use Rattle.tokens.specs.Positions.{number_text};
+
 use std::fmt;
 
 /// Where a token stands, or where something is wrong: in a script on a line, in a phrase by itself at a column, the place of a byte in
@@ -10,6 +13,8 @@ pub enum Position {
 }
 
 impl fmt::Display for Position {
+    ghost output = { λ position. Some (number_text position) };
+
     fn fmt<W: fmt::Write>(&self, f: &mut fmt::Formatter<W>) -> fmt::Result {
         match self {
             Position::Line(number) | Position::Column(number) => write!(f, "{number}"),
