@@ -87,18 +87,20 @@ impl<N: Naming, A: Allocator> Absorb<Summary> for Board<N, A> {
 pub type Publisher<N, A> = Writer<Board<N, A>, Summary, (), Unruled, A>;
 
 /// The end that looks.
-pub type Looker<N, A> = Reader<Board<N, A>, (), Unruled, A>;
+pub type BoardReader<N, A> = Reader<Board<N, A>, (), Unruled, A>;
 
 /// What is published now, with evidence. It waits for nobody. `None` where the reader gets no look. By this a status is answered
 /// while a report holds the lock. There is no look where the publisher is gone, or where the evidence is of other counts than the
 /// published ones. The reader comes back each time. Costs a few atomic steps; takes no memory.
-pub fn look<N: Naming, A: Allocator>(looker: Looker<N, A>) -> (Looker<N, A>, Option<Counts<N>>) {
-    match looker.enter_as::<Unruled>() {
+pub fn look<N: Naming, A: Allocator>(
+    board_reader: BoardReader<N, A>,
+) -> (BoardReader<N, A>, Option<Counts<N>>) {
+    match board_reader.enter_as::<Unruled>() {
         Ok(reading) => {
             let counts = reading.get().shown();
             (reading.leave(), counts)
         }
-        Err(looker) => (looker, None),
+        Err(board_reader) => (board_reader, None),
     }
 }
 

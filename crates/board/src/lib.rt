@@ -9,5 +9,5 @@ mod ends;
 mod front;
 
 pub use counts::Counts;
-pub use ends::{Board, Looker, Publisher, Source, add, look};
+pub use ends::{Board, BoardReader, Publisher, Source, add, look};
 pub use front::{Front, Naming, Opened, Spine};

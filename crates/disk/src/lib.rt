@@ -9,8 +9,10 @@ ghost use Rattle.std.specs.Prelude.{◌≡◌, ◌≤◌, ◌+◌, ◌^◌, leng
 ghost use Rattle.disk.specs.State.{DiskState};
 ghost use Rattle.disk.specs.Calls.{overwritten, Torn, CutShort, Follows, AddsNone, IsDurable, Elapses, Continues, HasCause};
 
+mod count;
 mod folder;
 
+pub use count::Count;
 pub use folder::Folder;
 
 /// The device failed. What a failed write or cut has done to the file is left open.

@@ -3,8 +3,7 @@
 ghost use Rattle.std.specs.Prelude.{◌≡◌, [], false};
 ghost use Rattle.disk.specs.State.{of_bytes};
 
-use count::Count;
-use disk::{Disk, DiskFault};
+use disk::{Count, Disk, DiskFault};
 
 /// The most bytes of a file.
 const LONGEST: usize = 1 << 63;

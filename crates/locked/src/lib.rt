@@ -13,7 +13,9 @@ mod sharing;
 mod waiting;
 
 pub use alphabet::{EventSet, Report};
-pub use board::{Board, Counts, Front, Looker, Naming, Opened, Publisher, Source, Spine, look};
+pub use board::{
+    Board, BoardReader, Counts, Front, Naming, Opened, Publisher, Source, Spine, look,
+};
 pub use closing::close;
 pub use fault::NameFault;
 pub use locked::{Locked, is_of};

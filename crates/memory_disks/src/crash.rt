@@ -5,8 +5,7 @@ ghost use Rattle.memory_disks.specs.Replay.{Image, replay, start, of_calls, imag
 ghost use Rattle.memory_disks.specs.Remains.{written_in, cut_in, remains, IsBoth};
 
 use crate::bytes::{fill, overwrite};
-use count::Count;
-use disk::{Disk, DiskFault};
+use disk::{Count, Disk, DiskFault};
 use std::alloc::{AllocError, Allocator};
 
 /// A call that changed the file, or put it on the device.

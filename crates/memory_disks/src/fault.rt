@@ -4,8 +4,7 @@ ghost use Rattle.disk.specs.State.{of_bytes};
 ghost use Rattle.memory_disks.specs.declared.fault.Afterwards.TheVariants.{GoOn, Fail};
 
 use crate::MemoryDisk;
-use count::Count;
-use disk::{Disk, DiskFault};
+use disk::{Count, Disk, DiskFault};
 use std::alloc::Allocator;
 
 /// What the calls after the one that fails do.

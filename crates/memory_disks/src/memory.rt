@@ -3,8 +3,7 @@ ghost use Rattle.std.specs.Prelude.{◌≡◌, true};
 ghost use Rattle.disk.specs.State.{of_bytes};
 
 use crate::bytes::{fill, overwrite};
-use count::Count;
-use disk::{Disk, DiskFault};
+use disk::{Count, Disk, DiskFault};
 use std::alloc::Allocator;
 
 /// A file in memory. It claims its bytes, and nothing of a crash. A write that needs more memory than there is, or

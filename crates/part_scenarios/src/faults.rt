@@ -1,10 +1,10 @@
 //! The numbers, words and texts of faults.
 
-use after::AfterFault;
 use alphabet::AlphabetError;
 use rows::{Output, first_word};
 use std::fmt::Display;
 use step::StepFault;
+use tau_closures::AfterFault;
 
 /// Appends a fault's number, word and text.
 fn put<E: Display>(code: u32, word: &str, fault: &E, out: &mut Output) {

@@ -1,7 +1,6 @@
 //! An allocator that refuses one request.
 
-use refusing::Refusing;
-use rows::{Output, first_word, number_of};
+use rows::{Output, Refusing, first_word, number_of};
 use std::alloc::Global;
 
 /// Appends whether a request has been refused.

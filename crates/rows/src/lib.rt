@@ -2,7 +2,9 @@
 #![tactic(auto)]
 
 mod output;
+mod refusing;
 mod words;
 
 pub use output::Output;
+pub use refusing::Refusing;
 pub use words::{first_word, number_of, parts};

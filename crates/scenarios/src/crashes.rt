@@ -4,8 +4,7 @@ use crate::memory::{Memory, Way};
 use crate::scenes::{Scene, after_failing, at_fault, in_memory, played, put_left};
 use crate::stops::stops;
 use memory_disks::{Afterwards, CrashDisk, Part};
-use refusing::Refusing;
-use rows::{Output, first_word};
+use rows::{Output, Refusing, first_word};
 use std::alloc::Global;
 
 /// More calls than a row's disk has.

@@ -4,8 +4,7 @@ use crate::asks::answer_all;
 use crate::memory::{Memory, Way};
 use disk::Disk;
 use memory_disks::{Afterwards, FaultDisk};
-use refusing::Refusing;
-use rows::{Output, first_word, number_of, parts};
+use rows::{Output, Refusing, first_word, number_of, parts};
 use session::{Session, SessionError};
 use std::alloc::{Allocator, Global};
 

@@ -4,8 +4,7 @@ use crate::commands;
 use crate::memory::{Memory, Way};
 use crate::scenes::{Scene, in_memory, played_on};
 use memory_disks::Afterwards;
-use refusing::Refusing;
-use rows::{Output, first_word};
+use rows::{Output, Refusing, first_word};
 use std::alloc::Global;
 use std::sync::Wait;
 

@@ -4,7 +4,7 @@ ghost use Rattle.std.specs.Prelude.{◌≡◌, ◌+◌, ◌∷◌, [], Some};
 ghost use Rattle.wire.specs.Ends.{inner_of};
 
 use connections::{Accept, AcceptFault, Close};
-use count::Count;
+use disk::Count;
 use std::alloc::Global;
 use wire::{Plain, Sink, SinkFault, Source, SourceFault};
 

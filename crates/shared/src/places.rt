@@ -162,9 +162,9 @@ impl<J: Recorder, A: Allocator + Copy, N: Sharing<J>> Shared<J, A, N> {
         let admitted = locked.admit();
         MutexGuard::unlock(locked);
         match admitted {
-            Ok((number, known, looker)) => Ok(Seat {
+            Ok((number, known, board_reader)) => Ok(Seat {
                 shared: self,
-                share: Share::new(number, known, places.take(), looker),
+                share: Share::new(number, known, places.take(), board_reader),
             }),
             Err(fault) => Err(fault),
         }

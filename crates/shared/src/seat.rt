@@ -94,10 +94,10 @@ impl<J: Recorder, A: Allocator + Copy, N: Sharing<J>> Shared<J, A, N> {
         let mut locked = self.locked.lock(rt);
         let given = locked.seat();
         MutexGuard::unlock(locked);
-        let (number, known, part, looker) = given?;
+        let (number, known, part, board_reader) = given?;
         Ok(Seat {
             shared: self,
-            share: Share::new(number, known, part, looker),
+            share: Share::new(number, known, part, board_reader),
         })
     }
 

@@ -23,7 +23,7 @@ use alphabet::{EventSet, Report};
 use answers::{Receipt, Status};
 use core::mem::replace_with;
 use locked::{
-    Counts, Failed, Fault, Looker, NameFault, Naming, Recorder, SeatNumber, Sharing, Summary,
+    BoardReader, Counts, Failed, Fault, NameFault, Naming, Recorder, SeatNumber, Sharing, Summary,
     is_of, look,
 };
 use std::alloc::Allocator;
@@ -71,7 +71,7 @@ pub struct Share<N: Naming, A: Allocator> {
     /// How many of its reports were offered, and never settled.
     lost: u32,
     part: ledger::Share<N>,
-    looker: Looker<N, A>,
+    board_reader: BoardReader<N, A>,
 }
 
 impl<N: Naming, A: Allocator> Model for Share<N, A> {
@@ -156,7 +156,7 @@ impl<N: Naming, A: Allocator> Share<N, A> {
         number: SeatNumber,
         known: Counts<N>,
         part: ledger::Share<N>,
-        looker: Looker<N, A>,
+        board_reader: BoardReader<N, A>,
     ) -> Share<N, A>
         requires fresh { calls (N.opening ++ known) number ≡ [] }
         requires within { number ≤ seat_limit N.spec.names }
@@ -172,7 +172,7 @@ impl<N: Naming, A: Allocator> Share<N, A> {
             begun: 0,
             lost: 0,
             part,
-            looker,
+            board_reader,
         }
     }
 
@@ -207,7 +207,11 @@ impl<N: Naming, A: Allocator> Share<N, A> {
     fn look(&mut self) -> Option<Counts<N>>
         ensures { self.new ≡ self.old }
     {
-        replace_with(&mut self.looker, (), |looker, _| look(looker))
+        replace_with(
+            &mut self.board_reader,
+            (),
+            |board_reader, _| look(board_reader),
+        )
     }
 
     /// One look at the board: the counts of a history that goes on from what was seen, and that is then what was seen. It waits for

@@ -1,6 +1,6 @@
 //! Which requests for memory are refused while conversations are played.
 
-use refusing::Refusing;
+use rows::Refusing;
 use std::alloc::Global;
 
 /// When requests are refused.

@@ -3,8 +3,7 @@
 use crate::memory::{Memory, Way};
 use crate::talks::{Talks, on_disk};
 use memory_disks::{Afterwards, FaultDisk};
-use refusing::Refusing;
-use rows::{Output, first_word, number_of};
+use rows::{Output, Refusing, first_word, number_of};
 use std::alloc::Global;
 use std::sync::Wait;
 

@@ -5,10 +5,10 @@ use Rattle.alphabet.specs.Events.{is_event}
 use Rattle.alphabet.specs.EventSets.{Set, member}
 use Rattle.alphabet.specs.declared.events.Event.{Event}
 use Rattle.alphabet.specs.declared.events.Event.TheVariants.{Tick as tick, Of as ev}
-use Rattle.closures.proofs.KeptBelongings.{kept-refuses-failure}
-use Rattle.closures.specs.Unfolding.{unfolding_depth}
-use Rattle.closures.proofs.Offered.{offered-Offers}
-use Rattle.closures.specs.Closing.{AllLie}
+use Rattle.tau_closures.proofs.KeptBelongings.{kept-refuses-failure}
+use Rattle.tau_closures.specs.Unfolding.{unfolding_depth}
+use Rattle.tau_closures.proofs.Offered.{offered-Offers}
+use Rattle.tau_closures.specs.Closing.{AllLie}
 use Rattle.term.proofs.Closed.{act-in}
 use Rattle.term.specs.Proc.{Proc, bodies_of, root}
 use Rattle.term.specs.Specs.{Specified}

@@ -4,9 +4,9 @@ use Rattle.alphabet.specs.declared.events.Event.{Event}
 use Rattle.term.specs.Meaning.{Trace}
 use Rattle.term.specs.Proc.{Proc, bodies_of, root}
 use Rattle.term.specs.Specs.{Specified}
-use Rattle.closures.specs.KeptBelonging.{KeptBelongs}
-use Rattle.closures.specs.Limits.{EventMeetsNone}
-use Rattle.closures.specs.Unfolding.{unfolding_depth}
+use Rattle.tau_closures.specs.KeptBelonging.{KeptBelongs}
+use Rattle.tau_closures.specs.Limits.{EventMeetsNone}
+use Rattle.tau_closures.specs.Unfolding.{unfolding_depth}
 use Rattle.spaces.specs.Answers.{HasMembers, IsAnswer}
 use Rattle.spaces.specs.Spaces.{Spaced, GrewFrom, Belongs}
 use Rattle.spaces.proofs.Growing.{belongs-on, belongs-back}

@@ -12,9 +12,9 @@ use Rattle.indexmap.proofs.CallerLemmas.{insert_entry-new}
 use Rattle.term.specs.Proc.{Proc}
 use Rattle.term.specs.Specs.{Specified, IsClosed}
 use Rattle.term.specs.Traces.{In}
-use Rattle.closures.specs.Looks.{look}
-use Rattle.closures.proofs.NodesPutting.{absent}
-use Rattle.closures.specs.Keepings.{Keeping}
+use Rattle.tau_closures.specs.Looks.{look}
+use Rattle.tau_closures.proofs.NodesPutting.{absent}
+use Rattle.tau_closures.specs.Keepings.{Keeping}
 use Rattle.spaces.specs.declared.facts.SetFacts.{SetFacts}
 use Rattle.spaces.specs.Answers.{HasMembers}
 use Rattle.spaces.specs.Found.{Found, HasList, members, shown}

@@ -8,15 +8,15 @@ use Rattle.alphabet.specs.declared.events.Event.{Event}
 use Rattle.term.specs.Meaning.{Trace}
 use Rattle.term.specs.Proc.{Proc, bodies_of, root}
 use Rattle.term.specs.Specs.{Specified}
-use Rattle.closures.specs.Looks.{look, AllBelow}
-use Rattle.closures.specs.Tables.{Tabled, Begins, HasGrown}
-use Rattle.closures.proofs.Listing.{begins-same, begins-at, begins-longer, begins-on}
-use Rattle.closures.proofs.Looking.{below-grown, look-grown}
-use Rattle.closures.specs.Keepings.{Keeping, StaysKept}
-use Rattle.closures.specs.KeptBelonging.{KeptBelongs}
-use Rattle.closures.specs.Limits.{EventMeetsNone}
-use Rattle.closures.specs.Unfolding.{unfolding_depth}
-use Rattle.closures.specs.Closing.{AllShallow}
+use Rattle.tau_closures.specs.Looks.{look, AllBelow}
+use Rattle.tau_closures.specs.Tables.{Tabled, Begins, HasGrown}
+use Rattle.tau_closures.proofs.Listing.{begins-same, begins-at, begins-longer, begins-on}
+use Rattle.tau_closures.proofs.Looking.{below-grown, look-grown}
+use Rattle.tau_closures.specs.Keepings.{Keeping, StaysKept}
+use Rattle.tau_closures.specs.KeptBelonging.{KeptBelongs}
+use Rattle.tau_closures.specs.Limits.{EventMeetsNone}
+use Rattle.tau_closures.specs.Unfolding.{unfolding_depth}
+use Rattle.tau_closures.specs.Closing.{AllShallow}
 use Rattle.spaces.specs.declared.facts.SetFacts.{SetFacts}
 use Rattle.spaces.specs.Answers.{IsAfter, IsAnswer, IsMemory}
 use Rattle.spaces.specs.Found.{Found, members, shown}

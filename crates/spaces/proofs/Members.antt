@@ -4,9 +4,9 @@ use Rattle.std.specs.Prelude.{IsPermutation, Contains}
 use Rattle.std.proofs.lemmas.List.Sorted.{Contains-permutation, IsPermutation-sym, IsPermutation-map}
 use Rattle.term.specs.Proc.{Proc}
 use Rattle.term.specs.Traces.{In, here, there}
-use Rattle.closures.specs.Shapes.{at}
-use Rattle.closures.specs.Looks.{look, AllBelow}
-use Rattle.closures.specs.Closing.{AllShallow}
+use Rattle.tau_closures.specs.Shapes.{at}
+use Rattle.tau_closures.specs.Looks.{look, AllBelow}
+use Rattle.tau_closures.specs.Closing.{AllShallow}
 
 -- ---- what is in a list is so at some place
 pub In-contains : {X : Type 0} {x : X} {xs : List X} → In x xs → Contains xs x

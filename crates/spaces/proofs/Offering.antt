@@ -7,19 +7,19 @@ use Rattle.alphabet.specs.Events.{is_event}
 use Rattle.alphabet.specs.EventSets.{Set, has, member}
 use Rattle.alphabet.specs.declared.events.Event.{Event}
 use Rattle.alphabet.specs.declared.events.Event.TheVariants.{Tick as tick, Of as ev}
-use Rattle.closures.specs.Offers.{Offers, offered}
-use Rattle.closures.proofs.Members.{append-In, In-append_l, In-append_r}
-use Rattle.closures.proofs.Ticking.{ticks-Ticks, Ticks-ticks}
-use Rattle.closures.proofs.Offered.{offered-Offers, Act-offered}
-use Rattle.closures.proofs.Rest.{resting-says}
-use Rattle.closures.proofs.Cutting.{only as one-In}
+use Rattle.tau_closures.specs.Offers.{Offers, offered}
+use Rattle.tau_closures.proofs.Members.{append-In, In-append_l, In-append_r}
+use Rattle.tau_closures.proofs.Ticking.{ticks-Ticks, Ticks-ticks}
+use Rattle.tau_closures.proofs.Offered.{offered-Offers, Act-offered}
+use Rattle.tau_closures.proofs.Rest.{resting-says}
+use Rattle.tau_closures.proofs.Cutting.{only as one-In}
 use Rattle.term.specs.Proc.{Proc}
 use Rattle.term.specs.Steps.{Refuses}
 use Rattle.term.specs.Traces.{In, here, there}
 use Rattle.term.proofs.Bools.{or-cases, or-left, or-right}
-use Rattle.closures.specs.Facts.{Facts}
-use Rattle.closures.specs.Known.{IsKnown}
-use Rattle.closures.specs.Closing.{Takes}
+use Rattle.tau_closures.specs.Facts.{Facts}
+use Rattle.tau_closures.specs.Known.{IsKnown}
+use Rattle.tau_closures.specs.Closing.{Takes}
 use Rattle.spaces.specs.declared.facts.SetFacts.{SetFacts}
 use Rattle.spaces.specs.Known.{AreFactsOf}
 use Rattle.spaces.specs.Acceptances.{AreLeast, HasApart, IsPart}

@@ -7,7 +7,7 @@ use Rattle.alphabet.specs.EventSets.{Set, has, member, members, members_below}
 use Rattle.alphabet.specs.declared.events.Event.{Event}
 use Rattle.alphabet.specs.declared.events.Event.TheVariants.{Tick as tick, Of as ev}
 use Rattle.alphabet.proofs.Sets.{same_set}
-use Rattle.closures.proofs.Members.{append-In, In-append_l, In-append_r}
+use Rattle.tau_closures.proofs.Members.{append-In, In-append_l, In-append_r}
 use Rattle.term.specs.Traces.{In, here, there}
 use Rattle.spaces.specs.Acceptances.{AreOrdered, ComesBefore, IsEarlier}
 use Rattle.spaces.specs.Offers.{AreSmall, HasPutInOrder, IsPlace, IsSmall}

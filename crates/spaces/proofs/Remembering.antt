@@ -5,8 +5,8 @@ use Rattle.std.specs.Map.{lookup}
 use Rattle.indexmap.specs.IndexMap.{IndexMap, Updates, IsUnchanged, index_map_len}
 use Rattle.alphabet.specs.declared.events.Event.{Event}
 use Rattle.alphabet.specs.declared.events.Event.TheVariants.{Tick as tick, Of as ev}
-use Rattle.closures.specs.Label.TheVariants as label
-use Rattle.closures.specs.Memory.{IsSmall, key}
+use Rattle.tau_closures.specs.Label.TheVariants as label
+use Rattle.tau_closures.specs.Memory.{IsSmall, key}
 use Rattle.spaces.specs.Answers.{AllRemembered, IsAnswer, IsMemory, IsRemembered}
 use Rattle.spaces.specs.Spaces.{Spaced, most_remembered}
 

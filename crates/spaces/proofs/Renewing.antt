@@ -6,8 +6,8 @@ use Rattle.std.specs.declared.vec.Vec.{Vec}
 use Rattle.term.specs.Proc.{Proc}
 use Rattle.term.specs.Specs.{Specified, IsClosed}
 use Rattle.term.specs.Traces.{In}
-use Rattle.closures.specs.Looks.{look}
-use Rattle.closures.specs.Keepings.{Keeping}
+use Rattle.tau_closures.specs.Looks.{look}
+use Rattle.tau_closures.specs.Keepings.{Keeping}
 use Rattle.spaces.specs.declared.facts.SetFacts.{SetFacts}
 use Rattle.spaces.specs.Answers.{HasMembers}
 use Rattle.spaces.specs.Found.{HasList, shown}

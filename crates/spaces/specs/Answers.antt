@@ -2,12 +2,12 @@
 use Rattle.std.specs.Prelude.{◌≡◌, ◌↔◌, ℕ, ◌<◌, ◌≤◌, List, [], ◌∷◌, ◌++◌, length, nat_eq, Option, None, Some}
 use Rattle.std.specs.Map.{lookup}
 use Rattle.alphabet.specs.declared.events.Event.{Event}
-use Rattle.closures.specs.Label.TheVariants as label
+use Rattle.tau_closures.specs.Label.TheVariants as label
 use Rattle.term.specs.Meaning.{Trace}
 use Rattle.term.specs.Proc.{Proc, bodies_of, root}
 use Rattle.term.specs.Traces.{In}
-use Rattle.closures.specs.Memory.{IsSmall, key}
-use Rattle.closures.specs.Limits.{EventMeetsNone}
+use Rattle.tau_closures.specs.Memory.{IsSmall, key}
+use Rattle.tau_closures.specs.Limits.{EventMeetsNone}
 use Rattle.spaces.specs.Spaces.{Spaced, Belongs, most_remembered, states}
 
 -- The set has just these members.

@@ -2,9 +2,9 @@
 use Rattle.std.specs.Thread.{IsSend}
 use Rattle.std.specs.contracts.alloc.Global as Global
 use Rattle.std.specs.contracts.impls.GlobalAllocator.TheImpl.{ghosts}
-use Rattle.closures.specs.TableContracts as Table
-use Rattle.closures.specs.TransitionsContracts as Transitions
-use Rattle.closures.specs.StatesContracts as States
+use Rattle.tau_closures.specs.TableContracts as Table
+use Rattle.tau_closures.specs.TransitionsContracts as Transitions
+use Rattle.tau_closures.specs.StatesContracts as States
 use Rattle.spaces.specs.contracts.found.FoundSets as FoundSets
 use Rattle.spaces.specs.contracts.space.Space as Space
 

@@ -5,9 +5,9 @@ use Rattle.std.proofs.Common.{refl}
 use Rattle.term.specs.Codes.{proc_code}
 use Rattle.term.specs.Proc.{Proc}
 use Rattle.term.specs.Specs.{Specified, specified_code}
-use Rattle.closures.specs.Looks.{look}
-use Rattle.closures.specs.Tables.{Tabled, tabled_code}
-use Rattle.closures.specs.Unfolding.{unfolding_depth}
+use Rattle.tau_closures.specs.Looks.{look}
+use Rattle.tau_closures.specs.Tables.{Tabled, tabled_code}
+use Rattle.tau_closures.specs.Unfolding.{unfolding_depth}
 use Rattle.spaces.specs.Spaces.{Spaced, states}
 
 -- A specification, the table of its processes, the bodies that have numbers there, how deep names are replaced, and the sets of

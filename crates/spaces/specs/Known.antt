@@ -7,10 +7,10 @@ use Rattle.alphabet.specs.EventSets.{member}
 use Rattle.term.specs.Proc.{Proc}
 use Rattle.term.specs.Specs.{Specified, IsClosed}
 use Rattle.term.specs.Traces.{In}
-use Rattle.closures.specs.Looks.{look, AllBelow}
-use Rattle.closures.specs.Keepings.{Keeping}
-use Rattle.closures.specs.Unfolding.{unfolding_depth}
-use Rattle.closures.specs.Closing.{AllShallow, Takes}
+use Rattle.tau_closures.specs.Looks.{look, AllBelow}
+use Rattle.tau_closures.specs.Keepings.{Keeping}
+use Rattle.tau_closures.specs.Unfolding.{unfolding_depth}
+use Rattle.tau_closures.specs.Closing.{AllShallow, Takes}
 use Rattle.spaces.specs.declared.facts.SetFacts.{SetFacts}
 use Rattle.spaces.specs.Found.{Found}
 use Rattle.spaces.specs.Offers.{AreOffers}

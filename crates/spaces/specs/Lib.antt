@@ -8,6 +8,6 @@ pub mod Found
 pub mod Offers
 pub mod Known
 -- Of the layers below, for those above.
-pub use Rattle.closures.specs.AfterFault
-pub use Rattle.closures.specs.Belonging
-pub use Rattle.closures.specs.Limits
+pub use Rattle.tau_closures.specs.declared.fault.AfterFault
+pub use Rattle.tau_closures.specs.Belonging
+pub use Rattle.tau_closures.specs.Limits

@@ -2,8 +2,8 @@
 use Rattle.std.specs.Prelude.{◌≡◌, ◌↔◌, ℕ, ◌<◌, ◌&&◌, ◌⊎◌, not, true, false, List, length, get_or, take}
 use Rattle.alphabet.specs.declared.events.Event.TheVariants.{Tick as tick}
 use Rattle.alphabet.specs.EventSets.{Set, has, member}
-use Rattle.closures.specs.Offers.{offered}
-use Rattle.closures.specs.Resting.{Resting}
+use Rattle.tau_closures.specs.Offers.{offered}
+use Rattle.tau_closures.specs.Resting.{Resting}
 use Rattle.term.specs.Proc.{Proc}
 use Rattle.term.specs.Steps.{Ticks}
 use Rattle.term.specs.Traces.{In}

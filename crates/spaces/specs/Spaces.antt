@@ -6,8 +6,8 @@ use Rattle.alphabet.specs.declared.events.Event.{Event}
 use Rattle.term.specs.Codes.{proc_code}
 use Rattle.term.specs.Proc.{Proc}
 use Rattle.term.specs.Specs.{Specified, specified_code}
-use Rattle.closures.specs.KeptBelonging.{KeptBelongs}
-use Rattle.closures.specs.Unfolding.{unfolding_depth}
+use Rattle.tau_closures.specs.KeptBelonging.{KeptBelongs}
+use Rattle.tau_closures.specs.Unfolding.{unfolding_depth}
 
 -- A specification, and the sets of states found so far, by number: each the list of its members.
 pub record Spaced : Type 0 where

@@ -8,8 +8,8 @@ ghost use Rattle.spaces.specs.Crossings.{SetsCross, SpaceCrosses, StatesCross, T
 
 use crate::found::FoundSets;
 use crate::space::{Answers, Space};
-use closures::{States, Table, Transitions};
 use std::alloc::Global;
+use tau_closures::{States, Table, Transitions};
 use term::Spec;
 
 /// That a type may go to another thread.

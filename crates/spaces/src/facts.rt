@@ -7,17 +7,17 @@ ghost use Rattle.alphabet.specs.EventSets.{member};
 ghost use Rattle.term.specs.Proc.{Proc};
 ghost use Rattle.term.specs.Steps.{Refuses};
 ghost use Rattle.term.specs.Traces.{In};
-ghost use Rattle.closures.specs.Known.{IsKnown};
-ghost use Rattle.closures.specs.Looks.{look, AllBelow};
-ghost use Rattle.closures.specs.Closing.{Takes};
+ghost use Rattle.tau_closures.specs.Known.{IsKnown};
+ghost use Rattle.tau_closures.specs.Looks.{look, AllBelow};
+ghost use Rattle.tau_closures.specs.Closing.{Takes};
 ghost use Rattle.spaces.specs.Known.{AreFactsOf};
 ghost use Rattle.spaces.specs.Acceptances.{AreOrdered};
 ghost use Rattle.spaces.specs.Offers.{AreLeastOf, AreOffers, AreSmall};
 
 use crate::offers::{in_order, put_offer, some_apart};
 use alphabet::{Event, EventSet};
-use closures::{Facts, Transitions};
 use std::alloc::{AllocError, Allocator};
+use tau_closures::{Facts, Transitions};
 
 /// What is known of a set of states.
 #[derive(Drop)]

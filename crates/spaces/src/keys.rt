@@ -1,8 +1,8 @@
 //! Numbers for sets with events.
 
 ghost use Rattle.std.specs.Prelude.{◌≡◌, ◌<◌};
-ghost use Rattle.closures.specs.Label.TheVariants as label;
-ghost use Rattle.closures.specs.Memory.{IsSmall, key, label_code};
+ghost use Rattle.tau_closures.specs.Label.TheVariants as label;
+ghost use Rattle.tau_closures.specs.Memory.{IsSmall, key, label_code};
 
 use crate::states::StateSet;
 use alphabet::Event;

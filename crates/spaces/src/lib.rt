@@ -12,8 +12,8 @@ mod offers;
 mod space;
 mod states;
 
-pub use closures::AfterFault;
 pub use crossing::{crosses, space_crosses};
 pub use found::{MOST_MEMBERS, MOST_NEW_PROCESSES};
 pub use space::{MOST_REMEMBERED, Space};
 pub use states::StateSet;
+pub use tau_closures::AfterFault;

@@ -3,7 +3,7 @@
 ghost use Rattle.std.specs.Prelude.{◌≡◌, ◌<◌, ◌≤◌, [], IfErr, IfNone, IfOk, IfSome, List, OnErr, OnOk, length};
 ghost use Rattle.alphabet.specs.declared.events.Event.{Event};
 ghost use Rattle.term.specs.Specs.{IsClosed};
-ghost use Rattle.closures.specs.Limits.{EventMeets, OpeningMeets, OpeningMeetsNone};
+ghost use Rattle.tau_closures.specs.Limits.{EventMeets, OpeningMeets, OpeningMeetsNone};
 ghost use Rattle.spaces.specs.Answers.{HasMembers, IsAnswer};
 ghost use Rattle.spaces.specs.Known.{AreFactsOf};
 ghost use Rattle.spaces.specs.Spaces.{Belongs, GrewFrom, IsSetOf, most_remembered, states};
@@ -13,10 +13,10 @@ use crate::found::{FoundSets, Hashing};
 use crate::keys::key_of;
 use crate::states::StateSet;
 use alphabet::Event;
-use closures::AfterFault;
 use indexmap::IndexMap;
 use std::alloc::{AllocError, Allocator};
 use std::marker::Model;
+use tau_closures::AfterFault;
 use term::Spec;
 
 /// The most answers that are remembered.

@@ -5,15 +5,15 @@ ghost use Rattle.alphabet.specs.declared.events.Event.{Event};
 ghost use Rattle.alphabet.specs.EventSets.{member};
 ghost use Rattle.term.specs.Meaning.{Failure, Trace};
 ghost use Rattle.term.specs.Proc.{bodies_of, root};
-ghost use Rattle.closures.specs.Limits.{EventMeets, EventMeetsNone, OpeningMeets, OpeningMeetsNone};
+ghost use Rattle.tau_closures.specs.Limits.{EventMeets, EventMeetsNone, OpeningMeets, OpeningMeetsNone};
 ghost use Rattle.spaces.specs.Acceptances.{AreAcceptances};
 ghost use Rattle.spaces.specs.Spaces.{Belongs, GrewFrom, IsSetOf};
 
 use crate::space::Space;
 use alphabet::{Event, EventSet};
-use closures::AfterFault;
 use std::alloc::{AllocError, Allocator};
 use std::marker::Model;
+use tau_closures::AfterFault;
 
 /// The processes in which the root may be after a trace, with hidden steps anywhere, also at the end, each kept as the
 /// specification says: a set of a space, by its number there.

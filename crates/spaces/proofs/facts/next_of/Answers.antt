@@ -1,13 +1,13 @@
 use Rattle.std.proofs.Common.{◌↔◌, ◌∙◌, IsTrue, List, ℕ, length, take, get_or, sym, subst, true≢false, arith}
 use Rattle.std.proofs.lemmas.List.{take_all}
 use Rattle.alphabet.specs.EventSets.{member}
-use Rattle.closures.specs.Shapes.{at}
-use Rattle.closures.specs.Looks.{look}
-use Rattle.closures.proofs.Looking.{below-at}
+use Rattle.tau_closures.specs.Shapes.{at}
+use Rattle.tau_closures.specs.Looks.{look}
+use Rattle.tau_closures.proofs.Looking.{below-at}
 use Rattle.term.specs.Proc.{Proc}
 use Rattle.term.specs.Traces.{In}
-use Rattle.closures.specs.Closing.{Takes}
-use Rattle.closures.proofs.Putting.{look-more}
+use Rattle.tau_closures.specs.Closing.{Takes}
+use Rattle.tau_closures.proofs.NumberPutting.{look-more}
 use Rattle.spaces.proofs.Offering.{next-more}
 use Rattle.spaces.proofs.facts.next_of.Goals as goal
 

@@ -1,10 +1,10 @@
 use Rattle.std.proofs.Common.{◌↔◌, IsTrue, take}
 use Rattle.alphabet.specs.EventSets.{member}
 use Rattle.alphabet.specs.declared.events.Event.{Event}
-use Rattle.closures.specs.Looks.{look}
+use Rattle.tau_closures.specs.Looks.{look}
 use Rattle.term.specs.Proc.{Proc}
 use Rattle.term.specs.Traces.{In}
-use Rattle.closures.specs.Closing.{Takes}
+use Rattle.tau_closures.specs.Closing.{Takes}
 use Rattle.spaces.proofs.facts.next_of.Given as goal
 
 abbrev pub invariant-loop-number : goal.invariant-loop-number

@@ -1,11 +1,11 @@
 use Rattle.std.proofs.Common.{List, [], ℕ, length, take, get_or, sym, subst, arith}
 use Rattle.std.proofs.lemmas.List.{take_all}
 use Rattle.alphabet.specs.EventSets.{Set}
-use Rattle.closures.specs.Shapes.{at}
-use Rattle.closures.specs.Looks.{look}
-use Rattle.closures.proofs.Looking.{below-at}
+use Rattle.tau_closures.specs.Shapes.{at}
+use Rattle.tau_closures.specs.Looks.{look}
+use Rattle.tau_closures.proofs.Looking.{below-at}
 use Rattle.term.specs.Proc.{Proc}
-use Rattle.closures.proofs.Putting.{look-more}
+use Rattle.tau_closures.proofs.NumberPutting.{look-more}
 use Rattle.spaces.specs.Offers.{AreOffers}
 use Rattle.spaces.proofs.Offering.{offers-none}
 use Rattle.spaces.proofs.facts.offers_of.Goals as goal

@@ -1,5 +1,5 @@
 use Rattle.std.proofs.Common.{take}
-use Rattle.closures.specs.Looks.{look}
+use Rattle.tau_closures.specs.Looks.{look}
 use Rattle.spaces.specs.Offers.{AreOffers}
 use Rattle.spaces.proofs.facts.offers_of.Given as goal
 

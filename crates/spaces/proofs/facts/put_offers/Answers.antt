@@ -1,4 +1,4 @@
-use Rattle.closures.proofs.Acting.{on-ok}
+use Rattle.tau_closures.proofs.Acting.{on-ok}
 use Rattle.spaces.proofs.Offering.{offers-same, offers-more, ends-on, moves-on, known-waits, known-offer, not-on, off-on}
 use Rattle.spaces.proofs.facts.put_offers.Goals as goal
 

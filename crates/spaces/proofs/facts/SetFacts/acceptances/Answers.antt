@@ -1,5 +1,5 @@
 use Rattle.std.proofs.Common.{◌↔◌, List, sym, subst}
-use Rattle.closures.proofs.Asking.{if-both}
+use Rattle.tau_closures.proofs.Asking.{if-both}
 use Rattle.alphabet.specs.EventSets.{Set}
 use Rattle.term.specs.Traces.{In}
 use Rattle.spaces.specs.Offers.{AreSmall}

@@ -3,8 +3,8 @@ use Rattle.std.proofs.lemmas.List.{length-map}
 use Rattle.std.specs.declared.vec.Vec.{Vec}
 use Rattle.term.specs.Proc.{Proc}
 use Rattle.term.specs.Traces.{In}
-use Rattle.closures.specs.Looks.{look, AllBelow}
-use Rattle.closures.specs.Closing.{AllShallow}
+use Rattle.tau_closures.specs.Looks.{look, AllBelow}
+use Rattle.tau_closures.specs.Closing.{AllShallow}
 use Rattle.spaces.specs.declared.facts.SetFacts.{SetFacts}
 use Rattle.spaces.specs.Found.{Found, shown}
 use Rattle.spaces.specs.Known.{found, lists_of}

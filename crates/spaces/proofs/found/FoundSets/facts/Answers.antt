@@ -1,7 +1,7 @@
 use Rattle.std.proofs.Common.{◌≡◌, ◌<◌, ◌≤◌, Some, ℕ, length, slice_get, subst, arith}
 use Rattle.std.proofs.lemmas.List.{length-map}
 use Rattle.std.specs.declared.vec.Vec.{Vec}
-use Rattle.closures.specs.Looks.{look}
+use Rattle.tau_closures.specs.Looks.{look}
 use Rattle.spaces.specs.declared.facts.SetFacts.{SetFacts}
 use Rattle.spaces.specs.Found.{Found, shown}
 use Rattle.spaces.specs.Known.{AreFactsOf, lists_of}

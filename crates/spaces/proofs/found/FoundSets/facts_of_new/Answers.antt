@@ -2,8 +2,8 @@ use Rattle.std.proofs.Common.{◌<◌, ◌+◌, ◌^◌, IfOk, ℕ, length, sym,
 use Rattle.std.proofs.lemmas.List.{length-map}
 use Rattle.std.proofs.lemmas.Result.{IfOk-weaker}
 use Rattle.std.specs.declared.vec.Vec.{Vec}
-use Rattle.closures.specs.Looks.{look, AllBelow}
-use Rattle.closures.specs.Numbered.{Numbered}
+use Rattle.tau_closures.specs.Looks.{look, AllBelow}
+use Rattle.tau_closures.specs.Numbered.{Numbered}
 use Rattle.spaces.specs.declared.facts.SetFacts.{SetFacts}
 use Rattle.spaces.specs.Found.{Found}
 use Rattle.spaces.specs.Known.{AreFactsOf}

@@ -2,10 +2,10 @@ use Rattle.std.proofs.Common.{◌∷◌, ◌++◌, [], Option, IfNone, IfSome, �
 use Rattle.std.specs.declared.vec.Vec.{Vec}
 use Rattle.term.specs.Meaning.{Trace}
 use Rattle.term.specs.Proc.{bodies_of, root}
-use Rattle.closures.specs.Closing.{AllShallow}
-use Rattle.closures.specs.KeptBelonging.{KeptBelongs}
-use Rattle.closures.specs.Looks.{look, AllBelow}
-use Rattle.closures.specs.Unfolding.{unfolding_depth}
+use Rattle.tau_closures.specs.Closing.{AllShallow}
+use Rattle.tau_closures.specs.KeptBelonging.{KeptBelongs}
+use Rattle.tau_closures.specs.Looks.{look, AllBelow}
+use Rattle.tau_closures.specs.Unfolding.{unfolding_depth}
 use Rattle.spaces.specs.Found.{shown}
 use Rattle.spaces.proofs.Answering.{answer-none, answer-some}
 use Rattle.spaces.proofs.Growing.{grew-on}

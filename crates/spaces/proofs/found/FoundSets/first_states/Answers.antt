@@ -1,8 +1,8 @@
 use Rattle.std.proofs.Common.{IfErr, IfOk, OnOk, [], sym, subst}
-use Rattle.closures.specs.KeptBelonging.{KeptBelongs}
-use Rattle.closures.specs.Limits.{OpeningMeets, OpeningMeetsNone}
-use Rattle.closures.specs.Looks.{look}
-use Rattle.closures.specs.Unfolding.{unfolding_depth}
+use Rattle.tau_closures.specs.KeptBelonging.{KeptBelongs}
+use Rattle.tau_closures.specs.Limits.{OpeningMeets, OpeningMeetsNone}
+use Rattle.tau_closures.specs.Looks.{look}
+use Rattle.tau_closures.specs.Unfolding.{unfolding_depth}
 use Rattle.spaces.specs.Found.{Found, HasBegun, shown}
 use Rattle.spaces.specs.Known.{found}
 use Rattle.spaces.specs.Spaces.{GrewFrom}

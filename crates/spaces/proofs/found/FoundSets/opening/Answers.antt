@@ -1,9 +1,9 @@
 use Rattle.std.proofs.Common.{[], ◌∙◌, sym, subst}
 use Rattle.term.specs.Specs.{Specified}
-use Rattle.closures.specs.KeptBelonging.{KeptBelongs}
-use Rattle.closures.specs.Limits.{OpeningMeets, OpeningMeetsNone}
-use Rattle.closures.specs.Looks.{look}
-use Rattle.closures.specs.Unfolding.{unfolding_depth}
+use Rattle.tau_closures.specs.KeptBelonging.{KeptBelongs}
+use Rattle.tau_closures.specs.Limits.{OpeningMeets, OpeningMeetsNone}
+use Rattle.tau_closures.specs.Looks.{look}
+use Rattle.tau_closures.specs.Unfolding.{unfolding_depth}
 use Rattle.spaces.specs.Found.{shown}
 use Rattle.spaces.proofs.Answering.{members-belong}
 use Rattle.spaces.proofs.Growing.{grew-on}

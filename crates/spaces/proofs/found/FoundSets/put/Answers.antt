@@ -1,6 +1,6 @@
 use Rattle.std.proofs.Common.{List, ℕ, length, sym, ◌∙◌, subst}
 use Rattle.std.proofs.lemmas.Result.{IfOk-weaker}
-use Rattle.closures.specs.Looks.{look, AllBelow}
+use Rattle.tau_closures.specs.Looks.{look, AllBelow}
 use Rattle.spaces.specs.Found.{HasList, shown}
 use Rattle.spaces.specs.Known.{AreFactsOf}
 use Rattle.spaces.proofs.Entering.{has-members}

@@ -1,6 +1,6 @@
 use Rattle.std.proofs.Common.{◌↔◌, List, ℕ, [], length, get_or, sym, ap, subst}
 use Rattle.term.specs.Traces.{In}
-use Rattle.closures.specs.Looks.{look}
+use Rattle.tau_closures.specs.Looks.{look}
 use Rattle.spaces.specs.Found.{shown}
 use Rattle.spaces.specs.Spaces.{states}
 use Rattle.spaces.proofs.found.FoundSets.put_alone.Goals as goal

@@ -1,8 +1,8 @@
 use Rattle.std.proofs.Common.{◌≡◌, ◌+◌, ◌++◌, ◌∷◌, [], ◌<◌, ◌^◌, List, ℕ, length, sym, ◌∙◌, subst, arith}
 use Rattle.std.proofs.lemmas.List.{length-map}
 use Rattle.std.specs.declared.vec.Vec.{Vec}
-use Rattle.closures.specs.Looks.{look, AllBelow}
-use Rattle.closures.specs.Closing.{AllShallow}
+use Rattle.tau_closures.specs.Looks.{look, AllBelow}
+use Rattle.tau_closures.specs.Closing.{AllShallow}
 use Rattle.spaces.specs.declared.facts.SetFacts.{SetFacts}
 use Rattle.spaces.specs.Found.{Found, HasBegun, HasList, members, shown}
 use Rattle.spaces.specs.Known.{AreFactsOf, IsSound, IsStored, found}

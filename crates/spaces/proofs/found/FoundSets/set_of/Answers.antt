@@ -1,5 +1,5 @@
 use Rattle.std.proofs.Common.{◌≡◌, ◌<◌, ℕ, length, sym, ◌∙◌, subst}
-use Rattle.closures.specs.Looks.{look}
+use Rattle.tau_closures.specs.Looks.{look}
 use Rattle.spaces.specs.Found.{Found, HasList, members, shown}
 use Rattle.spaces.specs.Known.{found}
 use Rattle.spaces.proofs.Entering.{found-list, has-list, no-list}

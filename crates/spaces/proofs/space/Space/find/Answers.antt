@@ -1,5 +1,5 @@
 use Rattle.std.proofs.Common.{IfErr, sym, subst}
-use Rattle.closures.specs.Limits.{EventMeets}
+use Rattle.tau_closures.specs.Limits.{EventMeets}
 use Rattle.spaces.specs.Found.{shown}
 use Rattle.spaces.specs.Spaces.{Spaced, Belongs}
 use Rattle.spaces.proofs.Growing.{memory-on}

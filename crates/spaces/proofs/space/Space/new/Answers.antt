@@ -1,5 +1,5 @@
 use Rattle.std.proofs.Common.{ap, map}
-use Rattle.closures.specs.Looks.{look}
+use Rattle.tau_closures.specs.Looks.{look}
 use Rattle.spaces.specs.Found.{shown}
 use Rattle.spaces.proofs.Remembering.{memory-new}
 use Rattle.spaces.proofs.space.Space.new.Goals as goal

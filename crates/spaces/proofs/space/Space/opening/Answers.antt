@@ -1,5 +1,5 @@
 use Rattle.std.proofs.Common.{IfErr, OnOk, subst}
-use Rattle.closures.specs.Limits.{OpeningMeets, OpeningMeetsNone}
+use Rattle.tau_closures.specs.Limits.{OpeningMeets, OpeningMeetsNone}
 use Rattle.spaces.specs.Found.{shown}
 use Rattle.spaces.specs.Spaces.{Spaced}
 use Rattle.spaces.proofs.Growing.{memory-on}

@@ -1,8 +1,8 @@
 use Rattle.std.proofs.Common.{◌≤◌, arith}
 use Rattle.std.proofs.lemmas.Result.{IfOk-weaker}
 use Rattle.alphabet.specs.Channels.{event_count}
-use Rattle.closures.proofs.KeptBelongings.{kept-set-lies}
-use Rattle.closures.specs.Unfolding.{unfolding_depth}
+use Rattle.tau_closures.proofs.KeptBelongings.{kept-set-lies}
+use Rattle.tau_closures.specs.Unfolding.{unfolding_depth}
 use Rattle.term.specs.Specs.{IsClosed}
 use Rattle.spaces.specs.Spaces.{states}
 use Rattle.spaces.proofs.Accepting.{are-acceptances}

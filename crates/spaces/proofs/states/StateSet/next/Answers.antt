@@ -1,6 +1,6 @@
 use Rattle.std.proofs.Common.{arith}
-use Rattle.closures.proofs.KeptBelongings.{kept-takes-trace}
-use Rattle.closures.specs.Unfolding.{unfolding_depth}
+use Rattle.tau_closures.proofs.KeptBelongings.{kept-takes-trace}
+use Rattle.tau_closures.specs.Unfolding.{unfolding_depth}
 use Rattle.spaces.specs.Spaces.{states}
 use Rattle.spaces.proofs.states.StateSet.next.Goals as goal
 

@@ -1,8 +1,8 @@
 use Rattle.std.proofs.Common.{arith}
 use Rattle.alphabet.specs.EventSets.{member}
 use Rattle.term.specs.Proc.{bodies_of}
-use Rattle.closures.proofs.KeptBelongings.{kept-refuses-failure}
-use Rattle.closures.specs.Unfolding.{unfolding_depth}
+use Rattle.tau_closures.proofs.KeptBelongings.{kept-refuses-failure}
+use Rattle.tau_closures.specs.Unfolding.{unfolding_depth}
 use Rattle.spaces.specs.Spaces.{states}
 use Rattle.spaces.proofs.states.StateSet.refuses.Goals as goal
 

@@ -1,8 +1,8 @@
 use Rattle.std.proofs.Common.{sym, subst}
 use Rattle.std.proofs.lemmas.Result.{IfOk-weaker}
 use Rattle.term.specs.Specs.{Specified}
-use Rattle.closures.specs.KeptBelonging.{KeptBelongs}
-use Rattle.closures.specs.Unfolding.{unfolding_depth}
+use Rattle.tau_closures.specs.KeptBelonging.{KeptBelongs}
+use Rattle.tau_closures.specs.Unfolding.{unfolding_depth}
 use Rattle.spaces.specs.Spaces.{states}
 use Rattle.spaces.proofs.Answering.{members-belong}
 use Rattle.spaces.proofs.states.StateSet.renew.Goals as goal

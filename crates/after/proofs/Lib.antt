@@ -1,9 +1,0 @@
-pub mod Lists
-pub mod Expanding
-pub mod Putting
-pub mod Levels
-pub mod Rounds
-pub mod Renaming
-pub mod Keeping
-pub mod Belongings
-pub mod Advances

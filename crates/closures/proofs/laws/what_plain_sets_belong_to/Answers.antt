@@ -1,5 +1,0 @@
-use Rattle.closures.proofs.ByNames.{plain-belongs}
-use Rattle.closures.proofs.laws.what_plain_sets_belong_to.Goals as goal
-
-pub returns : goal.returns
-returns c = λ s members u e. plain-belongs s e members u
