@@ -1,9 +1,9 @@
 -- A service so far, with one connection more, and with one more that is over.
-use Rattle.std.proofs.Common.{◌≡◌, ◌≢◌, ◌⊎◌, inl, inr, ℕ, ◌+◌, ◌<◌, ◌≤◌, List, [], ◌∷◌, ◌++◌, length, refl, ap, subst, sym, ◌∙◌, arith, length-append, rules, suc}
+use Rattle.std.proofs.Common.{◌≡◌, ◌≢◌, ◌⊎◌, inl, inr, ℕ, ◌+◌, ◌<◌, ◌≤◌, List, [], ◌∷◌, ◌++◌, length, take, get_or, refl, ap, subst, sym, ◌∙◌, arith, length-append, rules, suc}
 use Rattle.std.specs.Prelude.{Bool, true, false, ◌||◌, ◌&&◌, ◌==◌, min, Option, None, Some, Result, map, sum_by, Ok, Err, OnOk, OnErr, IfNone}
 use Rattle.std.specs.List.{list_any}
 use Rattle.std.proofs.Math.Bool.{or_comm}
-use Rattle.std.proofs.lemmas.List.{append-nil}
+use Rattle.std.proofs.lemmas.List.{append-nil, take_more}
 use Rattle.std.proofs.lemmas.List.Sums.{sum_by-append}
 use Rattle.wire.specs.Faults.{Fault}
 use Rattle.wire.specs.declared.answer.Tally.{Tally}
@@ -21,7 +21,7 @@ use Rattle.connections.specs.declared.visits.Running.{Running}
 use Rattle.connections.specs.declared.visits.Visit.{Visit}
 use Rattle.connections.specs.declared.visits.Visited.{Visited}
 use Rattle.connections.specs.declared.visits.Visited.TheVariants as visited
-use Rattle.connections.specs.Accounts.{has_rejected, met_limit}
+use Rattle.connections.specs.Endings.{has_rejected, met_limit}
 use Rattle.answers.specs.declared.fault.Fault.TheVariants.{Seats}
 use Rattle.connections.specs.Outcomes.{IsOutcome, WasClosed, ending_of, places_of}
 use Rattle.connections.specs.Services.{EndsByFailure, EndsByIdleness, Goes, Holding, IsHeld, IsLook, IsStep, IsSum, IsWithout, Standing, Step, Without, took, freed, nobody, failed, beginning, capped, nothing_held, refusal_of, steps_by, taken_of, unjudged_of}
@@ -57,6 +57,19 @@ sum_more es fs e old new each count sum added = record {
   limit = added.limit ∙ (ap (λ b. b || met_limit e) sum.limit ∙ sym (each met_limit));
   unjudged = added.unjudged ∙ (ap (λ n. capped (n + unjudged_of e)) sum.unjudged ∙ (capped_in (sum_by unjudged_of es) (unjudged_of e) ∙ sym (ap capped (count unjudged_of))));
 }
+
+test_last : (f : Ending → Bool) (es : List Ending) (e : Ending) → list_any f (es ++ e ∷ []) ≡ (list_any f es || f e)
+test_last f [] e = or_comm (f e) false
+test_last f (x ∷ es) e = ap (λ b. f x || b) (test_last f es e) ∙ or_in (f x) (list_any f es) (f e)
+
+-- the sum of the first endings, with one ending more
+pub sum_taken : (es : List Ending) (i : ℕ) (d : Ending) (old new : Totals) → i < length es → IsSum (take i es) old → IsAdded old (get_or es i d) new → IsSum (take (i + 1) es) new
+sum_taken es i d old new here sum added =
+    let first = take i es in
+    let e = get_or es i d in
+    subst (λ l. IsSum l new) (sym (take_more es i d here))
+    (sum_more first (first ++ e ∷ []) e old new (λ f. test_last f first e)
+    (λ f. let one : sum_by f (e ∷ []) ≡ f e = omega arith in sum_by-append f first (e ∷ []) ∙ ap (λ n. sum_by f first + n) one) sum added)
 
 places_more : {P : Type 0} (answered : P → ℕ) (os : List (Outcome P)) (o : Outcome P)
     → sum_by answered (places_of (o ∷ os)) ≡ sum_by answered (places_of (o ∷ [])) + sum_by answered (places_of os)

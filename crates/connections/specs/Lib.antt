@@ -1,6 +1,6 @@
 -- To believe.
 pub mod Outcomes
-pub mod Accounts
+pub mod Endings
 pub mod Services
 -- Steps of the program.
 pub mod Starting

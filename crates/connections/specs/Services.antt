@@ -15,7 +15,7 @@ use Rattle.connections.specs.declared.services.Closed.{Closed}
 use Rattle.connections.specs.declared.services.Terms.{Terms}
 use Rattle.connections.specs.declared.totals.Totals.{Totals}
 use Rattle.connections.specs.Outcomes.{IsOutcome, WasClosed, ending_of, places_of}
-use Rattle.connections.specs.Accounts.{has_rejected, met_limit}
+use Rattle.connections.specs.Endings.{has_rejected, met_limit}
 
 -- No place is given for this fault: the gate refuses one for it, or all places are taken.
 abbrev pub IsWithout : (Fault → Type 0) → Fault → Type 0

@@ -17,7 +17,7 @@ use Rattle.connections.specs.declared.visits.Visit.{Visit}
 use Rattle.connections.specs.declared.visits.Visited.{Visited}
 use Rattle.connections.specs.declared.visits.Visited.TheVariants as visited
 use Rattle.connections.specs.Outcomes.{IsOutcome, WasClosed, ending_of, places_of}
-use Rattle.connections.specs.Accounts.{has_rejected, met_limit}
+use Rattle.connections.specs.Endings.{has_rejected, met_limit}
 use Rattle.connections.specs.Services.{Goes, Holding, IsHeld, IsLook, IsStep, IsSum, IsWithout, Standing, Step, Without, beginning, capped, nothing_held, refusal_of, steps_by, taken_of, unjudged_of}
 
 -- A connection that was taken: its thread runs, or it is over.

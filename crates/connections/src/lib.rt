@@ -4,7 +4,6 @@
 //! all are over, and answers what came of each. `serve_on` takes connections without end, and gives their places again.
 #![tactic(auto)]
 
-mod account;
 mod gate;
 mod lingering;
 mod number;
@@ -16,7 +15,6 @@ mod totals;
 mod unix;
 mod visits;
 
-pub use account::Account;
 pub use gate::{Accept, AcceptFault, Close, Gate, Listen, Over, Reusable};
 pub use number::Connections;
 pub use outcome::{Ending, Outcome, part};

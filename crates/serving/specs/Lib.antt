@@ -5,6 +5,7 @@ pub mod Plans
 pub mod Runs
 pub mod Served
 pub mod Services
+pub mod Statuses
 -- Of the layers below, for those above.
 pub use Rattle.shared.specs.Beginnings
 pub use Rattle.shared.specs.Entries

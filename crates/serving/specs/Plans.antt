@@ -1,24 +1,20 @@
 -- How a run of a server goes, by its plan.
-use Rattle.std.specs.Prelude.{◌≡◌, ℕ, Bool, true, false, cond, List, Option, sum_by}
-use Rattle.std.specs.List.{list_any}
+use Rattle.std.specs.Prelude.{◌≡◌, ℕ, Bool, true, false, cond, List, Option}
 use Rattle.term.specs.Specs.{Specified}
 use Rattle.shared.specs.Entry.{Entry}
 use Rattle.wire.specs.Faults.{Fault}
 use Rattle.connections.specs.declared.outcome.Ending.{Ending}
 use Rattle.connections.specs.declared.totals.Totals.{Totals}
 use Rattle.connections.specs.declared.services.Terms.{Terms}
-use Rattle.connections.specs.Accounts.{has_rejected, met_limit}
-use Rattle.connections.specs.Services.{capped, unjudged_of}
+use Rattle.connections.specs.Services.{IsSum}
 use Rattle.serving.specs.Runs.{Went}
 use Rattle.serving.specs.Services.{Ran}
 use Rattle.serving.specs.declared.runs.Plan.{Plan}
 use Rattle.serving.specs.declared.runs.Plan.TheVariants.{Over, Idle, Stopped}
 
 -- This came of connections that ended so, where the lines that weren't judged are counted, or passed over.
-pub record IsTotal (counts : Bool) (endings : List Ending) (totals : Totals) : Type 0 where
-  pub rejected : totals.rejected ≡ list_any has_rejected endings
-  pub limit : totals.limit ≡ list_any met_limit endings
-  pub unjudged : totals.unjudged ≡ cond counts (capped (sum_by unjudged_of endings)) 0
+abbrev pub IsTotal : Bool → List Ending → Totals → Type 0
+IsTotal counts endings totals = (all : Totals) × IsSum endings all × (totals ≡ cond counts all (record all { unjudged = 0 }))
 
 -- on what terms a service runs
 abbrev pub terms_of : Bool → ℕ → Terms

@@ -11,13 +11,13 @@ mod sessions;
 mod shared_gate;
 
 pub use connections::{
-    Accept, AcceptFault, Account, Closed, Connections, Ending, Gate, Listen, Outcome, Over,
-    Reusable, Served, TcpAccept, Terms, Totals, UnixAccept, serve_all, serve_on,
+    Accept, AcceptFault, Closed, Connections, Ending, Gate, Listen, Outcome, Over, Reusable,
+    Served, TcpAccept, Terms, Totals, UnixAccept, serve_all, serve_on,
 };
 pub use large_sessions::Parts;
 pub use opening::{OpenError, open};
 pub use opening_parts::open_parts;
-pub use runs::{Plan, Run, serve};
+pub use runs::{Plan, Run, exit_of, serve};
 pub use service_gate::ServiceGate;
 pub use services::{ClosedService, serve_service};
 pub use sessions::{Closing, serve_session};

@@ -1,22 +1,21 @@
 //! A run of a server, by its plan, up to the status that it ends with.
 
-ghost use Rattle.std.specs.Prelude.{◌≡◌, ◌||◌, [], ℕ, List, Option, cond, not, is_some, sum_by, IfOk, IfErr};
+ghost use Rattle.std.specs.Prelude.{◌≡◌, ◌||◌, [], ℕ, List, Option, not, is_some, IfOk, IfErr};
 ghost use Rattle.term.specs.Proc.{bodies_of};
 ghost use Rattle.shared.specs.Beginnings.{StartsWith};
 ghost use Rattle.shared.specs.Lasting.{Lasts};
 ghost use Rattle.shared.specs.Legal.{Legal};
-ghost use Rattle.connections.specs.declared.outcome.Ending.{Ending as EndingOf};
-ghost use Rattle.connections.specs.Accounts.{service_status};
+ghost use Rattle.connections.specs.declared.outcome.Ending.{Ending};
 ghost use Rattle.connections.specs.Outcomes.{WasTold};
-ghost use Rattle.connections.specs.Services.{capped, unjudged_of};
 ghost use Rattle.serving.specs.Plans.{IsTotal, WentBy, terms_of};
 ghost use Rattle.serving.specs.Runs.{Went};
 ghost use Rattle.serving.specs.Services.{Ran};
+ghost use Rattle.serving.specs.Statuses.{service_status};
 
 use crate::services::{ClosedService, serve_service};
 use crate::sessions::{Closing, serve_session};
 use answers::Exit;
-use connections::{Connections, Ending, Listen, Totals};
+use connections::{Connections, Listen, Totals};
 use shared::{Recorder, SessionOn};
 use std::alloc::{AllocError, Global};
 use std::sync::Wait;
@@ -45,50 +44,57 @@ pub struct Run<J: Recorder> {
     pub accept_failed: bool,
 }
 
+/// How a run ends whose session was closed or not, and where an accept failed or not: `BadJournal` where it was closed, then
+/// `FileFailed` where one failed, `Rejected`, `Misuse` where a line wasn't judged, and `Limit`; else `Done`.
+pub fn exit_of(totals: &Totals, closed: bool, accept_failed: bool) -> Exit
+    ensures { result ≡ service_status closed accept_failed totals.now }
+{
+    if closed {
+        Exit::BadJournal
+    } else if accept_failed {
+        Exit::FileFailed
+    } else if totals.rejected {
+        Exit::Rejected
+    } else if totals.unjudged > 0 {
+        Exit::Misuse
+    } else if totals.limit {
+        Exit::Limit
+    } else {
+        Exit::Done
+    }
+}
+
 impl<J: Recorder> Run<J> {
     /// How the run ends, if its end could be told or not: an output that failed counts as an accept that did.
     #[tactic(auto, using(crate::proofs::Plans::some_is))]
     pub fn status(&self, is_told: bool) -> Exit
         ensures { result ≡ service_status (is_some self.now.session.failed) (self.now.accept_failed || not is_told) self.now.totals }
     {
-        self.totals
-            .status(self.session.is_closed(), self.accept_failed || !is_told)
-    }
-}
-
-// How many lines weren't judged, as far as 64 bits go.
-fn unjudged_in(endings: &[Ending]) -> u64
-    ensures { result ≡ capped (sum_by unjudged_of endings.now) }
-{
-    match endings {
-        [] => 0,
-        [first, rest @ ..] => first.unjudged().saturating_add(unjudged_in(rest)),
+        let accept_failed = self.accept_failed || !is_told;
+        exit_of(&self.totals, self.session.is_closed(), accept_failed)
     }
 }
 
 // What is left of a run of so many connections.
 fn run_of<J: Recorder>(closing: Closing<J>, counts: bool) -> Run<J>
     ensures session { result.session ≡ closing.session }
-    ensures rejected { result.totals.rejected ≡ closing.account.rejected }
-    ensures limit { result.totals.limit ≡ closing.account.limit }
-    ensures unjudged { result.totals.unjudged ≡ cond counts (capped (sum_by unjudged_of closing.endings.items)) 0 }
-    ensures accept { result.accept_failed ≡ closing.account.accept_failed }
+    ensures totals { IsTotal counts closing.endings.items result.totals }
+    ensures accept { result.accept_failed ≡ closing.accept_failed }
 {
     let Closing {
         session,
         endings,
-        account,
+        accept_failed,
         answered: _,
     } = closing;
-    let unjudged = if counts { unjudged_in(&endings) } else { 0 };
+    let mut totals = Totals::of(&endings);
+    if !counts {
+        totals.unjudged = 0;
+    }
     Run {
         session,
-        totals: Totals {
-            rejected: account.rejected,
-            limit: account.limit,
-            unjudged,
-        },
-        accept_failed: account.accept_failed,
+        totals,
+        accept_failed,
     }
 }
 
@@ -121,7 +127,7 @@ fn run_some<J: Recorder + Drop + Send, T: Threads + Wait + Sync, L: Listen + Dro
     requires { session.offered ≡ [] }
     ensures session { IfOk result (λ run. (run.session.spec ≡ session.spec) × StartsWith run.session.history session.history × Legal (bodies_of session.spec.bodies) run.session.history) }
     ensures lasts { IfOk result (λ run. Lasts J.recording session run.session) }
-    ensures went { IfOk result (λ run. (endings : List EndingOf) × (answered : Option ℕ)
+    ensures went { IfOk result (λ run. (endings : List Ending) × (answered : Option ℕ)
         × Went L.takes L.fails L.Reader.left L.Reader.is_closed L.Writer.contents (WasTold L.Writer.contents L.Writer.has_handed_on L.Writer.failures) accept connections session.spec session.history run.session.history endings run.accept_failed answered
         × IsTotal counts endings run.totals) }
     ensures memory { IfErr result (λ error. error.1 ≡ accept) }

@@ -1,20 +1,18 @@
 //! A session, served from its first connection to its last.
 
 ghost use Rattle.std.specs.Prelude.{◌≡◌, ◌≤◌, ◌+◌, [], ℕ, List, Ok, Err, IfOk, IfErr, IfSome, IsErr, length, map, vec_capacity};
-ghost use Rattle.std.specs.List.{list_any};
 ghost use Rattle.term.specs.Proc.{bodies_of};
 ghost use Rattle.shared.specs.Lasting.{Lasts};
 ghost use Rattle.shared.specs.Legal.{Legal};
 ghost use Rattle.shared.specs.Beginnings.{StartsWith};
 ghost use Rattle.shared.specs.View.{SeatView};
 ghost use Rattle.connections.specs.declared.outcome.Outcome.{Outcome};
-ghost use Rattle.connections.specs.Accounts.{has_rejected, met_limit};
 ghost use Rattle.connections.specs.Outcomes.{WasTold, ending_of, places_of};
 ghost use Rattle.serving.specs.Runs.{CameTo, Went};
 
 use crate::shared_gate::SharedGate;
 use alphabet::{Alphabet, EventSet};
-use connections::{Accept, Account, Connections, Ending, part, serve_all};
+use connections::{Accept, Connections, Ending, part, serve_all};
 use journal::Prepared;
 use seats::copy_of;
 use shared::{
@@ -34,8 +32,8 @@ pub struct Closing<J: Recorder> {
     pub session: SessionOn<J, Global>,
     /// How each connection ended, in the order in which they were taken.
     pub endings: Vec<Ending, Global>,
-    /// What came of all connections together.
-    pub account: Account,
+    /// A connection couldn't be taken.
+    pub accept_failed: bool,
     /// How many reports were answered with `OK` or `NO`. `None` where a connection's place was lost, since no thread could be started for it.
     pub answered: Option<u64>,
 }
@@ -160,20 +158,16 @@ fn close<J: Recorder + Drop, L>(
     endings: Vec<Ending, Global>,
     served: Result<bool, (AllocError, L)>,
 ) -> Result<Closing<J>, (AllocError, L)>
-    ensures closed { IfOk result (λ c. (c.session ≡ session) × (c.answered ≡ answered) × (c.endings ≡ endings) × (served ≡ Ok c.account.accept_failed)) }
-    ensures account { IfOk result (λ c. (c.account.rejected ≡ list_any has_rejected c.endings.items) × (c.account.limit ≡ list_any met_limit c.endings.items)) }
+    ensures closed { IfOk result (λ c. (c.session ≡ session) × (c.answered ≡ answered) × (c.endings ≡ endings) × (served ≡ Ok c.accept_failed)) }
     ensures memory { IfErr result (λ error. served ≡ Err error) }
 {
     match served {
-        Ok(accept_failed) => {
-            let account = Account::of(&endings, accept_failed);
-            Ok(Closing {
-                session,
-                endings,
-                account,
-                answered,
-            })
-        }
+        Ok(accept_failed) => Ok(Closing {
+            session,
+            endings,
+            accept_failed,
+            answered,
+        }),
         Err(refused) => {
             drop(session);
             Err(refused)
@@ -206,8 +200,7 @@ fn over_seats<
     requires endings { (room.endings.items ≡ []) × (count ≤ vec_capacity room.endings) }
     ensures session { IfOk result (λ c. (c.session.spec ≡ N.spec) × StartsWith c.session.history N.opening × Legal (bodies_of N.spec.bodies) c.session.history) }
     ensures lasts { IfOk result (λ c. IfSome N.before (λ before. Lasts J.recording before c.session)) }
-    ensures went { IfOk result (λ c. Went L.takes L.fails L.Reader.left L.Reader.is_closed L.Writer.contents (WasTold L.Writer.contents L.Writer.has_handed_on L.Writer.failures) accept count N.spec N.opening c.session.history c.endings.items c.account.accept_failed c.answered) }
-    ensures account { IfOk result (λ c. (c.account.rejected ≡ list_any has_rejected c.endings.items) × (c.account.limit ≡ list_any met_limit c.endings.items)) }
+    ensures went { IfOk result (λ c. Went L.takes L.fails L.Reader.left L.Reader.is_closed L.Writer.contents (WasTold L.Writer.contents L.Writer.has_handed_on L.Writer.failures) accept count N.spec N.opening c.session.history c.endings.items c.accept_failed c.answered) }
     ensures memory { IfErr result (λ error. error.1 ≡ accept) }
 {
     let Room {
@@ -258,8 +251,7 @@ pub fn serve_session<J: Recorder + Drop + Send, T: Threads + Wait + Sync, L: Acc
     ensures lasts { IfOk result (λ c. Lasts J.recording session c.session) }
 
     // What came of each connection, in the order in which they were taken.
-    ensures went { IfOk result (λ c. Went L.takes L.fails L.Reader.left L.Reader.is_closed L.Writer.contents (WasTold L.Writer.contents L.Writer.has_handed_on L.Writer.failures) accept connections session.spec session.history c.session.history c.endings.items c.account.accept_failed c.answered) }
-    ensures account { IfOk result (λ c. (c.account.rejected ≡ list_any has_rejected c.endings.items) × (c.account.limit ≡ list_any met_limit c.endings.items)) }
+    ensures went { IfOk result (λ c. Went L.takes L.fails L.Reader.left L.Reader.is_closed L.Writer.contents (WasTold L.Writer.contents L.Writer.has_handed_on L.Writer.failures) accept connections session.spec session.history c.session.history c.endings.items c.accept_failed c.answered) }
     ensures memory { IfErr result (λ error. error.1 ≡ accept) }
 {
     let count = connections.get();

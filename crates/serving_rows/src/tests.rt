@@ -5,9 +5,7 @@ use crate::ends::{Listed, Sent};
 use crate::gate::{Stop, Turns};
 use crate::meeting::{Client, Meeting};
 use crate::series::{SILENT, Series};
-use connections::{
-    Account, Closed, Ending, Gate, Served, Terms, Totals, part, serve_all, serve_on,
-};
+use connections::{Closed, Ending, Gate, Served, Terms, Totals, part, serve_all, serve_on};
 use std::alloc::Global;
 use std::sync::Wait;
 use std::sync::atomic::AtomicUsize;
@@ -66,13 +64,13 @@ const ENDINGS: [Ending; 5] = [
 // Places after their connections.
 type Places<G> = Vec<<G as Gate>::Place, Global>;
 
-// The places, how the connections ended, and what came of them together.
+// The places, how the connections ended, and whether another couldn't be taken.
 fn ended<T: Threads + Wait + Sync, G: Gate + Sync>(
     rt: &T,
     alloc: Global,
     gate: &G,
     count: u8,
-) -> Result<(Places<G>, Vec<Ending, Global>, Account), Fail> {
+) -> Result<(Places<G>, Vec<Ending, Global>, bool), Fail> {
     let (Ok(mut places), Ok(mut endings)) = (
         Vec::with_capacity(alloc, usize::from(count)),
         Vec::with_capacity(alloc, usize::from(count)),
@@ -87,8 +85,7 @@ fn ended<T: Threads + Wait + Sync, G: Gate + Sync>(
             },
         ) => {
             part(outcomes, &mut places, &mut endings);
-            let account = Account::of(&endings, accept_failed);
-            Ok((places, endings, account))
+            Ok((places, endings, accept_failed))
         }
         Err(_) => Err(Fail::new("connections are served")),
     }
@@ -97,13 +94,14 @@ fn ended<T: Threads + Wait + Sync, G: Gate + Sync>(
 // Six connections are asked for, and the sixth doesn't come.
 #[test]
 fn each_connection_is_reported(rt: HostRuntime) -> Result<(), Fail> {
-    let (_, endings, account) = ended(&rt, rt.alloc(), &Turns::new(&TURNS), 6)?;
-    let expected = Account {
+    let (_, endings, accept_failed) = ended(&rt, rt.alloc(), &Turns::new(&TURNS), 6)?;
+    let expected = Totals {
         rejected: true,
         limit: true,
-        accept_failed: true,
+        unjudged: 0,
     };
-    assert!(rt; endings.as_slice() == ENDINGS.as_slice() && account == expected);
+    assert!(rt; endings.as_slice() == ENDINGS.as_slice() && accept_failed);
+    assert!(rt; Totals::of(&endings) == expected);
     Ok(())
 }
 

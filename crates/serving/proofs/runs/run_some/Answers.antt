@@ -1,4 +1,4 @@
-use Rattle.std.proofs.Common.{◌≡◌, sym, ◌∙◌, subst}
+use Rattle.std.proofs.Common.{◌≡◌, sym, subst}
 use Rattle.term.specs.Proc.{bodies_of}
 use Rattle.shared.specs.Beginnings.{StartsWith}
 use Rattle.shared.specs.Legal.{Legal}
@@ -23,7 +23,7 @@ returns-in-Ok-clause-went g c =
       closing.answered,
       subst (λ s. Went takes fails left is_closed contents told c.args.accept c.args.connections spec opening s.history closing.endings.items run.accept_failed closing.answered) (sym e.session)
           (subst (λ failed. Went takes fails left is_closed contents told c.args.accept c.args.connections spec opening closing.session.history closing.endings.items failed closing.answered) (sym e.accept) c.in-Ok.ensures.went),
-      record { rejected = e.rejected ∙ c.in-Ok.ensures.account.0; limit = e.limit ∙ c.in-Ok.ensures.account.1; unjudged = e.unjudged },
+      e.totals,
     )
 
 pub returns-in-Ok-clause-session : goal.returns-in-Ok-clause-session

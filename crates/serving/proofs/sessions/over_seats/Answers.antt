@@ -25,14 +25,14 @@ returns-clause-went g c =
     let told = WasTold g.L.Writer.Sink.contents g.L.Writer.Sink.has_handed_on g.L.Writer.Sink.failures in
     let spec = g.N.Naming.spec in
     let opening = g.N.Naming.opening in
-    if_ok (λ k. (k.session ≡ finish.result.0) × (k.answered ≡ finish.result.1) × (k.endings ≡ served.new.endings) × (served.result ≡ Ok k.account.accept_failed))
-    (λ k. Went takes fails left closed contents told c.args.accept c.args.count spec opening k.session.history k.endings.items k.account.accept_failed k.answered)
+    if_ok (λ k. (k.session ≡ finish.result.0) × (k.answered ≡ finish.result.1) × (k.endings ≡ served.new.endings) × (served.result ≡ Ok k.accept_failed))
+    (λ k. Went takes fails left closed contents told c.args.accept c.args.count spec opening k.session.history k.endings.items k.accept_failed k.answered)
     c.close.result
     (λ k is.
-    subst (λ s. Went takes fails left closed contents told c.args.accept c.args.count spec opening s.history k.endings.items k.account.accept_failed k.answered) (sym is.0)
-    (subst (λ n. Went takes fails left closed contents told c.args.accept c.args.count spec opening finish.result.0.history k.endings.items k.account.accept_failed n) (sym is.1)
-    (subst (λ es. Went takes fails left closed contents told c.args.accept c.args.count spec opening finish.result.0.history es.items k.account.accept_failed finish.result.1) (sym is.2)
-    (went_of takes fails left closed contents told c.args.accept c.args.count spec opening finish.result.0.history served.new.shares.items served.new.endings.items k.account.accept_failed finish.result.1
+    subst (λ s. Went takes fails left closed contents told c.args.accept c.args.count spec opening s.history k.endings.items k.accept_failed k.answered) (sym is.0)
+    (subst (λ n. Went takes fails left closed contents told c.args.accept c.args.count spec opening finish.result.0.history k.endings.items k.accept_failed n) (sym is.1)
+    (subst (λ es. Went takes fails left closed contents told c.args.accept c.args.count spec opening finish.result.0.history es.items k.accept_failed finish.result.1) (sym is.2)
+    (went_of takes fails left closed contents told c.args.accept c.args.count spec opening finish.result.0.history served.new.shares.items served.new.endings.items k.accept_failed finish.result.1
     (subst (λ r. IfOk r (λ accept_failed. (outcomes : List (Outcome SeatView))
     × CameTo takes fails left closed contents told c.args.accept c.args.count spec opening outcomes accept_failed
     × (served.new.shares.items ≡ places_of outcomes) × (served.new.endings.items ≡ map ending_of outcomes))) is.3 served.ensures.served)
@@ -44,7 +44,7 @@ returns-clause-session g c =
     let served = c.serve_in-served in
     let finish = c.finish-session in
     let spec = g.N.Naming.spec in
-    if_ok (λ k. (k.session ≡ finish.result.0) × (k.answered ≡ finish.result.1) × (k.endings ≡ served.new.endings) × (served.result ≡ Ok k.account.accept_failed))
+    if_ok (λ k. (k.session ≡ finish.result.0) × (k.answered ≡ finish.result.1) × (k.endings ≡ served.new.endings) × (served.result ≡ Ok k.accept_failed))
     (λ k. (k.session.spec ≡ spec) × StartsWith k.session.history g.N.Naming.opening × Legal (bodies_of spec.bodies) k.session.history)
     c.close.result
     (λ k is. subst (λ s. (s.spec ≡ spec) × StartsWith s.history g.N.Naming.opening × Legal (bodies_of spec.bodies) s.history) (sym is.0) finish.ensures.session)
@@ -54,7 +54,7 @@ pub returns-clause-lasts : goal.returns-clause-lasts
 returns-clause-lasts g c =
     let served = c.serve_in-served in
     let finish = c.finish-session in
-    if_ok (λ k. (k.session ≡ finish.result.0) × (k.answered ≡ finish.result.1) × (k.endings ≡ served.new.endings) × (served.result ≡ Ok k.account.accept_failed))
+    if_ok (λ k. (k.session ≡ finish.result.0) × (k.answered ≡ finish.result.1) × (k.endings ≡ served.new.endings) × (served.result ≡ Ok k.accept_failed))
     (λ k. IfSome g.N.Sharing.before (λ before. Lasts g.J.Recorder.recording before k.session))
     c.close.result
     (λ k is. subst (λ s. IfSome g.N.Sharing.before (λ before. Lasts g.J.Recorder.recording before s)) (sym is.0) finish.ensures.lasts)
