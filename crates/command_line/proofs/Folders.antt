@@ -1,4 +1,4 @@
--- A journal in parts in a folder of a file system may go to another thread, where several threads may use the file system.
+-- A folder of a file system may go to another thread, where several threads may use the file system.
 use Prim.{search}
 use denote.Ref.{NamedLft}
 use denote.RattleType.{RattleType}
@@ -18,18 +18,8 @@ use Rattle.parts.specs.contracts.parts.Parts as Parts
 use Rattle.parts.proofs.parts.Parts.TheSendSync as parts
 
 module _ (κ : NamedLft) (S : RattleType) (system : FileSystem.Ghosts S.Denot) where
-  abbrev folder_row : RattleType
+  abbrev pub folder_row : RattleType
   folder_row = FileFolder.the_row κ (param 0 S) Global.the_row
 
-  abbrev folder_ghosts : Folder.Ghosts folder_row.Denot
-  folder_ghosts =
-      folder.ghosts (param 0 S) Global.the_row system folder.no_dict allocator.ghosts folder.no_dict (copies.ghosts Global.the_row) folder.no_dict
-
-  abbrev pub parts_row : RattleType
-  parts_row = Parts.the_row folder_row Global.the_row folder_ghosts allocator.ghosts
-
-  folder_send : IsSync S → IsSend folder_row
+  pub folder_send : IsSync S → IsSend folder_row
   folder_send s = search (crosses, sendable) depth 60 fits 20000
-
-  pub parts_send : IsSync S → IsSend parts_row
-  parts_send s = parts.the_send folder_row Global.the_row folder_ghosts allocator.ghosts (folder_send s) global.the_send heap.the_frees

@@ -1,36 +1,36 @@
 -- How a run of the server ends.
-use Rattle.std.proofs.Common.{◌≡◌, inl, inr, ℕ, Bool, true, false, Option, List, refl, sym, subst, IsTrue}
-use Rattle.std.specs.Prelude.{◌⊎◌, ◌||◌, not}
-use Rattle.std.specs.Io.KnownBytes.{Appends}
+use Rattle.std.proofs.Common.{◌≡◌, ℕ, Bool, Option, List, sym, subst}
+use Rattle.std.specs.Prelude.{Result, Ok, Err, IfOk, IfErr}
+use Rattle.disk.specs.State.{DiskState, FolderState}
+use Rattle.journal.specs.Journal.{Held}
+use Rattle.parts.specs.Parts as parts
+use Rattle.term.specs.Proc.{bodies_of}
 use Rattle.term.specs.Specs.{Specified}
-use Rattle.wire.specs.Replies.{status_text}
+use Rattle.term.specs.declared.names.Names.{Names}
 use Rattle.connections.specs.declared.totals.Totals.{Totals}
-use Rattle.connections.specs.Accounts.{service_status}
-use Rattle.program.specs.Courses.{status_by}
 use Rattle.program.specs.Exits.{journal_exit, kind_exit, script_exit}
+use Rattle.program.specs.Servers as one
+use Rattle.program.specs.Servers.{IsTold}
 use Rattle.program.specs.SessionError.{SessionError}
 use Rattle.program.specs.SessionError.TheVariants as error
+use Rattle.program.specs.declared.served.Line.{Line}
+use Rattle.program.specs.declared.served.Unserved.{Unserved}
+use Rattle.program.specs.declared.served.Unserved.TheVariants.{Unopened, Shut, Memory}
 use Rattle.answers.specs.declared.exit.Exit.{Exit}
 use Rattle.answers.specs.declared.exit.Exit.TheVariants.{BadScript, BadJournal, Done, FileFailed, Limit, Misuse, Rejected}
 use Rattle.script.specs.Reading.{IsRead}
+use Rattle.serving.specs.Beginnings.{StartsWith}
+use Rattle.serving.specs.Entries.{summary_of}
 use Rattle.serving.specs.Entry.{Entry}
+use Rattle.serving.specs.Legal.{Legal}
 use Rattle.tokens.specs.declared.error.ScriptError.{ScriptError}
 use Rattle.tokens.specs.declared.error.ScriptErrorKind.{ScriptErrorKind}
 use Rattle.tokens.specs.declared.error.ScriptErrorKind.TheVariants as kind
-use Rattle.serving.specs.Summary.{Summary}
 use Rattle.serving.specs.declared.opening.OpenError.{OpenError}
 use Rattle.serving.specs.declared.opening.OpenError.TheVariants.{Begin, Replay, OtherSpecification}
 use Rattle.command_line.specs.Commands.{IsRefusal}
-use Rattle.command_line.specs.Endings.{IsEndOf, IsServed, IsServedFor, IsTold, IsUnserved}
+use Rattle.command_line.specs.Endings.{IsServedFor, IsShutFor, IsUnserved}
 use Rattle.command_line.specs.Statuses.{begin_exit, open_exit}
-
--- the line was written, or it wasn't
-pub told_by : (summary : Summary) (closed : Bool) (totals : Totals) (accept_failed written : Bool) (old new : Option (List ℕ)) (exit : Exit) → (IsTrue written → Appends old new (status_text (status_by summary closed)))
-    → exit ≡ (service_status closed (accept_failed || not written) totals) → IsTold summary closed totals accept_failed old new exit
-told_by summary closed totals true true old new exit appends is = inl (appends refl, is)
-told_by summary closed totals false true old new exit appends is = inl (appends refl, is)
-told_by summary closed totals true false old new exit appends is = inr (inl is)
-told_by summary closed totals false false old new exit appends is = inr (inl is)
 
 -- a script that is refused isn't served, nor a journal that gives no session
 pub script_unserved : (k : ScriptErrorKind) (other : Exit) → IsUnserved other → IsUnserved (kind_exit k other)
@@ -93,15 +93,43 @@ kind_refused k = tt
 pub script_refused : (f : ScriptError) (exit : Exit) → exit ≡ script_exit f → IsRefusal exit
 script_refused f exit is = subst (λ (x : Exit). IsRefusal x) (sym is) (kind_refused f.kind)
 
--- the line couldn't be made
-pub told_none : (summary : Summary) (closed : Bool) (totals : Totals) (accept_failed : Bool) (old new : Option (List ℕ)) (exit : Exit) → exit ≡ (service_status closed accept_failed (record totals { limit = true }))
-    → IsTold summary closed totals accept_failed old new exit
-told_none summary closed totals accept_failed old new exit is = inr (inr is)
+-- a door that didn't open
+pub shut_for : {D : Type 0} (state : D → DiskState) (names : Names) (before : DiskState) (script root : List ℕ) (u : Unserved D (Held D))
+    → one.IsUnserved state names before script root (λ exit. IsUnserved exit) u → IsShutFor u
+shut_for state names before script root (Unopened error disk) why = tt
+shut_for state names before script root (Shut exit session) why = why.0
+shut_for state names before script root Memory why = tt
 
--- a run that was told
-pub served_by : (spec : Specified) (opening : List Entry) (summary : Summary) (closed : Bool) (totals : Totals) (accept_failed : Bool) (old new : Option (List ℕ)) (exit : Exit) → IsEndOf spec opening summary
-    → IsTold summary closed totals accept_failed old new exit → IsServed spec opening new exit
-served_by spec opening summary closed totals accept_failed old new exit ends told = inr (summary, closed, totals, accept_failed, old, ends, told)
+pub shut_in_parts : {F : Type 0} (state : F → FolderState) (size : ℕ) (before : FolderState) (script root : List ℕ) (u : Unserved F (parts.Held F))
+    → one.AreUnserved state size before script root (λ exit. IsUnserved exit) u → IsShutFor u
+shut_in_parts state size before script root (Unopened error folder) why = tt
+shut_in_parts state size before script root (Shut exit session) why = why.0
+shut_in_parts state size before script root Memory why = tt
 
-pub served_for : (script process : List ℕ) (spec : Specified) (opening : List Entry) (new : Option (List ℕ)) (exit : Exit) → IsRead script process spec → IsServed spec opening new exit → IsUnserved exit ⊎ IsServedFor process new exit
-served_for script process spec opening new exit read served = inr (record { script = script; spec = spec; read = read; opening = opening; served = served })
+-- what is so of a call that went well, or of one that didn't
+pub of_ok : {A B : Type 0} (P : A → Type 0) (r : Result A B) (a : A) → r ≡ Ok a → IfOk r P → P a
+of_ok {A} {B} P r a is so = subst (λ (x : Result A B). IfOk x P) is so
+
+pub of_err : {A B : Type 0} (P : B → Type 0) (r : Result A B) (b : B) → r ≡ Err b → IfErr r P → P b
+of_err {A} {B} P r b is so = subst (λ (x : Result A B). IfErr x P) is so
+
+-- a session that was served
+pub served_for : (names : Names) (script root process : List ℕ) (spec : Specified) (opening history : List Entry) (line : Line) (closed : Bool) (totals : Totals) (accept_failed : Bool)
+    (old new : Option (List ℕ)) (exit status : Exit) → root ≡ process → status ≡ exit → IsRead script root spec → spec.names ≡ names → StartsWith history opening
+    → Legal (bodies_of spec.bodies) history → IsTold line (summary_of history) closed totals accept_failed old new exit → IsServedFor names process new status
+served_for names script root process spec opening history line closed totals accept_failed old new exit status same is read names_are begins legal told = record {
+  script = script;
+  spec = spec;
+  read = subst (λ (p : List ℕ). IsRead script p spec) same read;
+  names_are = names_are;
+  opening = opening;
+  history = history;
+  begins = begins;
+  legal = legal;
+  line = line;
+  closed = closed;
+  totals = totals;
+  accept_failed = accept_failed;
+  old = old;
+  told = subst (λ (e : Exit). IsTold line (summary_of history) closed totals accept_failed old new e) (sym is) told;
+}

@@ -1,9 +1,11 @@
 //! Where the connections of a server are taken.
 
-ghost use Rattle.std.specs.Prelude.{◌≡◌, IfErr};
+ghost use Rattle.std.specs.Prelude.{◌≡◌, IfErr, OnErr};
 ghost use Rattle.answers.specs.declared.exit.Exit.TheVariants.{FileFailed};
+ghost use Rattle.command_line.specs.Endings.{IsUnserved};
 
 use crate::journal_files::keep_name;
+use crate::logged::Known;
 use crate::sockets::listener_at;
 use crate::telling::tell_fault;
 use program::Exit;
@@ -15,24 +17,83 @@ use std::io::Write;
 use std::net::{Net, SocketAddr, SocketAddrV4, TcpListener, TcpStream};
 use std::rt::Files;
 use std::time::Duration;
-use words::{Address, Service, Until};
+use words::{Service, Until};
 
 /// For how many milliseconds a service waits for a connection before it looks which are over.
 const MOMENT: u64 = 100;
 
-/// Where connections are taken.
+/// Why a door doesn't open: the status of the fault that was reported, and whether clients were told before where to connect.
+#[derive(Clone, Copy)]
+pub(crate) struct Shut {
+    pub(crate) exit: Exit,
+    pub(crate) was_open: bool,
+}
+
+/// What the connections of a server come in by.
+pub(crate) trait Door {
+    /// Takes the connections.
+    type Accept: Known + Drop;
+
+    /// Puts the journal's name on the device, listens, and says where. The answer has the address that clients can connect to, where that
+    /// isn't the word that was asked for.
+    fn open<O: Write, E: Write>(
+        &mut self,
+        output: &mut O,
+        errors: &mut E,
+    ) -> Result<(Self::Accept, Option<SocketAddr>), Shut>
+        ensures { IfErr result (λ shut. IsUnserved shut.exit) };
+
+    /// Takes away what an open door left in the file system, once all connections are over, and answers whether standard error is free.
+    fn close(&mut self) -> bool;
+}
+
+/// A door at an address of the machine itself.
 #[derive(Drop)]
-pub(crate) enum Door {
-    Tcp(TcpAccept),
-    Unix(UnixAccept),
+pub(crate) struct AtTcp<'a, 's, R> {
+    pub(crate) rt: &'a R,
+    pub(crate) service: &'a Service<'s>,
+    pub(crate) address: SocketAddrV4,
+}
+
+/// A door at a socket in the file system.
+#[derive(Drop)]
+pub(crate) struct AtUnix<'a, 's, R> {
+    pub(crate) rt: &'a R,
+    pub(crate) service: &'a Service<'s>,
+    /// The socket's file.
+    pub(crate) file: &'s str,
+}
+
+// Reports a fault of files before clients were told where to connect.
+fn shut_by<E: Write>(errors: &mut E, name: &str, fault: &str) -> Shut
+    ensures { result.exit ≡ FileFailed }
+{
+    Shut {
+        exit: tell_fault(errors, name, fault, Exit::FileFailed),
+        was_open: false,
+    }
+}
+
+// Puts the journal's name on the device.
+fn keep_journal<R: Files<File = File>, E: Write>(
+    rt: &R,
+    name: &str,
+    errors: &mut E,
+) -> Result<(), Shut>
+    ensures { IfErr result (λ shut. shut.exit ≡ FileFailed) }
+{
+    match keep_name(rt, name) {
+        Ok(()) => Ok(()),
+        Err(_) => Err(shut_by(errors, name, "cannot write")),
+    }
 }
 
 // Listens at the address. The answer has the port that clients can connect to.
-fn tcp_door<R: Net<Stream = TcpStream, Listener = TcpListener>>(
+fn tcp_accept<R: Net<Stream = TcpStream, Listener = TcpListener>>(
     rt: &R,
     address: SocketAddrV4,
     until: Until,
-) -> io::Result<(Door, SocketAddr)> {
+) -> io::Result<(TcpAccept, SocketAddr)> {
     let listener = TcpListener::bind(rt, SocketAddr::V4(address))?;
     let address = listener.local_addr()?;
     let accept = match until {
@@ -41,81 +102,87 @@ fn tcp_door<R: Net<Stream = TcpStream, Listener = TcpListener>>(
             TcpAccept::within(listener, Duration::from_millis(MOMENT))?
         }
     };
-    Ok((Door::Tcp(accept), address))
+    Ok((accept, address))
 }
 
 // Listens at the socket's file.
-fn unix_door<R: Files + Net>(rt: &R, file: &str, until: Until) -> io::Result<Door> {
+fn unix_accept<R: Files + Net>(rt: &R, file: &str, until: Until) -> io::Result<UnixAccept> {
     let listener = listener_at(rt, file)?;
-    let accept = match until {
-        Until::Over(_) => UnixAccept::new(listener),
-        Until::Idle | Until::Stopped => {
-            UnixAccept::within(listener, Duration::from_millis(MOMENT))?
-        }
-    };
-    Ok(Door::Unix(accept))
+    match until {
+        Until::Over(_) => Ok(UnixAccept::new(listener)),
+        Until::Idle | Until::Stopped => UnixAccept::within(listener, Duration::from_millis(MOMENT)),
+    }
 }
 
-// Says where clients can connect, and whether that could be said.
-fn tell_listening<T: Display, O: Write>(address: &T, output: &mut O) -> bool {
-    writeln!(output, "listening {address}").is_ok() && output.flush().is_ok()
-}
-
-/// A door, and the address of it that clients can connect to, where that isn't the word that was asked for.
-#[derive(Drop)]
-pub(crate) struct Entrance {
-    pub(crate) door: Door,
-    pub(crate) address: Option<SocketAddr>,
-}
-
-// Listens where the service is asked for, and says where, and whether that could be said.
-fn opened<R: Files<File = File> + Net<Stream = TcpStream, Listener = TcpListener>, O: Write>(
-    rt: &R,
-    service: &Service<'_>,
+// Says where clients can connect.
+fn tell_listening<T: Display, O: Write, E: Write>(
+    address: &T,
     output: &mut O,
-) -> io::Result<(Entrance, bool)> {
-    match service.address {
-        Address::Tcp(address) => {
-            let (door, address) = tcp_door(rt, address, service.until)?;
-            let is_told = tell_listening(&address, output);
-            let address = Some(address);
-            Ok((Entrance { door, address }, is_told))
-        }
-        Address::Unix(file) => {
-            let door = unix_door(rt, file, service.until)?;
-            let is_told = tell_listening(&service.listen, output);
-            let address = None;
-            Ok((Entrance { door, address }, is_told))
-        }
-    }
-}
-
-/// Takes away the socket's file, where connections were taken at one.
-pub(crate) fn close_up<R: Files<File = File>>(rt: &R, service: &Service<'_>) {
-    if let Address::Unix(file) = service.address {
-        let _ = remove_file(rt, file);
-    }
-}
-
-/// Puts the journal's name on the device, listens where the service is asked for, and says where; or answers the status of the fault that
-/// was reported.
-pub(crate) fn listen_at<
-    R: Files<File = File> + Net<Stream = TcpStream, Listener = TcpListener>,
-    O: Write,
-    E: Write,
->(rt: &R, service: &Service<'_>, output: &mut O, errors: &mut E) -> Result<Entrance, Exit>
-    ensures { IfErr result (λ exit. exit ≡ FileFailed) }
+    errors: &mut E,
+) -> Result<(), Shut>
+    ensures { IfErr result (λ shut. shut.exit ≡ FileFailed) }
 {
-    if keep_name(rt, service.journal).is_err() {
-        return Err(tell_fault(errors, service.journal, "cannot write", Exit::FileFailed));
+    if writeln!(output, "listening {address}").is_ok() && output.flush().is_ok() {
+        Ok(())
+    } else {
+        Err(shut_by(errors, "-", "cannot write"))
     }
-    let Ok((entrance, is_told)) = opened(rt, service, output) else {
-        return Err(tell_fault(errors, service.listen, "cannot listen", Exit::FileFailed));
-    };
-    if is_told {
-        return Ok(entrance);
+}
+
+impl<R: Files<File = File> + Net<Stream = TcpStream, Listener = TcpListener>> Door
+    for AtTcp<'_, '_, R> {
+    type Accept = TcpAccept;
+
+    #[tactic(auto, using(crate::proofs::Told::file_failed))]
+    fn open<O: Write, E: Write>(
+        &mut self,
+        output: &mut O,
+        errors: &mut E,
+    ) -> Result<(TcpAccept, Option<SocketAddr>), Shut> {
+        keep_journal(self.rt, self.service.journal, errors)?;
+        let Ok((accept, address)) = tcp_accept(self.rt, self.address, self.service.until) else {
+            return Err(shut_by(errors, self.service.listen, "cannot listen"));
+        };
+        match tell_listening(&address, output, errors) {
+            Ok(()) => Ok((accept, Some(address))),
+            Err(shut) => {
+                drop(accept);
+                Err(shut)
+            }
+        }
     }
-    drop(entrance);
-    close_up(rt, service);
-    Err(tell_fault(errors, "-", "cannot write", Exit::FileFailed))
+
+    fn close(&mut self) -> bool {
+        true
+    }
+}
+
+impl<R: Files<File = File> + Net<Stream = TcpStream, Listener = TcpListener>> Door
+    for AtUnix<'_, '_, R> {
+    type Accept = UnixAccept;
+
+    #[tactic(auto, using(crate::proofs::Told::file_failed))]
+    fn open<O: Write, E: Write>(
+        &mut self,
+        output: &mut O,
+        errors: &mut E,
+    ) -> Result<(UnixAccept, Option<SocketAddr>), Shut> {
+        keep_journal(self.rt, self.service.journal, errors)?;
+        let Ok(accept) = unix_accept(self.rt, self.file, self.service.until) else {
+            return Err(shut_by(errors, self.service.listen, "cannot listen"));
+        };
+        match tell_listening(&self.service.listen, output, errors) {
+            Ok(()) => Ok((accept, None)),
+            Err(shut) => {
+                drop(accept);
+                self.close();
+                Err(shut)
+            }
+        }
+    }
+
+    fn close(&mut self) -> bool {
+        let _ = remove_file(self.rt, self.file);
+        true
+    }
 }

@@ -8,7 +8,7 @@
 mod by_line;
 mod checking;
 mod doors;
-mod endings;
+mod entrance;
 mod evidence;
 mod following;
 mod forms;

@@ -1,32 +1,30 @@
 //! `cspwatch serve`: the reports of connections, judged by one session with a journal.
-ghost use Rattle.std.specs.Prelude.{◌≡◌, ◌⊎◌, [], IfOk, IfErr};
+ghost use Rattle.std.specs.Prelude.{◌≡◌, ◌⊎◌, cond, IfErr};
 ghost use Rattle.std.specs.Thread.{IsSend};
-ghost use Rattle.command_line.specs.Crossings.{JournalCrosses};
-ghost use Rattle.script.specs.Reading.{IsRead};
-ghost use Rattle.command_line.specs.Endings.{IsEndOf, IsServed, IsServedFor, IsUnserved};
+ghost use Rattle.term.specs.declared.names.Names.TheVariants.{Bodies, Steps};
+ghost use Rattle.command_line.specs.Crossings.{DiskCrosses};
+ghost use Rattle.command_line.specs.Endings.{IsServedFor, IsShutFor, IsUnserved};
 
-use crate::doors::{Door, Entrance, close_up, listen_at};
-use crate::endings::{Ended, tell_ended};
+use crate::doors::{AtTcp, AtUnix, Door};
+use crate::entrance::{Entrance, Past, tell_line};
 use crate::journal_files::{hold_streams, journal_at, take_away};
 use crate::limits::{PART_SIZE, names_by};
-use crate::log_files::Log;
-use crate::logged::{Known, LoggedAccept};
-use crate::logging::{log_of, start};
+use crate::logging::Logged;
 use crate::scripts::{Script, tell_read, text_of};
 use crate::telling::{tell_fault, tell_journal, tell_open};
 use file_disk::{FileDisk, FileFolder, FileSystem};
-use journal::Journal;
-use program::{Exit, Session, SessionError};
-use serving::{Listen, OpenError, Parts, Plan, Recorder, SessionOn, open, open_parts};
-use std::alloc::{AllocError, Global};
+use program::{Demand, Exit, Served, SessionError, Unserved};
+use serving::{OpenError, Plan, Recorder};
+use std::alloc::AllocError;
 use std::fs::File;
 use std::io::{IsTerminal, Write};
-use std::net::{Net, SocketAddr, TcpListener, TcpStream};
+use std::net::{Net, TcpListener, TcpStream};
 use std::rt::Files;
 use std::sync::Wait;
 use std::thread::Threads;
 use std::time::Clock;
-use words::{Service, Until};
+use term::Names;
+use words::{Address, Service, Until};
 
 /// How many accepts in a row may fail, with a tenth of a second between two, before a service ends.
 const RETRIES: u8 = 100;
@@ -40,102 +38,21 @@ fn plan_of(until: Until) -> Plan {
     }
 }
 
-// Serves connections that are taken so at this session, until the server ends, and says what is left of the run, with the lines that weren't judged
-// if these are to be counted.
-fn serve_until<
-    J: Recorder + Drop + Send,
-    L: Listen + Drop,
-    R: AllocGlobal + Threads + Wait + Clock + Sync,
->(
-    rt: &R,
-    session: SessionOn<J, Global>,
-    accept: L,
-    until: Until,
-    counts: bool,
-) -> Result<Ended, AllocError>
-    requires { session.offered ≡ [] }
-    ensures { IfOk result (λ ended. IsEndOf session.spec session.history ended.summary) }
-{
-    match serving::serve(
-        rt,
-        rt.alloc(),
-        session,
-        accept,
-        plan_of(until),
-        RETRIES,
-        counts,
-    ) {
-        Ok(run) => {
-            let ended = Ended::of(&run);
-            drop(run);
-            Ok(ended)
-        }
-        Err((AllocError, accept)) => {
-            drop(accept);
-            Err(AllocError)
-        }
+// What is asked for. Lines that weren't judged are counted where a log says which.
+fn demand_of(service: &Service<'_>) -> Demand {
+    Demand {
+        plan: plan_of(service.until),
+        retries: RETRIES,
+        counts: service.log.is_some(),
     }
 }
 
-// Serves connections that are taken so at this session, and writes a log in a thread of its own.
-fn serve_logged<
-    J: Recorder + Drop + Send,
-    L: Known + Drop,
-    R: AllocGlobal + Threads + Wait + Clock + Eprint + Copy + Send + Sync + 'static,
->(
-    rt: &R,
-    service: &Service<'_>,
-    session: SessionOn<J, Global>,
-    accept: L,
-    address: Option<SocketAddr>,
-    log: Log,
-) -> Result<Ended, AllocError>
-    requires { session.offered ≡ [] }
-    ensures { IfOk result (λ ended. IsEndOf session.spec session.history ended.summary) }
-{
-    let (sender, keeper) = match start(rt, service, address, log) {
-        Ok(started) => started,
-        Err(AllocError) => {
-            drop(session);
-            drop(accept);
-            return Err(AllocError);
-        }
-    };
-    let accept = LoggedAccept::new(rt, rt.alloc(), accept, sender);
-    let ended = serve_until(rt, session, accept, service.until, true);
-    let is_free = keeper.finish(rt);
-    match ended {
-        Ok(ended) => Ok(ended.heard_if(is_free)),
-        Err(AllocError) => Err(AllocError),
-    }
-}
-
-// Serves connections that are taken so at this session, with a log where one is asked for.
-fn serve_with<
-    J: Recorder + Drop + Send,
-    L: Known + Drop,
-    R: AllocGlobal + Threads + Wait + Clock + Eprint + Copy + Send + Sync + 'static,
->(
-    rt: &R,
-    service: &Service<'_>,
-    session: SessionOn<J, Global>,
-    accept: L,
-    address: Option<SocketAddr>,
-    log: Option<Log>,
-) -> Result<Ended, AllocError>
-    requires { session.offered ≡ [] }
-    ensures { IfOk result (λ ended. IsEndOf session.spec session.history ended.summary) }
-{
-    match log {
-        Some(log) => serve_logged(rt, service, session, accept, address, log),
-        None => serve_until(rt, session, accept, service.until, false),
-    }
-}
-
-// Serves the connections at the door at this session, and says what is left of the run. A socket's file is taken away.
-fn serve_through<
-    J: Recorder + Drop + Send,
+/// Judges the reports of connections by the process of the script in the file, each connection at a seat of its own of one session, whose
+/// journal is in a file of its own, until the server ends, and answers the exit status.
+pub(crate) fn serve<
     R: Files<File = File>
+        + FileSystem
+        + Net<Stream = TcpStream, Listener = TcpListener>
         + AllocGlobal
         + Threads
         + Wait
@@ -145,54 +62,162 @@ fn serve_through<
         + Send
         + Sync
         + 'static,
->(
-    rt: &R,
-    service: &Service<'_>,
-    session: SessionOn<J, Global>,
-    entrance: Entrance,
-    log: Option<Log>,
-) -> Result<Ended, AllocError>
-    requires { session.offered ≡ [] }
-    ensures { IfOk result (λ ended. IsEndOf session.spec session.history ended.summary) }
+    O: Write,
+    E: Write + IsTerminal,
+>(rt: &R, service: &Service<'_>, output: &mut O, errors: &mut E) -> Exit
+    ensures { IsUnserved result ⊎ IsServedFor (cond service.now.large Bodies Steps) service.now.process.now (O.contents output.new) result }
 {
-    let Entrance { door, address } = entrance;
-    let ended = match door {
-        Door::Tcp(accept) => serve_with(rt, service, session, accept, address, log),
-        Door::Unix(accept) => serve_with(rt, service, session, accept, address, log),
-    };
-    close_up(rt, service);
-    ended
+    let held = hold_streams(rt);
+    let exit = serve_held(rt, service, output, errors);
+    drop(held);
+    exit
 }
 
-// Opens the log, and listens; or answers the status of the fault that was reported.
-#[tactic(auto, using(crate::proofs::Told::file_failed))]
-fn enter<
-    R: Files<File = File> + Net<Stream = TcpStream, Listener = TcpListener> + AllocGlobal,
+// The same, while standard streams that are closed are held.
+fn serve_held<
+    'a,
+    R: Files<File = File>
+        + FileSystem
+        + Net<Stream = TcpStream, Listener = TcpListener>
+        + AllocGlobal
+        + Threads
+        + Wait
+        + Clock
+        + Eprint
+        + Copy
+        + Send
+        + Sync
+        + 'static,
     O: Write,
-    E: Write,
->(
-    rt: &R,
-    service: &Service<'_>,
-    output: &mut O,
-    errors: &mut E,
-) -> Result<(Entrance, Option<Log>), Exit>
-    ensures { IfErr result IsUnserved }
+    E: Write + IsTerminal,
+>(rt: &'a R, service: &'a Service<'_>, output: &mut O, errors: &mut E) -> Exit
+    ensures { IsUnserved result ⊎ IsServedFor (cond service.now.large Bodies Steps) service.now.process.now (O.contents output.new) result }
 {
-    let log = log_of(rt, service, errors)?;
-    match listen_at(rt, service, output, errors) {
-        Ok(entrance) => Ok((entrance, log)),
-        Err(exit) => {
-            drop(log);
-            Err(exit)
+    let script = match script_of(rt, service, errors) {
+        Ok(script) => script,
+        Err(exit) => return exit,
+    };
+    match service.address {
+        Address::Tcp(address) => {
+            let door = AtTcp {
+                rt,
+                service,
+                address,
+            };
+            serve_through(rt, service, &script, door, output, errors)
+        }
+        Address::Unix(file) => {
+            let door = AtUnix { rt, service, file };
+            serve_through(rt, service, &script, door, output, errors)
         }
     }
 }
 
-// Serves the connections of the address at this session, and answers the exit status. Where it doesn't come to that, it takes away the
-// journal that this run made.
-#[tactic(auto, using(crate::proofs::Told::served_by))]
-fn serve_at<
-    J: Recorder + Drop + Send,
+// Tells what became of the line of a session that was served, and answers the status.
+fn tell_served<J: Recorder + Drop, E: Write>(
+    service: &Service<'_>,
+    served: Served<J>,
+    past: Past,
+    errors: &mut E,
+) -> Exit
+    ensures { result ≡ served.exit }
+{
+    let Served {
+        session,
+        exit,
+        line,
+    } = served;
+    if past.is_heard {
+        tell_line(service, line, errors);
+    }
+    drop(session);
+    exit
+}
+
+// Reports why nothing was served, and answers the status. Unless clients were told where to connect, it takes away the journal that this run made,
+// before the file is closed, and its lock goes.
+fn tell_unserved<
+    D: Drop,
+    J: Recorder + Drop,
+    R: Files<File = File> + AllocGlobal,
+    E: Write + IsTerminal,
+>(
+    rt: &R,
+    service: &Service<'_>,
+    script: &[u8],
+    is_made: bool,
+    unserved: Unserved<D, J>,
+    past: Past,
+    errors: &mut E,
+) -> Exit
+    ensures { IsShutFor unserved → IsUnserved result }
+{
+    take_away(rt, service.journal, is_made && !past.was_open);
+    match unserved {
+        Unserved::Unopened(error, disk) => {
+            drop(disk);
+            tell_unopened(rt, service, script, error, errors)
+        }
+        Unserved::Shut(exit, session) => {
+            drop(session);
+            exit
+        }
+        Unserved::Memory => tell_fault(errors, service.spec, "40 memory", Exit::Limit),
+    }
+}
+
+// Serves connections at this door, with the journal in the file, and answers the exit status.
+fn serve_in_file<
+    D: Door + Drop,
+    R: Files<File = File>
+        + FileSystem
+        + Net<Stream = TcpStream, Listener = TcpListener>
+        + AllocGlobal
+        + Threads
+        + Wait
+        + Clock
+        + Eprint
+        + Copy
+        + Send
+        + Sync
+        + 'static,
+    O: Write,
+    E: Write + IsTerminal,
+>(rt: &R, service: &Service<'_>, script: &[u8], door: D, output: &mut O, errors: &mut E) -> Exit
+    ensures { IsUnserved result ⊎ IsServedFor Steps service.now.process.now (O.contents output.new) result }
+{
+    disk_crosses();
+    let (file, is_made) = match journal_at(rt, service.journal, errors) {
+        Ok(opened) => opened,
+        Err(exit) => return exit,
+    };
+    let (end, past) = {
+        let mut entrance = Entrance::new(service, door, &mut *errors);
+        let end = program::serve(
+            rt,
+            rt.alloc(),
+            FileDisk::new(file),
+            script,
+            service.process.as_bytes(),
+            Names::Steps,
+            demand_of(service),
+            &mut entrance,
+            output,
+        );
+        let past = entrance.leave();
+        (end, past)
+    };
+    match end {
+        Ok(served) => tell_served(service, served, past, errors),
+        Err(unserved) => tell_unserved(rt, service, script, is_made, unserved, past, errors),
+    }
+}
+
+// The same, with names kept as their bodies, on a journal in parts, the first of which is the file.
+fn serve_in_parts<
+    'a,
+    D: Door + Drop,
+    S: FileSystem + Sync,
     R: Files<File = File>
         + Net<Stream = TcpStream, Listener = TcpListener>
         + AllocGlobal
@@ -208,56 +233,107 @@ fn serve_at<
     E: Write + IsTerminal,
 >(
     rt: &R,
-    service: &Service<'_>,
-    session: SessionOn<J, Global>,
-    is_made: bool,
+    system: &'a S,
+    service: &'a Service<'_>,
+    script: &[u8],
+    door: D,
     output: &mut O,
     errors: &mut E,
 ) -> Exit
-    requires { session.offered ≡ [] }
-    ensures { IsServed session.spec session.history (O.contents output.new) result }
+    ensures { IsUnserved result ⊎ IsServedFor Bodies service.now.process.now (O.contents output.new) result }
 {
-    let (entrance, log) = match enter(rt, service, output, errors) {
-        Ok(entered) => entered,
-        Err(exit) => {
-            take_away(rt, service.journal, is_made);
-            drop(session);
-            return exit;
-        }
+    let (file, is_made) = match journal_at(rt, service.journal, errors) {
+        Ok(opened) => opened,
+        Err(exit) => return exit,
     };
-    match serve_through(rt, service, session, entrance, log) {
-        Ok(ended) => tell_ended(rt.alloc(), service, ended, output, errors),
-        Err(AllocError) => tell_fault(errors, service.spec, "40 memory", Exit::Limit),
+    let Ok(folder) = FileFolder::new(system, rt.alloc(), service.journal, file) else {
+        take_away(rt, service.journal, is_made);
+        return tell_journal(rt, errors, service.journal, SessionError::Device);
+    };
+    let root = service.process.as_bytes();
+    let (end, past) = {
+        let mut entrance = Entrance::new(service, door, &mut *errors);
+        let end = program::serve_parts(
+            rt,
+            rt.alloc(),
+            folder,
+            script,
+            root,
+            PART_SIZE,
+            demand_of(service),
+            &mut entrance,
+            output,
+        );
+        let past = entrance.leave();
+        (end, past)
+    };
+    match end {
+        Ok(served) => tell_served(service, served, past, errors),
+        Err(unserved) => tell_unserved(rt, service, script, is_made, unserved, past, errors),
     }
 }
 
-// The session of the script on the journal in the file, and whether this run made the file; or the status of the fault that was
-// reported, where no file is left that this run made.
-#[tactic(auto, using(crate::proofs::Told::file_failed))]
-fn session_at<R: Files<File = File> + AllocGlobal, E: Write + IsTerminal>(
-    rt: &R,
-    service: &Service<'_>,
-    script: &[u8],
-    errors: &mut E,
-) -> Result<(Session<FileDisk<File>, Global>, bool), Exit>
-    ensures offered { IfOk result (λ r. r.0.offered ≡ []) }
-    ensures read { IfOk result (λ r. IsRead script.now service.now.process.now r.0.spec) }
-    ensures unserved { IfErr result IsUnserved }
+// Serves connections at this door, on a journal in one file or in parts.
+fn serve_at<
+    D: Door + Drop,
+    R: Files<File = File>
+        + FileSystem
+        + Net<Stream = TcpStream, Listener = TcpListener>
+        + AllocGlobal
+        + Threads
+        + Wait
+        + Clock
+        + Eprint
+        + Copy
+        + Send
+        + Sync
+        + 'static,
+    O: Write,
+    E: Write + IsTerminal,
+>(rt: &R, service: &Service<'_>, script: &[u8], door: D, output: &mut O, errors: &mut E) -> Exit
+    ensures { IsUnserved result ⊎ IsServedFor (cond service.now.large Bodies Steps) service.now.process.now (O.contents output.new) result }
 {
-    let names = names_by(service.large);
-    let (file, is_made) = journal_at(rt, service.journal, errors)?;
-    match open(
-        rt.alloc(),
-        FileDisk::new(file),
-        script,
-        service.process.as_bytes(),
-        names,
-    ) {
-        Ok(session) => Ok((session, is_made)),
-        Err((error, _)) => {
-            take_away(rt, service.journal, is_made);
-            Err(tell_unopened(rt, service, script, error, errors))
-        }
+    if service.large {
+        serve_in_parts(rt, rt, service, script, door, output, errors)
+    } else {
+        serve_in_file(rt, service, script, door, output, errors)
+    }
+}
+
+// Serves connections at this door, with a log where one is asked for.
+fn serve_through<
+    'a,
+    D: Door + Drop,
+    R: Files<File = File>
+        + FileSystem
+        + Net<Stream = TcpStream, Listener = TcpListener>
+        + AllocGlobal
+        + Threads
+        + Wait
+        + Clock
+        + Eprint
+        + Copy
+        + Send
+        + Sync
+        + 'static,
+    O: Write,
+    E: Write + IsTerminal,
+>(
+    rt: &'a R,
+    service: &'a Service<'_>,
+    script: &[u8],
+    door: D,
+    output: &mut O,
+    errors: &mut E,
+) -> Exit
+    ensures { IsUnserved result ⊎ IsServedFor (cond service.now.large Bodies Steps) service.now.process.now (O.contents output.new) result }
+{
+    match service.log {
+        Some(name) => match Logged::new(rt, service, name, door) {
+            Ok(door) => serve_at(rt, service, script, door, output, errors),
+            Err(AllocError) => tell_fault(errors, service.spec, "40 memory", Exit::Limit),
+        },
+        None => serve_at(rt, service, script, door, output, errors),
     }
 }
 
@@ -281,137 +357,16 @@ fn tell_unopened<R: Files<File = File> + AllocGlobal, E: Write + IsTerminal>(
     tell_open(rt, errors, &script, names, service.journal, error)
 }
 
-// The same session with names kept as their bodies, on a journal in parts, the first of which is the file.
-#[tactic(auto, using(crate::proofs::Told::file_failed, crate::proofs::Told::journal_failed))]
-fn session_in_parts<'a, S: FileSystem, R: Files<File = File> + AllocGlobal, E: Write + IsTerminal>(
-    rt: &R,
-    system: &'a S,
-    service: &'a Service<'_>,
-    script: &[u8],
-    errors: &mut E,
-) -> Result<
-    (
-        SessionOn<Parts<FileFolder<'a, S, Global>, Global>, Global>,
-        bool,
-    ),
-    Exit,
->
-    ensures offered { IfOk result (λ r. r.0.offered ≡ []) }
-    ensures read { IfOk result (λ r. IsRead script.now service.now.process.now r.0.spec) }
-    ensures unserved { IfErr result IsUnserved }
-{
-    let (file, is_made) = journal_at(rt, service.journal, errors)?;
-    let Ok(folder) = FileFolder::new(system, rt.alloc(), service.journal, file) else {
-        take_away(rt, service.journal, is_made);
-        return Err(tell_journal(rt, errors, service.journal, SessionError::Device));
-    };
-    let root = service.process.as_bytes();
-    match open_parts(rt.alloc(), folder, script, root, PART_SIZE) {
-        Ok(session) => Ok((session, is_made)),
-        Err((error, folder)) => {
-            drop(folder);
-            take_away(rt, service.journal, is_made);
-            Err(tell_unopened(rt, service, script, error, errors))
-        }
-    }
-}
-
-/// Judges the reports of connections by the process of the script in the file, each connection at a seat of its own of one session, whose
-/// journal is in a file of its own, until the server ends, and answers the exit status.
-pub(crate) fn serve<
-    R: Files<File = File>
-        + FileSystem
-        + Net<Stream = TcpStream, Listener = TcpListener>
-        + AllocGlobal
-        + Threads
-        + Wait
-        + Clock
-        + Eprint
-        + Copy
-        + Send
-        + Sync
-        + 'static,
-    O: Write,
-    E: Write + IsTerminal,
->(rt: &R, service: &Service<'_>, output: &mut O, errors: &mut E) -> Exit
-    ensures { IsUnserved result ⊎ IsServedFor service.now.process.now (O.contents output.new) result }
-{
-    let held = hold_streams(rt);
-    let exit = serve_held(rt, service, output, errors);
-    drop(held);
-    exit
-}
-
-// The same, while standard streams that are closed are held.
-#[tactic(auto, using(crate::proofs::Told::served_for))]
-fn serve_held<
-    R: Files<File = File>
-        + FileSystem
-        + Net<Stream = TcpStream, Listener = TcpListener>
-        + AllocGlobal
-        + Threads
-        + Wait
-        + Clock
-        + Eprint
-        + Copy
-        + Send
-        + Sync
-        + 'static,
-    O: Write,
-    E: Write + IsTerminal,
->(rt: &R, service: &Service<'_>, output: &mut O, errors: &mut E) -> Exit
-    ensures { IsUnserved result ⊎ IsServedFor service.now.process.now (O.contents output.new) result }
-{
-    let script = match script_of(rt, service, errors) {
-        Ok(script) => script,
-        Err(exit) => return exit,
-    };
-    if service.large {
-        return serve_in_parts(rt, rt, service, &script, output, errors);
-    }
-    journal_crosses();
-    match session_at(rt, service, &script, errors) {
-        Ok((session, is_made)) => serve_at(rt, service, session, is_made, output, errors),
-        Err(exit) => exit,
-    }
-}
-
-// The same, with names kept as their bodies, on a journal in parts.
-#[tactic(auto, using(crate::proofs::Told::served_for))]
-fn serve_in_parts<
-    S: FileSystem + Sync,
-    R: Files<File = File>
-        + Net<Stream = TcpStream, Listener = TcpListener>
-        + AllocGlobal
-        + Threads
-        + Wait
-        + Clock
-        + Eprint
-        + Copy
-        + Send
-        + Sync
-        + 'static,
-    O: Write,
-    E: Write + IsTerminal,
->(rt: &R, system: &S, service: &Service<'_>, script: &[u8], output: &mut O, errors: &mut E) -> Exit
-    ensures { IsUnserved result ⊎ IsServedFor service.now.process.now (O.contents output.new) result }
-{
-    match session_in_parts(rt, system, service, script, errors) {
-        Ok((session, is_made)) => serve_at(rt, service, session, is_made, output, errors),
-        Err(exit) => exit,
-    }
-}
-
 // That a type may go to another thread.
 fn crosses<T: Send>()
     ensures { IsSend T.row }
 {}
 
-// That a journal in a file may.
-fn journal_crosses()
-    ensures journal { JournalCrosses }
+// That a file may, as a disk.
+fn disk_crosses()
+    ensures disk { DiskCrosses }
 {
-    crosses::<Journal<FileDisk<File>>>();
+    crosses::<FileDisk<File>>();
 }
 
 // The text of a script that denotes a specification for the process, or the status of the fault that was reported.

@@ -3,3 +3,4 @@ pub mod Displays
 pub mod Fields
 pub mod InParts
 pub mod Results
+pub mod Servers

@@ -5,6 +5,7 @@ pub mod Prints
 pub mod Showings
 pub mod Followings
 pub mod Parts
+pub mod Servers
 -- Of the layers below, for those above.
 pub use Rattle.attending.specs.Courses
 pub use Rattle.attending.specs.Standing

@@ -1,7 +1,8 @@
 //! What the commands do, over any reader, writer and disk. Each call's contract is the promise of its command.
 //!
 //! `check` judges the lines of a reader by what a script denotes, `replay` judges a journal's records again, `show` writes what it found
-//! of each and `follow` what came since, and `print` prints what a script denotes. An `Exit` is the program's exit status.
+//! of each and `follow` what came since, `print` prints what a script denotes, and `serve` is the whole of a server: a session on a journal, the
+//! connections that are served at it, and how it ends. An `Exit` is the program's exit status.
 #![tactic(auto)]
 
 mod checking;
@@ -10,6 +11,7 @@ mod following;
 mod forms;
 mod in_parts;
 mod replaying;
+mod served;
 mod showing;
 mod summaries;
 
@@ -22,6 +24,7 @@ pub use forms::{PrintError, print};
 pub use in_parts::{DisplayedParts, ReplayedParts, follow_parts, replay_parts, show_parts};
 pub use large_sessions::Replaying;
 pub use replaying::{Replayed, replay};
+pub use served::{Demand, Doors, Line, Served, Unserved, serve, serve_parts};
 pub use shared::{Session, SessionError, Summary};
 pub use showing::{DisplayError, Displayed, show};
 pub use shown::{Format, Options, Selection};

@@ -1,12 +1,17 @@
-use denote.Param.Send.{param_send}
-use Rattle.std.specs.contracts.fs.File as File
-use Rattle.file_disk.specs.contracts.FileDisk as FileDisk
-use Rattle.file_disk.specs.contracts.FileDiskDisk.TheImpl as disk
-use Rattle.file_disk.specs.contracts.placed.FilePlacedFile.TheImpl as files
-use Rattle.journal.specs.contracts.journal.Journal as Journal
+use denote.Param.Send.{sendable}
+use Rattle.std.proofs.Crossing.{crosses}
+use Rattle.std.proofs.net.tcp.TcpStream.TheSendSync as tcp
+use Rattle.std.proofs.net.unix.UnixStream.TheSendSync as unix
 use Rattle.command_line.proofs.server.serve_held.Goals as goal
 
-pub serve_at-requires-send-J : goal.serve_at-requires-send-J
-serve_at-requires-send-J g c κs within =
-    let sent = param_send 0 (Journal.the_row (FileDisk.the_row File.the_row) (disk.ghosts File.the_row files.ghosts files.dict)) (record { owned = c.journal_crosses.ensures.journal.owned; leaving = c.journal_crosses.ensures.journal.leaving }) in
-    record { owned = sent.owned; leaving = sent.leaving }
+pub serve_through-requires-send-D-Accept-Reader : goal.serve_through-requires-send-D-Accept-Reader
+serve_through-requires-send-D-Accept-Reader g c κs within = search (sendable, crosses, tcp.the_send) depth 20
+
+pub serve_through-requires-send-D-Accept-Writer : goal.serve_through-requires-send-D-Accept-Writer
+serve_through-requires-send-D-Accept-Writer g c κs within = search (sendable, crosses, tcp.the_send) depth 20
+
+pub serve_through-requires-in-Unix-send-D-Accept-Reader : goal.serve_through-requires-in-Unix-send-D-Accept-Reader
+serve_through-requires-in-Unix-send-D-Accept-Reader g c κs within = search (sendable, crosses, unix.the_send) depth 20
+
+pub serve_through-requires-in-Unix-send-D-Accept-Writer : goal.serve_through-requires-in-Unix-send-D-Accept-Writer
+serve_through-requires-in-Unix-send-D-Accept-Writer g c κs within = search (sendable, crosses, unix.the_send) depth 20

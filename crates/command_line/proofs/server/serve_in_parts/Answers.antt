@@ -1,11 +1,28 @@
 use mir.Syntax.{named}
 use denote.Param.Send.{param_send}
-use Rattle.command_line.proofs.Folders.{parts_row, parts_send}
+use Rattle.std.proofs.Common.{inl, inr}
+use Rattle.command_line.proofs.Folders.{folder_row, folder_send}
+use Rattle.std.specs.Prelude.{is_some}
+use Rattle.term.specs.declared.names.Names.TheVariants.{Bodies}
+use Rattle.command_line.proofs.Told.{of_err, of_ok, served_for, shut_in_parts}
 use Rattle.command_line.proofs.server.serve_in_parts.Goals as goal
 
-pub serve_at-requires-send-J : goal.serve_at-requires-send-J
-serve_at-requires-send-J g c κs within =
+pub serve_parts-end-requires-send-F : goal.serve_parts-end-requires-send-F
+serve_parts-end-requires-send-F g c κs within =
     let κ : _ = record { mir = named 5; lft = κs.1.1.1.1.1.0 } in
-    let crosses : _ = parts_send κ g.row.S g.S.FileSystem (record { shared = c.type_bounds.sync-S.shared }) in
-    let sent : _ = param_send 0 (parts_row κ g.row.S g.S.FileSystem) crosses in
+    let crosses : _ = folder_send κ g.row.S g.S.FileSystem (record { shared = c.type_bounds.sync-S.shared }) in
+    let sent : _ = param_send 0 (folder_row κ g.row.S g.S.FileSystem) crosses in
     record { owned = sent.owned; leaving = sent.leaving }
+
+pub returns-in-Ok-end : goal.returns-in-Ok-end
+returns-in-Ok-end g c =
+    let so : _ = of_ok _ c.serve_parts-end.result c.in-Ok-end.served c.in-Ok-end.is c.serve_parts-end.ensures.served in
+    let session : _ = c.in-Ok-end.served.session in
+    inr (served_for Bodies c.args.script.now c.as_bytes-root.result.now c.args.service.now.process.now so.0 so.1 session.history c.in-Ok-end.served.line (is_some session.failed) so.3.totals
+    so.3.accept_failed so.3.told (g.O.Write.contents c.serve_parts-end.new.output) c.in-Ok-end.served.exit c.tell_served.result c.as_bytes-root.ensures.value c.tell_served.ensures so.2.read.read so.2.read.names_are
+    so.2.begins so.2.legal so.3.ended)
+
+pub returns-in-Err-end : goal.returns-in-Err-end
+returns-in-Err-end g c =
+    let so : _ = of_err _ c.serve_parts-end.result c.in-Err-end.unserved c.in-Err-end.is c.serve_parts-end.ensures.unserved in
+    inl (c.tell_unserved.ensures (shut_in_parts _ _ _ _ _ c.in-Err-end.unserved so))

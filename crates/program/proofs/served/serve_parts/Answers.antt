@@ -1,0 +1,64 @@
+use Rattle.std.proofs.Common.{◌∙◌, subst}
+use Rattle.program.specs.Servers.{AreInPlace, AreOpenedIn}
+use Rattle.program.proofs.Servers.{and_all, in_place, served_in, unserved_in}
+use Rattle.shared.specs.Beginnings.{StartsWith}
+use Rattle.shared.proofs.Keeping.{if_ok}
+use Rattle.program.proofs.served.serve_parts.Goals as goal
+
+pub returns-in-Ok-clause-served : goal.returns-in-Ok-clause-served
+returns-in-Ok-clause-served g c =
+    let state = g.F.Folder.state in
+    let before = state c.args.folder in
+    let script = c.args.script.now in
+    let root = c.args.root.now in
+    let size = c.args.size in
+    let opened = c.in-Ok.session in
+    let o = c.in-Ok.ensures in
+    let h = c.history-entries.ensures in
+    let e = c.serve_opened.ensures in
+    let is : AreOpenedIn state size before script root opened = record { read = o.read; begun = o.begun; kept = o.kept; held = o.held; continues = o.continues } in
+    and_all _ _ _ _ _ c.serve_opened.result
+    (λ r session lasts judged by. (
+      opened.spec,
+      opened.history,
+      served_in state size before script root opened r.session (record {
+        opened_in = is;
+        size_is = o.size;
+        any_moment = o.any_moment;
+        judged_first = h.judged;
+        reports_first = h.reports;
+        names_first = h.names;
+        begins = session.1;
+        legal = session.2;
+        lasts = lasts;
+        judged = judged.0;
+        reports = judged.1;
+        names_are = judged.2;
+      }),
+      by,
+    ))
+    e.session e.lasts e.judged e.served
+
+pub returns-in-Ok-clause-unserved : goal.returns-in-Ok-clause-unserved
+returns-in-Ok-clause-unserved g c =
+    let o = c.in-Ok.ensures in
+    unserved_in g.F.Folder.state c.args.size (g.F.Folder.state c.args.folder) c.args.script.now c.args.root.now _ c.in-Ok.session
+    (record { read = o.read; begun = o.begun; kept = o.kept; held = o.held; continues = o.continues }) c.serve_opened.result c.serve_opened.ensures.unserved
+
+pub returns-in-Ok-clause-only : goal.returns-in-Ok-clause-only
+returns-in-Ok-clause-only g c claims spec h holds small =
+    let begun = c.in-Ok.ensures.only claims spec h holds small in
+    in_place _ (AreInPlace (g.F.Folder.state c.args.folder).bytes spec h) _ c.in-Ok.session c.serve_opened.result
+    (if_ok _ _ c.serve_opened.result (λ r session. (session.0 ∙ begun.0, subst (StartsWith r.session.history) begun.1 session.1)) c.serve_opened.ensures.session)
+    (λ exit. begun) tt c.serve_opened.ensures.unserved
+
+pub returns-in-Ok-clause-other : goal.returns-in-Ok-clause-other
+returns-in-Ok-clause-other g c claims a small = absurd (c.in-Ok.ensures.other claims a small)
+
+pub returns-in-Err-clause-unserved : goal.returns-in-Err-clause-unserved
+returns-in-Err-clause-unserved g c =
+    let o = c.in-Err.ensures in
+    record { why = o.fault; untouched = o.untouched; continues = o.continues; cause = o.cause }
+
+pub returns-in-Err-clause-other : goal.returns-in-Err-clause-other
+returns-in-Err-clause-other g c = c.in-Err.ensures.other
