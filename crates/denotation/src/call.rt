@@ -50,7 +50,7 @@ impl<A: Allocator + Copy> Call<A> {
     pub(crate) fn try_clone(&self, alloc: A) -> Result<Call<A>, AllocError>
         ensures { IfOk result (λ copy. key copy ≡ key self.now) }
     {
-        let mut arguments = Vec::new(alloc);
+        let mut arguments = Vec::with_capacity(alloc, self.arguments.len())?;
         for value in &self.arguments {
             arguments.push(value.clone()?)?;
         }

@@ -27,7 +27,7 @@ fn argument_values<A: Allocator + Copy, G: GlobalScope<A>>(
 ) -> Result<Vec<Value<A>, A>, Unread>
     ensures { Gives (λ v. listed v.items) result (arguments_of (within (G.scope scope.now.global.now) (map input scope.now.inputs.items)).known (shapes phrases.now)) }
 {
-    let mut found = Vec::new(alloc);
+    let mut found = Vec::with_capacity(alloc, phrases.len())?;
     for phrase in phrases {
         found.push(wanted_value(alloc, scope, phrase)?)?;
     }

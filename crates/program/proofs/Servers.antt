@@ -37,7 +37,7 @@ use Rattle.serving.proofs.Standing.{served_left, served_parts_left}
 use Rattle.program.specs.declared.served.Served.{Served}
 use Rattle.program.specs.declared.served.Unserved.{Unserved}
 use Rattle.program.specs.declared.served.Unserved.TheVariants.{Unopened, Shut, Memory}
-use Rattle.program.specs.Servers.{AreInPlace, AreOpenedIn, AreServedIn, AreUnserved, IsInPlace, IsOpenedOn, IsServedOn, IsShutOn, IsUnserved}
+use Rattle.program.specs.Servers.{AreOpenedIn, AreServedIn, AreUnserved, IsOpenedOn, IsServedOn, IsShutOn, IsUnserved}
 
 -- ---- a journal that is one file
 

@@ -11,7 +11,7 @@ use Rattle.denotation.proofs.calls.argument_values.Goals as goal
 pub returns-in_err-wanted_value : goal.returns-in_err-wanted_value
 returns-in_err-wanted_value g c =
     let known = (within (g.G.GlobalScope.scope c.args.scope.now.global.now) (map input c.args.scope.now.inputs.items)).known in
-    let p = err_from_is_err_and c.from_residual.result c.from_residual.ensures.1 in
+    let p = err_from_is_err_and c.from_residual-in_err-wanted_value.result c.from_residual-in_err-wanted_value.ensures.1 in
     rw (p.1, p.2) (turn_fails known c.args.phrases.now c.loop-phrase.phrase-index (listed c.loop-phrase.found.items) c.loop-phrase.invariant c.phrase-item.result (omega arith) c.phrase-item.is c.in_err-wanted_value.field-0.0 c.in_err-wanted_value.ensures)
 
 pub loop-phrase-preserved : goal.loop-phrase-preserved
