@@ -1,5 +1,1 @@
-pub mod Lists
-pub mod Parts
-pub mod ActList
-pub mod HidList
-pub mod Labelled
+pub mod Whole

@@ -4,9 +4,8 @@ ghost use Rattle.std.specs.Prelude.{◌≡◌, ◌↔◌, ℕ, IsTrue, false};
 ghost use Rattle.alphabet.specs.EventSets.{has, member};
 ghost use Rattle.alphabet.specs.declared.events.Event.TheVariants.{Tick as tick};
 ghost use Rattle.term.specs.Proc.{Proc, proc};
-ghost use Rattle.term.specs.Steps.{Stable, Ticks, is_skip};
+ghost use Rattle.term.specs.Steps.{Stable, Ticks};
 ghost use Rattle.targets.specs.Offers.{Offers};
-ghost use Rattle.targets.specs.Targets.{ticks};
 
 use alphabet::EventSet;
 use nodes::facts_of_term;
@@ -21,7 +20,7 @@ use term::Term;
 pub fn can_tick<A: Allocator>(term: &Term<A>) -> bool
     ensures { IsTrue result ↔ Ticks (proc term.now) }
 {
-    has_tick(term)
+    facts_of_term(term).ticks
 }
 
 /// Whether the term has no hidden step. Takes no memory. `STOP`, `SKIP` and a prefix have none; a name and an internal
@@ -43,18 +42,4 @@ pub fn offers<A: Allocator>(term: &Term<A>) -> EventSet
     ensures tick { member result tick ≡ false }
 {
     facts_of_term(term).offers
-}
-
-/// Whether the term has a step of termination.
-pub(crate) fn has_tick<A: Allocator>(term: &Term<A>) -> bool
-    ensures { result ≡ ticks (proc term.now) }
-{
-    facts_of_term(term).ticks
-}
-
-/// Whether the term is `SKIP` itself.
-pub(crate) fn is_skip_term<A: Allocator>(term: &Term<A>) -> bool
-    ensures { result ≡ is_skip (proc term.now) }
-{
-    matches!(term, Term::Skip)
 }

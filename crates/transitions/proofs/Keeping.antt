@@ -15,7 +15,7 @@ use Rattle.nodes.proofs.Listing.{within-more}
 use Rattle.nodes.proofs.Looking.{below-grown, at-grown, set-grown, relation-grown, look-grown, cut-grown, part-within}
 use Rattle.transitions.specs.Memory.{Kept}
 use Rattle.transitions.specs.Unfolding.{unfolded, capped}
-use Rattle.transitions.specs.Numbered.{Numbered, numbered, KeepsNumbers, AreTargets, HidesEvents}
+use Rattle.transitions.specs.Numbered.{Numbered, numbered, KeepsNumbers, AreCutTargets, HidesEvents}
 use Rattle.transitions.specs.Memory.{IsSound}
 
 pub kept : (t u : Tabled) (ns : List ℕ) → AllBelow (length t.processes) ns → HasGrown t u → KeepsNumbers (numbered t ns) (numbered u ns)
@@ -48,8 +48,8 @@ module _ (s r : Numbered) (k : KeepsNumbers s r) where
       (subst (λ (P : Proc). IsCutIn r.table (S s.bodies P) most ns) (sym (at-kept n h))
       (cut-grown s.table r.table k.table (S s.bodies (at s.table.processes n)) most ns c))
 
-  pub targets-kept : (n : ℕ) (l : Label) (ns : List ℕ) → n < length s.table.processes → AreTargets s n l ns → AreTargets r n l ns
-  targets-kept n l ns h c = cut-kept (λ B P. Step (bodies_of B) P l) n most_states ns h c
+  pub targets-kept : (n : ℕ) (l : Label) (most : ℕ) (ns : List ℕ) → n < length s.table.processes → AreCutTargets s n l most ns → AreCutTargets r n l most ns
+  targets-kept n l most ns h c = cut-kept (λ B P. Step (bodies_of B) P l) n most ns h c
 
   -- a node whose parts are below n
   pub node-kept : (n : ℕ) (x : Node) → n < length s.table.processes → IsWithin s.table.parameters n x → IsWithin r.table.parameters (length r.table.processes) x
@@ -89,7 +89,7 @@ sound-grown t u ns m ds s g =
           let r = s.remembered n l vs i e in
           record {
             within = within-kept (numbered t ns) (numbered u ns) k n r.within;
-            targets = targets-kept (numbered t ns) (numbered u ns) k n l vs r.within r.targets;
+            targets = targets-kept (numbered t ns) (numbered u ns) k n l most_states vs r.within r.targets;
           };
       few = omega (arith, s.few, longer t u g);
       depths = λ i d h.

@@ -1,20 +1,23 @@
 -- What is remembered, and a body by its number.
 use Rattle.std.proofs.Common.{◌≡◌, ◌⊎◌, inl, inr, ℕ, zero, suc, ◌+◌, ◌<◌, ◌≤◌, nat_eq, Option, None, Some, IfSome, List, [], ◌∷◌, ◌++◌, length, get_or, take, Bor, refl, sym, ap, ◌∙◌, subst, arith}
-use Rattle.std.proofs.lemmas.List.{get_or-map, map-append, take_more}
+use Rattle.std.proofs.lemmas.List.{get_or-map, length-map, map-append, take_more}
 use Rattle.std.specs.Prelude.{option_map}
 use Rattle.std.proofs.lemmas.Option.{same_Some}
 use Rattle.std.specs.Map.{lookup}
 use Rattle.alphabet.specs.declared.events.Event.TheVariants.{Tick as tick, Of as ev}
+use Rattle.term.specs.Limits.{most_states}
 use Rattle.term.specs.Proc.{Proc, stop, bodies_of}
+use Rattle.term.specs.Traces.{In}
 use Rattle.targets.specs.declared.labels.Label.{Label}
 use Rattle.targets.specs.declared.labels.Label.TheVariants as label
+use Rattle.targets.specs.Labels.{Step}
 use Rattle.nodes.specs.Shapes.{at}
 use Rattle.nodes.specs.Tables.{Tabled, HasGrown, IsNumber}
 use Rattle.nodes.specs.Looks.{look, AllBelow}
 use Rattle.nodes.proofs.Looking.{below-at, below-push, below-grown, look-grown}
 use Rattle.transitions.specs.Lists.{MayHave, MayHaveAt}
 use Rattle.transitions.specs.Memory.{Kept}
-use Rattle.transitions.specs.Numbered.{numbered, AreTargets}
+use Rattle.transitions.specs.Numbered.{Numbered, numbered, AreCutTargets, AreTargets}
 use Rattle.transitions.specs.Memory.{recalled, AllRemembered, IsRemembered, IsSmall, IsSound, MayRecall, key}
 
 -- ---- a key is that of one number and one label
@@ -53,6 +56,28 @@ acts-more acts more hs k n l found e small h m (label.Event x) s = by (h (key m 
     by : (at more ≡ at acts) ⊎ ((key m (label.Event x) ≡ k) × (at more ≡ Some found)) → (at more ≡ at acts) ⊎ ((m ≡ n) × (label.Event x ≡ l) × (at more ≡ Some found))
     by (inl same) = inl same
     by (inr new) = let is = key-same m n (label.Event x) l s small (new.0 ∙ e) in inr (is.0, is.1, new.1)
+
+-- what goes as far as a greater bound is remembered as far as that of a set of states
+pub cut-less : (s : Numbered) (n : ℕ) (l : Label) (most : ℕ) (found : List ℕ) → most_states ≤ most → AreCutTargets s n l most found → AreTargets s n l found
+cut-less s n l most found h c = record {
+  here = c.here;
+  cut = record {
+    once = c.cut.once;
+    only = c.cut.only;
+    all = elim c.cut.all [ inl more ↦ inl (omega (arith, more)) | inr all ↦ inr all ];
+  };
+}
+
+-- what is remembered goes as far as a bound where it is whole, or where the bound isn't greater
+pub cut-more : (s : Numbered) (n : ℕ) (l : Label) (most : ℕ) (found : List ℕ) → (length found ≤ most_states) ⊎ (most ≤ most_states) → AreTargets s n l found → AreCutTargets s n l most found
+cut-more s n l most found h c = record { here = c.here; cut = record { once = c.cut.once; only = c.cut.only; all = elim c.cut.all [ inl more ↦ by more h | inr all ↦ inr all ] } }
+  where
+    ps : List Proc
+    ps = look s.table.processes found
+
+    by : most_states < length ps → (length found ≤ most_states) ⊎ (most ≤ most_states) → (most < length ps) ⊎ ((Q : Proc) → Step (bodies_of s.bodies) (at s.table.processes n) l Q → In Q ps)
+    by more (inl few) = absurd (omega (arith, more, length-map found (at s.table.processes)))
+    by more (inr less) = inl (omega (arith, more))
 
 pub sound-more : (t : Tabled) (ns ds : List ℕ) (old new : Kept) (n : ℕ) (l : Label) (found : List ℕ) → n < length t.processes → AreTargets (numbered t ns) n l found → IsSound t ns old ds → MayRecall old new n l found → IsSound t ns new ds
 sound-more t ns ds old new n l found within targets sound h = record { here = sound.here; remembered = all; few = sound.few; depths = sound.depths }

@@ -30,9 +30,13 @@ pub record KeepsNumbers (old new : Numbered) : Type 0 where
   pub bodies : new.bodies ≡ old.bodies
 
 -- The numbers of what the process with this number becomes by a step with this label, none twice: of all of it, or of
--- more than a set of states may have.
+-- more than this many.
+abbrev pub AreCutTargets : Numbered → ℕ → Label → ℕ → List ℕ → Type 0
+AreCutTargets s n l most ns = IsCutIn s.table (Step (bodies_of s.bodies) (at s.table.processes n) l) most ns
+
+-- The same as far as the bound of a set of states.
 abbrev pub AreTargets : Numbered → ℕ → Label → List ℕ → Type 0
-AreTargets s n l ns = IsCutIn s.table (Step (bodies_of s.bodies) (at s.table.processes n) l) most_states ns
+AreTargets s n l ns = AreCutTargets s n l most_states ns
 
 -- All events that the process with this number hides are among the 256 that there can be.
 abbrev pub HidesEvents : Numbered → ℕ → Type 0

@@ -3,7 +3,6 @@
 ghost use Rattle.std.specs.Prelude.{◌≡◌, ◌↔◌, ◌<◌, ◌⊎◌, ◌++◌, ◌∷◌, [], ℕ, List, IfOk, OnOk, length, true, false};
 ghost use Rattle.alphabet.specs.EventSets.{has};
 ghost use Rattle.alphabet.specs.declared.events.Event.TheVariants.{Tick as tick, Of as ev};
-ghost use Rattle.term.specs.Limits.{most_states};
 ghost use Rattle.term.specs.Proc.{Proc, bodies_of};
 ghost use Rattle.term.specs.Steps.{Act, Hid};
 ghost use Rattle.targets.specs.declared.labels.Label.TheVariants as label;
@@ -13,10 +12,10 @@ ghost use Rattle.targets.specs.Targets.{sources};
 ghost use Rattle.targets.specs.Among.{ActsIn};
 ghost use Rattle.nodes.specs.Shapes.{at, relation_at, set_at, shape, IsWithin};
 ghost use Rattle.nodes.specs.Looks.{ActsBy, AllBelow, AreActsOfParts, AreHidsOfParts, IsCutIn, OrEnd};
-ghost use Rattle.transitions.specs.Numbered.{AreTargets, HidesEvents, KeepsNumbers};
+ghost use Rattle.transitions.specs.Numbered.{AreCutTargets, AreTargets, HidesEvents, KeepsNumbers};
 
 use crate::events::events_in;
-use crate::transitions::Transitions;
+use crate::transitions::{MOST_STATES, Transitions};
 use alphabet::Event;
 use nodes::Node;
 use std::alloc::{AllocError, Allocator};
@@ -39,9 +38,28 @@ impl<A: Allocator + Copy> Transitions<A> {
         ensures targets { OnOk result (AreTargets self.new number label into.new.items) }
         ensures kept { KeepsNumbers self.old self.new }
     {
+        self.put_targets_within(number, label, MOST_STATES, into)
+    }
+
+    /// As `put_targets`, with a bound of the caller's: the numbers of all that the process becomes, or of more than `most`.
+    /// With the greatest `usize` these are all, since no list is longer. What is remembered goes as far as a set of states
+    /// may: it is taken here where it is whole, or where `most` asks for no more.
+    pub fn put_targets_within(
+        &mut self,
+        number: u32,
+        label: Label,
+        most: usize,
+        into: &mut Vec<u32, A>,
+    ) -> Result<(), AllocError>
+        requires number { number < length self.old.table.processes }
+        requires hides { HidesEvents self.old number }
+        requires empty { into.old.items ≡ [] }
+        ensures targets { OnOk result (AreCutTargets self.new number label most into.new.items) }
+        ensures kept { KeepsNumbers self.old self.new }
+    {
         match label {
-            Label::Tau => self.put_part_targets(number, label, into),
-            Label::Event(_) => self.put_new_targets(number, label, into),
+            Label::Tau => self.put_part_targets(number, label, most, into),
+            Label::Event(_) => self.put_new_targets(number, label, most, into),
         }
     }
 
@@ -50,18 +68,19 @@ impl<A: Allocator + Copy> Transitions<A> {
         &mut self,
         number: u32,
         label: Label,
+        most: usize,
         into: &mut Vec<u32, A>,
     ) -> Result<(), AllocError>
         requires number { number < length self.old.table.processes }
         requires hides { HidesEvents self.old number }
         requires empty { into.old.items ≡ [] }
-        ensures targets { OnOk result (AreTargets self.new number label into.new.items) }
+        ensures targets { OnOk result (AreCutTargets self.new number label most into.new.items) }
         ensures kept { KeepsNumbers self.old self.new }
     {
         if !self.may_step(number, label) {
             return Ok(());
         }
-        self.find(number, label, into)
+        self.find(number, label, most, into)
     }
 
     /// The same of a part. What was asked before is remembered, but for what a node without parts becomes.
@@ -70,25 +89,26 @@ impl<A: Allocator + Copy> Transitions<A> {
         &mut self,
         number: u32,
         label: Label,
+        most: usize,
         into: &mut Vec<u32, A>,
     ) -> Result<(), AllocError>
         requires number { number < length self.old.table.processes }
         requires hides { HidesEvents self.old number }
         requires empty { into.old.items ≡ [] }
-        ensures targets { OnOk result (AreTargets self.new number label into.new.items) }
+        ensures targets { OnOk result (AreCutTargets self.new number label most into.new.items) }
         ensures kept { KeepsNumbers self.old self.new }
     {
         if !self.may_step(number, label) {
             return Ok(());
         }
         if !has_parts(self.node(number)) {
-            return self.find(number, label, into);
+            return self.find(number, label, most, into);
         }
-        if let Some(found) = self.found(number, label) {
+        if let Some(found) = self.found(number, label, most) {
             return into.extend_from_slice(found);
         }
-        self.find(number, label, into)?;
-        self.remember(number, label, into);
+        self.find(number, label, most, into)?;
+        self.remember(number, label, most, into);
         Ok(())
     }
 
@@ -107,16 +127,22 @@ impl<A: Allocator + Copy> Transitions<A> {
 
     /// The same without what is remembered of this step.
     #[cycle(put_part_targets)]
-    fn find(&mut self, number: u32, label: Label, into: &mut Vec<u32, A>) -> Result<(), AllocError>
+    fn find(
+        &mut self,
+        number: u32,
+        label: Label,
+        most: usize,
+        into: &mut Vec<u32, A>,
+    ) -> Result<(), AllocError>
         requires number { number < length self.old.table.processes }
         requires hides { HidesEvents self.old number }
         requires empty { into.old.items ≡ [] }
-        ensures targets { OnOk result (AreTargets self.new number label into.new.items) }
+        ensures targets { OnOk result (AreCutTargets self.new number label most into.new.items) }
         ensures kept { KeepsNumbers self.old self.new }
     {
         match label {
-            Label::Tau => self.find_hidden(number, into),
-            Label::Event(Event::Of(event)) => self.find_acts(number, event, into),
+            Label::Tau => self.find_hidden(number, most, into),
+            Label::Event(Event::Of(event)) => self.find_acts(number, event, most, into),
             Label::Event(Event::Tick) => self.find_end(number, into),
         }
     }
@@ -125,7 +151,7 @@ impl<A: Allocator + Copy> Transitions<A> {
     fn find_end(&mut self, number: u32, into: &mut Vec<u32, A>) -> Result<(), AllocError>
         requires number { number < length self.old.table.processes }
         requires empty { into.old.items ≡ [] }
-        ensures targets { OnOk result (AreTargets self.new number (label.Event tick) into.new.items) }
+        ensures targets { OnOk result ((most : ℕ) → AreCutTargets self.new number (label.Event tick) most into.new.items) }
         ensures kept { KeepsNumbers self.old self.new }
     {
         if !self.facts(number).ticks {
@@ -142,19 +168,20 @@ impl<A: Allocator + Copy> Transitions<A> {
         &mut self,
         number: u32,
         event: u8,
+        most: usize,
         into: &mut Vec<u32, A>,
     ) -> Result<(), AllocError>
         requires number { number < length self.old.table.processes }
         requires hides { HidesEvents self.old number }
         requires empty { into.old.items ≡ [] }
-        ensures targets { OnOk result (AreTargets self.new number (label.Event (ev event)) into.new.items) }
+        ensures targets { OnOk result (AreCutTargets self.new number (label.Event (ev event)) most into.new.items) }
         ensures kept { KeepsNumbers self.old self.new }
     {
         let node = self.node(number);
         let mut lefts = self.list();
         let mut rights = self.list();
-        self.act_parts(number, node, event, &mut lefts, &mut rights)?;
-        self.put_acts(node, event, &lefts, &rights, into)
+        self.act_parts(number, node, event, most, &mut lefts, &mut rights)?;
+        self.put_acts(node, event, &lefts, &rights, most, into)
     }
 
     /// What the node's parts become by the event; under a renaming what the part becomes by the events that are taken to
@@ -165,6 +192,7 @@ impl<A: Allocator + Copy> Transitions<A> {
         number: u32,
         node: Node,
         event: u8,
+        most: usize,
         lefts: &mut Vec<u32, A>,
         rights: &mut Vec<u32, A>,
     ) -> Result<(), AllocError>
@@ -173,16 +201,16 @@ impl<A: Allocator + Copy> Transitions<A> {
         requires hides { SetsBelow 256 (shape self.old.table.parameters self.old.table.processes node) }
         requires lefts { lefts.old.items ≡ [] }
         requires rights { rights.old.items ≡ [] }
-        ensures parts { OnOk result (AreActsOfParts self.new.table node event most_states lefts.new.items rights.new.items) }
+        ensures parts { OnOk result (AreActsOfParts self.new.table node event most lefts.new.items rights.new.items) }
         ensures kept { KeepsNumbers self.old self.new }
     {
         let label = Label::Event(Event::Of(event));
         match node {
             Node::Ext(p, q) | Node::Par(_, p, q) | Node::Intr(p, q) => {
-                self.put_both(p, q, label, lefts, rights)
+                self.put_both(p, q, label, most, lefts, rights)
             }
-            Node::Seq(p, _) | Node::Hide(_, p) => self.put_part_targets(p, label, lefts),
-            Node::Ren(relation, p) => self.put_renamed(relation, p, event, lefts),
+            Node::Seq(p, _) | Node::Hide(_, p) => self.put_part_targets(p, label, most, lefts),
+            Node::Ren(relation, p) => self.put_renamed(relation, p, event, most, lefts),
             Node::Stop | Node::Skip | Node::Prefix(_, _) | Node::Int(_, _) | Node::Name(_) => Ok(
                 (),
             ),
@@ -196,6 +224,7 @@ impl<A: Allocator + Copy> Transitions<A> {
         p: u32,
         q: u32,
         label: Label,
+        most: usize,
         lefts: &mut Vec<u32, A>,
         rights: &mut Vec<u32, A>,
     ) -> Result<(), AllocError>
@@ -205,12 +234,12 @@ impl<A: Allocator + Copy> Transitions<A> {
         requires right_hides { HidesEvents self.old q }
         requires lefts { lefts.old.items ≡ [] }
         requires rights { rights.old.items ≡ [] }
-        ensures lefts { OnOk result (AreTargets self.new p label lefts.new.items) }
-        ensures rights { OnOk result (AreTargets self.new q label rights.new.items) }
+        ensures lefts { OnOk result (AreCutTargets self.new p label most lefts.new.items) }
+        ensures rights { OnOk result (AreCutTargets self.new q label most rights.new.items) }
         ensures kept { KeepsNumbers self.old self.new }
     {
-        self.put_part_targets(p, label, lefts)?;
-        self.put_part_targets(q, label, rights)
+        self.put_part_targets(p, label, most, lefts)?;
+        self.put_part_targets(q, label, most, rights)
     }
 
     /// What the process becomes by the events that the renaming takes to this one.
@@ -220,62 +249,80 @@ impl<A: Allocator + Copy> Transitions<A> {
         relation: u32,
         p: u32,
         event: u8,
+        most: usize,
         into: &mut Vec<u32, A>,
     ) -> Result<(), AllocError>
         requires relation { relation < length self.old.table.parameters.relations }
         requires part { p < length self.old.table.processes }
         requires hides { HidesEvents self.old p }
         requires empty { into.old.items ≡ [] }
-        ensures cut { OnOk result (IsCutIn self.new.table (ActsBy (sources (relation_at self.new.table.parameters relation) event) (at self.new.table.processes p)) most_states into.new.items) }
+        ensures cut { OnOk result (IsCutIn self.new.table (ActsBy (sources (relation_at self.new.table.parameters relation) event) (at self.new.table.processes p)) most into.new.items) }
         ensures kept { KeepsNumbers self.old self.new }
     {
         let events = self.sources(relation, event)?;
-        self.put_each(p, &events, into)
+        self.put_each(p, &events, most, into)
     }
 
     /// What the process becomes by one of these events.
     #[cycle(put_part_targets)]
-    fn put_each(&mut self, p: u32, events: &[u8], into: &mut Vec<u32, A>) -> Result<(), AllocError>
+    fn put_each(
+        &mut self,
+        p: u32,
+        events: &[u8],
+        most: usize,
+        into: &mut Vec<u32, A>,
+    ) -> Result<(), AllocError>
         requires part { p < length self.old.table.processes }
         requires hides { HidesEvents self.old p }
         requires empty { into.old.items ≡ [] }
-        ensures cut { OnOk result (IsCutIn self.new.table (ActsBy events.now (at self.new.table.processes p)) most_states into.new.items) }
+        ensures cut { OnOk result (IsCutIn self.new.table (ActsBy events.now (at self.new.table.processes p)) most into.new.items) }
         ensures kept { KeepsNumbers self.old self.new }
     {
         for event in events {
-            self.join_acts(p, *event, into)?;
+            self.join_acts(p, *event, most, into)?;
         }
         Ok(())
     }
 
     /// Joins what the process becomes by the event to what it becomes by others.
     #[cycle(put_part_targets)]
-    fn join_acts(&mut self, p: u32, event: u8, into: &mut Vec<u32, A>) -> Result<(), AllocError>
+    fn join_acts(
+        &mut self,
+        p: u32,
+        event: u8,
+        most: usize,
+        into: &mut Vec<u32, A>,
+    ) -> Result<(), AllocError>
         requires part { p < length self.old.table.processes }
         requires hides { HidesEvents self.old p }
         requires here { AllBelow (length self.old.table.processes) into.old.items }
-        ensures cut { OnOk result ((es : List ℕ) → IsCutIn self.old.table (ActsBy es (at self.old.table.processes p)) most_states into.old.items → IsCutIn self.new.table (ActsBy (es ++ event ∷ []) (at self.new.table.processes p)) most_states into.new.items) }
+        ensures cut { OnOk result ((es : List ℕ) → IsCutIn self.old.table (ActsBy es (at self.old.table.processes p)) most into.old.items → IsCutIn self.new.table (ActsBy (es ++ event ∷ []) (at self.new.table.processes p)) most into.new.items) }
         ensures kept { KeepsNumbers self.old self.new }
     {
         let mut found = self.list();
-        self.put_part_targets(p, Label::Event(Event::Of(event)), &mut found)?;
-        self.join(&found, into)
+        self.put_part_targets(p, Label::Event(Event::Of(event)), most, &mut found)?;
+        self.join(&found, most, into)
     }
 
     /// What the process becomes by a hidden step.
     #[cycle(put_part_targets)]
-    fn find_hidden(&mut self, number: u32, into: &mut Vec<u32, A>) -> Result<(), AllocError>
+    fn find_hidden(
+        &mut self,
+        number: u32,
+        most: usize,
+        into: &mut Vec<u32, A>,
+    ) -> Result<(), AllocError>
         requires number { number < length self.old.table.processes }
         requires hides { HidesEvents self.old number }
         requires empty { into.old.items ≡ [] }
-        ensures targets { OnOk result (AreTargets self.new number label.Tau into.new.items) }
+        ensures targets { OnOk result (AreCutTargets self.new number label.Tau most into.new.items) }
         ensures kept { KeepsNumbers self.old self.new }
     {
         let node = self.node(number);
         let mut lefts = self.list();
         let mut rights = self.list();
-        self.hid_parts(number, node, &mut lefts, &mut rights)?;
-        self.put_hids(node, &lefts, &rights, into)
+        self.hid_parts(number, node, most, &mut lefts, &mut rights)?;
+        self.put_hids(node, &lefts, &rights, most, into)
     }
 
     /// What the node's parts become by a hidden step: for a parallel with `SKIP` for each side that can end, for a hiding
@@ -285,6 +332,7 @@ impl<A: Allocator + Copy> Transitions<A> {
         &mut self,
         number: u32,
         node: Node,
+        most: usize,
         lefts: &mut Vec<u32, A>,
         rights: &mut Vec<u32, A>,
     ) -> Result<(), AllocError>
@@ -295,14 +343,16 @@ impl<A: Allocator + Copy> Transitions<A> {
         requires rights { rights.old.items ≡ [] }
         ensures lefts { OnOk result (AllBelow (length self.new.table.processes) lefts.new.items) }
         ensures rights { OnOk result (AllBelow (length self.new.table.processes) rights.new.items) }
-        ensures parts { OnOk result (AreHidsOfParts self.new.table (bodies_of self.new.bodies) node most_states lefts.new.items rights.new.items) }
+        ensures parts { OnOk result (AreHidsOfParts self.new.table (bodies_of self.new.bodies) node most lefts.new.items rights.new.items) }
         ensures kept { KeepsNumbers self.old self.new }
     {
         match node {
-            Node::Ext(p, q) | Node::Intr(p, q) => { self.put_both(p, q, Label::Tau, lefts, rights) }
-            Node::Par(_, p, q) => self.put_sides(p, q, lefts, rights),
-            Node::Seq(p, _) | Node::Ren(_, p) => self.put_part_targets(p, Label::Tau, lefts),
-            Node::Hide(set, p) => self.put_hidden(set, p, lefts),
+            Node::Ext(p, q) | Node::Intr(p, q) => {
+                self.put_both(p, q, Label::Tau, most, lefts, rights)
+            }
+            Node::Par(_, p, q) => self.put_sides(p, q, most, lefts, rights),
+            Node::Seq(p, _) | Node::Ren(_, p) => self.put_part_targets(p, Label::Tau, most, lefts),
+            Node::Hide(set, p) => self.put_hidden(set, p, most, lefts),
             Node::Name(body) => self.put_body(body, lefts),
             Node::Stop | Node::Skip | Node::Prefix(_, _) | Node::Int(_, _) => Ok(()),
         }
@@ -314,6 +364,7 @@ impl<A: Allocator + Copy> Transitions<A> {
         &mut self,
         p: u32,
         q: u32,
+        most: usize,
         lefts: &mut Vec<u32, A>,
         rights: &mut Vec<u32, A>,
     ) -> Result<(), AllocError>
@@ -323,42 +374,48 @@ impl<A: Allocator + Copy> Transitions<A> {
         requires right_hides { HidesEvents self.old q }
         requires lefts { lefts.old.items ≡ [] }
         requires rights { rights.old.items ≡ [] }
-        ensures lefts { OnOk result (IsCutIn self.new.table (OrEnd (Hid (bodies_of self.new.bodies) (at self.new.table.processes p)) (at self.new.table.processes p)) most_states lefts.new.items) }
-        ensures rights { OnOk result (IsCutIn self.new.table (OrEnd (Hid (bodies_of self.new.bodies) (at self.new.table.processes q)) (at self.new.table.processes q)) most_states rights.new.items) }
+        ensures lefts { OnOk result (IsCutIn self.new.table (OrEnd (Hid (bodies_of self.new.bodies) (at self.new.table.processes p)) (at self.new.table.processes p)) most lefts.new.items) }
+        ensures rights { OnOk result (IsCutIn self.new.table (OrEnd (Hid (bodies_of self.new.bodies) (at self.new.table.processes q)) (at self.new.table.processes q)) most rights.new.items) }
         ensures kept { KeepsNumbers self.old self.new }
     {
-        self.put_side(p, lefts)?;
-        self.put_side(q, rights)
+        self.put_side(p, most, lefts)?;
+        self.put_side(q, most, rights)
     }
 
     /// What a side of a parallel becomes by a hidden step, with `SKIP` where it can end.
     #[cycle(put_part_targets)]
-    fn put_side(&mut self, p: u32, into: &mut Vec<u32, A>) -> Result<(), AllocError>
+    fn put_side(&mut self, p: u32, most: usize, into: &mut Vec<u32, A>) -> Result<(), AllocError>
         requires side { p < length self.old.table.processes }
         requires hides { HidesEvents self.old p }
         requires empty { into.old.items ≡ [] }
-        ensures cut { OnOk result (IsCutIn self.new.table (OrEnd (Hid (bodies_of self.new.bodies) (at self.new.table.processes p)) (at self.new.table.processes p)) most_states into.new.items) }
+        ensures cut { OnOk result (IsCutIn self.new.table (OrEnd (Hid (bodies_of self.new.bodies) (at self.new.table.processes p)) (at self.new.table.processes p)) most into.new.items) }
         ensures kept { KeepsNumbers self.old self.new }
     {
-        self.put_part_targets(p, Label::Tau, into)?;
-        self.put_end(p, into)
+        self.put_part_targets(p, Label::Tau, most, into)?;
+        self.put_end(p, most, into)
     }
 
     /// What the part of a hiding becomes by a hidden step or by one of the hidden events.
     #[cycle(put_part_targets)]
-    fn put_hidden(&mut self, set: u32, p: u32, into: &mut Vec<u32, A>) -> Result<(), AllocError>
+    fn put_hidden(
+        &mut self,
+        set: u32,
+        p: u32,
+        most: usize,
+        into: &mut Vec<u32, A>,
+    ) -> Result<(), AllocError>
         requires set { set < length self.old.table.parameters.sets }
         requires small { (a : ℕ) → has (set_at self.old.table.parameters set) a ≡ true → a < 256 }
         requires part { p < length self.old.table.processes }
         requires hides { HidesEvents self.old p }
         requires empty { into.old.items ≡ [] }
-        ensures cut { OnOk result (IsCutIn self.new.table (λ Q. Hid (bodies_of self.new.bodies) (at self.new.table.processes p) Q ⊎ ActsIn (set_at self.new.table.parameters set) (at self.new.table.processes p) Q) most_states into.new.items) }
+        ensures cut { OnOk result (IsCutIn self.new.table (λ Q. Hid (bodies_of self.new.bodies) (at self.new.table.processes p) Q ⊎ ActsIn (set_at self.new.table.parameters set) (at self.new.table.processes p) Q) most into.new.items) }
         ensures kept { KeepsNumbers self.old self.new }
     {
         let mut found = self.list();
-        self.put_hidden_acts(set, p, &mut found)?;
-        self.put_part_targets(p, Label::Tau, into)?;
-        self.join(&found, into)
+        self.put_hidden_acts(set, p, most, &mut found)?;
+        self.put_part_targets(p, Label::Tau, most, into)?;
+        self.join(&found, most, into)
     }
 
     /// What the process becomes by one of the hidden events.
@@ -367,6 +424,7 @@ impl<A: Allocator + Copy> Transitions<A> {
         &mut self,
         set: u32,
         p: u32,
+        most: usize,
         into: &mut Vec<u32, A>,
     ) -> Result<(), AllocError>
         requires set { set < length self.old.table.parameters.sets }
@@ -374,11 +432,11 @@ impl<A: Allocator + Copy> Transitions<A> {
         requires part { p < length self.old.table.processes }
         requires hides { HidesEvents self.old p }
         requires empty { into.old.items ≡ [] }
-        ensures cut { OnOk result (IsCutIn self.new.table (ActsIn (set_at self.new.table.parameters set) (at self.new.table.processes p)) most_states into.new.items) }
+        ensures cut { OnOk result (IsCutIn self.new.table (ActsIn (set_at self.new.table.parameters set) (at self.new.table.processes p)) most into.new.items) }
         ensures kept { KeepsNumbers self.old self.new }
     {
         let events = self.hidden_events(set, p)?;
-        self.put_each(p, &events, into)
+        self.put_each(p, &events, most, into)
     }
 
     /// The events of the set that the process offers.
@@ -396,7 +454,7 @@ impl<A: Allocator + Copy> Transitions<A> {
     /// The body with this number, which is `STOP` where there is none.
     fn put_body(&mut self, body: usize, into: &mut Vec<u32, A>) -> Result<(), AllocError>
         requires empty { into.old.items ≡ [] }
-        ensures cut { OnOk result (IsCutIn self.new.table (λ R. R ≡ bodies_of self.new.bodies body) most_states into.new.items) }
+        ensures cut { OnOk result ((most : ℕ) → IsCutIn self.new.table (λ R. R ≡ bodies_of self.new.bodies body) most into.new.items) }
         ensures kept { KeepsNumbers self.old self.new }
     {
         if let Some(number) = self.body(body) {

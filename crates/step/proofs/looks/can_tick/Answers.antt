@@ -5,4 +5,5 @@ use Rattle.step.proofs.looks.can_tick.Goals as goal
 
 pub returns : goal.returns
 returns g c =
-    ((λ t. ticks-Ticks (proc c.args.term.now) (sym c.has_tick.ensures ∙ t)), (λ t. c.has_tick.ensures ∙ Ticks-ticks t))
+    let e = c.facts_of_term.ensures.ticks_is in
+    ((λ t. ticks-Ticks (proc c.args.term.now) (sym e ∙ t)), (λ t. e ∙ Ticks-ticks t))

@@ -1,5 +1,4 @@
 use Rattle.std.proofs.Common.{◌+◌, ◌*◌, max, take}
-use Rattle.term.specs.Limits.{most_states}
 use Rattle.nodes.specs.Shapes.{at}
 use Rattle.nodes.specs.Looks.{ActsBy, IsCutIn}
 use Rattle.transitions.specs.Numbered.{KeepsNumbers}
@@ -50,5 +49,5 @@ decreases-join_acts g l = 8 * l.p + 8
 abbrev pub invariant-put_each-loop-event : goal.invariant-put_each-loop-event
 invariant-put_each-loop-event g l = record {
   kept : KeepsNumbers l.initial.self l.self;
-  cut : IsCutIn l.self.table (ActsBy (take l.event-index l.events) (at l.self.table.processes l.p)) most_states l.into.items;
+  cut : IsCutIn l.self.table (ActsBy (take l.event-index l.events) (at l.self.table.processes l.p)) l.most l.into.items;
 }

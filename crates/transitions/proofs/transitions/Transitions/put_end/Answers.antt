@@ -1,5 +1,4 @@
 use Rattle.std.proofs.Common.{OnOk, sym, subst}
-use Rattle.term.specs.Limits.{most_states}
 use Rattle.term.specs.Proc.{bodies_of}
 use Rattle.term.specs.Steps.{Hid}
 use Rattle.nodes.specs.Shapes.{at}
@@ -18,9 +17,9 @@ returns-clause-cut g c =
     let u = c.put_end.new.self in
     let side = c.args.side in
     let B = bodies_of (look t.processes c.self.inside.bodies.items) in
-    let cut : IsCutIn t (Hid B (at t.processes side)) most_states c.args.into.now.items =
-    subst (λ (s : Numbered). IsCutIn s.table (Hid (bodies_of s.bodies) (at s.table.processes side)) most_states c.args.into.now.items) (sym c.self.view_is) c.requires.cut in
-    subst (λ (s : Numbered). OnOk c.put_end.result (IsCutIn u (OrEnd (Hid (bodies_of s.bodies) (at s.table.processes side)) (at s.table.processes side)) most_states c.put_end.new.into.items)) c.self.view_is
+    let cut : IsCutIn t (Hid B (at t.processes side)) c.args.most c.args.into.now.items =
+    subst (λ (s : Numbered). IsCutIn s.table (Hid (bodies_of s.bodies) (at s.table.processes side)) c.args.most c.args.into.now.items) (sym c.self.view_is) c.requires.cut in
+    subst (λ (s : Numbered). OnOk c.put_end.result (IsCutIn u (OrEnd (Hid (bodies_of s.bodies) (at s.table.processes side)) (at s.table.processes side)) c.args.most c.put_end.new.into.items)) c.self.view_is
     (on-both c.put_end.result _ _ _ c.put_end.ensures.here c.put_end.ensures.cut (λ b f. record { here = b; cut = f B cut.cut }))
 
 pub returns-clause-kept : goal.returns-clause-kept

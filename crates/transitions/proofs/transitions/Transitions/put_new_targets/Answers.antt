@@ -1,4 +1,3 @@
-use Rattle.term.specs.Limits.{most_states}
 use Rattle.term.specs.Proc.{bodies_of}
 use Rattle.targets.specs.Labels.{Step}
 use Rattle.nodes.specs.Shapes.{at}
@@ -8,4 +7,4 @@ use Rattle.transitions.proofs.transitions.Transitions.put_new_targets.Goals as g
 pub returns-then-not-may_step-clause-targets : goal.returns-then-not-may_step-clause-targets
 returns-then-not-may_step-clause-targets g c =
     let s = c.args.self.now in
-    none-in s.table (Step (bodies_of s.bodies) (at s.table.processes c.args.number) c.args.label) most_states c.args.into.now.items c.requires.empty (c.may_step.ensures c.if-not-may_step.true)
+    none-in s.table (Step (bodies_of s.bodies) (at s.table.processes c.args.number) c.args.label) c.args.most c.args.into.now.items c.requires.empty (c.may_step.ensures c.if-not-may_step.true)

@@ -1,8 +1,0 @@
-use Rattle.std.proofs.Common.{◌≡◌, ◌++◌, map, take}
-use Rattle.term.specs.Proc.{proc}
-use Rattle.step.specs.Around.{around}
-use Rattle.step.proofs.around.Around.put_copies.Given as goal
-
-abbrev pub invariant-loop-part : goal.invariant-loop-part
-invariant-loop-part g l =
-    map proc l.into.items ≡ map proc l.initial.into.items ++ map (around l.self) (map proc (take l.part-index l.parts))
