@@ -9,7 +9,7 @@ use Rattle.std.specs.declared.cmp.Ordering.TheVariants.{Less, Equal, Greater}
 use Rattle.alphabet.specs.declared.field_value.Value.{Value as FieldStored}
 use Rattle.alphabet.specs.Channels.{FieldValue, number, constant, Values, is_below, is_rising}
 use Rattle.alphabet.specs.Stored.{value_of, field_of}
-use Rattle.tokens.specs.declared.unread.Unread.{Unread}
+use Rattle.tokens.specs.declared.read_error.ReadError.{ReadError}
 use Rattle.syntax.specs.declared.tree.Tree.{Tree}
 use Rattle.syntax.specs.Grammar.{Syntax, Syntaxes, MoreSyntax}
 use Rattle.syntax.specs.Parsing.{syntaxes}
@@ -87,11 +87,11 @@ unfolding add_field
 field_added known front all t w vs a b c = ap (added_to front) a ∙ ap (λ o. o >>= λ vs. some_fields (front ++ vs ∷ [])) b ∙ ap some_fields (sym c)
 
 -- nothing is added where the phrase stands for nothing, or for no set
-pub worth_fails : (k : Unread) (known : Known) (front : List Values) (t : Syntax) → Fails k (worth known t) → Fails k (add_field known front t)
+pub worth_fails : (k : ReadError) (known : Known) (front : List Values) (t : Syntax) → Fails k (worth known t) → Fails k (add_field known front t)
 unfolding add_field
 worth_fails k known front t h = fails_on k (worth known t) (add_field known front t) (ap (added_to front)) h
 
-pub set_fails : (k : Unread) (known : Known) (front : List Values) (t : Syntax) (w : Worth) → worth known t ≡ Some w → Fails k (the_set w) → Fails k (add_field known front t)
+pub set_fails : (k : ReadError) (known : Known) (front : List Values) (t : Syntax) (w : Worth) → worth known t ≡ Some w → Fails k (the_set w) → Fails k (add_field known front t)
 unfolding add_field
 set_fails k known front t w e h = fails_on k (the_set w) (add_field known front t) (λ n. ap (added_to front) e ∙ ap (λ o. o >>= λ vs. some_fields (front ++ vs ∷ [])) n) h
 

@@ -12,7 +12,7 @@ use Rattle.syntax.specs.declared.tree.Tree.{Tree}
 use Rattle.syntax.specs.Grammar.{Syntax, Called, Numeral, Node, Syntaxes, NoSyntax, MoreSyntax}
 use Rattle.syntax.specs.Parsing.{syntaxes}
 use Rattle.syntax.specs.View.{shape, shapes}
-use Rattle.tokens.specs.declared.unread.Unread.{Unread}
+use Rattle.tokens.specs.declared.read_error.ReadError.{ReadError}
 use Rattle.values.specs.Values.{◌>>=◌, Name}
 use Rattle.values.specs.Worths.{Worth, Known, worth, the_set}
 use Rattle.values.specs.Names.{Meaning, channel, Entry, same_name, is_constant, meaning, are_distinct, names_of, listed_names, declared_by, declared_by_all}
@@ -278,7 +278,7 @@ names_none known sets cs (n ∷ ns) h f = absurd (omega (arith, h))
 not_none : (t : Syntax) (ts : Syntaxes) → MoreSyntax t ts ≡ NoSyntax → ⊥
 not_none t ts e = cc
 
-pub names_fail : {A : Type 0} (k : Unread) (known : Known) (sets : Syntaxes) (cs : List Channel) (ns : List (Tree A)) → (length ns ≡ 0 → ⊥) → Fails k (fields_of known sets) → Fails k (entered known cs (channels_named (names_of (syntaxes (shapes ns))) sets))
+pub names_fail : {A : Type 0} (k : ReadError) (known : Known) (sets : Syntaxes) (cs : List Channel) (ns : List (Tree A)) → (length ns ≡ 0 → ⊥) → Fails k (fields_of known sets) → Fails k (entered known cs (channels_named (names_of (syntaxes (shapes ns))) sets))
 names_fail k known sets cs [] h f = absurd (h refl)
 names_fail k known sets cs (n ∷ ns) h f = fails_on k (fields_of known sets) (entered known cs (channels_named (names_of (syntaxes (shapes (n ∷ ns)))) sets)) (none_found known sets (syntaxes (shapes (n ∷ ns))) cs (not_none (shape n) (syntaxes (shapes ns)))) f
 
@@ -290,7 +290,7 @@ can_be_named known cs sets ts items slice f h r same =
 pub names_in_list : (t : Syntax) (ts : Syntaxes) → list_parts t ≡ Some ts → listed_names t ≡ names_of ts
 names_in_list t ts h = parts_names t ∙ ap (λ o. o >>= names_of) h
 
-pub no_list : (k : Unread) (known : Known) (cs : List Channel) (t : Syntax) (sets : Syntaxes) → Fails k (list_parts t) → Fails k (entered known cs (channels_named (listed_names t) sets))
+pub no_list : (k : ReadError) (known : Known) (cs : List Channel) (t : Syntax) (sets : Syntaxes) → Fails k (list_parts t) → Fails k (entered known cs (channels_named (listed_names t) sets))
 no_list k known cs t sets h = fails_on k (list_parts t) (entered known cs (channels_named (listed_names t) sets)) (λ n. ap (λ o. entered known cs (channels_named o sets)) (parts_names t ∙ ap (λ o. o >>= names_of) n)) h
 
 -- ---- the answers of the alphabet

@@ -1,6 +1,6 @@
 -- Parts that are taken one after the other, where it is known what is wanted of all that are left.
 use Rattle.std.proofs.Common.{◌≡◌, ℕ, ◌+◌, ◌<◌, ◌≤◌, List, length, drop, get_or, Option, Some, sym, ap, ◌∙◌}
-use Rattle.tokens.specs.declared.unread.Unread.{Unread}
+use Rattle.tokens.specs.declared.read_error.ReadError.{ReadError}
 use Rattle.syntax.specs.declared.tree.Tree.{Tree}
 use Rattle.syntax.specs.Grammar.{Syntax, Syntaxes, NoSyntax, MoreSyntax}
 use Rattle.syntax.specs.Parsing.{syntaxes}
@@ -27,5 +27,5 @@ module _ {A X : Type 0} (want : X → Syntaxes → Option X) (one : X → Syntax
   pub more : (ts : List (Tree A)) (i : ℕ) (t : Tree A) (x y : X) (whole : Option X) → want x (left_from ts i) ≡ whole → i < length ts → t ≡ get_or ts i t → one x (shape t) ≡ Some y → want y (left_from ts (i + 1)) ≡ whole
   more ts i t x y whole inv h is got = sym (next ts i t x h is ∙ ap (λ o. o >>= λ y. want y (left_from ts (i + 1))) got) ∙ inv
 
-  pub fail : (k : Unread) (ts : List (Tree A)) (i : ℕ) (t : Tree A) (x : X) (whole : Option X) → want x (left_from ts i) ≡ whole → i < length ts → t ≡ get_or ts i t → Fails k (one x (shape t)) → Fails k whole
+  pub fail : (k : ReadError) (ts : List (Tree A)) (i : ℕ) (t : Tree A) (x : X) (whole : Option X) → want x (left_from ts i) ≡ whole → i < length ts → t ≡ get_or ts i t → Fails k (one x (shape t)) → Fails k whole
   fail k ts i t x whole inv h is e = fails_on k (one x (shape t)) whole (λ n. sym inv ∙ next ts i t x h is ∙ ap (λ o. o >>= λ y. want y (left_from ts (i + 1))) n) e

@@ -4,7 +4,7 @@ use Rattle.std.proofs.lemmas.Bool.{ltb-true, ltb-false}
 use Rattle.std.specs.Prelude.{nat_lt, Result, Ok, Err, IfOk}
 use Rattle.std.specs.List.{list_all}
 use Rattle.alphabet.specs.Channels.{Channel, names, event_count}
-use Rattle.tokens.specs.declared.unread.Unread.{Unread}
+use Rattle.tokens.specs.declared.read_error.ReadError.{ReadError}
 use Rattle.syntax.specs.declared.form.Form.TheVariants as forms
 use Rattle.syntax.specs.Grammar.{Syntax, Called, Numeral, Node, Syntaxes}
 use Rattle.values.specs.Values.{◌>>=◌, Name}
@@ -123,16 +123,16 @@ declares_channels t ts es fs f g cs d p e s =
 
 -- ---- faults
 
-fails_some : {X Y : Type 0} (k : Unread) (o : Option X) (x : X) (p : Option Y) → o ≡ Some x → Fails k o → Fails k p
+fails_some : {X Y : Type 0} (k : ReadError) (o : Option X) (x : X) (p : Option Y) → o ≡ Some x → Fails k o → Fails k p
 fails_some k o x p h e = fails_on k o p (λ n. absurd (let z : None ≡ Some x = sym n ∙ h in cc)) e
 
 -- where names aren't distinct, they don't fit
-pub entries_none : (k : Unread) (t : Syntax) → Fails k (distinct_entries t) → Fails k (fitting_entries t)
+pub entries_none : (k : ReadError) (t : Syntax) → Fails k (distinct_entries t) → Fails k (fitting_entries t)
 unfolding fitting_entries
 entries_none k t h = fails_on k (distinct_entries t) (fitting_entries t) (λ n. ap (λ o. o >>= λ es. fitting es) n) h
 
 -- another fault may be answered for that of the names
-pub other_fails : (e : Unread) (t : Syntax) → distinct_entries t ≡ None → Fails e (fitting_entries t)
+pub other_fails : (e : ReadError) (t : Syntax) → distinct_entries t ≡ None → Fails e (fitting_entries t)
 other_fails e t h = entries_none e t (fails_none e (distinct_entries t) h)
 
 -- names whose parameters are in order, and others
@@ -140,7 +140,7 @@ pub fit_same : (es : List Entry) → list_all (λ e. have_parameters es e.1) es 
 unfolding fitting
 fit_same es h = ap (λ b. cond b (Some es) None) h
 
-pub unfit_fails : (k : Unread) (es : List Entry) → list_all (λ e. have_parameters es e.1) es ≡ false → Fails k (fitting es)
+pub unfit_fails : (k : ReadError) (es : List Entry) → list_all (λ e. have_parameters es e.1) es ≡ false → Fails k (fitting es)
 unfolding fitting
 unfit_fails k es h = fails_none k (fitting es) (ap (λ b. cond b (Some es) None) h)
 
@@ -148,13 +148,13 @@ pub entries_found : (t : Syntax) (es : List Entry) → distinct_entries t ≡ So
 unfolding fitting_entries
 entries_found t es h = sym (ap (λ o. o >>= λ es. fitting es) h)
 
-pub entries_fail : {Y : Type 0} (k : Unread) (t : Syntax) (es : List Entry) (f : Known) (cs : List Channel) (p : Option Y) → Declares t es f cs → Fails k (fitting_entries t) → Fails k p
+pub entries_fail : {Y : Type 0} (k : ReadError) (t : Syntax) (es : List Entry) (f : Known) (cs : List Channel) (p : Option Y) → Declares t es f cs → Fails k (fitting_entries t) → Fails k p
 entries_fail k t es f cs p d e = fails_some k (fitting_entries t) es p (declares_entries t es f cs d) e
 
-pub parts_fail : {Y : Type 0} (k : Unread) (t : Syntax) (es : List Entry) (f : Known) (cs : List Channel) (p : Option Y) → Declares t es f cs → Fails k (script_parts t) → Fails k p
+pub parts_fail : {Y : Type 0} (k : ReadError) (t : Syntax) (es : List Entry) (f : Known) (cs : List Channel) (p : Option Y) → Declares t es f cs → Fails k (script_parts t) → Fails k p
 parts_fail k t es f cs p d e = entries_fail k t es f cs p d (entries_none k t (parts_none k t e))
 
-pub channels_fail : {Y : Type 0} (k : Unread) (t : Syntax) (ts : Syntaxes) (es fs : List Entry) (f g : Known) (cs : List Channel) (p : Option Y) → Declares t es f cs → script_parts t ≡ Some ts → fitting_entries t ≡ Some fs → Stands fs g → Fails k (entered g [] (declared_by_all ts)) → Fails k p
+pub channels_fail : {Y : Type 0} (k : ReadError) (t : Syntax) (ts : Syntaxes) (es fs : List Entry) (f g : Known) (cs : List Channel) (p : Option Y) → Declares t es f cs → script_parts t ≡ Some ts → fitting_entries t ≡ Some fs → Stands fs g → Fails k (entered g [] (declared_by_all ts)) → Fails k p
 channels_fail k t ts es fs f g cs p d q e s h = fails_some k (entered g [] (declared_by_all ts)) cs p (declares_channels t ts es fs f g cs d q e s).2 h
 
 pub same_all : (es fs : List Entry) (f g : Known) (cs ds : List Channel) → es ≡ fs → f ≡ g → cs ≡ ds → (let a : Option (List Entry × Known × List Channel) = Some (es, f, cs) in let b : Option (List Entry × Known × List Channel) = Some (fs, g, ds) in a ≡ b)
@@ -163,11 +163,11 @@ same_all es fs f g cs ds a b c = λ i. Some (a i, b i, c i)
 -- ---- where the channels are entered over names and what they mean
 
 module _ (t : Syntax) (ts : Syntaxes) (es : List Entry) (f : Known) where
-  pub found_in : (r : Result (List Channel) Unread) → script_parts t ≡ Some ts → fitting_entries t ≡ Some es → Stands es f → Gives (λ cs. cs) r (entered f [] (declared_by_all ts)) → IfOk r (λ cs. Declares t es f cs)
+  pub found_in : (r : Result (List Channel) ReadError) → script_parts t ≡ Some ts → fitting_entries t ≡ Some es → Stands es f → Gives (λ cs. cs) r (entered f [] (declared_by_all ts)) → IfOk r (λ cs. Declares t es f cs)
   found_in (Ok cs) p e s h = found t ts es f cs p e s h
   found_in (Err k) p e s h = tt
 
-  pub found_only : (r : Result (List Channel) Unread) → script_parts t ≡ Some ts → fitting_entries t ≡ Some es → Stands es f → Gives (λ cs. cs) r (entered f [] (declared_by_all ts))
+  pub found_only : (r : Result (List Channel) ReadError) → script_parts t ≡ Some ts → fitting_entries t ≡ Some es → Stands es f → Gives (λ cs. cs) r (entered f [] (declared_by_all ts))
       → (fs : List Entry) (g : Known) (ds : List Channel) → Declares t fs g ds → Gives {Y = List Entry × Known × List Channel} (λ cs. (es, f, cs)) r (Some (fs, g, ds))
   found_only (Ok cs) p e s h fs g ds d =
       let r = declares_channels t ts fs es g f ds d p e s in

@@ -18,7 +18,7 @@ use declared_names::{
 };
 use std::alloc::Allocator;
 use syntax::Tree;
-use tokens::Unread;
+use tokens::ReadError;
 use values::Known;
 
 /// What a script declares.
@@ -33,7 +33,10 @@ pub struct Declared<'a, A: Allocator> {
 }
 
 /// Whether the parameters of these names are in order; else the fault in the names of the tree.
-fn fitting<'a, A: Allocator + Copy>(entries: &Entries<'a, A>, tree: &Tree<A>) -> Result<(), Unread>
+fn fitting<'a, A: Allocator + Copy>(
+    entries: &Entries<'a, A>,
+    tree: &Tree<A>,
+) -> Result<(), ReadError>
     ensures { Gives (λ _. entries_of entries.now) result (fitting_of (entries_of entries.now)) }
 {
     let fit = parameters_fit(entries)?;
@@ -48,7 +51,7 @@ fn fitting<'a, A: Allocator + Copy>(entries: &Entries<'a, A>, tree: &Tree<A>) ->
 fn fitting_entries<'a, A: Allocator + Copy>(
     alloc: A,
     tree: &'a Tree<A>,
-) -> Result<Entries<'a, A>, Unread>
+) -> Result<Entries<'a, A>, ReadError>
     ensures { Gives entries_of result (fitting_entries_of (shape tree.now)) }
 {
     match distinct_entries(alloc, tree) {
@@ -56,8 +59,8 @@ fn fitting_entries<'a, A: Allocator + Copy>(
             fitting(&entries, tree)?;
             Ok(entries)
         }
-        Err(Unread::Fault(_)) => Err(fault_of_names(tree)),
-        Err(Unread::Memory) => Err(Unread::Memory),
+        Err(ReadError::Fault(_)) => Err(fault_of_names(tree)),
+        Err(ReadError::Memory) => Err(ReadError::Memory),
     }
 }
 
@@ -67,7 +70,7 @@ fn alphabet_of_script<'a, A: Allocator + Copy>(
     entries: &Entries<'a, A>,
     known: &Known<A>,
     tree: &Tree<A>,
-) -> Result<Alphabet<A>, Unread>
+) -> Result<Alphabet<A>, ReadError>
     requires named { IsTrue (has_names (shape tree.now)) }
     requires entered { fitting_entries_of (shape tree.now) ≡ Some (entries_of entries.now) }
     requires stands { Stands (entries_of entries.now) (table known.now) }
@@ -84,7 +87,7 @@ fn known_with_alphabet<'a, A: Allocator + Copy>(
     alloc: A,
     entries: &Entries<'a, A>,
     tree: &Tree<A>,
-) -> Result<(Known<A>, Alphabet<A>), Unread>
+) -> Result<(Known<A>, Alphabet<A>), ReadError>
     requires named { IsTrue (has_names (shape tree.now)) }
     requires entered { fitting_entries_of (shape tree.now) ≡ Some (entries_of entries.now) }
     ensures found { IfOk result (λ p. Declares (shape tree.now) (entries_of entries.now) (table p.0) p.1) }
@@ -113,7 +116,7 @@ fn known_with_alphabet<'a, A: Allocator + Copy>(
 pub fn declare<'a, A: Allocator + Copy>(
     alloc: A,
     tree: &'a Tree<A>,
-) -> Result<Declared<'a, A>, Unread>
+) -> Result<Declared<'a, A>, ReadError>
     requires { IsTrue (has_names (shape tree.now)) }
     // What is found is what the script declares.
     ensures found { IfOk result (λ d. Declares (shape tree.now) (entries_of d.entries) (table d.known) d.alphabet) }

@@ -3,7 +3,7 @@
 ghost use Rattle.std.specs.Prelude.{◌≡◌, []};
 ghost use Rattle.syntax.specs.Parsing.{syntaxes};
 ghost use Rattle.syntax.specs.View.{shapes};
-ghost use Rattle.tokens.specs.declared.unread.Unread.TheVariants.{Memory};
+ghost use Rattle.tokens.specs.declared.read_error.ReadError.TheVariants.{Memory};
 ghost use Rattle.values.specs.Tables.{table};
 ghost use Rattle.values.specs.View.{Gives};
 ghost use Rattle.values.specs.Names.{declared_by_all};
@@ -18,7 +18,7 @@ use alphabet::Alphabet;
 use declared_names::{Entries, Meaning, Part, part_of, worth_alone};
 use std::alloc::Allocator;
 use syntax::{Form, Tree};
-use tokens::{Position, ScriptError, ScriptErrorKind, Unread, fault};
+use tokens::{Position, ReadError, ScriptError, ScriptErrorKind, fault};
 use values::{Input, Known, is_value, the_set};
 
 /// What is reported of the phrase, which is to be a set of values for a channel's field and which evaluation refuses.
@@ -27,7 +27,7 @@ fn field_fault<'a, A: Allocator + Copy>(
     entries: &Entries<'a, A>,
     known: &Known<A>,
     phrase: &Tree<A>,
-) -> Result<Kind, Unread> {
+) -> Result<Kind, ReadError> {
     let sight = seen_behind(alloc, entries, known, &[], phrase, false)?;
     kind_of(&sight, phrase, Wanted::Values, phrase.line())
 }
@@ -37,7 +37,7 @@ fn evaluated_set<A: Allocator + Copy>(
     alloc: A,
     known: &Known<A>,
     phrase: &Tree<A>,
-) -> Result<(), Unread> {
+) -> Result<(), ReadError> {
     the_set(worth_alone(alloc, known, phrase)?, phrase.line())?;
     Ok(())
 }
@@ -48,10 +48,10 @@ fn set_fault<'a, A: Allocator + Copy>(
     entries: &Entries<'a, A>,
     known: &Known<A>,
     set: &Tree<A>,
-) -> Result<(), Unread> {
+) -> Result<(), ReadError> {
     match evaluated_set(alloc, known, set) {
         Ok(()) => Ok(()),
-        Err(Unread::Memory) => Err(Unread::Memory),
+        Err(ReadError::Memory) => Err(ReadError::Memory),
         Err(own) => match field_fault(alloc, entries, known, set) {
             Ok(_) => Err(own),
             Err(error) => Err(error),
@@ -65,7 +65,7 @@ fn fields_fault<'a, A: Allocator + Copy>(
     entries: &Entries<'a, A>,
     known: &Known<A>,
     sets: &Tree<A>,
-) -> Result<(), Unread> {
+) -> Result<(), ReadError> {
     if let Part::Node(_, sets) = part_of(sets) {
         for set in sets {
             set_fault(alloc, entries, known, set)?;
@@ -80,7 +80,7 @@ fn channels_fault<'a, A: Allocator + Copy>(
     entries: &Entries<'a, A>,
     known: &Known<A>,
     declarations: &[Tree<A>],
-) -> Result<(), Unread> {
+) -> Result<(), ReadError> {
     for declaration in declarations {
         if let Part::Node(Form::ChannelsWithFields, [_names, sets]) = part_of(declaration) {
             fields_fault(alloc, entries, known, sets)?;
@@ -96,19 +96,19 @@ fn diagnosed_channels<'a, A: Allocator + Copy>(
     entries: &Entries<'a, A>,
     known: &Known<A>,
     declarations: &[Tree<A>],
-    error: Unread,
-) -> Unread
+    error: ReadError,
+) -> ReadError
     ensures { error ≡ Memory → result ≡ Memory }
 {
     match error {
-        Unread::Memory => error,
-        Unread::Fault(
+        ReadError::Memory => error,
+        ReadError::Fault(
             ScriptError {
                 kind: ScriptErrorKind::TooManyEvents,
                 ..
             },
         ) => error,
-        Unread::Fault(_) => match channels_fault(alloc, entries, known, declarations) {
+        ReadError::Fault(_) => match channels_fault(alloc, entries, known, declarations) {
             Ok(()) => error,
             Err(found) => found,
         },
@@ -122,7 +122,7 @@ pub(crate) fn declared_alphabet<'a, A: Allocator + Copy>(
     entries: &Entries<'a, A>,
     known: &Known<A>,
     declarations: &[Tree<A>],
-) -> Result<Alphabet<A>, Unread>
+) -> Result<Alphabet<A>, ReadError>
     requires { Follows (table known.now) [] (declared_by_all (syntaxes (shapes declarations.now))) }
     ensures { Gives (λ a. a) result (entered (table known.now) [] (declared_by_all (syntaxes (shapes declarations.now)))) }
 {
@@ -145,7 +145,7 @@ pub fn fault_of_name<'a, A: Allocator + Copy>(
     known: &Known<A>,
     name: &[u8],
     line: Position,
-) -> Unread {
+) -> ReadError {
     match kind_by_definitions(alloc, entries, known, name, line) {
         Ok(_) => fault(line, ScriptErrorKind::Expected),
         Err(error) => error,
@@ -159,7 +159,7 @@ fn kind_by_definitions<'a, A: Allocator + Copy>(
     known: &Known<A>,
     name: &[u8],
     line: Position,
-) -> Result<Kind, Unread> {
+) -> Result<Kind, ReadError> {
     let Some(entry) = entries.get(name) else {
         return Err(undeclared(name, line));
     };
@@ -186,7 +186,7 @@ pub fn fault_of_phrase<'a, A: Allocator + Copy>(
     inputs: &[Input<A>],
     phrase: &Tree<A>,
     wanted: Wanted,
-) -> Unread {
+) -> ReadError {
     match kind_behind_inputs(alloc, entries, known, inputs, phrase, wanted) {
         Ok(_) => fault(phrase.line(), ScriptErrorKind::Expected),
         Err(error) => error,
@@ -201,7 +201,7 @@ fn kind_behind_inputs<'a, A: Allocator + Copy>(
     inputs: &[Input<A>],
     phrase: &Tree<A>,
     wanted: Wanted,
-) -> Result<Kind, Unread> {
+) -> Result<Kind, ReadError> {
     let sight = seen_behind(alloc, entries, known, inputs, phrase, true)?;
     evaluated_kind(&sight, phrase, wanted)
 }
@@ -213,7 +213,7 @@ pub fn fault_of_beginning<'a, A: Allocator + Copy>(
     known: &Known<A>,
     inputs: &[Input<A>],
     phrase: &Tree<A>,
-) -> Unread {
+) -> ReadError {
     match beginning_behind_inputs(alloc, entries, known, inputs, phrase) {
         Ok(()) => fault(phrase.line(), ScriptErrorKind::Expected),
         Err(error) => error,
@@ -227,7 +227,7 @@ fn beginning_behind_inputs<'a, A: Allocator + Copy>(
     known: &Known<A>,
     inputs: &[Input<A>],
     phrase: &Tree<A>,
-) -> Result<(), Unread> {
+) -> Result<(), ReadError> {
     let sight = seen_behind(alloc, entries, known, inputs, phrase, true)?;
     event_in_set(&sight, phrase, false)
 }
@@ -239,7 +239,7 @@ pub fn fault_of_channel<'a, A: Allocator>(
     known: &Known<A>,
     inputs: &[Input<A>],
     phrase: &Tree<A>,
-) -> Unread {
+) -> ReadError {
     let line = phrase.line();
     match part_of(phrase) {
         Part::Node(Form::Event, [first, ..]) => match part_of(first) {
@@ -258,7 +258,7 @@ pub fn fault_of_call<'a, A: Allocator>(
     entries: &Entries<'a, A>,
     name: &[u8],
     line: Position,
-) -> Unread {
+) -> ReadError {
     match entries.get(name) {
         Some(_) => fault(line, ScriptErrorKind::Expected),
         None => undeclared(name, line),

@@ -7,7 +7,7 @@ use crate::sight::{Found, Sight};
 use declared_names::{Answer, Entries, Meaning, answer_of};
 use std::alloc::{AllocError, Allocator};
 use syntax::Tree;
-use tokens::Unread;
+use tokens::ReadError;
 use values::{Input, Known};
 
 /// The name that is all of the phrase, if it is one.
@@ -31,8 +31,8 @@ fn next_name<'a, A: Allocator + Copy>(
     };
     match without_conditions(sight, *body) {
         Ok(phrase) => Ok(bare_name(phrase)),
-        Err(Unread::Fault(_)) => Ok(None),
-        Err(Unread::Memory) => Err(AllocError),
+        Err(ReadError::Fault(_)) => Ok(None),
+        Err(ReadError::Memory) => Err(AllocError),
     }
 }
 
@@ -91,7 +91,7 @@ fn kind_behind<'a, A: Allocator + Copy>(
 fn kind_of_body<'a, A: Allocator + Copy>(
     sight: &Sight<'_, 'a, A>,
     body: &Tree<A>,
-) -> Result<Kind, Unread> {
+) -> Result<Kind, ReadError> {
     let phrase = without_conditions(sight, body)?;
     if let Some(kind) = kind_behind(sight, phrase)? {
         return Ok(kind);

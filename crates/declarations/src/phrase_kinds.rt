@@ -10,10 +10,10 @@ use crate::sight::{
 use declared_names::is_process_form;
 use std::alloc::Allocator;
 use syntax::{Form, Tree};
-use tokens::{Position, ScriptErrorKind, Unread, fault};
+use tokens::{Position, ReadError, ScriptErrorKind, fault};
 
 /// What a phrase is that means a set of values, or the fault of one that means nothing.
-fn ended(own: Option<Unread>) -> Result<Kind, Unread> {
+fn ended(own: Option<ReadError>) -> Result<Kind, ReadError> {
     match own {
         Some(own) => Err(own),
         None => Ok(Kind::Values),
@@ -21,7 +21,7 @@ fn ended(own: Option<Unread>) -> Result<Kind, Unread> {
 }
 
 /// The kind, where it is wanted of a phrase on this line.
-fn as_wanted(wanted: Wanted, kind: Kind, line: Position) -> Result<Kind, Unread> {
+fn as_wanted(wanted: Wanted, kind: Kind, line: Position) -> Result<Kind, ReadError> {
     if takes(wanted, kind) {
         Ok(kind)
     } else {
@@ -51,7 +51,7 @@ fn is_input<A: Allocator>(field: &Tree<A>) -> bool {
 enum Evaluation {
     Is(Kind),
     /// Its parts are to be looked into. This is reported where they are as they should be; none where it means a set.
-    Unclear(Option<Unread>),
+    Unclear(Option<ReadError>),
 }
 
 /// What evaluation says of the phrase. What is made of two sets isn't evaluated as a whole, since that is costly and says
@@ -59,7 +59,7 @@ enum Evaluation {
 fn evaluation_of<A: Allocator + Copy>(
     sight: &Sight<'_, '_, A>,
     phrase: &Tree<A>,
-) -> Result<Evaluation, Unread> {
+) -> Result<Evaluation, ReadError> {
     if let Tree::Node { form, .. } = phrase {
         if matches!(form, Form::Union | Form::Intersection | Form::Difference) {
             return Ok(Evaluation::Unclear(None));
@@ -68,7 +68,7 @@ fn evaluation_of<A: Allocator + Copy>(
     match kind_here(sight, phrase) {
         Ok(Kind::Nothing) => Ok(Evaluation::Unclear(None)),
         Ok(kind) => Ok(Evaluation::Is(kind)),
-        Err(Unread::Memory) => Err(Unread::Memory),
+        Err(ReadError::Memory) => Err(ReadError::Memory),
         Err(own) => Ok(Evaluation::Unclear(Some(own))),
     }
 }
@@ -79,7 +79,7 @@ fn evaluation_as_wanted<A: Allocator + Copy>(
     phrase: &Tree<A>,
     wanted: Wanted,
     line: Position,
-) -> Result<Evaluation, Unread> {
+) -> Result<Evaluation, ReadError> {
     match evaluation_of(sight, phrase)? {
         Evaluation::Is(kind) => Ok(Evaluation::Is(as_wanted(wanted, kind, line)?)),
         unclear => match phrase {
@@ -97,8 +97,8 @@ fn fault_after<A: Allocator + Copy>(
     sight: &Sight<'_, '_, A>,
     phrase: &Tree<A>,
     kind: Kind,
-    error: Unread,
-) -> Unread {
+    error: ReadError,
+) -> ReadError {
     match as_evaluated(sight, phrase, kind) {
         Ok(_) => error,
         Err(own) => own,
@@ -112,7 +112,7 @@ fn as_wanted_of<A: Allocator + Copy>(
     wanted: Wanted,
     kind: Kind,
     line: Position,
-) -> Result<Kind, Unread> {
+) -> Result<Kind, ReadError> {
     match as_wanted(wanted, kind, line) {
         Ok(kind) => Ok(kind),
         Err(error) => Err(fault_after(sight, phrase, kind, error)),
@@ -127,7 +127,7 @@ fn as_both<A: Allocator + Copy>(
     first: Kind,
     right: &Tree<A>,
     second: Kind,
-) -> Result<Kind, Unread> {
+) -> Result<Kind, ReadError> {
     match kind_of_both(first, second) {
         Some(kind) => Ok(kind),
         None => {
@@ -144,7 +144,7 @@ fn kind_alone<A: Allocator + Copy>(
     form: Form,
     parts: &[Tree<A>],
     line: Position,
-) -> Result<Kind, Unread> {
+) -> Result<Kind, ReadError> {
     match form {
         Form::Event => kind_of_event(sight, parts, line),
         Form::Call => kind_of_call(sight, parts, line),
@@ -164,7 +164,7 @@ pub(crate) fn kind_of<A: Allocator + Copy>(
     phrase: &Tree<A>,
     wanted: Wanted,
     line: Position,
-) -> Result<Kind, Unread> {
+) -> Result<Kind, ReadError> {
     let phrase = without_conditions(sight, phrase)?;
     match evaluation_as_wanted(sight, phrase, wanted, line)? {
         Evaluation::Is(kind) => Ok(kind),
@@ -180,8 +180,8 @@ pub(crate) fn kind_of<A: Allocator + Copy>(
 fn kind_by_parts<A: Allocator + Copy>(
     sight: &Sight<'_, '_, A>,
     phrase: &Tree<A>,
-    own: Option<Unread>,
-) -> Result<Kind, Unread> {
+    own: Option<ReadError>,
+) -> Result<Kind, ReadError> {
     let Tree::Node { line, form, parts } = phrase else {
         return ended(own);
     };
@@ -200,7 +200,7 @@ fn kind_by_parts<A: Allocator + Copy>(
 fn decided<A: Allocator + Copy>(
     sight: &Sight<'_, '_, A>,
     phrase: &Tree<A>,
-) -> Result<bool, Unread> {
+) -> Result<bool, ReadError> {
     if let Some(truth) = truth_behind(&sight.alloc, sight.known, sight.inputs, phrase)? {
         return Ok(truth);
     }
@@ -215,8 +215,8 @@ fn connected<A: Allocator + Copy>(
     sight: &Sight<'_, '_, A>,
     decisive: bool,
     sides: &[Tree<A>],
-    own: Option<Unread>,
-) -> Result<Kind, Unread> {
+    own: Option<ReadError>,
+) -> Result<Kind, ReadError> {
     if let [first, second] = sides {
         if decided(sight, first)? != decisive {
             kind_of(sight, second, Wanted::Truth, second.line())?;
@@ -231,7 +231,7 @@ fn as_before(
     before: Option<Kind>,
     kind: Kind,
     line: Position,
-) -> Result<Option<Kind>, Unread> {
+) -> Result<Option<Kind>, ReadError> {
     match (wanted, before) {
         (Wanted::Comparable, Some(before)) if before != kind => {
             Err(fault(line, ScriptErrorKind::Expected))
@@ -246,8 +246,8 @@ fn each<A: Allocator + Copy>(
     sight: &Sight<'_, '_, A>,
     wanted: Wanted,
     parts: &[Tree<A>],
-    own: Option<Unread>,
-) -> Result<Kind, Unread> {
+    own: Option<ReadError>,
+) -> Result<Kind, ReadError> {
     let mut before = None;
     for part in parts {
         let line = part.line();
@@ -263,7 +263,7 @@ fn is_event_as_first<A: Allocator>(
     kind: Kind,
     first: Option<bool>,
     line: Position,
-) -> Result<bool, Unread> {
+) -> Result<bool, ReadError> {
     let is_event = kind == Kind::Event;
     if first.unwrap_or(is_event) != is_event {
         return Err(fault(line, ScriptErrorKind::Expected));
@@ -279,8 +279,8 @@ fn is_event_as_first<A: Allocator>(
 fn kind_of_members<A: Allocator + Copy>(
     sight: &Sight<'_, '_, A>,
     members: &[Tree<A>],
-    own: Option<Unread>,
-) -> Result<Kind, Unread> {
+    own: Option<ReadError>,
+) -> Result<Kind, ReadError> {
     let mut first = None;
     for member in members {
         let line = member.line();
@@ -302,7 +302,7 @@ fn kind_of_members<A: Allocator + Copy>(
 fn kind_of_productions<A: Allocator + Copy>(
     sight: &Sight<'_, '_, A>,
     events: &[Tree<A>],
-) -> Result<Kind, Unread> {
+) -> Result<Kind, ReadError> {
     for event in events {
         kind_of_events(sight, event.line())?;
         event_in_set(sight, event, false)?;
@@ -317,7 +317,7 @@ fn sets_of_event<'a, A: Allocator + Copy>(
     fields: &[Tree<A>],
     is_member: bool,
     line: Position,
-) -> Result<&'a [Tree<A>], Unread> {
+) -> Result<&'a [Tree<A>], ReadError> {
     let sets = field_sets(sight, name, line)?;
     if fields.iter().any(is_input) {
         return Err(fault(line, ScriptErrorKind::Expected));
@@ -335,7 +335,7 @@ pub(crate) fn event_in_set<A: Allocator + Copy>(
     sight: &Sight<'_, '_, A>,
     phrase: &Tree<A>,
     is_member: bool,
-) -> Result<(), Unread> {
+) -> Result<(), ReadError> {
     let Tree::Node { line, parts, .. } = without_conditions(sight, phrase)? else {
         return Ok(());
     };
@@ -365,7 +365,7 @@ fn values_in_sets<A: Allocator + Copy>(
     sight: &Sight<'_, '_, A>,
     fields: &[Tree<A>],
     sets: &[Tree<A>],
-) -> Result<(), Unread> {
+) -> Result<(), ReadError> {
     for (field, set) in fields.iter().zip(sets) {
         if let Some(value) = value_of_field(field) {
             kind_of(sight, value, Wanted::Value, value.line())?;
@@ -380,8 +380,8 @@ fn values_in_sets<A: Allocator + Copy>(
 fn kind_of_sets<A: Allocator + Copy>(
     sight: &Sight<'_, '_, A>,
     parts: &[Tree<A>],
-    own: Option<Unread>,
-) -> Result<Kind, Unread> {
+    own: Option<ReadError>,
+) -> Result<Kind, ReadError> {
     let [left, right] = parts else {
         return ended(own);
     };
@@ -398,7 +398,7 @@ fn kind_of_sets<A: Allocator + Copy>(
 pub(crate) fn without_conditions<'t, A: Allocator + Copy>(
     sight: &Sight<'_, '_, A>,
     phrase: &'t Tree<A>,
-) -> Result<&'t Tree<A>, Unread>
+) -> Result<&'t Tree<A>, ReadError>
     ensures { IfOk result (λ t. size-Tree _ t.now ≤ size-Tree _ phrase.now) }
 {
     let Tree::Node { form, parts, .. } = phrase else {
@@ -422,7 +422,7 @@ pub(crate) fn evaluated_kind<A: Allocator + Copy>(
     sight: &Sight<'_, '_, A>,
     phrase: &Tree<A>,
     wanted: Wanted,
-) -> Result<Kind, Unread> {
+) -> Result<Kind, ReadError> {
     let kind = kind_of(sight, phrase, wanted, phrase.line())?;
     as_evaluated(sight, phrase, kind)
 }

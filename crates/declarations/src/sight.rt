@@ -4,7 +4,7 @@ use crate::kinds::Kind;
 use declared_names::{Entries, Meaning, Part, part_of, worth_alone};
 use std::alloc::{AllocError, Allocator};
 use syntax::Tree;
-use tokens::{Position, ScriptErrorKind, Unread, fault};
+use tokens::{Position, ReadError, ScriptErrorKind, fault};
 use values::{Input, Known, Value, Worth, is_value, stands_for};
 
 /// What was found of a definition.
@@ -13,7 +13,7 @@ pub(crate) enum Found {
     /// It wasn't looked into, or is being looked into.
     Nothing,
     Is(Kind),
-    Fault(Unread),
+    Fault(ReadError),
 }
 
 /// What is known where a fault is looked for.
@@ -34,7 +34,7 @@ pub(crate) struct Sight<'s, 'a, A: Allocator> {
 const BUILT_IN: [&str; 8] = ["CHAOS", "RUN", "DIV", "WAIT", "Int", "Bool", "Char", "Proc"];
 
 /// What is reported of a name that isn't declared.
-pub(crate) fn undeclared(name: &[u8], line: Position) -> Unread {
+pub(crate) fn undeclared(name: &[u8], line: Position) -> ReadError {
     for word in &BUILT_IN {
         if word.as_bytes() == name {
             return fault(line, ScriptErrorKind::Unsupported);
@@ -68,7 +68,7 @@ fn hides<A: Allocator>(sight: &Sight<'_, '_, A>, name: &[u8]) -> bool {
 fn worth_here<A: Allocator + Copy>(
     sight: &Sight<'_, '_, A>,
     phrase: &Tree<A>,
-) -> Result<Worth<A>, Unread> {
+) -> Result<Worth<A>, ReadError> {
     stands_for(&sight.alloc, sight.known, sight.inputs, phrase)
 }
 
@@ -76,7 +76,7 @@ fn worth_here<A: Allocator + Copy>(
 pub(crate) fn kind_here<A: Allocator + Copy>(
     sight: &Sight<'_, '_, A>,
     phrase: &Tree<A>,
-) -> Result<Kind, Unread> {
+) -> Result<Kind, ReadError> {
     let worth = worth_here(sight, phrase)?;
     Ok(kind_of_worth(&worth))
 }
@@ -86,7 +86,7 @@ pub(crate) fn as_evaluated<A: Allocator + Copy>(
     sight: &Sight<'_, '_, A>,
     phrase: &Tree<A>,
     kind: Kind,
-) -> Result<Kind, Unread> {
+) -> Result<Kind, ReadError> {
     if kind == Kind::Values {
         kind_here(sight, phrase)?;
     }
@@ -102,7 +102,7 @@ pub(crate) fn truth_behind<A: Allocator + Copy>(
 ) -> Result<Option<bool>, AllocError> {
     match stands_for(alloc, known, inputs, phrase) {
         Ok(Worth::Truth(truth)) => Ok(Some(truth)),
-        Err(Unread::Memory) => Err(AllocError),
+        Err(ReadError::Memory) => Err(AllocError),
         _ => Ok(None),
     }
 }
@@ -112,7 +112,7 @@ fn kind_found<A: Allocator>(
     sight: &Sight<'_, '_, A>,
     name: &[u8],
     line: Position,
-) -> Result<Kind, Unread> {
+) -> Result<Kind, ReadError> {
     let Some(place) = sight.entries.place(name) else {
         return Err(undeclared(name, line));
     };
@@ -129,7 +129,7 @@ pub(crate) fn kind_of_name<A: Allocator + Copy>(
     sight: &Sight<'_, '_, A>,
     name: &[u8],
     line: Position,
-) -> Result<Kind, Unread> {
+) -> Result<Kind, ReadError> {
     let Some(entry) = sight.entries.get(name) else {
         return Err(undeclared(name, line));
     };
@@ -147,7 +147,7 @@ pub(crate) fn kind_of_event<A: Allocator + Copy>(
     sight: &Sight<'_, '_, A>,
     parts: &[Tree<A>],
     line: Position,
-) -> Result<Kind, Unread> {
+) -> Result<Kind, ReadError> {
     let [first, fields @ ..] = parts else {
         return Err(fault(line, ScriptErrorKind::Expected));
     };
@@ -166,7 +166,7 @@ pub(crate) fn kind_of_call<A: Allocator + Copy>(
     sight: &Sight<'_, '_, A>,
     parts: &[Tree<A>],
     line: Position,
-) -> Result<Kind, Unread> {
+) -> Result<Kind, ReadError> {
     let [first, arguments @ ..] = parts else {
         return Err(fault(line, ScriptErrorKind::Expected));
     };
@@ -191,7 +191,7 @@ pub(crate) fn kind_of_call<A: Allocator + Copy>(
 pub(crate) fn kind_of_events<A: Allocator>(
     sight: &Sight<'_, '_, A>,
     line: Position,
-) -> Result<Kind, Unread> {
+) -> Result<Kind, ReadError> {
     if sight.has_events {
         Ok(Kind::Events)
     } else {
@@ -204,7 +204,7 @@ pub(crate) fn field_sets<'a, A: Allocator + Copy>(
     sight: &Sight<'_, 'a, A>,
     name: &Tree<A>,
     line: Position,
-) -> Result<&'a [Tree<A>], Unread> {
+) -> Result<&'a [Tree<A>], ReadError> {
     let Part::Name(name) = part_of(name) else {
         return Err(fault(line, ScriptErrorKind::Expected));
     };
@@ -233,7 +233,7 @@ fn is_in<A: Allocator + Copy>(
     sight: &Sight<'_, '_, A>,
     value: &Tree<A>,
     set: &Tree<A>,
-) -> Result<bool, Unread> {
+) -> Result<bool, ReadError> {
     let value = worth_here(sight, value)?;
     let set = worth_alone(sight.alloc, sight.known, set)?;
     Ok(contains(&set, &value))
@@ -244,7 +244,7 @@ pub(crate) fn in_set<A: Allocator + Copy>(
     sight: &Sight<'_, '_, A>,
     value: &Tree<A>,
     set: &Tree<A>,
-) -> Result<(), Unread> {
+) -> Result<(), ReadError> {
     if is_in(sight, value, set)? {
         Ok(())
     } else {

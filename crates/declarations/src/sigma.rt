@@ -21,7 +21,7 @@ use declared_names::{
 };
 use std::alloc::{AllocError, Allocator};
 use syntax::{Form, Tree};
-use tokens::{Position, ScriptErrorKind, Unread, fault};
+use tokens::{Position, ReadError, ScriptErrorKind, fault};
 use values::{Known, Value, Values, the_set};
 
 /// The value as one of a field.
@@ -53,7 +53,7 @@ fn push_field<A: Allocator + Copy>(
     known: &Known<A>,
     fields: &mut Vec<Field<A>, A>,
     set: &Tree<A>,
-) -> Result<(), Unread>
+) -> Result<(), ReadError>
     requires { list_all is_rising (map field_of fields.old.items) ≡ true }
     ensures fields { Gives (λ _. map field_of fields.new.items) result (add_field (table known.now) (map field_of fields.old.items) (shape set.now)) }
     ensures rising { IfOk result (λ _. list_all is_rising (map field_of fields.new.items) ≡ true) }
@@ -70,7 +70,7 @@ fn fields_of<A: Allocator + Copy>(
     alloc: A,
     known: &Known<A>,
     sets: &[Tree<A>],
-) -> Result<Vec<Field<A>, A>, Unread>
+) -> Result<Vec<Field<A>, A>, ReadError>
     ensures fields { Gives (λ v. map field_of v.items) result (fields_in (table known.now) (syntaxes (shapes sets.now))) }
     ensures rising { IfOk result (λ v. list_all is_rising (map field_of v.items) ≡ true) }
 {
@@ -87,7 +87,7 @@ fn add_channel<A: Allocator + Copy>(
     name: &[u8],
     line: Position,
     fields: &[Field<A>],
-) -> Result<(), Unread>
+) -> Result<(), ReadError>
     requires named { IsTrue (is_name name.now) }
     requires in_order { IsTrue (list_all is_field (map field_of fields.now)) }
     requires apart { IsTrue (are_apart (alphabet.old ++ channel_of name.now fields.now ∷ [])) }
@@ -97,7 +97,7 @@ fn add_channel<A: Allocator + Copy>(
         Ok(()) => Ok(()),
         Err(AlphabetError::Redeclared) => Err(fault(line, ScriptErrorKind::Redeclared)),
         Err(AlphabetError::TooManyEvents) => Err(fault(line, ScriptErrorKind::TooManyEvents)),
-        Err(AlphabetError::Memory) => Err(Unread::Memory),
+        Err(AlphabetError::Memory) => Err(ReadError::Memory),
     }
 }
 
@@ -107,7 +107,7 @@ fn add_channel_of<A: Allocator + Copy>(
     alphabet: &mut Alphabet<A>,
     name: &Tree<A>,
     fields: &[Field<A>],
-) -> Result<(), Unread>
+) -> Result<(), ReadError>
     requires { CanBeNamed alphabet.old (MoreSyntax (shape name.now) NoSyntax) (map field_of fields.now) }
     ensures { Gives (λ _. alphabet.new) result (with_names (map field_of fields.now) alphabet.old (MoreSyntax (shape name.now) NoSyntax)) }
 {
@@ -122,7 +122,7 @@ fn add_channels<A: Allocator + Copy>(
     alphabet: &mut Alphabet<A>,
     names: &[Tree<A>],
     fields: &[Field<A>],
-) -> Result<(), Unread>
+) -> Result<(), ReadError>
     requires { CanBeNamed alphabet.old (syntaxes (shapes names.now)) (map field_of fields.now) }
     ensures { Gives (λ _. alphabet.new) result (with_names (map field_of fields.now) alphabet.old (syntaxes (shapes names.now))) }
 {
@@ -139,7 +139,7 @@ fn add_names<A: Allocator + Copy>(
     alphabet: &mut Alphabet<A>,
     names: &[Tree<A>],
     sets: &[Tree<A>],
-) -> Result<(), Unread>
+) -> Result<(), ReadError>
     requires { Follows (table known.now) alphabet.old (channels_named (names_of (syntaxes (shapes names.now))) (syntaxes (shapes sets.now))) }
     ensures { Gives (λ _. alphabet.new) result (entered (table known.now) alphabet.old (channels_named (names_of (syntaxes (shapes names.now))) (syntaxes (shapes sets.now)))) }
 {
@@ -157,7 +157,7 @@ fn add_list<A: Allocator + Copy>(
     alphabet: &mut Alphabet<A>,
     names: &Tree<A>,
     sets: &[Tree<A>],
-) -> Result<(), Unread>
+) -> Result<(), ReadError>
     requires { Follows (table known.now) alphabet.old (channels_named (listed_names (shape names.now)) (syntaxes (shapes sets.now))) }
     ensures { Gives (λ _. alphabet.new) result (entered (table known.now) alphabet.old (channels_named (listed_names (shape names.now)) (syntaxes (shapes sets.now)))) }
 {
@@ -173,7 +173,7 @@ fn add_fielded<A: Allocator + Copy>(
     alphabet: &mut Alphabet<A>,
     names: &Tree<A>,
     sets: &Tree<A>,
-) -> Result<(), Unread>
+) -> Result<(), ReadError>
     requires { Follows (table known.now) alphabet.old (entries_of ChannelsWithFields (MoreSyntax (shape names.now) (MoreSyntax (shape sets.now) NoSyntax))) }
     ensures { Gives (λ _. alphabet.new) result (entered (table known.now) alphabet.old (entries_of ChannelsWithFields (MoreSyntax (shape names.now) (MoreSyntax (shape sets.now) NoSyntax)))) }
 {
@@ -189,7 +189,7 @@ fn add_form<A: Allocator + Copy>(
     form: Form,
     parts: &[Tree<A>],
     line: Position,
-) -> Result<(), Unread>
+) -> Result<(), ReadError>
     requires { Follows (table known.now) alphabet.old (entries_of form (syntaxes (shapes parts.now))) }
     ensures { Gives (λ _. alphabet.new) result (entered (table known.now) alphabet.old (entries_of form (syntaxes (shapes parts.now)))) }
 {
@@ -213,7 +213,7 @@ fn add_declaration<A: Allocator + Copy>(
     known: &Known<A>,
     alphabet: &mut Alphabet<A>,
     declaration: &Tree<A>,
-) -> Result<(), Unread>
+) -> Result<(), ReadError>
     requires { Follows (table known.now) alphabet.old (declared_by (shape declaration.now)) }
     ensures { Gives (λ _. alphabet.new) result (entered (table known.now) alphabet.old (declared_by (shape declaration.now))) }
 {
@@ -231,7 +231,7 @@ fn add_declarations<A: Allocator + Copy>(
     known: &Known<A>,
     alphabet: &mut Alphabet<A>,
     declarations: &[Tree<A>],
-) -> Result<(), Unread>
+) -> Result<(), ReadError>
     requires { Follows (table known.now) alphabet.old (declared_by_all (syntaxes (shapes declarations.now))) }
     ensures { Gives (λ _. alphabet.new) result (entered (table known.now) alphabet.old (declared_by_all (syntaxes (shapes declarations.now)))) }
 {
@@ -246,7 +246,7 @@ pub(crate) fn alphabet_of<A: Allocator + Copy>(
     alloc: A,
     known: &Known<A>,
     declarations: &[Tree<A>],
-) -> Result<Alphabet<A>, Unread>
+) -> Result<Alphabet<A>, ReadError>
     requires { Follows (table known.now) [] (declared_by_all (syntaxes (shapes declarations.now))) }
     ensures { Gives (λ a. a) result (entered (table known.now) [] (declared_by_all (syntaxes (shapes declarations.now)))) }
 {

@@ -1,6 +1,6 @@
 -- Steps over the parts of a tree, one after the other.
 use Rattle.std.proofs.Common.{◌≡◌, ℕ, zero, suc, ◌+◌, ◌<◌, ◌≤◌, List, [], ◌∷◌, length, drop, get_or, Option, Some, refl, sym, ap, ◌∙◌, arith, drop-cons}
-use Rattle.tokens.specs.declared.unread.Unread.{Unread}
+use Rattle.tokens.specs.declared.read_error.ReadError.{ReadError}
 use Rattle.syntax.specs.declared.tree.Tree.{Tree}
 use Rattle.syntax.specs.Grammar.{Syntax}
 use Rattle.syntax.specs.Parsing.{syntaxes}
@@ -33,7 +33,7 @@ module _ {A X : Type 0} (f : X → Syntax → Option X) where
   pub all_more : (ts : List (Tree A)) (i : ℕ) (t : Tree A) (x y : X) (whole : Option X) → from ts i x ≡ whole → i < length ts → t ≡ get_or ts i t → f x (shape t) ≡ Some y → from ts (i + 1) y ≡ whole
   all_more ts i t x y whole inv h is got = sym (next ts i t x h is ∙ ap (λ o. o >>= λ y. from ts (i + 1) y) got) ∙ inv
 
-  pub all_fail : (k : Unread) (ts : List (Tree A)) (i : ℕ) (t : Tree A) (x : X) (whole : Option X) → from ts i x ≡ whole → i < length ts → t ≡ get_or ts i t → Fails k (f x (shape t)) → Fails k whole
+  pub all_fail : (k : ReadError) (ts : List (Tree A)) (i : ℕ) (t : Tree A) (x : X) (whole : Option X) → from ts i x ≡ whole → i < length ts → t ≡ get_or ts i t → Fails k (f x (shape t)) → Fails k whole
   all_fail k ts i t x whole inv h is e = fails_on k (f x (shape t)) whole (λ n. sym inv ∙ next ts i t x h is ∙ ap (λ o. o >>= λ y. from ts (i + 1) y) n) e
 
   pub all_end : (ts : List (Tree A)) (i : ℕ) (x : X) (whole : Option X) → from ts i x ≡ whole → length ts ≤ i → whole ≡ Some x

@@ -1,6 +1,6 @@
 -- The declarations of a script, and the names that they declare.
 use Rattle.std.proofs.Common.{◌≡◌, [], cond, Some, None, refl, sym, ap, ◌∙◌}
-use Rattle.tokens.specs.declared.unread.Unread.{Unread}
+use Rattle.tokens.specs.declared.read_error.ReadError.{ReadError}
 use Rattle.syntax.specs.declared.form.Form.TheVariants as forms
 use Rattle.syntax.specs.Grammar.{Syntax, Called, Numeral, Node, Syntaxes}
 use Rattle.values.specs.Values.{◌>>=◌}
@@ -31,6 +31,6 @@ pub put_parts : (t : Syntax) (ts : Syntaxes) → script_parts t ≡ Some ts → 
 unfolding distinct_entries
 put_parts t ts h = entered ts ∙ ap (λ o. o >>= λ es. cond (are_distinct es) (Some es) None) (sym (parts_declared t ts h))
 
-pub parts_none : (k : Unread) (t : Syntax) → Fails k (script_parts t) → Fails k (distinct_entries t)
+pub parts_none : (k : ReadError) (t : Syntax) → Fails k (script_parts t) → Fails k (distinct_entries t)
 unfolding distinct_entries
 parts_none k t h = fails_on k (script_parts t) (distinct_entries t) (λ n. ap (λ o. o >>= λ es. cond (are_distinct es) (Some es) None) (no_parts t n)) h

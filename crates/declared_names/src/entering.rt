@@ -15,7 +15,7 @@ use crate::part::{Part, no_parts, part_of};
 use indexmap::IndexMap;
 use std::alloc::Allocator;
 use syntax::{Form, Tree};
-use tokens::{Position, ScriptErrorKind, Unread, fault};
+use tokens::{Position, ReadError, ScriptErrorKind, fault};
 
 /// Enters the name after the others; `Redeclared` where it is among them.
 pub(crate) fn enter<'a, A: Allocator + Copy>(
@@ -23,7 +23,7 @@ pub(crate) fn enter<'a, A: Allocator + Copy>(
     name: &[u8],
     line: Position,
     meaning: Meaning<'a, A>,
-) -> Result<(), Unread>
+) -> Result<(), ReadError>
     ensures { Gives (λ _. listed table.new.entries) result (put (listed table.old.entries) (name.now, meaning_of meaning.entry)) }
 {
     if table.contains_key(name) {
@@ -36,7 +36,7 @@ pub(crate) fn enter<'a, A: Allocator + Copy>(
 
 /// The parts of a list of names, as of channels, of a datatype's constants or of parameters; `Expected` where it is none.
 #[tactic(auto, unfolding(crate::specs::Entering::list_parts))]
-pub fn name_list<A: Allocator>(tree: &Tree<A>) -> Result<&[Tree<A>], Unread>
+pub fn name_list<A: Allocator>(tree: &Tree<A>) -> Result<&[Tree<A>], ReadError>
     ensures { Gives (λ ts. syntaxes (shapes ts.now)) result (list_parts (shape tree.now)) }
 {
     match part_of(tree) {
@@ -50,7 +50,7 @@ pub fn name_list<A: Allocator>(tree: &Tree<A>) -> Result<&[Tree<A>], Unread>
 
 /// The sets of a channel's fields, as they are written; `Expected` where the tree is no list of them.
 #[tactic(auto, unfolding(values::specs::Names::field_sets))]
-pub fn set_list<A: Allocator>(tree: &Tree<A>) -> Result<&[Tree<A>], Unread>
+pub fn set_list<A: Allocator>(tree: &Tree<A>) -> Result<&[Tree<A>], ReadError>
     ensures { Gives (λ ts. syntaxes (shapes ts.now)) result (field_sets (shape tree.now)) }
 {
     match part_of(tree) {
@@ -78,7 +78,7 @@ fn enter_name<'a, A: Allocator + Copy>(
     table: &mut Table<'a, A>,
     name: &'a Tree<A>,
     sets: Option<&'a [Tree<A>]>,
-) -> Result<(), Unread>
+) -> Result<(), ReadError>
     ensures { Gives (λ _. listed table.new.entries) result (put_name (role sets.entry) (listed table.old.entries) (shape name.now)) }
 {
     match part_of(name) {
@@ -92,7 +92,7 @@ fn enter_names<'a, A: Allocator + Copy>(
     table: &mut Table<'a, A>,
     names: &'a [Tree<A>],
     sets: Option<&'a [Tree<A>]>,
-) -> Result<(), Unread>
+) -> Result<(), ReadError>
     ensures { Gives (λ _. listed table.new.entries) result (steps (put_name (role sets.entry)) (listed table.old.entries) (syntaxes (shapes names.now))) }
 {
     for name in names {
@@ -107,7 +107,7 @@ fn push_name<A: Allocator + Copy>(
     alloc: A,
     names: &mut Vec<Vec<u8, A>, A>,
     part: &Tree<A>,
-) -> Result<(), Unread>
+) -> Result<(), ReadError>
     ensures { Gives (λ _. map (λ n. n.items) names.new.items) result (add_name (map (λ n. n.items) names.old.items) (shape part.now)) }
 {
     let Part::Name(text) = part_of(part) else {
@@ -118,7 +118,10 @@ fn push_name<A: Allocator + Copy>(
 }
 
 /// The names in a list of names.
-fn names_in<A: Allocator + Copy>(alloc: A, parts: &[Tree<A>]) -> Result<Vec<Vec<u8, A>, A>, Unread>
+fn names_in<A: Allocator + Copy>(
+    alloc: A,
+    parts: &[Tree<A>],
+) -> Result<Vec<Vec<u8, A>, A>, ReadError>
     ensures { Gives (λ v. map (λ n. n.items) v.items) result (steps add_name [] (syntaxes (shapes parts.now))) }
 {
     let mut names = Vec::new(alloc);
@@ -134,7 +137,7 @@ fn enter_channels<'a, A: Allocator + Copy>(
     table: &mut Table<'a, A>,
     names: &'a Tree<A>,
     sets: &'a [Tree<A>],
-) -> Result<(), Unread>
+) -> Result<(), ReadError>
     ensures { Gives (λ _. listed table.new.entries) result (put_channels (listed table.old.entries) (shape names.now) (syntaxes (shapes sets.now))) }
 {
     let names = name_list(names)?;
@@ -147,7 +150,7 @@ fn enter_fielded<'a, A: Allocator + Copy>(
     table: &mut Table<'a, A>,
     names: &'a Tree<A>,
     sets: &'a Tree<A>,
-) -> Result<(), Unread>
+) -> Result<(), ReadError>
     ensures { Gives (λ _. listed table.new.entries) result (put_fielded (listed table.old.entries) (shape names.now) (shape sets.now)) }
 {
     let sets = set_list(sets)?;
@@ -162,7 +165,7 @@ fn enter_datatype<'a, A: Allocator + Copy>(
     name: &[u8],
     line: Position,
     constants: &'a [Tree<A>],
-) -> Result<(), Unread>
+) -> Result<(), ReadError>
     ensures { Gives (λ _. listed table.new.entries) result (put_datatype (listed table.old.entries) name.now (syntaxes (shapes constants.now))) }
 {
     let names = names_in(alloc, constants)?;
@@ -177,7 +180,7 @@ fn enter_typed<'a, A: Allocator + Copy>(
     table: &mut Table<'a, A>,
     name: &'a Tree<A>,
     constants: &'a Tree<A>,
-) -> Result<(), Unread>
+) -> Result<(), ReadError>
     ensures { Gives (λ _. listed table.new.entries) result (put_typed (listed table.old.entries) (shape name.now) (shape constants.now)) }
 {
     let Part::Name(text) = part_of(name) else {
@@ -193,7 +196,7 @@ fn enter_defined<'a, A: Allocator + Copy>(
     table: &mut Table<'a, A>,
     name: &'a Tree<A>,
     body: &'a Tree<A>,
-) -> Result<(), Unread>
+) -> Result<(), ReadError>
     ensures { Gives (λ _. listed table.new.entries) result (put_defined (listed table.old.entries) (shape name.now) (shape body.now)) }
 {
     match part_of(name) {
@@ -210,7 +213,7 @@ fn enter_parametric<'a, A: Allocator + Copy>(
     name: &'a Tree<A>,
     parameters: &'a Tree<A>,
     body: &'a Tree<A>,
-) -> Result<(), Unread>
+) -> Result<(), ReadError>
     ensures { Gives (λ _. listed table.new.entries) result (put_parametric (listed table.old.entries) (shape name.now) (shape parameters.now) (shape body.now)) }
 {
     let Part::Name(text) = part_of(name) else {
@@ -234,7 +237,7 @@ fn enter_two<'a, A: Allocator + Copy>(
     line: Position,
     first: &'a Tree<A>,
     second: &'a Tree<A>,
-) -> Result<(), Unread>
+) -> Result<(), ReadError>
     ensures { Gives (λ _. listed table.new.entries) result (put_form (listed table.old.entries) form (MoreSyntax (shape first.now) (MoreSyntax (shape second.now) NoSyntax))) }
 {
     match form {
@@ -252,7 +255,7 @@ fn enter_form<'a, A: Allocator + Copy>(
     form: Form,
     parts: &'a [Tree<A>],
     line: Position,
-) -> Result<(), Unread>
+) -> Result<(), ReadError>
     ensures { Gives (λ _. listed table.new.entries) result (put_form (listed table.old.entries) form (syntaxes (shapes parts.now))) }
 {
     match parts {
@@ -277,7 +280,7 @@ fn enter_declaration<'a, A: Allocator + Copy>(
     alloc: A,
     table: &mut Table<'a, A>,
     declaration: &'a Tree<A>,
-) -> Result<(), Unread>
+) -> Result<(), ReadError>
     ensures { Gives (λ _. listed table.new.entries) result (put_declaration (listed table.old.entries) (shape declaration.now)) }
 {
     match part_of(declaration) {
@@ -291,7 +294,7 @@ fn enter_declarations<'a, A: Allocator + Copy>(
     alloc: A,
     table: &mut Table<'a, A>,
     declarations: &'a [Tree<A>],
-) -> Result<(), Unread>
+) -> Result<(), ReadError>
     ensures { Gives (λ _. listed table.new.entries) result (steps put_declaration (listed table.old.entries) (syntaxes (shapes declarations.now))) }
 {
     for declaration in declarations {
@@ -302,7 +305,7 @@ fn enter_declarations<'a, A: Allocator + Copy>(
 
 /// The declarations of a script; `Expected` where the tree is none of a script.
 #[tactic(auto, unfolding(crate::specs::Entering::script_parts))]
-pub fn declarations_of<A: Allocator>(tree: &Tree<A>) -> Result<&[Tree<A>], Unread>
+pub fn declarations_of<A: Allocator>(tree: &Tree<A>) -> Result<&[Tree<A>], ReadError>
     ensures { Gives (λ ts. syntaxes (shapes ts.now)) result (script_parts (shape tree.now)) }
 {
     match part_of(tree) {
@@ -319,7 +322,7 @@ pub fn declarations_of<A: Allocator>(tree: &Tree<A>) -> Result<&[Tree<A>], Unrea
 pub fn distinct_entries<'a, A: Allocator + Copy>(
     alloc: A,
     tree: &'a Tree<A>,
-) -> Result<Entries<'a, A>, Unread>
+) -> Result<Entries<'a, A>, ReadError>
     ensures { Gives entries_of result (distinct_entries_of (shape tree.now)) }
 {
     let declarations = declarations_of(tree)?;

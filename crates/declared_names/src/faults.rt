@@ -5,7 +5,7 @@ use crate::entries::Hashing;
 use indexmap::IndexSet;
 use std::alloc::Allocator;
 use syntax::{Form, Tree};
-use tokens::{ScriptErrorKind, Unread, fault};
+use tokens::{ReadError, ScriptErrorKind, fault};
 
 type Names<'a, A> = IndexSet<&'a [u8], Hashing, A>;
 
@@ -13,7 +13,7 @@ type Names<'a, A> = IndexSet<&'a [u8], Hashing, A>;
 fn put_name<'a, A: Allocator + Copy>(
     names: &mut Names<'a, A>,
     name: &'a Tree<A>,
-) -> Result<bool, Unread> {
+) -> Result<bool, ReadError> {
     match name {
         Tree::Name { text, .. } => {
             let new = names.insert(text.as_slice())?;
@@ -27,7 +27,7 @@ fn put_name<'a, A: Allocator + Copy>(
 fn put_new<'a, A: Allocator + Copy>(
     names: &mut Names<'a, A>,
     name: &'a Tree<A>,
-) -> Result<(), Unread> {
+) -> Result<(), ReadError> {
     if put_name(names, name)? {
         Ok(())
     } else {
@@ -39,7 +39,7 @@ fn put_new<'a, A: Allocator + Copy>(
 fn put_all_new<'a, A: Allocator + Copy>(
     names: &mut Names<'a, A>,
     more: &'a [Tree<A>],
-) -> Result<(), Unread> {
+) -> Result<(), ReadError> {
     for name in more {
         put_new(names, name)?;
     }
@@ -50,7 +50,7 @@ fn put_all_new<'a, A: Allocator + Copy>(
 fn put_each<'a, A: Allocator + Copy>(
     names: &mut Names<'a, A>,
     more: &'a [Tree<A>],
-) -> Result<(), Unread> {
+) -> Result<(), ReadError> {
     for name in more {
         let _new = put_name(names, name)?;
     }
@@ -61,7 +61,7 @@ fn put_each<'a, A: Allocator + Copy>(
 fn put_constants<'a, A: Allocator + Copy>(
     names: &mut Names<'a, A>,
     declaration: &'a Tree<A>,
-) -> Result<(), Unread> {
+) -> Result<(), ReadError> {
     match declaration {
         Tree::Node {
             form: Form::Datatype,
@@ -80,7 +80,7 @@ fn look_at_parameter<'a, A: Allocator + Copy>(
     constants: &Names<'a, A>,
     earlier: &mut Names<'a, A>,
     parameter: &'a Tree<A>,
-) -> Result<(), Unread> {
+) -> Result<(), ReadError> {
     put_new(earlier, parameter)?;
     match parameter {
         Tree::Name { line, text } if constants.contains(text.as_slice()) => {
@@ -96,7 +96,7 @@ fn look_at_parameters<'a, A: Allocator + Copy>(
     alloc: A,
     constants: &Names<'a, A>,
     parameters: &'a [Tree<A>],
-) -> Result<(), Unread> {
+) -> Result<(), ReadError> {
     let mut earlier = IndexSet::new(alloc);
     for parameter in parameters {
         look_at_parameter(constants, &mut earlier, parameter)?;
@@ -108,7 +108,7 @@ fn look_at_parameters<'a, A: Allocator + Copy>(
 fn put_listed<'a, A: Allocator + Copy>(
     names: &mut Names<'a, A>,
     list: &'a Tree<A>,
-) -> Result<(), Unread> {
+) -> Result<(), ReadError> {
     put_all_new(names, name_list(list)?)
 }
 
@@ -117,7 +117,7 @@ fn put_datatype<'a, A: Allocator + Copy>(
     names: &mut Names<'a, A>,
     name: &'a Tree<A>,
     constants: &'a Tree<A>,
-) -> Result<(), Unread> {
+) -> Result<(), ReadError> {
     put_new(names, name)?;
     put_listed(names, constants)
 }
@@ -128,7 +128,7 @@ fn put_two<'a, A: Allocator + Copy>(
     form: Form,
     first: &'a Tree<A>,
     second: &'a Tree<A>,
-) -> Result<(), Unread> {
+) -> Result<(), ReadError> {
     match form {
         Form::ChannelsWithFields => put_listed(names, first),
         Form::Datatype => put_datatype(names, first, second),
@@ -143,7 +143,7 @@ fn put_parametric<'a, A: Allocator + Copy>(
     names: &mut Names<'a, A>,
     name: &'a Tree<A>,
     parameters: &'a Tree<A>,
-) -> Result<(), Unread> {
+) -> Result<(), ReadError> {
     put_new(names, name)?;
     look_at_parameters(alloc, constants, name_list(parameters)?)
 }
@@ -154,7 +154,7 @@ fn put_declared<'a, A: Allocator + Copy>(
     constants: &Names<'a, A>,
     names: &mut Names<'a, A>,
     declaration: &'a Tree<A>,
-) -> Result<(), Unread> {
+) -> Result<(), ReadError> {
     let Tree::Node { form, parts, .. } = declaration else {
         return Ok(());
     };
@@ -172,7 +172,7 @@ fn look_at_names<'a, A: Allocator + Copy>(
     alloc: A,
     constants: &Names<'a, A>,
     declarations: &'a [Tree<A>],
-) -> Result<(), Unread> {
+) -> Result<(), ReadError> {
     let mut names = IndexSet::new(alloc);
     for declaration in declarations {
         put_declared(alloc, constants, &mut names, declaration)?;
@@ -184,7 +184,7 @@ fn look_at_names<'a, A: Allocator + Copy>(
 fn look_through<'a, A: Allocator + Copy>(
     alloc: A,
     declarations: &'a [Tree<A>],
-) -> Result<(), Unread> {
+) -> Result<(), ReadError> {
     let mut constants = IndexSet::new(alloc);
     for declaration in declarations {
         put_constants(&mut constants, declaration)?;
@@ -195,7 +195,7 @@ fn look_through<'a, A: Allocator + Copy>(
 /// The first fault in the names that a script with this tree declares, where names are declared twice or parameters aren't as
 /// they have to be: `Redeclared` at a name or a parameter that is given for the second time, `Unsupported` at a parameter
 /// with the name of a constant; `Memory` where it can't be looked for. Costs a few look-ups by its hash for each name.
-pub fn fault_of_names<A: Allocator + Copy>(tree: &Tree<A>) -> Unread {
+pub fn fault_of_names<A: Allocator + Copy>(tree: &Tree<A>) -> ReadError {
     if let Tree::Node { parts, .. } = tree {
         if let Err(error) = look_through(*parts.allocator(), parts) {
             return error;

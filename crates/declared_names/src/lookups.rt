@@ -10,11 +10,11 @@ ghost use Rattle.declared_names.specs.View.{entries as entries_of, meaning_of};
 use crate::entries::{Entries, Entry, Table};
 use crate::process_answers::answers;
 use std::alloc::Allocator;
-use tokens::Unread;
+use tokens::ReadError;
 
 impl<'a, A: Allocator + Copy> Entries<'a, A> {
     /// The names in the table, with what can be found of them all at once.
-    pub(crate) fn complete(alloc: A, table: Table<'a, A>) -> Result<Entries<'a, A>, Unread>
+    pub(crate) fn complete(alloc: A, table: Table<'a, A>) -> Result<Entries<'a, A>, ReadError>
         ensures { Gives entries_of result (Some (listed table.entry.entries)) }
     {
         let entries = Entries {

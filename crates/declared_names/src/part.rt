@@ -11,7 +11,7 @@ ghost use Rattle.declared_names.specs.View.{part_shape};
 
 use std::alloc::Allocator;
 use syntax::{Form, Tree};
-use tokens::{Position, ScriptErrorKind, Unread, fault};
+use tokens::{Position, ReadError, ScriptErrorKind, fault};
 use values::{Known, Worth, stands_for};
 
 /// What a tree is, one level of it.
@@ -37,7 +37,7 @@ pub fn part_of<A: Allocator>(tree: &Tree<A>) -> Part<'_, A>
 }
 
 /// The only part; `Expected` on this line where there is another number of parts.
-pub fn only_part<A: Allocator>(parts: &[Tree<A>], line: Position) -> Result<&Tree<A>, Unread>
+pub fn only_part<A: Allocator>(parts: &[Tree<A>], line: Position) -> Result<&Tree<A>, ReadError>
     ensures { Gives (λ t. shape t.now) result (only_of (syntaxes (shapes parts.now))) }
 {
     match parts {
@@ -50,7 +50,7 @@ pub fn only_part<A: Allocator>(parts: &[Tree<A>], line: Position) -> Result<&Tre
 pub fn two_parts<A: Allocator>(
     parts: &[Tree<A>],
     line: Position,
-) -> Result<(&Tree<A>, &Tree<A>), Unread>
+) -> Result<(&Tree<A>, &Tree<A>), ReadError>
     ensures { Gives {Y = Syntax × Syntax} (λ p. (shape p.0.now, shape p.1.now)) result (two_of (syntaxes (shapes parts.now))) }
 {
     match parts {
@@ -72,7 +72,7 @@ pub fn worth_alone<A: Allocator + Copy>(
     alloc: A,
     known: &Known<A>,
     phrase: &Tree<A>,
-) -> Result<Worth<A>, Unread>
+) -> Result<Worth<A>, ReadError>
     ensures { Gives worth_of result (worth_in (table known.now) (shape phrase.now)) }
 {
     let none = Vec::new(alloc);

@@ -10,7 +10,7 @@ use crate::entries::{Entries, Entry, Meaning};
 use crate::part::worth_alone;
 use crate::search::{Learner, learn_names};
 use std::alloc::{AllocError, Allocator};
-use tokens::{Position, ScriptErrorKind, Unread, fault};
+use tokens::{Position, ReadError, ScriptErrorKind, fault};
 use values::{Known, Value, Worth, constant_set};
 
 /// What a declared name means, where names mean what the table says.
@@ -20,7 +20,7 @@ fn worth_of_entry<'a, A: Allocator + Copy>(
     known: &Known<A>,
     name: &[u8],
     entry: &Entry<'a, A>,
-) -> Result<Worth<A>, Unread>
+) -> Result<Worth<A>, ReadError>
     ensures { Gives worth_of result (worth_of_meaning (table known.now) name.now (meaning_of entry.now.meaning)) }
 {
     match &entry.meaning {
@@ -42,7 +42,7 @@ fn next_worth<'a, A: Allocator + Copy>(
     entries: &Entries<'a, A>,
     known: &Known<A>,
     name: &[u8],
-) -> Result<Worth<A>, Unread>
+) -> Result<Worth<A>, ReadError>
     ensures { Gives worth_of result (next_known (entries_of entries.now) (table known.now) name.now) }
 {
     match entries.get(name) {
@@ -74,8 +74,8 @@ impl<'a, A: Allocator + Copy> Learner<Known<A>> for Definitions<'a, A> {
                 known.insert(Vec::from_slice(self.alloc, name)?, worth)?;
                 Ok(true)
             }
-            Err(Unread::Fault(_)) => Ok(false),
-            Err(Unread::Memory) => Err(AllocError),
+            Err(ReadError::Fault(_)) => Ok(false),
+            Err(ReadError::Memory) => Err(AllocError),
         }
     }
 }

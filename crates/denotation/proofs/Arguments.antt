@@ -4,7 +4,7 @@ use Rattle.alphabet.specs.Channels.{FieldValue, Values}
 use Rattle.syntax.specs.Grammar.{Syntax}
 use Rattle.syntax.specs.View.{shape, shapes}
 use Rattle.syntax.specs.declared.tree.Tree.{Tree}
-use Rattle.tokens.specs.declared.unread.Unread.{Unread}
+use Rattle.tokens.specs.declared.read_error.ReadError.{ReadError}
 use Rattle.values.specs.Values.{◌>>=◌, Name}
 use Rattle.values.specs.Worths.{Known, worth, the_value}
 use Rattle.values.specs.Names.{Meaning, channel, datatype, constant_name, definition, parametric, meaning}
@@ -60,7 +60,7 @@ module _ (known : Known) (front : Values) where
   no_arguments = after_all front
 
   module _ (t : Syntax) (ts : List Syntax) where
-    pub argument_fails : (k : Unread) → Fails k (argument known t) → Fails k (after front (arguments_of known (t ∷ ts)))
+    pub argument_fails : (k : ReadError) → Fails k (argument known t) → Fails k (after front (arguments_of known (t ∷ ts)))
     argument_fails k f =
         fails_on k (argument known t) (after front (arguments_of known (t ∷ ts)))
         (λ e. ap (after front) (arguments_from known t ts ∙ ap (λ o. o >>= λ v. arguments_of known ts >>= λ vs. Some (v ∷ vs)) e)) f
@@ -78,7 +78,7 @@ module _ {A : Type 0} (known : Known) (all : List (Tree A)) (i : ℕ) (front : V
     from_here : after front (arguments_of known (shape t ∷ rest)) ≡ arguments_of known (shapes all)
     from_here = ap (λ ts. after front (arguments_of known (shapes ts))) (sym (drop_item all i t h at)) ∙ so_far
 
-    pub turn_fails : (k : Unread) → Fails k (argument known (shape t)) → Fails k (arguments_of known (shapes all))
+    pub turn_fails : (k : ReadError) → Fails k (argument known (shape t)) → Fails k (arguments_of known (shapes all))
     turn_fails k f = subst (λ o. Fails k o) from_here (argument_fails known front (shape t) rest k f)
 
     pub turn_so : (v : FieldValue) (new : Values) → argument known (shape t) ≡ Some v → new ≡ front ++ v ∷ [] → after new (arguments_of known rest) ≡ arguments_of known (shapes all)
@@ -146,7 +146,7 @@ module _ (s : Scope) (f : Name) (ts : List Syntax) where
         call_by : of_call ≡ from_arguments
         call_by = call_seen ∙ ap when_taken (takes_by (meaning s.entries f) xs t ts d ∙ for_all xs ts same)
 
-        pub call_fails : (k : Unread) (room : ℕ) → Fails k (arguments_of s.known ts) → Fails k (fits room of_call)
+        pub call_fails : (k : ReadError) (room : ℕ) → Fails k (arguments_of s.known ts) → Fails k (fits room of_call)
         unfolding fit
         call_fails k room e = fails_on k (arguments_of s.known ts) (fits room of_call) (λ n. ap (fits room) (call_by ∙ ap (λ o. o >>= λ vs. Some (name (f, vs))) n)) e
 

@@ -4,7 +4,7 @@ use Rattle.std.specs.Prelude.{option_to_list}
 use Rattle.std.proofs.lemmas.List.{map-append}
 use Rattle.alphabet.specs.Channels.{FieldValue, Values}
 use Rattle.syntax.specs.Grammar.{Syntax}
-use Rattle.tokens.specs.declared.unread.Unread.{Unread}
+use Rattle.tokens.specs.declared.read_error.ReadError.{ReadError}
 use Rattle.values.specs.Values.{◌>>=◌, Name}
 use Rattle.values.specs.View.{Fails}
 use Rattle.event_phrases.specs.Scopes.{Scope, with_input, within}
@@ -119,7 +119,7 @@ module _ (s : Scope) where
       by_name : once_found s is hs inner g ≡ ((generator_values (within s is) x set >>= λ vs. some_values x vs) >>= λ p. some_visits (visits_from s is (p.0, p.1, inner) hs))
       by_name = sym (ap (λ o. (o >>= λ p. generator_values (within s is) p.0 p.1 >>= λ vs. some_values p.0 vs) >>= λ p. some_visits (visits_from s is (p.0, p.1, inner) hs)) n)
 
-      pub set_fails : (k : Unread) → Fails k (generator_values (within s is) x set) → Fails k (once_found s is hs inner g)
+      pub set_fails : (k : ReadError) → Fails k (generator_values (within s is) x set) → Fails k (once_found s is hs inner g)
       set_fails k f =
           fails_on k (generator_values (within s is) x set) (once_found s is hs inner g)
           (λ e. by_name ∙ ap (λ o. (o >>= λ vs. some_values x vs) >>= λ p. some_visits (visits_from s is (p.0, p.1, inner) hs)) e) f
@@ -144,7 +144,7 @@ module _ (s : Scope) where
       not_found None e = refl
       not_found (Some p) e = absurd cc
 
-      pub opening_fails : (k : Unread) → Fails k (once_found s is hs inner g) → Fails k whole
+      pub opening_fails : (k : ReadError) → Fails k (once_found s is hs inner g) → Fails k whole
       opening_fails k f = fails_on k (once_found s is hs inner g) whole (λ e. sym inv ∙ ap first_scope from_found ∙ not_found (found_generator (within s is) g) e) f
 
       so_found : (o : Option (Name × Values)) (us : List Visit) → (o >>= λ p. some_visits (visits_from s is (p.0, p.1, inner) hs)) ≡ Some us → (behind_found (visits inner) (within s is) o ++ visits_after s is hs) ≡ opens ∷ us

@@ -1,6 +1,6 @@
 -- Room for nodes, step by step.
 use Rattle.std.proofs.Common.{◌≡◌, ℕ, zero, suc, ◌+◌, ◌-◌, ◌<◌, ◌≤◌, Option, Some, None, refl, sym, ap, subst, ◌∙◌, arith}
-use Rattle.tokens.specs.declared.unread.Unread.{Unread}
+use Rattle.tokens.specs.declared.read_error.ReadError.{ReadError}
 use Rattle.values.specs.Values.{◌>>=◌}
 use Rattle.values.specs.View.{Fails}
 use Rattle.event_phrases.proofs.Options.{bind_assoc, bind_none, step, fails_at}
@@ -55,7 +55,7 @@ module _ {X Z : Type 0} (nx : X → ℕ) (nz : Z → ℕ) (f : X → Z) (n : X �
           (λ i. spare (h x i) (f x) room) ∙ sym (rooms (nx x) (n x) room (some_pair (f x)))
           ∙ sym (bind_assoc (room_left (nx x) room) (some_pair x) (λ p. spare (n p.0) (f p.0) p.1))
 
-  pub one_fails : (k : Unread) → Fails k (fit nx room o) → Fails k one
+  pub one_fails : (k : ReadError) → Fails k (fit nx room o) → Fails k one
   one_fails k e = subst (λ o. Fails k o) (sym one_is) (fails_at k (fit nx room o) (λ p. spare (n p.0) (f p.0) p.1) e)
 
   pub one_so : (p : X × ℕ) → fit nx room o ≡ Some p → one ≡ spare (n p.0) (f p.0) p.1
@@ -95,21 +95,21 @@ module _ {X M Y Z : Type 0} (nx : X → ℕ) (ny : Y → ℕ) (nz : Z → ℕ) (
       by (Some x) None = sym (bind_none (spare (nx x) x room) (λ p. None) (λ p. refl))
       by (Some x) (Some a) = two_is nx ny nz (λ x y. f x a y) (n a) (λ x y. h x a y) room (Some x) u
 
-  pub three_first : (k : Unread) → Fails k (fit nx room o) → Fails k three
+  pub three_first : (k : ReadError) → Fails k (fit nx room o) → Fails k three
   three_first k e = subst (λ o. Fails k o) (sym three_is) (fails_at k (fit nx room o) (λ p. m >>= λ a. fit ny p.1 u >>= λ q. spare (n a) (f p.0 a q.0) q.1) e)
 
   module _ (p : X × ℕ) (e : fit nx room o ≡ Some p) where
     three_on : three ≡ (m >>= λ a. fit ny p.1 u >>= λ q. spare (n a) (f p.0 a q.0) q.1)
     three_on = three_is ∙ step (fit nx room o) (λ p. m >>= λ a. fit ny p.1 u >>= λ q. spare (n a) (f p.0 a q.0) q.1) p e
 
-    pub three_part : (k : Unread) → Fails k m → Fails k three
+    pub three_part : (k : ReadError) → Fails k m → Fails k three
     three_part k g = subst (λ o. Fails k o) (sym three_on) (fails_at k m (λ a. fit ny p.1 u >>= λ q. spare (n a) (f p.0 a q.0) q.1) g)
 
     module _ (a : M) (g : m ≡ Some a) where
       three_with : three ≡ (fit ny p.1 u >>= λ q. spare (n a) (f p.0 a q.0) q.1)
       three_with = three_on ∙ step m (λ a. fit ny p.1 u >>= λ q. spare (n a) (f p.0 a q.0) q.1) a g
 
-      pub three_second : (k : Unread) → Fails k (fit ny p.1 u) → Fails k three
+      pub three_second : (k : ReadError) → Fails k (fit ny p.1 u) → Fails k three
       three_second k j = subst (λ o. Fails k o) (sym three_with) (fails_at k (fit ny p.1 u) (λ q. spare (n a) (f p.0 a q.0) q.1) j)
 
       pub three_so : (q : Y × ℕ) → fit ny p.1 u ≡ Some q → three ≡ spare (n a) (f p.0 a q.0) q.1
@@ -130,14 +130,14 @@ module _ {X M Z : Type 0} (nx : X → ℕ) (nz : Z → ℕ) (f : X → M → Z) 
       by (Some x) None = sym (bind_none (spare (nx x) x room) (λ p. None) (λ p. refl))
       by (Some x) (Some a) = one_is nx nz (λ x. f x a) (λ x. n a) (λ x. h x a) room (Some x)
 
-  pub part_first : (k : Unread) → Fails k (fit nx room o) → Fails k with_part
+  pub part_first : (k : ReadError) → Fails k (fit nx room o) → Fails k with_part
   part_first k e = subst (λ o. Fails k o) (sym part_is) (fails_at k (fit nx room o) (λ p. m >>= λ a. spare (n a) (f p.0 a) p.1) e)
 
   module _ (p : X × ℕ) (e : fit nx room o ≡ Some p) where
     pub part_on : with_part ≡ (m >>= λ a. spare (n a) (f p.0 a) p.1)
     part_on = part_is ∙ step (fit nx room o) (λ p. m >>= λ a. spare (n a) (f p.0 a) p.1) p e
 
-    pub part_fails : (k : Unread) → Fails k m → Fails k with_part
+    pub part_fails : (k : ReadError) → Fails k m → Fails k with_part
     part_fails k g = subst (λ o. Fails k o) (sym part_on) (fails_at k m (λ a. spare (n a) (f p.0 a) p.1) g)
 
     pub part_so : (a : M) → m ≡ Some a → with_part ≡ spare (n a) (f p.0 a) p.1

@@ -8,7 +8,7 @@ use Rattle.values.specs.Worths.{condition}
 use Rattle.event_phrases.specs.Events.{masked, pairs_of}
 use Rattle.syntax.specs.Grammar.{Syntax, Syntaxes}
 use Rattle.syntax.proofs.Failing.{fails_on}
-use Rattle.tokens.specs.declared.unread.Unread.{Unread}
+use Rattle.tokens.specs.declared.read_error.ReadError.{ReadError}
 use Rattle.values.specs.Values.{◌>>=◌, Name}
 use Rattle.values.specs.View.{Fails}
 use Rattle.event_phrases.specs.Fitting.{event_fits}
@@ -45,17 +45,17 @@ module _ (s : Scope) (room : ℕ) where
     more p (operations.Joint k) q = joint_size k p q
     more p (operations.Alphabetised A B) q = omega arith
 
-    pub joined_first : (k : Unread) → Fails k (fits room (denoted t s)) → Fails k (fits room (denoted (joined m t u) s))
+    pub joined_first : (k : ReadError) → Fails k (fits room (denoted t s)) → Fails k (fits room (denoted (joined m t u) s))
     unfolding denoted
     joined_first = three_first size size size (λ p o q. composed s o p q) operation_nodes more room (denoted t s) (operation_of s m) (denoted u s)
 
     module _ (p : Body × ℕ) (a : fits room (denoted t s) ≡ Some p) where
-      pub joined_between : (k : Unread) → Fails k (operation_of s m) → Fails k (fits room (denoted (joined m t u) s))
+      pub joined_between : (k : ReadError) → Fails k (operation_of s m) → Fails k (fits room (denoted (joined m t u) s))
       unfolding denoted
       joined_between = three_part size size size (λ p o q. composed s o p q) operation_nodes more room (denoted t s) (operation_of s m) (denoted u s) p a
 
       module _ (o : Operation) (b : operation_of s m ≡ Some o) where
-        pub joined_second : (k : Unread) → Fails k (fits p.1 (denoted u s)) → Fails k (fits room (denoted (joined m t u) s))
+        pub joined_second : (k : ReadError) → Fails k (fits p.1 (denoted u s)) → Fails k (fits room (denoted (joined m t u) s))
         unfolding denoted
         joined_second = three_second size size size (λ p o q. composed s o p q) operation_nodes more room (denoted t s) (operation_of s m) (denoted u s) p a o b
 
@@ -70,12 +70,12 @@ module _ (s : Scope) (room : ℕ) where
     unfolding size
     hide_size p A = omega arith
 
-    pub hiding_first : (k : Unread) → Fails k (fits room (denoted t s)) → Fails k (fits room (denoted (hiding t e) s))
+    pub hiding_first : (k : ReadError) → Fails k (fits room (denoted t s)) → Fails k (fits room (denoted (hiding t e) s))
     unfolding denoted
     hiding_first = part_first size size (λ p A. hide A p) (λ A. 1) hide_size room (denoted t s) (masked s.channels (events_by s e))
 
     module _ (p : Body × ℕ) (a : fits room (denoted t s) ≡ Some p) where
-      pub hiding_set : (k : Unread) → Fails k (masked s.channels (events_by s e)) → Fails k (fits room (denoted (hiding t e) s))
+      pub hiding_set : (k : ReadError) → Fails k (masked s.channels (events_by s e)) → Fails k (fits room (denoted (hiding t e) s))
       unfolding denoted
       hiding_set = part_fails size size (λ p A. hide A p) (λ A. 1) hide_size room (denoted t s) (masked s.channels (events_by s e)) p a
 
@@ -89,7 +89,7 @@ module _ (s : Scope) (room : ℕ) where
     renamed_size p [] = omega arith
     renamed_size p (r ∷ R) = omega arith
 
-    pub renaming_first : (k : Unread) → Fails k (fits room (denoted t s)) → Fails k (fits room (denoted (renaming t ts) s))
+    pub renaming_first : (k : ReadError) → Fails k (fits room (denoted t s)) → Fails k (fits room (denoted (renaming t ts) s))
     unfolding denoted
     renaming_first = part_first size size (λ p R. renamed (event_count s.channels) R p) renaming_nodes renamed_size room (denoted t s) (pairs_of s.channels s.known ts)
 
@@ -100,7 +100,7 @@ module _ (s : Scope) (room : ℕ) where
   -- ---- conditions
 
   module _ (c : Syntax) (t u : Phrase) where
-    pub conditional_fails : (k : Unread) → Fails k (condition s.known c) → Fails k (fits room (denoted (conditional c t u) s))
+    pub conditional_fails : (k : ReadError) → Fails k (condition s.known c) → Fails k (fits room (denoted (conditional c t u) s))
     unfolding denoted fit
     conditional_fails k f = fails_on k (condition s.known c) (fits room (denoted (conditional c t u) s)) (λ n. ap (λ o. fits room (o >>= λ b. cond b (denoted t s) (denoted u s))) n) f
 
@@ -111,7 +111,7 @@ module _ (s : Scope) (room : ℕ) where
   -- ---- prefixes
 
   module _ (e : Syntax) (next : Scope → Option Body) where
-    pub no_prefix : (k : Unread) → Fails k (prefix_parts s (event_of e)) → Fails k (fits room (prefixed_by s e next))
+    pub no_prefix : (k : ReadError) → Fails k (prefix_parts s (event_of e)) → Fails k (fits room (prefixed_by s e next))
     unfolding prefixed_by fit
     no_prefix k f = fails_on k (prefix_parts s (event_of e)) (fits room (prefixed_by s e next)) (λ n. ap (λ o. fits room (o >>= λ p. branches (event_fits p.0 p.1 p.2 s) next 0 (events s.channels) >>= λ ps. Some (choice_of ps))) n) f
 
@@ -127,7 +127,7 @@ module _ (s : Scope) (room : ℕ) where
       unfolding join_of none_of
       choice_size = size_halves joins.External
 
-      pub branches_fail : (k : Unread) → Fails k (all_fit room all) → Fails k (fits room (prefixed_by s e next))
+      pub branches_fail : (k : ReadError) → Fails k (all_fit room all) → Fails k (fits room (prefixed_by s e next))
       branches_fail k f = subst (λ o. Fails k o) (sym there) (one_fails sizes size choice_of halved_nodes choice_size room all k f)
 
       pub branches_made : (x : List Body × ℕ) → all_fit room all ≡ Some x → fits room (prefixed_by s e next) ≡ spare (halved_nodes x.0) (choice_of x.0) x.1
@@ -140,7 +140,7 @@ module _ (s : Scope) (room : ℕ) where
     unfolding denoted
     on_walk = all_is j room (over gs (denoted t) s) ∙ ap (λ o. all_fit room o >>= λ p. spare_joined j p.0 p.1) (begun (denoted t) gs s)
 
-    pub no_first : (k : Unread) → Fails k (first_scope (visits gs s)) → Fails k (fits room (denoted (replicated j gs t) s))
+    pub no_first : (k : ReadError) → Fails k (first_scope (visits gs s)) → Fails k (fits room (denoted (replicated j gs t) s))
     unfolding fit
     no_first k f = fails_on k (first_scope (visits gs s)) (fits room (denoted (replicated j gs t) s)) (λ n. on_walk ∙ ap (λ o. all_fit room (o >>= on_visits (denoted t)) >>= λ p. spare_joined j p.0 p.1) n) f
 
@@ -148,7 +148,7 @@ module _ (s : Scope) (room : ℕ) where
       from_first : fits room (denoted (replicated j gs t) s) ≡ (all_fit room (on_visits (denoted t) us) >>= λ p. spare_joined j p.0 p.1)
       from_first = on_walk ∙ ap (λ o. all_fit room (o >>= on_visits (denoted t)) >>= λ p. spare_joined j p.0 p.1) e
 
-      pub replicated_fails : (k : Unread) → Fails k (all_fit room (on_visits (denoted t) us)) → Fails k (fits room (denoted (replicated j gs t) s))
+      pub replicated_fails : (k : ReadError) → Fails k (all_fit room (on_visits (denoted t) us)) → Fails k (fits room (denoted (replicated j gs t) s))
       replicated_fails k f = subst (λ o. Fails k o) (sym from_first) (fails_at k (all_fit room (on_visits (denoted t) us)) (λ p. spare_joined j p.0 p.1) f)
 
       pub replicated_so : (x : List Body × ℕ) → all_fit room (on_visits (denoted t) us) ≡ Some x → fits room (denoted (replicated j gs t) s) ≡ spare_joined j x.0 x.1
@@ -166,14 +166,14 @@ module _ (next : Scope → Option Body) (front : List Body) (us : List Visit) (r
     unfolding on_visits
     standing = sym inv ∙ ap (λ us. behind front (all_fit room (on_visits next us))) h ∙ one_and_rest front room (next s) (on_visits next vs)
 
-    pub stands_fails : (k : Unread) → Fails k (with_one front (fits room (next s))) → Fails k whole
+    pub stands_fails : (k : ReadError) → Fails k (with_one front (fits room (next s))) → Fails k whole
     stands_fails k f = fails_on k (with_one front (fits room (next s))) whole (λ e. standing ∙ ap (λ o. o >>= λ x. behind x.0 (all_fit x.1 (on_visits next vs))) e) f
 
     module _ (x : List Body × ℕ) (m : with_one front (fits room (next s)) ≡ Some x) where
       later : whole ≡ behind x.0 (all_fit x.1 (first_scope vs >>= on_visits next))
       later = standing ∙ ap (λ o. o >>= λ x. behind x.0 (all_fit x.1 (on_visits next vs))) m ∙ ap (λ o. behind x.0 (all_fit x.1 o)) (first_is next vs)
 
-      pub no_next : (k : Unread) → Fails k (first_scope vs) → Fails k whole
+      pub no_next : (k : ReadError) → Fails k (first_scope vs) → Fails k whole
       unfolding fit
       no_next k f = fails_on k (first_scope vs) whole (λ e. later ∙ ap (λ o. behind x.0 (all_fit x.1 (o >>= on_visits next))) e) f
 
@@ -182,7 +182,7 @@ module _ (next : Scope → Option Body) (front : List Body) (us : List Visit) (r
 
 -- with one more, step by step
 
-pub no_process : (k : Unread) (front : List Body) (o : Option (Body × ℕ)) → Fails k o → Fails k (with_one front o)
+pub no_process : (k : ReadError) (front : List Body) (o : Option (Body × ℕ)) → Fails k o → Fails k (with_one front o)
 no_process k front o f = fails_at k o (λ p. with_one front (Some p)) f
 
 pub one_process : (front new : List Body) (o : Option (Body × ℕ)) (p : Body × ℕ) → o ≡ Some p → new ≡ front ++ p.0 ∷ [] → with_one front o ≡ Some (new, p.1)

@@ -2,7 +2,7 @@
 use Rattle.std.proofs.Common.{◌≡◌, ℕ, suc, ◌+◌, List, [], ◌∷◌, ◌++◌, drop, Option, Some, None, refl, sym, ap, subst, ◌∙◌, arith, append_assoc, append-nil}
 use Rattle.alphabet.specs.Channels.{Values, Parts}
 use Rattle.event_phrases.proofs.FirstValues.{led_fits_is}
-use Rattle.tokens.specs.declared.unread.Unread.{Unread}
+use Rattle.tokens.specs.declared.read_error.ReadError.{ReadError}
 use Rattle.values.specs.Values.{◌>>=◌, Name}
 use Rattle.values.specs.View.{Fails}
 use Rattle.event_phrases.specs.Fitting.{Fitting, event_fits}
@@ -89,7 +89,7 @@ module _ (test : Parts → Fitting) (next : Scope → Option Body) where
     turn : whole ≡ (first_branch test next i ps room >>= more front)
     turn = sym inv ∙ turn_is front i ps room
 
-    pub turn_fails : (k : Unread) → Fails k (first_branch test next i ps room) → Fails k whole
+    pub turn_fails : (k : ReadError) → Fails k (first_branch test next i ps room) → Fails k whole
     turn_fails k f = fails_on k (first_branch test next i ps room) whole (λ e. turn ∙ ap (λ o. o >>= more front) e) f
 
     pub last_turn : (left : ℕ) → first_branch test next i ps room ≡ Some (None, left) → whole ≡ Some (front, left)
@@ -105,7 +105,7 @@ module _ (test : Parts → Fitting) (next : Scope → Option Body) where
 -- ---- one branch
 
 module _ (test : Parts → Fitting) (next : Scope → Option Body) (i : ℕ) (ps : List Parts) (room : ℕ) where
-  pub fit_fails : (k : Unread) → Fails k (first_fit test i ps) → Fails k (first_branch test next i ps room)
+  pub fit_fails : (k : ReadError) → Fails k (first_fit test i ps) → Fails k (first_branch test next i ps room)
   fit_fails k f = fails_at k (first_fit test i ps) (branch_of next room) f
 
   pub none_fits : first_fit test i ps ≡ Some None → first_branch test next i ps room ≡ Some (None, room)
@@ -125,14 +125,14 @@ module _ (test : Parts → Fitting) (next : Scope → Option Body) (i : ℕ) (ps
     unfolding size
     longer p = omega arith
 
-    pub body_fails : (k : Unread) → Fails k (fits room (next inner)) → Fails k (first_branch test next i ps room)
+    pub body_fails : (k : ReadError) → Fails k (fits room (next inner)) → Fails k (first_branch test next i ps room)
     body_fails k f = subst (λ o. Fails k o) (sym found) (fails_at k (fits room behind_it) with_event (one_fails size size (prefix b) (λ p. 1) longer room (next inner) k f))
 
     module _ (q : Body × ℕ) (m : fits room (next inner) ≡ Some q) where
       one_event : first_branch test next i ps room ≡ (spare 1 (prefix b q.0) q.1 >>= with_event)
       one_event = found ∙ ap (λ o. o >>= with_event) (one_so size size (prefix b) (λ p. 1) longer room (next inner) q m)
 
-      pub event_fails : (k : Unread) → Fails k (spare 1 (prefix b q.0) q.1) → Fails k (first_branch test next i ps room)
+      pub event_fails : (k : ReadError) → Fails k (spare 1 (prefix b q.0) q.1) → Fails k (first_branch test next i ps room)
       event_fails k f = subst (λ o. Fails k o) (sym one_event) (fails_at k (spare 1 (prefix b q.0) q.1) with_event f)
 
       pub event_made : (r : Body × ℕ) → spare 1 (prefix b q.0) q.1 ≡ Some r → first_branch test next i ps room ≡ Some (Some (b, r.0, es), r.1)

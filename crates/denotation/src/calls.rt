@@ -16,7 +16,7 @@ use crate::room::spend_nodes;
 use event_phrases::{GlobalScope, Scope, wanted_value};
 use std::alloc::Allocator;
 use syntax::Tree;
-use tokens::{Position, ScriptErrorKind, Unread, fault};
+use tokens::{Position, ReadError, ScriptErrorKind, fault};
 use values::Value;
 
 /// The values that these phrases mean, from the left; the fault of the first that means none.
@@ -24,7 +24,7 @@ fn argument_values<A: Allocator + Copy, G: GlobalScope<A>>(
     alloc: A,
     scope: &Scope<'_, A, G>,
     phrases: &[Tree<A>],
-) -> Result<Vec<Value<A>, A>, Unread>
+) -> Result<Vec<Value<A>, A>, ReadError>
     ensures { Gives (λ v. listed v.items) result (arguments_of (within (G.scope scope.now.global.now) (map input scope.now.inputs.items)).known (shapes phrases.now)) }
 {
     let mut found = Vec::with_capacity(alloc, phrases.len())?;
@@ -39,7 +39,7 @@ pub(crate) fn refer<A: Allocator>(
     call: Call<A>,
     room: &mut usize,
     line: Position,
-) -> Result<Draft<A>, Unread>
+) -> Result<Draft<A>, ReadError>
     ensures { Gives (λ b. (body b, room.new)) result (spare 1 (name_of (key call)) room.old) }
 {
     spend_nodes(room, 1, line)?;
@@ -54,7 +54,7 @@ pub(crate) fn called_with<A: Allocator + Copy, G: GlobalScope<A>>(
     arguments: &[Tree<A>],
     line: Position,
     room: &mut usize,
-) -> Result<Draft<A>, Unread>
+) -> Result<Draft<A>, ReadError>
     ensures { Gives (λ b. (body b, room.new)) result (fits room.old (call name.now (shapes arguments.now) (within (G.scope scope.now.global.now) (map input scope.now.inputs.items)))) }
 {
     if scope.is_value(name) {

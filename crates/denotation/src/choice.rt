@@ -11,7 +11,7 @@ use crate::forms::Join;
 use crate::joining::joined;
 use crate::room::spend_nodes;
 use std::alloc::{AllocError, Allocator};
-use tokens::{Position, Unread};
+use tokens::{Position, ReadError};
 
 /// What a list without bodies is, joined so.
 #[tactic(auto, unfolding(crate::specs::Phrases::none_of))]
@@ -65,7 +65,7 @@ pub(crate) fn halved_within<A: Allocator + Copy>(
     drafts: Vec<Draft<A>, A>,
     room: &mut usize,
     line: Position,
-) -> Result<Draft<A>, Unread>
+) -> Result<Draft<A>, ReadError>
     ensures { Gives (λ b. (body b, room.new)) result (spare (halved_nodes (map body drafts.items)) (halved_over (join_of join) (none_of join) (map body drafts.items)) room.old) }
 {
     let nodes = nodes_of_halved(&drafts);
@@ -81,7 +81,7 @@ pub(crate) fn chosen<A: Allocator + Copy>(
     drafts: Vec<Draft<A>, A>,
     room: &mut usize,
     line: Position,
-) -> Result<Draft<A>, Unread>
+) -> Result<Draft<A>, ReadError>
     ensures { Gives (λ b. (body b, room.new)) result (spare (halved_nodes (map body drafts.items)) (choice_of (map body drafts.items)) room.old) }
 {
     halved_within(alloc, Join::External, drafts, room, line)

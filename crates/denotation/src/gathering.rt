@@ -16,7 +16,7 @@ use event_phrases::GlobalScope;
 use indexmap::IndexSet;
 use std::alloc::{AllocError, Allocator};
 use term::Term;
-use tokens::Unread;
+use tokens::ReadError;
 
 /// The most nodes that all bodies have together.
 const NODE_LIMIT: usize = 65_536;
@@ -42,7 +42,7 @@ fn numbered_body<A: Allocator + Copy, G: GlobalScope<A>>(
     number: usize,
     met: &Met<A>,
     room: &mut usize,
-) -> Result<Draft<A>, Unread>
+) -> Result<Draft<A>, ReadError>
     requires { number < length met.now.keys }
     ensures { (k : Key) → Gives (λ b. (body_of_draft b, room.new)) result (within_limits room.old (body_under (root_view root.now) (G.scope global.now) (get_or (map key met.now.keys) number k))) }
 {
@@ -55,7 +55,7 @@ fn bodies<A: Allocator + Copy, G: GlobalScope<A>>(
     global: &G,
     root: &Root<'_, A>,
     met: &mut Met<A>,
-) -> Result<Vec<Term<A>, A>, Unread>
+) -> Result<Vec<Term<A>, A>, ReadError>
     ensures found { (first : Key) → map key met.old.keys ≡ first ∷ [] → IfOk result (λ v. Gathered (body_under (root_view root.now) (G.scope global.now)) first (map proc v.items)) }
     ensures only { (first : Key) → map key met.old.keys ≡ first ∷ [] → (ps : List Proc) → Gathered (body_under (root_view root.now) (G.scope global.now)) first ps → Gives (λ v. map proc v.items) result (Some ps) }
 {
@@ -80,7 +80,7 @@ pub fn gathered<A: Allocator + Copy, G: GlobalScope<A>>(
     alloc: A,
     global: &G,
     root: &Root<'_, A>,
-) -> Result<Vec<Term<A>, A>, Unread>
+) -> Result<Vec<Term<A>, A>, ReadError>
     // What is given are the bodies of what is reached.
     ensures found { IfOk result (λ v. Gathered (body_under (root_view root.now) (G.scope global.now)) (root_key (root_view root.now)) (map proc v.items)) }
     // These are given, unless memory runs out, and no others are bodies of what is reached.

@@ -23,7 +23,7 @@ use alphabet::EventSet;
 use event_phrases::{GlobalScope, Scope, ordered, pairs_of, two_sets, wanted_events};
 use std::alloc::{AllocError, Allocator};
 use syntax::Tree;
-use tokens::{Position, Unread};
+use tokens::{Position, ReadError};
 
 /// Two bodies joined so.
 pub(crate) fn joined<A: Allocator + Copy>(
@@ -47,7 +47,7 @@ fn joined_within<A: Allocator + Copy>(
     second: Draft<A>,
     room: &mut usize,
     line: Position,
-) -> Result<Draft<A>, Unread>
+) -> Result<Draft<A>, ReadError>
     ensures { Gives (λ b. (body b, room.new)) result (spare 1 (joint_of joint (body first) (body second)) room.old) }
 {
     let joined = joined(alloc, joint, first, second)?;
@@ -62,7 +62,7 @@ pub(crate) fn behind_event<A: Allocator + Copy>(
     then: Draft<A>,
     room: &mut usize,
     line: Position,
-) -> Result<Draft<A>, Unread>
+) -> Result<Draft<A>, ReadError>
     requires { number < 256 }
     ensures { Gives (λ b. (body b, room.new)) result (spare 1 (prefix number (body then)) room.old) }
 {
@@ -78,7 +78,7 @@ pub(crate) fn hidden<A: Allocator + Copy>(
     draft: Draft<A>,
     room: &mut usize,
     line: Position,
-) -> Result<Draft<A>, Unread>
+) -> Result<Draft<A>, ReadError>
     ensures { Gives (λ b. (body b, room.new)) result (spare 1 (hide set (body draft)) room.old) }
 {
     spend_nodes(room, 1, line)?;
@@ -109,7 +109,7 @@ pub(crate) fn renamed<A: Allocator + Copy>(
     draft: Draft<A>,
     room: &mut usize,
     line: Position,
-) -> Result<Draft<A>, Unread>
+) -> Result<Draft<A>, ReadError>
     requires { events ≤ 256 }
     ensures { Gives (λ b. (body b, room.new)) result (spare (renaming_nodes pairs.now) (renamed_of events pairs.now (body draft)) room.old) }
 {
@@ -129,7 +129,7 @@ pub(crate) fn renamed_by<A: Allocator + Copy, G: GlobalScope<A>>(
     pairs: &[Tree<A>],
     draft: Draft<A>,
     room: &mut usize,
-) -> Result<Draft<A>, Unread>
+) -> Result<Draft<A>, ReadError>
     ensures { Gives (λ b. (body b, room.new)) result (renamed_within (event_count (G.scope scope.now.global.now).channels) (pairs_of_all (G.scope scope.now.global.now).channels (within (G.scope scope.now.global.now) (map input scope.now.inputs.items)).known (syntaxes (shapes pairs.now))) (body draft) room.old) }
 {
     let pairs = pairs_of(alloc, scope, pairs)?;
@@ -165,7 +165,7 @@ fn alphabetised_within<A: Allocator + Copy, G: GlobalScope<A>>(
     first: Draft<A>,
     second: Draft<A>,
     room: &mut usize,
-) -> Result<Draft<A>, Unread>
+) -> Result<Draft<A>, ReadError>
     ensures { Gives (λ b. (body b, room.new)) result (spare 5 (alphabetised_by (G.scope scope.now.global.now) sets (body first) (body second)) room.old) }
 {
     let joined = alphabetised(alloc, scope.global.sigma(), sets, first, second)?;
@@ -178,7 +178,7 @@ pub(crate) fn operation_of<A: Allocator + Copy, G: GlobalScope<A>>(
     alloc: A,
     scope: &Scope<'_, A, G>,
     between: Between<'_, A>,
-) -> Result<Operation, Unread>
+) -> Result<Operation, ReadError>
     ensures { Gives (λ o. o) result (operation_by (within (G.scope scope.now.global.now) (map input scope.now.inputs.items)) (plain_between between.entry)) }
 {
     match between {
@@ -202,7 +202,7 @@ pub(crate) fn composed<A: Allocator + Copy, G: GlobalScope<A>>(
     first: Draft<A>,
     second: Draft<A>,
     room: &mut usize,
-) -> Result<Draft<A>, Unread>
+) -> Result<Draft<A>, ReadError>
     ensures { Gives (λ b. (body b, room.new)) result (spare (operation_nodes operation) (composed_by (G.scope scope.now.global.now) operation (body first) (body second)) room.old) }
 {
     match operation {

@@ -19,14 +19,14 @@ use crate::root::Root;
 use event_phrases::{GlobalScope, Scope};
 use std::alloc::{AllocError, Allocator};
 use syntax::Tree;
-use tokens::{Position, ScriptErrorKind, Unread, fault};
+use tokens::{Position, ReadError, ScriptErrorKind, fault};
 use values::{Input, Value};
 
 /// The greatest depth of a body.
 const DEEPEST: u64 = 200;
 
 /// The same, unless it is too deep.
-fn unless_deep<A: Allocator>(draft: Draft<A>, line: Position) -> Result<Draft<A>, Unread>
+fn unless_deep<A: Allocator>(draft: Draft<A>, line: Position) -> Result<Draft<A>, ReadError>
     ensures { (room : ℕ) → Gives (λ b. (body_of_draft b, room)) result (shallow (body_of_draft draft, room)) }
 {
     if draft.depth() > DEEPEST {
@@ -42,7 +42,7 @@ fn body_within<'a, A: Allocator + Copy, G: GlobalScope<A>>(
     scope: &Scope<'a, A, G>,
     tree: &'a Tree<A>,
     room: &mut usize,
-) -> Result<Draft<A>, Unread>
+) -> Result<Draft<A>, ReadError>
     ensures { Gives (λ b. (body_of_draft b, room.new)) result (within_limits room.old (denoted (phrase_of (shape tree.now)) (within (G.scope scope.now.global.now) (map input scope.now.inputs.items)))) }
 {
     let draft = process(alloc, scope, tree, room)?;
@@ -56,7 +56,7 @@ fn plain_body<A: Allocator + Copy, G: GlobalScope<A>>(
     global: &G,
     name: &[u8],
     room: &mut usize,
-) -> Result<Draft<A>, Unread>
+) -> Result<Draft<A>, ReadError>
     ensures { Gives (λ b. (body_of_draft b, room.new)) result (within_limits room.old (body_of (G.scope global.now) (name.now, []))) }
 {
     if !global.is_process(name) {
@@ -104,7 +104,7 @@ fn called_body<A: Allocator + Copy, G: GlobalScope<A>>(
     name: &[u8],
     arguments: &[Value<A>],
     room: &mut usize,
-) -> Result<Draft<A>, Unread>
+) -> Result<Draft<A>, ReadError>
     ensures { Gives (λ b. (body_of_draft b, room.new)) result (within_limits room.old (called_by (G.scope global.now) (meaning (G.scope global.now).entries name.now) (listed arguments.now))) }
 {
     match global.with_parameters(name) {
@@ -130,7 +130,7 @@ pub(crate) fn body<A: Allocator + Copy, G: GlobalScope<A>>(
     global: &G,
     call: &Call<A>,
     room: &mut usize,
-) -> Result<Draft<A>, Unread>
+) -> Result<Draft<A>, ReadError>
     ensures { Gives (λ b. (body_of_draft b, room.new)) result (within_limits room.old (body_of (G.scope global.now) (key call.now))) }
 {
     if call.arguments.is_empty() {
@@ -146,7 +146,7 @@ fn phrase_body<A: Allocator + Copy, G: GlobalScope<A>>(
     global: &G,
     phrase: &Tree<A>,
     room: &mut usize,
-) -> Result<Draft<A>, Unread>
+) -> Result<Draft<A>, ReadError>
     ensures { Gives (λ b. (body_of_draft b, room.new)) result (within_limits room.old (denoted (phrase_of (shape phrase.now)) (G.scope global.now))) }
 {
     let scope = Scope {
@@ -171,7 +171,7 @@ pub(crate) fn body_under<A: Allocator + Copy, G: GlobalScope<A>>(
     root: &Root<'_, A>,
     call: &Call<A>,
     room: &mut usize,
-) -> Result<Draft<A>, Unread>
+) -> Result<Draft<A>, ReadError>
     ensures { Gives (λ b. (body_of_draft b, room.new)) result (within_limits room.old (body_below (root_view root.now) (G.scope global.now) (key call.now))) }
 {
     match root {

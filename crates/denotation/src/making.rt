@@ -32,7 +32,7 @@ use event_phrases::{
 };
 use std::alloc::Allocator;
 use syntax::Tree;
-use tokens::{Position, ScriptErrorKind, Unread, fault};
+use tokens::{Position, ReadError, ScriptErrorKind, fault};
 
 /// The first branch of a prefix from the event with this number on, with its event's number.
 #[cycle(making)]
@@ -42,7 +42,7 @@ fn next_branch<'a, A: Allocator + Copy, G: GlobalScope<A>>(
     prefix: &Prefix<'a, A>,
     from: usize,
     room: &mut usize,
-) -> Result<Option<(usize, Draft<A>)>, Unread>
+) -> Result<Option<(usize, Draft<A>)>, ReadError>
     ensures branch { Gives (λ o. (option_map (λ p. (p.0, body p.1, drop (suc p.0) (events_of (G.scope scope.now.global.now).channels))) o, room.new)) result (first_branch (led_fits prefix.now.channel.now (listed prefix.now.leading.items) (map field_of (shapes prefix.now.fields.now)) (map (λ v. listed v.items) prefix.now.sets.now) (within (G.scope scope.now.global.now) (map input scope.now.inputs.items))) (denoted (phrase_of (shape prefix.now.then.now))) from (drop from (events_of (G.scope scope.now.global.now).channels)) room.old) }
     ensures number { IfOk result (λ o. IfSome o (λ p. (from ≤ p.0) × (p.0 < 256))) }
 {
@@ -69,7 +69,7 @@ fn branches<'a, A: Allocator + Copy, G: GlobalScope<A>>(
     scope: &Scope<'a, A, G>,
     prefix: &Prefix<'a, A>,
     room: &mut usize,
-) -> Result<Vec<Draft<A>, A>, Unread>
+) -> Result<Vec<Draft<A>, A>, ReadError>
     ensures { Gives (λ v. (map body v.items, room.new)) result (all_fit room.old (branches_of (led_fits prefix.now.channel.now (listed prefix.now.leading.items) (map field_of (shapes prefix.now.fields.now)) (map (λ v. listed v.items) prefix.now.sets.now) (within (G.scope scope.now.global.now) (map input scope.now.inputs.items))) (denoted (phrase_of (shape prefix.now.then.now))) 0 (events_of (G.scope scope.now.global.now).channels))) }
 {
     let mut drafts = Vec::new(alloc);
@@ -94,7 +94,7 @@ fn prefixed<'a, A: Allocator + Copy, G: GlobalScope<A>>(
     event: &'a Tree<A>,
     then: &'a Tree<A>,
     room: &mut usize,
-) -> Result<Draft<A>, Unread>
+) -> Result<Draft<A>, ReadError>
     ensures { Gives (λ b. (body b, room.new)) result (fits room.old (prefixed_by (within (G.scope scope.now.global.now) (map input scope.now.inputs.items)) (shape event.now) (denoted (phrase_of (shape then.now))))) }
 {
     let prefix = prefix_of(alloc, scope, event, then)?;
@@ -111,7 +111,7 @@ fn joined_phrases<'a, A: Allocator + Copy, G: GlobalScope<A>>(
     first: &'a Tree<A>,
     second: &'a Tree<A>,
     room: &mut usize,
-) -> Result<Draft<A>, Unread>
+) -> Result<Draft<A>, ReadError>
     ensures { Gives (λ b. (body b, room.new)) result (fits room.old (denoted (joined (plain_between between.entry) (phrase_of (shape first.now)) (phrase_of (shape second.now))) (within (G.scope scope.now.global.now) (map input scope.now.inputs.items)))) }
 {
     let first = process(alloc, scope, first, room)?;
@@ -128,7 +128,7 @@ fn hiding_phrase<'a, A: Allocator + Copy, G: GlobalScope<A>>(
     tree: &'a Tree<A>,
     set: &'a Tree<A>,
     room: &mut usize,
-) -> Result<Draft<A>, Unread>
+) -> Result<Draft<A>, ReadError>
     ensures { Gives (λ b. (body b, room.new)) result (fits room.old (denoted (hiding (phrase_of (shape tree.now)) (shape set.now)) (within (G.scope scope.now.global.now) (map input scope.now.inputs.items)))) }
 {
     let draft = process(alloc, scope, tree, room)?;
@@ -144,7 +144,7 @@ fn renaming_phrase<'a, A: Allocator + Copy, G: GlobalScope<A>>(
     tree: &'a Tree<A>,
     pairs: &'a [Tree<A>],
     room: &mut usize,
-) -> Result<Draft<A>, Unread>
+) -> Result<Draft<A>, ReadError>
     ensures { Gives (λ b. (body b, room.new)) result (fits room.old (denoted (renaming (phrase_of (shape tree.now)) (syntaxes (shapes pairs.now))) (within (G.scope scope.now.global.now) (map input scope.now.inputs.items)))) }
 {
     let draft = process(alloc, scope, tree, room)?;
@@ -160,7 +160,7 @@ fn conditional_phrase<'a, A: Allocator + Copy, G: GlobalScope<A>>(
     condition: &'a Tree<A>,
     trees: (&'a Tree<A>, Option<&'a Tree<A>>),
     room: &mut usize,
-) -> Result<Draft<A>, Unread>
+) -> Result<Draft<A>, ReadError>
     ensures { Gives (λ b. (body b, room.new)) result (fits room.old (denoted (conditional (shape condition.now) (phrase_of (shape trees.entry.0.now)) (or_stops trees.entry.1)) (within (G.scope scope.now.global.now) (map input scope.now.inputs.items)))) }
 {
     let holds = wanted_truth(alloc, scope, condition)?;
@@ -181,7 +181,7 @@ fn put_process<'a, A: Allocator + Copy, G: GlobalScope<A>>(
     tree: &'a Tree<A>,
     drafts: &mut Vec<Draft<A>, A>,
     room: &mut usize,
-) -> Result<(), Unread>
+) -> Result<(), ReadError>
     ensures { Gives (λ _. (map body drafts.new.items, room.new)) result (with_one (map body drafts.old.items) (fits room.old (denoted (phrase_of (shape tree.now)) (within (G.scope scope.now.global.now) (map input scope.now.inputs.items))))) }
 {
     let draft = process(alloc, scope, tree, room)?;
@@ -197,7 +197,7 @@ fn over<'a, A: Allocator + Copy, G: GlobalScope<A>>(
     first: Option<Place<'a, A>>,
     then: &'a Tree<A>,
     room: &mut usize,
-) -> Result<Vec<Draft<A>, A>, Unread>
+) -> Result<Vec<Draft<A>, A>, ReadError>
     ensures { Gives (λ v. (map body v.items, room.new)) result (all_fit room.old (on_visits (denoted (phrase_of (shape then.now))) (from_scope (G.scope scope.now.global.now) first.entry))) }
 {
     let mut at = first;
@@ -225,7 +225,7 @@ fn replicated_phrase<'a, A: Allocator + Copy, G: GlobalScope<A>>(
     form: (&'a [Tree<A>], &'a Tree<A>),
     line: Position,
     room: &mut usize,
-) -> Result<Draft<A>, Unread>
+) -> Result<Draft<A>, ReadError>
     ensures { Gives (λ b. (body b, room.new)) result (fits room.old (denoted (replicated join (shapes form.entry.0.now) (phrase_of (shape form.entry.1.now))) (within (G.scope scope.now.global.now) (map input scope.now.inputs.items)))) }
 {
     let first = first_place(alloc, scope, form.0)?;
@@ -241,7 +241,7 @@ fn made<'a, A: Allocator + Copy, G: GlobalScope<A>>(
     phrase: Phrase<'a, A>,
     line: Position,
     room: &mut usize,
-) -> Result<Draft<A>, Unread>
+) -> Result<Draft<A>, ReadError>
     ensures { Gives (λ b. (body b, room.new)) result (fits room.old (denoted (plain phrase.entry) (within (G.scope scope.now.global.now) (map input scope.now.inputs.items)))) }
 {
     match phrase {
@@ -277,7 +277,7 @@ pub(crate) fn process<'a, A: Allocator + Copy, G: GlobalScope<A>>(
     scope: &Scope<'a, A, G>,
     tree: &'a Tree<A>,
     room: &mut usize,
-) -> Result<Draft<A>, Unread>
+) -> Result<Draft<A>, ReadError>
     ensures { Gives (λ b. (body b, room.new)) result (fits room.old (denoted (phrase_of (shape tree.now)) (within (G.scope scope.now.global.now) (map input scope.now.inputs.items)))) }
 {
     match process_phrase(tree) {

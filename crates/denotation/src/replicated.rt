@@ -14,7 +14,7 @@ use crate::forms::Join;
 use event_phrases::{GlobalScope, Scope, wanted_values};
 use std::alloc::Allocator;
 use syntax::Tree;
-use tokens::{Position, ScriptErrorKind, Unread, fault};
+use tokens::{Position, ReadError, ScriptErrorKind, fault};
 use values::Values;
 
 /// The values of a generator with this name and this set, on this line.
@@ -25,7 +25,7 @@ pub(crate) fn values_of<A: Allocator + Copy, G: GlobalScope<A>>(
     name: &[u8],
     set: &Tree<A>,
     line: Position,
-) -> Result<Values<A>, Unread>
+) -> Result<Values<A>, ReadError>
     ensures { Gives values result (generator_values (within (G.scope scope.now.global.now) (map input scope.now.inputs.items)) name.now (shape set.now)) }
 {
     if scope.global.is_constant(name) {
@@ -42,7 +42,7 @@ pub(crate) fn all_joined<A: Allocator + Copy>(
     room: &mut usize,
     definition: Position,
     line: Position,
-) -> Result<Draft<A>, Unread>
+) -> Result<Draft<A>, ReadError>
     ensures { Gives (λ b. (body b, room.new)) result (spare_joined join (map body drafts.items) room.old) }
 {
     match join {

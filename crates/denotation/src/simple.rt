@@ -14,11 +14,11 @@ use crate::draft::Draft;
 use crate::room::spend_nodes;
 use event_phrases::{GlobalScope, Scope};
 use std::alloc::Allocator;
-use tokens::{Position, ScriptErrorKind, Unread, fault};
+use tokens::{Position, ReadError, ScriptErrorKind, fault};
 
 /// `STOP`, where there is room for it.
 #[tactic(auto, unfolding(crate::specs::Phrases::denoted, crate::specs::Bodies::size, crate::specs::Rooms::fit))]
-pub(crate) fn stop<A: Allocator>(room: &mut usize, line: Position) -> Result<Draft<A>, Unread>
+pub(crate) fn stop<A: Allocator>(room: &mut usize, line: Position) -> Result<Draft<A>, ReadError>
     ensures { Gives (λ b. (body b, room.new)) result (spare 1 stop_of room.old) }
 {
     spend_nodes(room, 1, line)?;
@@ -26,7 +26,7 @@ pub(crate) fn stop<A: Allocator>(room: &mut usize, line: Position) -> Result<Dra
 }
 
 /// `SKIP`, where there is room for it.
-pub(crate) fn skip<A: Allocator>(room: &mut usize, line: Position) -> Result<Draft<A>, Unread>
+pub(crate) fn skip<A: Allocator>(room: &mut usize, line: Position) -> Result<Draft<A>, ReadError>
     ensures { Gives (λ b. (body b, room.new)) result (spare 1 skip_of room.old) }
 {
     spend_nodes(room, 1, line)?;
@@ -41,7 +41,7 @@ pub(crate) fn called<A: Allocator + Copy, G: GlobalScope<A>>(
     name: &[u8],
     line: Position,
     room: &mut usize,
-) -> Result<Draft<A>, Unread>
+) -> Result<Draft<A>, ReadError>
     ensures { Gives (λ b. (body b, room.new)) result (fits room.old (denoted (called_by name.now) (within (G.scope scope.now.global.now) (map input scope.now.inputs.items)))) }
 {
     if scope.is_value(name) {

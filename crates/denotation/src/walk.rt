@@ -15,7 +15,7 @@ use event_phrases::forms::first;
 use event_phrases::{GlobalScope, Scope, copies};
 use std::alloc::{AllocError, Allocator};
 use syntax::Tree;
-use tokens::{ScriptErrorKind, Unread, fault};
+use tokens::{ReadError, ScriptErrorKind, fault};
 use values::{Input, Value, Values};
 
 /// A generator that has a value.
@@ -96,7 +96,7 @@ fn entered<'a, A: Allocator + Copy, G: GlobalScope<A>>(
     place: Place<'a, A>,
     tree: &'a Tree<A>,
     inner: &'a [Tree<A>],
-) -> Result<Option<Place<'a, A>>, Unread>
+) -> Result<Option<Place<'a, A>>, ReadError>
     ensures { Gives (from_next (G.scope scope.now.global.now)) result (once_found (G.scope scope.now.global.now) (map input place.entry.inputs.items) (innermost_first place.entry.outer.items) (shapes inner.now) (shape tree.now)) }
 {
     match generator(tree) {
@@ -120,7 +120,7 @@ fn descended<'a, A: Allocator + Copy, G: GlobalScope<A>>(
     alloc: A,
     scope: &Scope<'a, A, G>,
     place: Place<'a, A>,
-) -> Result<Option<Place<'a, A>>, Unread>
+) -> Result<Option<Place<'a, A>>, ReadError>
     ensures { Gives (from_scope (G.scope scope.now.global.now)) result (first_scope (from_place (G.scope scope.now.global.now) place.entry)) }
 {
     let mut at = place;
@@ -139,7 +139,7 @@ pub(crate) fn first_place<'a, A: Allocator + Copy, G: GlobalScope<A>>(
     alloc: A,
     scope: &Scope<'a, A, G>,
     generators: &'a [Tree<A>],
-) -> Result<Option<Place<'a, A>>, Unread>
+) -> Result<Option<Place<'a, A>>, ReadError>
     ensures { Gives (from_scope (G.scope scope.now.global.now)) result (first_scope (visits (shapes generators.now) (within (G.scope scope.now.global.now) (map input scope.now.inputs.items)))) }
 {
     if is_empty_ahead(alloc, scope, generators) {
@@ -159,7 +159,7 @@ pub(crate) fn next_place<'a, A: Allocator + Copy, G: GlobalScope<A>>(
     scope: &Scope<'a, A, G>,
     inputs: Vec<Input<A>, A>,
     outer: Vec<Opened<'a, A>, A>,
-) -> Result<Option<Place<'a, A>>, Unread>
+) -> Result<Option<Place<'a, A>>, ReadError>
     ensures { Gives (from_scope (G.scope scope.now.global.now)) result (first_scope (visits_after (G.scope scope.now.global.now) (map input inputs.items) (innermost_first outer.entry.items))) }
 {
     let mut inputs = inputs;

@@ -3,7 +3,7 @@ use Rattle.std.proofs.Common.{◌≡◌, ◌<◌, List, [], ◌∷◌, length, B
 use Rattle.std.specs.Option.{option_map}
 use Rattle.alphabet.specs.Channels.{Values, Channel}
 use Rattle.syntax.specs.Grammar.{Syntax}
-use Rattle.tokens.specs.declared.unread.Unread.{Unread}
+use Rattle.tokens.specs.declared.read_error.ReadError.{ReadError}
 use Rattle.values.specs.Values.{◌>>=◌, Name}
 use Rattle.values.specs.Worths.{Known, condition}
 use Rattle.values.specs.View.{Fails}
@@ -25,7 +25,7 @@ mapped : (c : Name) (o : Option Values) → (o >>= λ vs. begun c vs) ≡ option
 mapped c None = refl
 mapped c (Some vs) = refl
 
-pub begun_fails : (k : Unread) (c : Name) (o : Option Values) → Fails k o → Fails k (option_map (begun_with c) o)
+pub begun_fails : (k : ReadError) (c : Name) (o : Option Values) → Fails k o → Fails k (option_map (begun_with c) o)
 begun_fails k c o f = fails_on k o (option_map (begun_with c) o) (λ e. ap (option_map (begun_with c)) e) f
 
 -- more fields than sets give nothing
@@ -84,7 +84,7 @@ module _ (cs : List Channel) (known : Known) where
     abbrev choice : Option Bool → Option Beginning
     choice o = o >>= λ b. cond b (whole_event cs known e) (whole_event cs known f)
 
-    pub choice_fails : (k : Unread) → Fails k (condition known t) → Fails k (whole_event cs known (event_chosen t e f))
+    pub choice_fails : (k : ReadError) → Fails k (condition known t) → Fails k (whole_event cs known (event_chosen t e f))
     unfolding whole_event
     choice_fails k h = fails_on k (condition known t) (whole_event cs known (event_chosen t e f)) (λ n. ap choice n) h
 

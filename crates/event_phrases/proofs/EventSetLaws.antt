@@ -9,7 +9,7 @@ use Rattle.alphabet.specs.EventSets.{Set, has, member}
 use Rattle.syntax.specs.declared.tree.Tree.{Tree}
 use Rattle.syntax.specs.Grammar.{Syntax}
 use Rattle.syntax.specs.View.{shape, shapes}
-use Rattle.tokens.specs.declared.unread.Unread.{Unread}
+use Rattle.tokens.specs.declared.read_error.ReadError.{ReadError}
 use Rattle.values.specs.Values.{◌>>=◌}
 use Rattle.values.specs.Worths.{Known, condition}
 use Rattle.values.specs.View.{Fails}
@@ -104,11 +104,11 @@ unfolding masked
 masked_none cs None h = refl
 masked_none cs (Some A) h = absurd cc
 
-pub first_fails : (k : Unread) (cs : List Channel) (o : Option Events) (f : Events → Option Events) → Fails k (masked cs o) → Fails k (masked cs (o >>= f))
+pub first_fails : (k : ReadError) (cs : List Channel) (o : Option Events) (f : Events → Option Events) → Fails k (masked cs o) → Fails k (masked cs (o >>= f))
 unfolding masked
 first_fails k cs o f h = fails_on k (masked cs o) (masked cs (o >>= f)) (λ e. ap (λ o. masked cs (o >>= f)) (masked_none cs o e)) h
 
-pub second_fails : (k : Unread) (cs : List Channel) (c : Combination) (o p : Option Events) → Fails k (masked cs p) → Fails k (masked cs (o >>= λ A. p >>= λ B. Some (combine c A B)))
+pub second_fails : (k : ReadError) (cs : List Channel) (c : Combination) (o p : Option Events) → Fails k (masked cs p) → Fails k (masked cs (o >>= λ A. p >>= λ B. Some (combine c A B)))
 unfolding masked
 second_fails k cs c o p h = fails_on k (masked cs p) (masked cs (o >>= λ A. p >>= λ B. Some (combine c A B))) (λ e. ap (λ p. masked cs (o >>= λ A. p >>= λ B. Some (combine c A B))) (masked_none cs p e) ∙ by o) h
   where
@@ -183,7 +183,7 @@ module _ {A : Type 0} (cs : List Channel) (given_by : EventPhrase → Option Eve
         lies_more S T R E inv.1 (sym (set_is g)) m,
       )
 
-  pub several_fails : (k : Unread) (i : ℕ) (t : Tree A) (S : Set) (whole : Option Set) → (with_set cs S (others i) ≡ whole) × Lies cs S → i < length trees → t ≡ get_or trees i t → Fails k (masked cs (given_by (event_of (shape t)))) → Fails k whole
+  pub several_fails : (k : ReadError) (i : ℕ) (t : Tree A) (S : Set) (whole : Option Set) → (with_set cs S (others i) ≡ whole) × Lies cs S → i < length trees → t ≡ get_or trees i t → Fails k (masked cs (given_by (event_of (shape t)))) → Fails k whole
   unfolding masked
   several_fails k i t S whole inv h is f =
       fails_on k (masked cs (given_by (event_of (shape t)))) whole (λ e. sym inv.0 ∙ ap (with_set cs S) (step i t h is ∙ ap (λ o. o >>= λ A. others (i + 1) >>= λ B. Some (either A B)) (masked_none cs (given_by (event_of (shape t))) e))) f
@@ -248,12 +248,12 @@ module _ {A : Type 0} (cs : List Channel) (known : Known) (e : Extent) (t : Even
   member_events is g = ap (λ e. masked cs (gives cs known e t)) is ∙ ap (λ o. masked cs (o >>= λ b. Some (beginning_so cs b))) g ∙ begun_set cs b rows S h s
 
 -- faults of the phrases in a set
-pub begun_fails : (k : Unread) (cs : List Channel) (known : Known) (e : Extent) (t : EventPhrase) → e ≡ extents.Beginnings → Fails k (beginning cs known t) → Fails k (masked cs (gives cs known e t))
+pub begun_fails : (k : ReadError) (cs : List Channel) (known : Known) (e : Extent) (t : EventPhrase) → e ≡ extents.Beginnings → Fails k (beginning cs known t) → Fails k (masked cs (gives cs known e t))
 unfolding gives masked
 begun_fails k cs known e t h f =
     fails_on k (beginning cs known t) (masked cs (gives cs known e t)) (λ n. ap (λ e. masked cs (gives cs known e t)) h ∙ ap (λ o. masked cs (o >>= λ b. Some (beginning_so cs b))) n) f
 
-pub member_fails : (k : Unread) (cs : List Channel) (known : Known) (e : Extent) (t : EventPhrase) → e ≡ extents.Events → Fails k (whole_event cs known t) → Fails k (masked cs (gives cs known e t))
+pub member_fails : (k : ReadError) (cs : List Channel) (known : Known) (e : Extent) (t : EventPhrase) → e ≡ extents.Events → Fails k (whole_event cs known t) → Fails k (masked cs (gives cs known e t))
 unfolding gives masked
 member_fails k cs known e t h f =
     fails_on k (whole_event cs known t) (masked cs (gives cs known e t)) (λ n. ap (λ e. masked cs (gives cs known e t)) h ∙ ap (λ o. masked cs (o >>= λ b. Some (beginning_so cs b))) n) f
@@ -261,7 +261,7 @@ member_fails k cs known e t h f =
 -- ---- a choice of two sets
 
 module _ (cs : List Channel) (known : Known) (sets : KnownEvents) (c : Syntax) (p q : SetPhrase) where
-  pub condition_fails : (k : Unread) → Fails k (condition known c) → Fails k (masked cs (event_set cs known sets (set_chosen c p q)))
+  pub condition_fails : (k : ReadError) → Fails k (condition known c) → Fails k (masked cs (event_set cs known sets (set_chosen c p q)))
   unfolding masked event_set
   condition_fails k f =
       fails_on k (condition known c) (masked cs (event_set cs known sets (set_chosen c p q))) (λ e. ap (λ o. masked cs (o >>= λ b. cond b (event_set cs known sets p) (event_set cs known sets q))) e) f

@@ -3,7 +3,7 @@ use Rattle.std.proofs.Common.{◌≡◌, Bool, true, false, cond, Option, Some, 
 use Rattle.std.specs.Option.{option_map}
 use Rattle.alphabet.specs.Channels.{FieldValue, Values}
 use Rattle.syntax.specs.Grammar.{Syntax}
-use Rattle.tokens.specs.declared.unread.Unread.{Unread}
+use Rattle.tokens.specs.declared.read_error.ReadError.{ReadError}
 use Rattle.values.specs.Names.{is_constant, meaning}
 use Rattle.values.specs.Values.{Name, is_among}
 use Rattle.values.specs.View.{Fails}
@@ -37,7 +37,7 @@ module _ (set : Values) (v : FieldValue) (s : Scope) (x : Name) where
         by None = refl
         by (Some part) = ap (λ b. cond b None (kept (is_among v part))) c
 
-    pub part_fails : (k : Unread) → Fails k (option_map (is_among v) (values_by s t)) → Fails k (fits_field (input_from x t) set v s)
+    pub part_fails : (k : ReadError) → Fails k (option_map (is_among v) (values_by s t)) → Fails k (fits_field (input_from x t) set v s)
     unfolding fits_field against_part
     part_fails k f = fails_on k (option_map (is_among v) (values_by s t)) (fits_field (input_from x t) set v s) (by (values_by s t)) f
       where

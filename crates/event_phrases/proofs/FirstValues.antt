@@ -2,7 +2,7 @@
 use Rattle.std.proofs.Common.{◌≡◌, ℕ, suc, ◌+◌, ◌<◌, ◌≤◌, List, [], ◌∷◌, length, map, drop, get_or, Bool, true, false, cond, Option, Some, None, refl, sym, ap, ◌∙◌, arith}
 use Rattle.std.proofs.lemmas.List.{drop-map}
 use Rattle.alphabet.specs.Channels.{FieldValue, Values, Parts}
-use Rattle.tokens.specs.declared.unread.Unread.{Unread}
+use Rattle.tokens.specs.declared.read_error.ReadError.{ReadError}
 use Rattle.values.specs.Values.{◌>>=◌, Name, is_among, is_same}
 use Rattle.values.specs.Names.{same_name}
 use Rattle.values.specs.View.{Fails}
@@ -89,7 +89,7 @@ module _ {R : Type 0} (view : R → Parts) (rs : List R) (es : List Parts) (all 
     with_fit : (o : Fitting) → test (view r) ≡ o → whole ≡ (o >>= fit_or i (map view (drop (i + 1) rs)) (first_fit test (suc i) (map view (drop (i + 1) rs))))
     with_fit o e = here ∙ ap (λ o. o >>= fit_or i (map view (drop (i + 1) rs)) (first_fit test (suc i) (map view (drop (i + 1) rs)))) e
 
-    pub fault_at : (k : Unread) → Fails k (test (view r)) → Fails k whole
+    pub fault_at : (k : ReadError) → Fails k (test (view r)) → Fails k whole
     fault_at k f = fails_on k (test (view r)) whole (λ e. with_fit None e) f
 
     pub passed : test (view r) ≡ Some None → whole ≡ from_number (i + 1)

@@ -1,6 +1,6 @@
 -- Options, step by step, and faults of steps.
 use Rattle.std.proofs.Common.{◌≡◌, Bool, Option, Some, None, refl, ap}
-use Rattle.tokens.specs.declared.unread.Unread.{Unread}
+use Rattle.tokens.specs.declared.read_error.ReadError.{ReadError}
 use Rattle.values.specs.Values.{◌>>=◌}
 use Rattle.values.specs.View.{Fails}
 use Rattle.syntax.proofs.Failing.{fails_on}
@@ -32,5 +32,5 @@ pub step : {X Y : Type 0} (o : Option X) (f : X → Option Y) (x : X) → o ≡ 
 step o f x h = ap (λ o. o >>= f) h
 
 -- a fault of a step is one of the whole
-pub fails_at : {X Y : Type 0} (k : Unread) (o : Option X) (f : X → Option Y) → Fails k o → Fails k (o >>= f)
+pub fails_at : {X Y : Type 0} (k : ReadError) (o : Option X) (f : X → Option Y) → Fails k o → Fails k (o >>= f)
 fails_at k o f h = fails_on k o (o >>= f) (λ n. ap (λ o. o >>= f) n) h

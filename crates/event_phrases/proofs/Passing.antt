@@ -1,7 +1,7 @@
 -- Turns over the values of an input, where a channel has no event.
 use Rattle.std.proofs.Common.{◌≡◌, ℕ, ◌+◌, ◌-◌, ◌<◌, ◌≤◌, List, [], ◌∷◌, length, map, take, drop, get_or, filter, false, cond, Option, Some, None, Result, Ok, Err, MatchResult, sym, ap, ap₂, subst, ◌∙◌}
-use Rattle.tokens.specs.declared.unread.Unread.{Unread}
-use Rattle.tokens.specs.declared.unread.Unread.TheVariants.{Memory}
+use Rattle.tokens.specs.declared.read_error.ReadError.{ReadError}
+use Rattle.tokens.specs.declared.read_error.ReadError.TheVariants.{Memory}
 use Rattle.values.specs.Names.{is_constant, meaning}
 use Rattle.values.specs.Values.{◌>>=◌, Name, is_among}
 use Rattle.values.specs.View.{Fails}
@@ -28,7 +28,7 @@ module _ {R X : Type 0} (view : R → X) (test : X → Option (Unit {0})) (rs : 
     pub turn_passes : test (view r) ≡ Some tt → all_pass test (map view (drop (i + 1) rs)) ≡ all_pass test (map view (drop i rs))
     turn_passes h = sym (here ∙ ap (λ o. o >>= λ u. all_pass test (map view (drop (i + 1) rs))) h)
 
-    pub turn_fails : (k : Unread) → all_pass test (map view (drop i rs)) ≡ all_pass test (map view rs) → Fails k (test (view r)) → Fails k (all_pass test (map view rs))
+    pub turn_fails : (k : ReadError) → all_pass test (map view (drop i rs)) ≡ all_pass test (map view rs) → Fails k (test (view r)) → Fails k (all_pass test (map view rs))
     turn_fails k inv f = fails_on k (test (view r)) (all_pass test (map view rs)) (λ e. sym inv ∙ here ∙ ap (λ o. o >>= λ u. all_pass test (map view (drop (i + 1) rs))) e) f
 
   pub all_passed : length rs ≤ i → all_pass test (map view (drop i rs)) ≡ all_pass test (map view rs) → all_pass test (map view rs) ≡ Some tt
@@ -37,7 +37,7 @@ module _ {R X : Type 0} (view : R → X) (test : X → Option (Unit {0})) (rs : 
 
 -- ---- what is looked at after an input
 
-pub looked_so : {T : Type 0} (r : Result T Unread) (x : Option (Unit {0})) (each : Scope → Option (Unit {0})) (after : Scope → T → Option (Unit {0})) (s : Scope) → x ≡ each s → MatchResult r (λ o. (s : Scope) → each s ≡ after s o) (λ e. e ≡ Memory) → MatchResult r (λ o. x ≡ after s o) (λ e. Fails e x)
+pub looked_so : {T : Type 0} (r : Result T ReadError) (x : Option (Unit {0})) (each : Scope → Option (Unit {0})) (after : Scope → T → Option (Unit {0})) (s : Scope) → x ≡ each s → MatchResult r (λ o. (s : Scope) → each s ≡ after s o) (λ e. e ≡ Memory) → MatchResult r (λ o. x ≡ after s o) (λ e. Fails e x)
 looked_so (Ok o) x each after s h k = h ∙ k s
 looked_so (Err e) x each after s h k = subst (λ k. Fails k x) (sym k) tt
 
@@ -69,7 +69,7 @@ module _ (fs : List FieldPhrase) (sets : List Values) (s : Scope) (set : Values)
       pub part_passes : (vs : Values) → chosen_values s t set ≡ Some vs → fields_pass (input_from x t ∷ fs) (set ∷ sets) s ≡ all_pass (fields_pass fs sets) (map (with_input s x) vs)
       part_passes vs e = part_is ∙ ap (λ o. onward (o >>= λ vs. Some (scopes_with x vs))) e
 
-      pub part_fails : (k : Unread) → Fails k (chosen_values s t set) → Fails k (fields_pass (input_from x t ∷ fs) (set ∷ sets) s)
+      pub part_fails : (k : ReadError) → Fails k (chosen_values s t set) → Fails k (fields_pass (input_from x t ∷ fs) (set ∷ sets) s)
       part_fails k f = fails_on k (chosen_values s t set) (fields_pass (input_from x t ∷ fs) (set ∷ sets) s) (λ e. part_is ∙ ap (λ o. onward (o >>= λ vs. Some (scopes_with x vs))) e) f
 
 -- the first field, as this is read, and those after it

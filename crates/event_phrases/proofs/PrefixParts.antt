@@ -1,7 +1,7 @@
 -- The parts of a prefix, step by step.
 use Rattle.std.proofs.Common.{◌≡◌, List, length, Bool, true, false, cond, nat_eq, Option, Some, None, sym, ap, subst, ◌∙◌, arith}
 use Rattle.alphabet.specs.Channels.{Values}
-use Rattle.tokens.specs.declared.unread.Unread.{Unread}
+use Rattle.tokens.specs.declared.read_error.ReadError.{ReadError}
 use Rattle.values.specs.Values.{◌>>=◌, Name}
 use Rattle.values.specs.View.{Fails}
 use Rattle.event_phrases.specs.Events.{channel_fields}
@@ -47,7 +47,7 @@ module _ (s : Scope) (e : EventPhrase) where
         all_there : prefix_parts s e ≡ (at_no_fault fs sets s >>= λ u. parts_with c fs sets)
         all_there = within_sets true (grind (arith, n))
 
-        pub field_fails : (k : Unread) → Fails k (at_no_fault fs sets s) → Fails k (prefix_parts s e)
+        pub field_fails : (k : ReadError) → Fails k (at_no_fault fs sets s) → Fails k (prefix_parts s e)
         field_fails k g = subst (λ o. Fails k o) (sym all_there) (fails_at k (at_no_fault fs sets s) (λ u. parts_with c fs sets) g)
 
         pub parts_found : at_no_fault fs sets s ≡ Some tt → prefix_parts s e ≡ Some (c, fs, sets)

@@ -6,7 +6,7 @@ use Rattle.syntax.specs.declared.tree.Tree.{Tree}
 use Rattle.syntax.specs.Grammar.{Syntax}
 use Rattle.syntax.specs.Parsing.{syntaxes}
 use Rattle.syntax.specs.View.{shape, shapes}
-use Rattle.tokens.specs.declared.unread.Unread.{Unread}
+use Rattle.tokens.specs.declared.read_error.ReadError.{ReadError}
 use Rattle.values.specs.Values.{◌>>=◌}
 use Rattle.values.specs.Worths.{Known}
 use Rattle.values.specs.View.{Fails}
@@ -98,7 +98,7 @@ module _ {A : Type 0} (cs : List Channel) (known : Known) (ts : List (Tree A)) w
   none_is front None h = refl
   none_is front (Some R) h = absurd cc
 
-  pub others_fail : (k : Unread) (i : ℕ) (t : Tree A) (front : Pairs) (whole : Option Pairs) → behind_pairs front (others i) ≡ whole → i < length ts → t ≡ get_or ts i t → Fails k (behind_pairs front (pair_of cs known (shape t))) → Fails k whole
+  pub others_fail : (k : ReadError) (i : ℕ) (t : Tree A) (front : Pairs) (whole : Option Pairs) → behind_pairs front (others i) ≡ whole → i < length ts → t ≡ get_or ts i t → Fails k (behind_pairs front (pair_of cs known (shape t))) → Fails k whole
   unfolding behind_pairs
   others_fail k i t front whole inv h is f =
       fails_on k (behind_pairs front (pair_of cs known (shape t))) whole
@@ -126,7 +126,7 @@ module _ (cs : List Channel) (known : Known) (t : Syntax) (front : Pairs) where
     unfolding pair_of
     pair_so = ap pair_by (sym h)
 
-    pub left_fails : (k : Unread) → Fails k (beginning cs known u) → Fails k (behind_pairs front (pair_of cs known t))
+    pub left_fails : (k : ReadError) → Fails k (beginning cs known u) → Fails k (behind_pairs front (pair_of cs known t))
     unfolding behind_pairs
     left_fails k f =
         fails_on k (beginning cs known u) (behind_pairs front (pair_of cs known t))
@@ -136,7 +136,7 @@ module _ (cs : List Channel) (known : Known) (t : Syntax) (front : Pairs) where
       pair_on : pair_of cs known t ≡ (beginning cs known v >>= λ right. pairs_from cs left right 0 (events cs))
       pair_on = pair_so ∙ ap (λ o. o >>= λ left. beginning cs known v >>= λ right. pairs_from cs left right 0 (events cs)) l
 
-      pub right_fails : (k : Unread) → Fails k (beginning cs known v) → Fails k (behind_pairs front (pair_of cs known t))
+      pub right_fails : (k : ReadError) → Fails k (beginning cs known v) → Fails k (behind_pairs front (pair_of cs known t))
       unfolding behind_pairs
       right_fails k f =
           fails_on k (beginning cs known v) (behind_pairs front (pair_of cs known t))

@@ -2,7 +2,7 @@
 use Rattle.std.proofs.Common.{◌≡◌, ℕ, zero, suc, ◌-◌, ◌<◌, ◌≤◌, List, [], ◌∷◌, ◌++◌, length, take, drop, get_or, Bool, true, false, cond, Option, Some, None, refl, sym, ap, ◌∙◌, arith, append-nil, append_assoc}
 use Rattle.std.proofs.lemmas.List.{length-drop}
 use Rattle.alphabet.specs.Channels.{FieldValue, Values}
-use Rattle.tokens.specs.declared.unread.Unread.{Unread}
+use Rattle.tokens.specs.declared.read_error.ReadError.{ReadError}
 use Rattle.values.specs.Values.{◌>>=◌, Name, is_among}
 use Rattle.values.specs.Worths.{Worth, one, many, truth, Known}
 use Rattle.values.specs.Tables.{behind, names_value}
@@ -63,7 +63,7 @@ module _ (o : Option FieldValue) (set : Values) where
   unfolding value_within
   left_out v h a = ap (λ o. value_within o set) h ∙ ap (λ b. cond b (Some v) None) a
 
-pub no_value_within : (k : Unread) (o : Option FieldValue) (set : Values) → Fails k o → Fails k (value_within o set)
+pub no_value_within : (k : ReadError) (o : Option FieldValue) (set : Values) → Fails k o → Fails k (value_within o set)
 unfolding value_within
 no_value_within k o set f = fails_on k o (value_within o set) (λ e. ap (λ o. value_within o set) e) f
 
@@ -75,7 +75,7 @@ module _ (known : Known) (f : FieldPhrase) (fs : List FieldPhrase) (set : Values
   unfolding field_values
   one_value v h = ap (λ o. values_behind front (o >>= then_more)) h ∙ front_more front v (field_values known fs sets)
 
-  pub value_fails : (k : Unread) → Fails k (value_within (field_value known f) set) → Fails k (values_behind front (field_values known (f ∷ fs) (set ∷ sets)))
+  pub value_fails : (k : ReadError) → Fails k (value_within (field_value known f) set) → Fails k (values_behind front (field_values known (f ∷ fs) (set ∷ sets)))
   unfolding values_behind field_values
   value_fails k g = fails_on k (value_within (field_value known f) set) (values_behind front (field_values known (f ∷ fs) (set ∷ sets))) (λ e. ap (λ o. values_behind front (o >>= then_more)) e) g
 

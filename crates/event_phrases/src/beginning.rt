@@ -18,7 +18,7 @@ use crate::row::Row;
 use crate::scope::{Scope, reported_fault, truth};
 use std::alloc::Allocator;
 use syntax::Tree;
-use tokens::{Position, ScriptErrorKind, Unread, fault};
+use tokens::{Position, ReadError, ScriptErrorKind, fault};
 use values::{Input, Known, Value, stands_for, the_value};
 
 /// Whether the value is one of the set.
@@ -40,7 +40,7 @@ fn given_by<A: Allocator + Copy>(
     inputs: &[Input<A>],
     phrase: FieldPhrase<'_, A>,
     line: Position,
-) -> Result<Value<A>, Unread>
+) -> Result<Value<A>, ReadError>
     ensures { Gives value_of result (field_value (behind (table known.now) (map input inputs.now)) (plain_field phrase.entry)) }
 {
     match phrase {
@@ -59,7 +59,7 @@ pub(crate) fn given<A: Allocator + Copy>(
     known: &Known<A>,
     inputs: &[Input<A>],
     tree: &Tree<A>,
-) -> Result<Value<A>, Unread>
+) -> Result<Value<A>, ReadError>
     ensures { Gives value_of result (field_value (behind (table known.now) (map input inputs.now)) (field_of (shape tree.now))) }
 {
     match field(tree) {
@@ -75,7 +75,7 @@ pub(crate) fn given_within<A: Allocator + Copy>(
     inputs: &[Input<A>],
     field: &Tree<A>,
     set: &Set<A>,
-) -> Result<Value<A>, Unread>
+) -> Result<Value<A>, ReadError>
     ensures { Gives value_of result (value_within (field_value (behind (table known.now) (map input inputs.now)) (field_of (shape field.now))) (listed set.now.items)) }
 {
     let value = given(alloc, known, inputs, field)?;
@@ -95,7 +95,7 @@ fn more_values<A: Allocator + Copy>(
     sets: &[Set<A>],
     values: &mut Vec<Value<A>, A>,
     line: Position,
-) -> Result<(), Unread>
+) -> Result<(), ReadError>
     ensures { Gives (λ u. listed values.new.items) result (values_behind (listed values.old.items) (field_values (behind (table known.now) (map input inputs.now)) (map field_of (shapes fields.now)) (map (λ v. listed v.items) sets.now))) }
 {
     match fields {
@@ -119,7 +119,7 @@ fn begun<A: Allocator + Copy>(
     fields: &[Tree<A>],
     sets: &[Set<A>],
     line: Position,
-) -> Result<Row<A>, Unread>
+) -> Result<Row<A>, ReadError>
     ensures { Gives (λ r. beginning_of r) result (option_map (λ vs. (channel.now, vs)) (field_values (behind (table known.now) (map input inputs.now)) (map field_of (shapes fields.now)) (map (λ v. listed v.items) sets.now))) }
 {
     if fields.len() > sets.len() {
@@ -138,7 +138,7 @@ pub(crate) fn beginning<A: Allocator + Copy, G: GlobalScope<A>>(
     alloc: A,
     scope: &Scope<'_, A, G>,
     tree: &Tree<A>,
-) -> Result<Row<A>, Unread>
+) -> Result<Row<A>, ReadError>
     ensures { Gives (λ r. beginning_of r) result (beginning_in (G.scope scope.now.global.now).channels (within (G.scope scope.now.global.now) (map input scope.now.inputs.items)).known (event_of (shape tree.now))) }
 {
     match event_parts(tree) {
@@ -168,7 +168,7 @@ pub(crate) fn wanted_beginning<A: Allocator + Copy, G: GlobalScope<A>>(
     alloc: A,
     scope: &Scope<'_, A, G>,
     tree: &Tree<A>,
-) -> Result<Row<A>, Unread>
+) -> Result<Row<A>, ReadError>
     ensures { Gives (λ r. beginning_of r) result (beginning_in (G.scope scope.now.global.now).channels (within (G.scope scope.now.global.now) (map input scope.now.inputs.items)).known (event_of (shape tree.now))) }
 {
     match beginning(alloc, scope, tree) {
@@ -191,7 +191,7 @@ fn event<A: Allocator + Copy, G: GlobalScope<A>>(
     channel: &[u8],
     fields: &[Tree<A>],
     line: Position,
-) -> Result<Row<A>, Unread>
+) -> Result<Row<A>, ReadError>
     ensures { Gives (λ r. beginning_of r) result (whole_event_in (G.scope scope.now.global.now).channels (within (G.scope scope.now.global.now) (map input scope.now.inputs.items)).known (event_with channel.now (map field_of (shapes fields.now)))) }
 {
     match scope.fields(channel) {
@@ -218,7 +218,7 @@ pub(crate) fn whole_event<A: Allocator + Copy, G: GlobalScope<A>>(
     alloc: A,
     scope: &Scope<'_, A, G>,
     tree: &Tree<A>,
-) -> Result<Row<A>, Unread>
+) -> Result<Row<A>, ReadError>
     ensures { Gives (λ r. beginning_of r) result (whole_event_in (G.scope scope.now.global.now).channels (within (G.scope scope.now.global.now) (map input scope.now.inputs.items)).known (event_of (shape tree.now))) }
 {
     match event_phrase(tree) {

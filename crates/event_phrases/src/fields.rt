@@ -3,7 +3,7 @@ ghost use Rattle.std.specs.Prelude.{◌≡◌, IfOk, Some, [], ◌∷◌, filter
 ghost use Rattle.std.specs.Option.{option_map};
 ghost use Rattle.std.specs.Result.{MatchResult};
 ghost use Rattle.syntax.specs.View.{shape, shapes};
-ghost use Rattle.tokens.specs.declared.unread.Unread.TheVariants.{Memory};
+ghost use Rattle.tokens.specs.declared.read_error.ReadError.TheVariants.{Memory};
 ghost use Rattle.values.specs.Tables.{input};
 ghost use Rattle.values.specs.Values.{is_among};
 ghost use Rattle.values.specs.View.{Fails, Gives, values};
@@ -25,7 +25,7 @@ use crate::scope::{Scope, copies, push_input, wanted_worth};
 use crate::uses::mentions;
 use std::alloc::{AllocError, Allocator};
 use syntax::Tree;
-use tokens::{Position, ScriptErrorKind, Unread, fault};
+use tokens::{Position, ReadError, ScriptErrorKind, fault};
 use values::{Input, Value, Values, the_set, the_value};
 
 /// Whether the name is in the phrase that a field gives a value or a set by.
@@ -79,7 +79,7 @@ fn looked_at<'a, A: Allocator + Copy>(
     name: &'a [u8],
     values: &[Value<A>],
     rest: (&[Tree<A>], &[Set<A>]),
-) -> Result<Option<(&'a [u8], Vec<Value<A>, A>)>, Unread>
+) -> Result<Option<(&'a [u8], Vec<Value<A>, A>)>, ReadError>
     ensures { MatchResult result (λ o. (s : PlainScope) → all_pass_in (fields_pass_in (map field_of (shapes rest.entry.0.now)) (map (λ v. listed v.items) rest.entry.1.now)) (map (with_input_of s name.now) (listed values.now)) ≡ passes_after (map field_of (shapes rest.entry.0.now)) (map (λ v. listed v.items) rest.entry.1.now) s (option_map (λ p. (p.0.now, listed p.1.items)) o)) (λ e. e ≡ Memory) }
 {
     match values {
@@ -102,7 +102,7 @@ fn value_passes<A: Allocator + Copy, G: GlobalScope<A>>(
     inputs: &[Input<A>],
     tree: &Tree<A>,
     set: &Set<A>,
-) -> Result<(), Unread>
+) -> Result<(), ReadError>
     ensures { Gives (λ u. within (G.scope global.now) (map input inputs.now) ∷ []) result (scopes_after (given (shape tree.now)) (listed set.now.items) (within (G.scope global.now) (map input inputs.now))) }
 {
     let found = wanted_worth(alloc, global, inputs, tree, Wanted::Value)?;
@@ -122,7 +122,7 @@ fn chosen<A: Allocator + Copy, G: GlobalScope<A>>(
     inputs: &[Input<A>],
     tree: &Tree<A>,
     all: &[Value<A>],
-) -> Result<Vec<Value<A>, A>, Unread>
+) -> Result<Vec<Value<A>, A>, ReadError>
     ensures { Gives (λ v. listed v.items) result (chosen_values (within (G.scope global.now) (map input inputs.now)) (shape tree.now) (listed all.now)) }
 {
     let found = wanted_worth(alloc, global, inputs, tree, Wanted::Values)?;
@@ -142,7 +142,7 @@ fn passing<'a, A: Allocator + Copy, G: GlobalScope<A>>(
     set: &Set<A>,
     rest: (&[Tree<A>], &[Set<A>]),
     line: Position,
-) -> Result<Option<(&'a [u8], Vec<Value<A>, A>)>, Unread>
+) -> Result<Option<(&'a [u8], Vec<Value<A>, A>)>, ReadError>
     ensures { MatchResult result (λ o. (fields_pass_in (plain_field phrase.entry ∷ map field_of (shapes rest.entry.0.now)) (listed set.now.items ∷ map (λ v. listed v.items) rest.entry.1.now) (within (G.scope global.now) (map input inputs.now))) ≡ passes_after (map field_of (shapes rest.entry.0.now)) (map (λ v. listed v.items) rest.entry.1.now) (within (G.scope global.now) (map input inputs.now)) (option_map (λ p. (p.0.now, listed p.1.items)) o)) (λ e. Fails e (fields_pass_in (plain_field phrase.entry ∷ map field_of (shapes rest.entry.0.now)) (listed set.now.items ∷ map (λ v. listed v.items) rest.entry.1.now) (within (G.scope global.now) (map input inputs.now)))) }
 {
     match phrase {
@@ -175,7 +175,7 @@ fn all_pass<A: Allocator + Copy, G: GlobalScope<A>>(
     name: &[u8],
     values: &[Value<A>],
     rest: (&[Tree<A>], &[Set<A>]),
-) -> Result<(), Unread>
+) -> Result<(), ReadError>
     ensures { Gives (λ u. u) result (all_pass_in (λ v. fields_pass_in (map field_of (shapes rest.entry.0.now)) (map (λ v. listed v.items) rest.entry.1.now) (with_input_of (within (G.scope global.now) (map input inputs.now)) name.now v)) (listed values.now)) }
 {
     for value in values {
@@ -194,7 +194,7 @@ fn fields_pass<A: Allocator + Copy, G: GlobalScope<A>>(
     inputs: &[Input<A>],
     fields: &[Tree<A>],
     sets: &[Set<A>],
-) -> Result<(), Unread>
+) -> Result<(), ReadError>
     ensures { Gives (λ u. u) result (fields_pass_in (map field_of (shapes fields.now)) (map (λ v. listed v.items) sets.now) (within (G.scope global.now) (map input inputs.now))) }
 {
     match fields {
@@ -235,7 +235,7 @@ fn at_no_fault<A: Allocator + Copy, G: GlobalScope<A>>(
     scope: &Scope<'_, A, G>,
     fields: &[Tree<A>],
     sets: &[Set<A>],
-) -> Result<(), Unread>
+) -> Result<(), ReadError>
     ensures { Gives (λ u. u) result (at_no_fault_of (map field_of (shapes fields.now)) (map (λ v. listed v.items) sets.now) (within (G.scope scope.now.global.now) (map input scope.now.inputs.items))) }
 {
     if has_event(sets) {
@@ -251,7 +251,7 @@ pub fn prefix_of<'a, A: Allocator + Copy, G: GlobalScope<A>>(
     scope: &Scope<'a, A, G>,
     event: &'a Tree<A>,
     then: &'a Tree<A>,
-) -> Result<Prefix<'a, A>, Unread>
+) -> Result<Prefix<'a, A>, ReadError>
     ensures parts { Gives (λ p. (p.channel.now, map field_of (shapes p.fields.now), map (λ v. listed v.items) p.sets.now)) result (prefix_parts (within (G.scope scope.now.global.now) (map input scope.now.inputs.items)) (event_of (shape event.now))) }
     ensures then { IfOk result (λ p. p.then.now ≡ then.now) }
     ensures leading { IfOk result (λ p. listed p.leading.items ≡ leading_in (within (G.scope scope.now.global.now) (map input scope.now.inputs.items)).known (map field_of (shapes p.fields.now)) (map (λ v. listed v.items) p.sets.now)) }

@@ -18,7 +18,7 @@ use crate::row::Row;
 use alphabet::EventSet;
 use std::alloc::Allocator;
 use syntax::Tree;
-use tokens::{Position, Unread};
+use tokens::{Position, ReadError};
 use values::{Input, Known, Value};
 
 /// The values of a field, in order.
@@ -87,11 +87,11 @@ pub trait GlobalScope<A: Allocator>: Drop {
     fn line(&self, name: &[u8]) -> Position;
 
     /// What is wrong with a name on this line that is no process.
-    fn fault(&self, name: &[u8], line: Position) -> Unread;
+    fn fault(&self, name: &[u8], line: Position) -> ReadError;
 
     /// What is wrong with a call on this line of a name that is no definition with so many parameters.
-    fn call_fault(&self, name: &[u8], line: Position) -> Unread;
+    fn call_fault(&self, name: &[u8], line: Position) -> ReadError;
 
     /// What is wrong with a phrase after these inputs that isn't what is wanted.
-    fn phrase_fault(&self, inputs: &[Input<A>], phrase: &Tree<A>, wanted: Wanted) -> Unread;
+    fn phrase_fault(&self, inputs: &[Input<A>], phrase: &Tree<A>, wanted: Wanted) -> ReadError;
 }

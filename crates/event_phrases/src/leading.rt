@@ -18,7 +18,7 @@ use crate::row::{Row, is_equal};
 use crate::scope::{Scope, copies};
 use std::alloc::Allocator;
 use syntax::Tree;
-use tokens::{Position, ScriptErrorKind, Unread, fault};
+use tokens::{Position, ReadError, ScriptErrorKind, fault};
 use values::{Input, Known, Value};
 
 /// The value that a field gives, if it is one of the field's set. A fault isn't reported here.
@@ -28,13 +28,13 @@ fn leading_value<A: Allocator + Copy>(
     inputs: &[Input<A>],
     field: &Tree<A>,
     set: &Set<A>,
-) -> Result<Option<Value<A>>, Unread>
+) -> Result<Option<Value<A>>, ReadError>
     ensures { Gives (option_map value_of) result (Some (value_within (field_value (behind (table known.now) (map input inputs.now)) (field_of (shape field.now))) (listed set.now.items))) }
 {
     match given_within(alloc, known, inputs, field, set) {
         Ok(value) => Ok(Some(value)),
-        Err(Unread::Fault(_)) => Ok(None),
-        Err(Unread::Memory) => Err(Unread::Memory),
+        Err(ReadError::Fault(_)) => Ok(None),
+        Err(ReadError::Memory) => Err(ReadError::Memory),
     }
 }
 
@@ -46,7 +46,7 @@ fn more_leading<A: Allocator + Copy>(
     fields: &[Tree<A>],
     sets: &[Set<A>],
     values: &mut Vec<Value<A>, A>,
-) -> Result<(), Unread>
+) -> Result<(), ReadError>
     ensures { Gives (λ u. listed values.new.items) result (Some (listed values.old.items ++ leading (behind (table known.now) (map input inputs.now)) (map field_of (shapes fields.now)) (map (λ v. listed v.items) sets.now))) }
 {
     match fields {
@@ -71,7 +71,7 @@ pub(crate) fn leading_values<A: Allocator + Copy>(
     inputs: &[Input<A>],
     fields: &[Tree<A>],
     sets: &[Set<A>],
-) -> Result<Vec<Value<A>, A>, Unread>
+) -> Result<Vec<Value<A>, A>, ReadError>
     ensures { Gives (λ v. listed v.items) result (Some (leading (behind (table known.now) (map input inputs.now)) (map field_of (shapes fields.now)) (map (λ v. listed v.items) sets.now))) }
 {
     let mut values = Vec::new(alloc);
@@ -88,7 +88,7 @@ fn led_fitting<A: Allocator + Copy, G: GlobalScope<A>>(
     sets: &[Set<A>],
     values: &[Value<A>],
     line: Position,
-) -> Result<Option<Vec<Input<A>, A>>, Unread>
+) -> Result<Option<Vec<Input<A>, A>>, ReadError>
     ensures { Gives (option_map (λ v. within (G.scope scope.now.global.now) (map input v.items))) result (led_fitting_of (listed leading.now) (map field_of (shapes fields.now)) (map (λ v. listed v.items) sets.now) (listed values.now) (within (G.scope scope.now.global.now) (map input scope.now.inputs.items))) }
 {
     match leading {
@@ -128,7 +128,7 @@ fn inputs_behind<A: Allocator + Copy, G: GlobalScope<A>>(
     scope: &Scope<'_, A, G>,
     prefix: &Prefix<'_, A>,
     event: &Row<A>,
-) -> Result<Option<Vec<Input<A>, A>>, Unread>
+) -> Result<Option<Vec<Input<A>, A>>, ReadError>
     ensures { Gives (option_map (λ v. within (G.scope scope.now.global.now) (map input v.items))) result (led_fits prefix.now.channel.now (listed prefix.now.leading.items) (map field_of (shapes prefix.now.fields.now)) (map (λ v. listed v.items) prefix.now.sets.now) (within (G.scope scope.now.global.now) (map input scope.now.inputs.items)) (row event.now)) }
 {
     if prefix.channel != event.channel.as_slice() {
@@ -152,7 +152,7 @@ pub fn next_fitting<A: Allocator + Copy, G: GlobalScope<A>>(
     scope: &Scope<'_, A, G>,
     prefix: &Prefix<'_, A>,
     from: usize,
-) -> Result<Option<(usize, Vec<Input<A>, A>)>, Unread>
+) -> Result<Option<(usize, Vec<Input<A>, A>)>, ReadError>
     ensures first { Gives (option_map (λ x. (x.0, within (G.scope scope.now.global.now) (map input x.1.items), drop (suc x.0) (events_of (G.scope scope.now.global.now).channels)))) result (first_fit (led_fits prefix.now.channel.now (listed prefix.now.leading.items) (map field_of (shapes prefix.now.fields.now)) (map (λ v. listed v.items) prefix.now.sets.now) (within (G.scope scope.now.global.now) (map input scope.now.inputs.items))) from (drop from (events_of (G.scope scope.now.global.now).channels))) }
     ensures number { IfOk result (λ o. IfSome o (λ x. (from ≤ x.0) × (x.0 < 256))) }
 {

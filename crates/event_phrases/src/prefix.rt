@@ -18,7 +18,7 @@ use crate::row::is_equal;
 use crate::scope::{push_input, wanted_worth};
 use std::alloc::Allocator;
 use syntax::Tree;
-use tokens::{Position, ScriptErrorKind, Unread, fault};
+use tokens::{Position, ReadError, ScriptErrorKind, fault};
 use values::{Input, Value, Values, the_set, the_value};
 
 /// A prefix: the channel of its event, the fields with the sets of their values, and the process after its arrow.
@@ -54,7 +54,7 @@ fn is_given<A: Allocator + Copy, G: GlobalScope<A>>(
     tree: &Tree<A>,
     set: &Set<A>,
     value: &Value<A>,
-) -> Result<bool, Unread>
+) -> Result<bool, ReadError>
     ensures { Gives (λ fits. if fits then Some (within (G.scope global.now) (map input inputs.now)) else None) result (against (listed set.now.items) (value_of value.now) (within (G.scope global.now) (map input inputs.now)) (value_by (within (G.scope global.now) (map input inputs.now)) (shape tree.now))) }
 {
     let found = wanted_worth(alloc, global, inputs, tree, Wanted::Value)?;
@@ -73,7 +73,7 @@ fn is_in_part<A: Allocator + Copy, G: GlobalScope<A>>(
     inputs: &[Input<A>],
     tree: &Tree<A>,
     value: &Value<A>,
-) -> Result<bool, Unread>
+) -> Result<bool, ReadError>
     ensures { Gives (λ b. b) result (option_map (is_among (value_of value.now)) (values_by (within (G.scope global.now) (map input inputs.now)) (shape tree.now))) }
 {
     let found = wanted_worth(alloc, global, inputs, tree, Wanted::Values)?;
@@ -90,7 +90,7 @@ fn fits_phrase<A: Allocator + Copy, G: GlobalScope<A>>(
     set: &Set<A>,
     value: &Value<A>,
     line: Position,
-) -> Result<bool, Unread>
+) -> Result<bool, ReadError>
     ensures { Gives (λ fits. if fits then Some (within (G.scope global.now) (map input inputs.new.items)) else None) result (fits_field (plain_field phrase.entry) (listed set.now.items) (value_of value.now) (within (G.scope global.now) (map input inputs.old.items))) }
 {
     match phrase {
@@ -123,7 +123,7 @@ fn fits<A: Allocator + Copy, G: GlobalScope<A>>(
     tree: &Tree<A>,
     set: &Set<A>,
     value: &Value<A>,
-) -> Result<bool, Unread>
+) -> Result<bool, ReadError>
     ensures { Gives (λ fits. if fits then Some (within (G.scope global.now) (map input inputs.new.items)) else None) result (fits_field (field_of (shape tree.now)) (listed set.now.items) (value_of value.now) (within (G.scope global.now) (map input inputs.old.items))) }
 {
     match field(tree) {
@@ -141,7 +141,7 @@ pub(crate) fn fitting<A: Allocator + Copy, G: GlobalScope<A>>(
     sets: &[Set<A>],
     values: &[Value<A>],
     line: Position,
-) -> Result<bool, Unread>
+) -> Result<bool, ReadError>
     ensures { Gives (λ fits. if fits then Some (within (G.scope global.now) (map input inputs.new.items)) else None) result (fitting_of (map field_of (shapes fields.now)) (map (λ v. listed v.items) sets.now) (listed values.now) (within (G.scope global.now) (map input inputs.old.items))) }
 {
     match fields {

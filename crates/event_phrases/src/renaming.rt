@@ -18,7 +18,7 @@ use crate::row::{Row, begins_so, extended};
 use crate::scope::Scope;
 use std::alloc::{AllocError, Allocator};
 use syntax::Tree;
-use tokens::{Position, ScriptErrorKind, Unread, fault};
+use tokens::{Position, ReadError, ScriptErrorKind, fault};
 use values::Value;
 
 /// The values after so many.
@@ -59,7 +59,7 @@ fn pairs_from<A: Allocator + Copy>(
     right: &Row<A>,
     before: Vec<(u8, u8), A>,
     line: Position,
-) -> Result<Vec<(u8, u8), A>, Unread>
+) -> Result<Vec<(u8, u8), A>, ReadError>
     requires { length events.now ≤ 256 }
     ensures { (channels : List Channel) → map row events.now ≡ events_of channels → Gives (λ v. v.items) result (behind_pairs before.items (pairs_from_events channels (beginning_of left.now) (beginning_of right.now) 0 (events_of channels))) }
 {
@@ -82,7 +82,7 @@ fn pairs_with<A: Allocator + Copy, G: GlobalScope<A>>(
     scope: &Scope<'_, A, G>,
     tree: &Tree<A>,
     before: Vec<(u8, u8), A>,
-) -> Result<Vec<(u8, u8), A>, Unread>
+) -> Result<Vec<(u8, u8), A>, ReadError>
     ensures { Gives (λ v. v.items) result (behind_pairs before.items (pair_of (G.scope scope.now.global.now).channels (within (G.scope scope.now.global.now) (map input scope.now.inputs.items)).known (shape tree.now))) }
 {
     match sides(tree) {
@@ -108,7 +108,7 @@ pub fn pairs_of<A: Allocator + Copy, G: GlobalScope<A>>(
     alloc: A,
     scope: &Scope<'_, A, G>,
     trees: &[Tree<A>],
-) -> Result<Vec<(u8, u8), A>, Unread>
+) -> Result<Vec<(u8, u8), A>, ReadError>
     ensures { Gives (λ v. v.items) result (pairs_of_all (G.scope scope.now.global.now).channels (within (G.scope scope.now.global.now) (map input scope.now.inputs.items)).known (syntaxes (shapes trees.now))) }
 {
     let mut pairs = Vec::new(alloc);

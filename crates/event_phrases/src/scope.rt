@@ -2,7 +2,7 @@
 ghost use Rattle.std.specs.Prelude.{◌≡◌, ◌++◌, ◌∷◌, [], IfOk, OnOk, map};
 ghost use Rattle.std.specs.Option.{option_map};
 ghost use Rattle.syntax.specs.View.{shape};
-ghost use Rattle.tokens.specs.declared.unread.Unread.TheVariants.{Memory};
+ghost use Rattle.tokens.specs.declared.read_error.ReadError.TheVariants.{Memory};
 ghost use Rattle.values.specs.Tables.{behind, input, names_value, table};
 ghost use Rattle.values.specs.View.{Gives, value as value_of, values, worth as worth_of};
 ghost use Rattle.values.specs.Worths.{condition, worth as worth_in};
@@ -13,7 +13,7 @@ ghost use Rattle.event_phrases.specs.View.{listed};
 use crate::global_scope::{GlobalScope, Set, Wanted};
 use std::alloc::{AllocError, Allocator};
 use syntax::Tree;
-use tokens::{Position, Unread};
+use tokens::{Position, ReadError};
 use values::{
     Input, Known, Value, Values, Worth, is_value, stands_for, the_set, the_truth, the_value,
 };
@@ -52,13 +52,13 @@ pub(crate) fn reported_fault<A: Allocator, G: GlobalScope<A>>(
     inputs: &[Input<A>],
     tree: &Tree<A>,
     wanted: Wanted,
-    error: Unread,
-) -> Unread
+    error: ReadError,
+) -> ReadError
     ensures { error ≡ Memory → result ≡ Memory }
 {
     match error {
-        Unread::Memory => error,
-        Unread::Fault(_) => global.phrase_fault(inputs, tree, wanted),
+        ReadError::Memory => error,
+        ReadError::Fault(_) => global.phrase_fault(inputs, tree, wanted),
     }
 }
 
@@ -70,7 +70,7 @@ pub(crate) fn wanted_worth<A: Allocator + Copy, G: GlobalScope<A>>(
     inputs: &[Input<A>],
     tree: &Tree<A>,
     wanted: Wanted,
-) -> Result<Worth<A>, Unread>
+) -> Result<Worth<A>, ReadError>
     ensures { Gives worth_of result (worth_in (within (G.scope global.now) (map input inputs.now)).known (shape tree.now)) }
 {
     match stands_for(&alloc, global.known(), inputs, tree) {
@@ -86,7 +86,7 @@ pub(crate) fn truth<A: Allocator + Copy>(
     known: &Known<A>,
     inputs: &[Input<A>],
     tree: &Tree<A>,
-) -> Result<bool, Unread>
+) -> Result<bool, ReadError>
     ensures { Gives (λ b. b) result (condition (behind (table known.now) (map input inputs.now)) (shape tree.now)) }
 {
     let worth = stands_for(&alloc, known, inputs, tree)?;
@@ -99,7 +99,7 @@ pub fn wanted_truth<A: Allocator + Copy, G: GlobalScope<A>>(
     alloc: A,
     scope: &Scope<'_, A, G>,
     tree: &Tree<A>,
-) -> Result<bool, Unread>
+) -> Result<bool, ReadError>
     ensures { Gives (λ b. b) result (condition (within (G.scope scope.now.global.now) (map input scope.now.inputs.items)).known (shape tree.now)) }
 {
     match truth(alloc, scope.global.known(), &scope.inputs, tree) {
@@ -113,7 +113,7 @@ pub fn wanted_value<A: Allocator + Copy, G: GlobalScope<A>>(
     alloc: A,
     scope: &Scope<'_, A, G>,
     tree: &Tree<A>,
-) -> Result<Value<A>, Unread>
+) -> Result<Value<A>, ReadError>
     ensures { Gives value_of result (value_by (within (G.scope scope.now.global.now) (map input scope.now.inputs.items)) (shape tree.now)) }
 {
     let worth = wanted_worth(alloc, scope.global, &scope.inputs, tree, Wanted::Value)?;
@@ -125,7 +125,7 @@ pub fn wanted_values<A: Allocator + Copy, G: GlobalScope<A>>(
     alloc: A,
     scope: &Scope<'_, A, G>,
     tree: &Tree<A>,
-) -> Result<Values<A>, Unread>
+) -> Result<Values<A>, ReadError>
     ensures { Gives values result (values_by (within (G.scope scope.now.global.now) (map input scope.now.inputs.items)) (shape tree.now)) }
 {
     let worth = wanted_worth(alloc, scope.global, &scope.inputs, tree, Wanted::Values)?;
@@ -186,7 +186,7 @@ impl<'a, A: Allocator + Copy, G: GlobalScope<A>> Scope<'a, A, G> {
     }
 
     /// The fault of an event phrase whose name is no channel's.
-    pub fn no_channel(&self, event: &Tree<A>) -> Unread {
+    pub fn no_channel(&self, event: &Tree<A>) -> ReadError {
         self.global
             .phrase_fault(&self.inputs, event, Wanted::Channel)
     }

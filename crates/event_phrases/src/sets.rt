@@ -18,7 +18,7 @@ use crate::scope::{Scope, reported_fault, truth};
 use alphabet::EventSet;
 use std::alloc::Allocator;
 use syntax::Tree;
-use tokens::{Position, ScriptErrorKind, Unread, fault};
+use tokens::{Position, ReadError, ScriptErrorKind, fault};
 
 /// What is made of two sets.
 #[tactic(auto, unfolding(crate::specs::Events::is_in_both))]
@@ -38,7 +38,7 @@ fn events_of<A: Allocator + Copy, G: GlobalScope<A>>(
     scope: &Scope<'_, A, G>,
     extent: Extent,
     tree: &Tree<A>,
-) -> Result<EventSet, Unread>
+) -> Result<EventSet, ReadError>
     ensures { Gives (λ s. s) result (masked (G.scope scope.now.global.now).channels (gives (G.scope scope.now.global.now).channels (within (G.scope scope.now.global.now) (map input scope.now.inputs.items)).known extent (event_of (shape tree.now)))) }
 {
     let event = match extent {
@@ -54,7 +54,7 @@ fn several<A: Allocator + Copy, G: GlobalScope<A>>(
     scope: &Scope<'_, A, G>,
     extent: Extent,
     trees: &[Tree<A>],
-) -> Result<EventSet, Unread>
+) -> Result<EventSet, ReadError>
     ensures { Gives (λ s. s) result (masked (G.scope scope.now.global.now).channels (together (gives (G.scope scope.now.global.now).channels (within (G.scope scope.now.global.now) (map input scope.now.inputs.items)).known extent) (map event_of (shapes trees.now)))) }
 {
     let mut set = EventSet::empty();
@@ -71,7 +71,7 @@ fn event_set<A: Allocator + Copy, G: GlobalScope<A>>(
     alloc: A,
     scope: &Scope<'_, A, G>,
     tree: &Tree<A>,
-) -> Result<EventSet, Unread>
+) -> Result<EventSet, ReadError>
     ensures { Gives (λ s. s) result (masked (G.scope scope.now.global.now).channels (event_set_in (G.scope scope.now.global.now).channels (within (G.scope scope.now.global.now) (map input scope.now.inputs.items)).known (G.scope scope.now.global.now).sets (set_phrase_of (shape tree.now)))) }
 {
     match set_phrase(tree) {
@@ -87,7 +87,7 @@ fn set_of_phrase<A: Allocator + Copy, G: GlobalScope<A>>(
     scope: &Scope<'_, A, G>,
     phrase: SetPhrase<'_, A>,
     line: Position,
-) -> Result<EventSet, Unread>
+) -> Result<EventSet, ReadError>
     ensures { Gives (λ s. s) result (masked (G.scope scope.now.global.now).channels (event_set_in (G.scope scope.now.global.now).channels (within (G.scope scope.now.global.now) (map input scope.now.inputs.items)).known (G.scope scope.now.global.now).sets (plain_set phrase.entry))) }
 {
     match phrase {
@@ -125,7 +125,7 @@ pub fn wanted_events<A: Allocator + Copy, G: GlobalScope<A>>(
     alloc: A,
     scope: &Scope<'_, A, G>,
     tree: &Tree<A>,
-) -> Result<EventSet, Unread>
+) -> Result<EventSet, ReadError>
     ensures { Gives (λ s. s) result (masked (G.scope scope.now.global.now).channels (event_set_in (G.scope scope.now.global.now).channels (within (G.scope scope.now.global.now) (map input scope.now.inputs.items)).known (G.scope scope.now.global.now).sets (set_phrase_of (shape tree.now)))) }
 {
     match event_set(alloc, scope, tree) {
@@ -140,7 +140,7 @@ pub fn two_sets<A: Allocator + Copy, G: GlobalScope<A>>(
     scope: &Scope<'_, A, G>,
     first: &Tree<A>,
     second: &Tree<A>,
-) -> Result<(EventSet, EventSet), Unread>
+) -> Result<(EventSet, EventSet), ReadError>
     ensures { Gives (λ p. p) result (two_masked (G.scope scope.now.global.now).channels (events_by (within (G.scope scope.now.global.now) (map input scope.now.inputs.items)) (shape first.now)) (events_by (within (G.scope scope.now.global.now) (map input scope.now.inputs.items)) (shape second.now))) }
 {
     let first = wanted_events(alloc, scope, first)?;
@@ -153,7 +153,7 @@ pub fn set_of_events<A: Allocator + Copy, G: GlobalScope<A>>(
     alloc: A,
     global: &G,
     tree: &Tree<A>,
-) -> Result<EventSet, Unread>
+) -> Result<EventSet, ReadError>
     ensures { Gives (λ s. s) result (masked (G.scope global.now).channels (event_set_in (G.scope global.now).channels (G.scope global.now).known (G.scope global.now).sets (set_phrase_of (shape tree.now)))) }
 {
     let scope = Scope {

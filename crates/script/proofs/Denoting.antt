@@ -7,8 +7,8 @@ use Rattle.term.specs.Specs.{Specified, IsClosed}
 use Rattle.term.specs.declared.names.Names.TheVariants.{Steps}
 use Rattle.tokens.specs.Unreads.{reported}
 use Rattle.tokens.specs.declared.error.ScriptErrorKind.TheVariants as errors
-use Rattle.tokens.specs.declared.unread.Unread.{Unread}
-use Rattle.tokens.specs.declared.unread.Unread.TheVariants.{Memory}
+use Rattle.tokens.specs.declared.read_error.ReadError.{ReadError}
+use Rattle.tokens.specs.declared.read_error.ReadError.TheVariants.{Memory}
 use Rattle.syntax.specs.Grammar.{Syntax}
 use Rattle.syntax.specs.Script.{HasPhrase, HasTree}
 use Rattle.values.specs.Values.{Name}
@@ -52,9 +52,9 @@ read_with text root spec other a b r =
     record { tree = r.tree; reads = r.reads; phrase = r.phrase; written = r.written; denotes = subst (Denotes r.tree (root_of r.phrase)) (λ i. record { alphabet = sym a i; bodies = sym b i; names = other.names }) kept }
 
 -- where only memory fails, it is reported
-pub kept_memory : {X : Type 0} (r : Result X Unread) (x : X) → MatchResult r (λ s. s ≡ x) (λ e. e ≡ Memory) → MatchResult r (λ s. s ≡ x) (λ e. (reported e).kind ≡ errors.Memory)
+pub kept_memory : {X : Type 0} (r : Result X ReadError) (x : X) → MatchResult r (λ s. s ≡ x) (λ e. e ≡ Memory) → MatchResult r (λ s. s ≡ x) (λ e. (reported e).kind ≡ errors.Memory)
 kept_memory (Ok s) x h = h
-kept_memory (Err e) x h = ap (λ (e : Unread). (reported e).kind) h
+kept_memory (Err e) x h = ap (λ (e : ReadError). (reported e).kind) h
 
 -- ---- bodies
 

@@ -10,7 +10,7 @@ ghost use Rattle.term.specs.Specs.{Specified};
 ghost use Rattle.term.specs.declared.names.Names.TheVariants.{Steps};
 ghost use Rattle.tokens.specs.declared.error.ScriptErrorKind.TheVariants.{Memory};
 ghost use Rattle.tokens.specs.Unreads.{reported};
-ghost use Rattle.tokens.specs.declared.unread.Unread.TheVariants as unread;
+ghost use Rattle.tokens.specs.declared.read_error.ReadError.TheVariants as read_error;
 ghost use Rattle.values.specs.Tables.{table};
 ghost use Rattle.values.specs.View.{Gives};
 ghost use Rattle.declared_names.specs.LanguageNames.{has_names};
@@ -27,14 +27,14 @@ use denotation::{Root, gathered};
 use std::alloc::Allocator;
 use syntax::{Tree, parse, parse_phrase};
 use term::{Spec, Term};
-use tokens::{ScriptError, Unread};
+use tokens::{ReadError, ScriptError};
 
 /// The bodies of what is reached from the root, whatever it is.
 fn bodies_from<'a, A: Allocator + Copy>(
     alloc: A,
     names: &Names<'a, A>,
     root: &Root<'_, A>,
-) -> Result<Vec<Term<A>, A>, Unread>
+) -> Result<Vec<Term<A>, A>, ReadError>
     ensures found { IfOk result (λ v. AreBodies names.now.sigma.alphabet (table names.now.known) (entries_of names.now.entries) (root_view root.now) (map proc v.items)) }
     ensures only { (ps : List Proc) → AreBodies names.now.sigma.alphabet (table names.now.known) (entries_of names.now.entries) (root_view root.now) ps → Gives (λ v. map proc v.items) result (Some ps) }
 {
@@ -53,7 +53,7 @@ fn bodies_of_process<'a, A: Allocator + Copy>(
     names: &Names<'a, A>,
     name: &[u8],
     root: &Root<'_, A>,
-) -> Result<Vec<Term<A>, A>, Unread>
+) -> Result<Vec<Term<A>, A>, ReadError>
     requires { root_view root.now ≡ named name.now }
     ensures found { IfOk result (λ v. AreBodies names.now.sigma.alphabet (table names.now.known) (entries_of names.now.entries) (root_view root.now) (map proc v.items)) }
     ensures only { (ps : List Proc) → AreBodies names.now.sigma.alphabet (table names.now.known) (entries_of names.now.entries) (root_view root.now) ps → Gives (λ v. map proc v.items) result (Some ps) }
@@ -63,8 +63,13 @@ fn bodies_of_process<'a, A: Allocator + Copy>(
     }
     match bodies_from(alloc, names, root) {
         Ok(bodies) => Ok(bodies),
-        Err(Unread::Fault(error)) => Err(root_fault(alloc, names, name, Unread::Fault(error))),
-        Err(Unread::Memory) => Err(Unread::Memory),
+        Err(ReadError::Fault(error)) => Err(root_fault(
+            alloc,
+            names,
+            name,
+            ReadError::Fault(error),
+        )),
+        Err(ReadError::Memory) => Err(ReadError::Memory),
     }
 }
 
@@ -73,7 +78,7 @@ fn bodies_of<'a, A: Allocator + Copy>(
     alloc: A,
     names: &Names<'a, A>,
     root: &Root<'_, A>,
-) -> Result<Vec<Term<A>, A>, Unread>
+) -> Result<Vec<Term<A>, A>, ReadError>
     ensures found { IfOk result (λ v. AreBodies names.now.sigma.alphabet (table names.now.known) (entries_of names.now.entries) (root_view root.now) (map proc v.items)) }
     ensures only { (ps : List Proc) → AreBodies names.now.sigma.alphabet (table names.now.known) (entries_of names.now.entries) (root_view root.now) ps → Gives (λ v. map proc v.items) result (Some ps) }
 {
@@ -88,10 +93,10 @@ fn specified<A: Allocator + Copy>(
     alloc: A,
     names: Names<'_, A>,
     root: &Root<'_, A>,
-) -> Result<Spec<A>, Unread>
+) -> Result<Spec<A>, ReadError>
     ensures found { IfOk result (λ spec. (spec.alphabet ≡ names.entry.sigma.alphabet) × (spec.names ≡ Steps) × AreBodies names.entry.sigma.alphabet (table names.entry.known) (entries_of names.entry.entries) (root_view root.now) spec.bodies) }
     ensures only { (spec : Specified) → spec.alphabet ≡ names.entry.sigma.alphabet → spec.names ≡ Steps → AreBodies names.entry.sigma.alphabet (table names.entry.known) (entries_of names.entry.entries) (root_view root.now) spec.bodies
-        → MatchResult result (λ s. s ≡ spec) (λ e. e ≡ unread.Memory) }
+        → MatchResult result (λ s. s ≡ spec) (λ e. e ≡ read_error.Memory) }
 {
     match bodies_of(alloc, &names, root) {
         Ok(bodies) => Ok(Spec::new(names.into_alphabet(), bodies)),
@@ -104,7 +109,7 @@ fn specified_for<A: Allocator + Copy>(
     alloc: A,
     names: Names<'_, A>,
     root: &[u8],
-) -> Result<Spec<A>, Unread>
+) -> Result<Spec<A>, ReadError>
     ensures found { IfOk result (λ spec. (spec.alphabet ≡ names.entry.sigma.alphabet) × (spec.names ≡ Steps) × ((u : Syntax) × HasPhrase root.now u × AreBodies names.entry.sigma.alphabet (table names.entry.known) (entries_of names.entry.entries) (root_of u) spec.bodies)) }
     ensures only { (spec : Specified) (u : Syntax) → HasPhrase root.now u → spec.alphabet ≡ names.entry.sigma.alphabet → spec.names ≡ Steps → AreBodies names.entry.sigma.alphabet (table names.entry.known) (entries_of names.entry.entries) (root_of u) spec.bodies
         → MatchResult result (λ s. s ≡ spec) (λ e. (reported e).kind ≡ Memory) }
@@ -114,7 +119,7 @@ fn specified_for<A: Allocator + Copy>(
 }
 
 /// The specification that the script with this tree denotes for the root.
-fn denoted<A: Allocator + Copy>(alloc: A, tree: &Tree<A>, root: &[u8]) -> Result<Spec<A>, Unread>
+fn denoted<A: Allocator + Copy>(alloc: A, tree: &Tree<A>, root: &[u8]) -> Result<Spec<A>, ReadError>
     requires { IsTrue (has_names (shape tree.now)) }
     ensures found { IfOk result (λ spec. (u : Syntax) × HasPhrase root.now u × Denotes (shape tree.now) (root_of u) spec) }
     ensures names { IfOk result (λ spec. spec.names ≡ Steps) }

@@ -4,11 +4,11 @@ use declarations::fault_of_name;
 use declared_names::{Meaning, is_process_form, worth_alone};
 use std::alloc::{AllocError, Allocator};
 use syntax::{Form, Tree};
-use tokens::{Position, ScriptErrorKind, Unread, fault};
+use tokens::{Position, ReadError, ScriptErrorKind, fault};
 use values::{Known, Worth};
 
 /// The fault of a root that is of another kind, or isn't declared.
-pub(crate) fn no_process() -> Unread {
+pub(crate) fn no_process() -> ReadError {
     fault(Position::Line(1), ScriptErrorKind::NoSuchProcess)
 }
 
@@ -21,8 +21,8 @@ fn truth_of<A: Allocator + Copy>(
     match worth_alone(alloc, known, condition) {
         Ok(Worth::Truth(truth)) => Ok(Some(truth)),
         Ok(_) => Ok(None),
-        Err(Unread::Fault(_)) => Ok(None),
-        Err(Unread::Memory) => Err(AllocError),
+        Err(ReadError::Fault(_)) => Ok(None),
+        Err(ReadError::Memory) => Err(AllocError),
     }
 }
 
@@ -73,7 +73,7 @@ fn name_fault<A: Allocator + Copy>(
     names: &Names<'_, A>,
     name: &[u8],
     line: Position,
-) -> Option<Unread> {
+) -> Option<ReadError> {
     match names.entries.get(name) {
         Some(entry) => match &entry.meaning {
             Meaning::WithParameters { .. } => Some(fault(line, ScriptErrorKind::Expected)),
@@ -89,8 +89,8 @@ pub(crate) fn root_fault<A: Allocator + Copy>(
     alloc: A,
     names: &Names<'_, A>,
     root: &[u8],
-    reported: Unread,
-) -> Unread {
+    reported: ReadError,
+) -> ReadError {
     let mut name = root;
     for _ in 0..names.entries.len() {
         let Some(body) = names.body(name) else {

@@ -13,7 +13,7 @@ use declarations::{
 use event_phrases::{GlobalScope, Row, Set, Wanted};
 use std::alloc::Allocator;
 use syntax::Tree;
-use tokens::{Position, Unread};
+use tokens::{Position, ReadError};
 use values::{Input, Known};
 
 /// What is known of a script's names, with the named sets of events that were found.
@@ -81,7 +81,7 @@ impl<'a, A: Allocator + Copy> GlobalScope<A> for Script<'a, A> {
         }
     }
 
-    fn fault(&self, name: &[u8], line: Position) -> Unread {
+    fn fault(&self, name: &[u8], line: Position) -> ReadError {
         fault_of_name(
             self.alloc,
             &self.names.entries,
@@ -91,11 +91,11 @@ impl<'a, A: Allocator + Copy> GlobalScope<A> for Script<'a, A> {
         )
     }
 
-    fn call_fault(&self, name: &[u8], line: Position) -> Unread {
+    fn call_fault(&self, name: &[u8], line: Position) -> ReadError {
         fault_of_call(&self.names.entries, name, line)
     }
 
-    fn phrase_fault(&self, inputs: &[Input<A>], phrase: &Tree<A>, wanted: Wanted) -> Unread {
+    fn phrase_fault(&self, inputs: &[Input<A>], phrase: &Tree<A>, wanted: Wanted) -> ReadError {
         let alloc = self.alloc;
         let Names { entries, known, .. } = self.names;
         let wanted = match wanted {

@@ -18,7 +18,7 @@ use declared_names::{Learner, learn_names};
 use event_phrases::set_of_events;
 use std::alloc::{AllocError, Allocator};
 use syntax::Tree;
-use tokens::{Position, ScriptErrorKind, Unread, fault};
+use tokens::{Position, ReadError, ScriptErrorKind, fault};
 
 /// What the body of a definition says, where names mean the sets in the table.
 fn set_of_body<'a, A: Allocator + Copy>(
@@ -26,7 +26,7 @@ fn set_of_body<'a, A: Allocator + Copy>(
     names: &Names<'a, A>,
     sets: &Table<EventSet, A>,
     body: &'a Tree<A>,
-) -> Result<EventSet, Unread>
+) -> Result<EventSet, ReadError>
     requires { AreReachedBy names.now (said sets.now) }
     ensures { Gives (λ s. s) result (masked names.now.sigma.alphabet (event_set names.now.sigma.alphabet (table names.now.known) (events_by (said sets.now)) (set_phrase_of (shape body.now)))) }
 {
@@ -41,7 +41,7 @@ fn next_set<'a, A: Allocator + Copy>(
     names: &Names<'a, A>,
     sets: &Table<EventSet, A>,
     name: &[u8],
-) -> Result<EventSet, Unread>
+) -> Result<EventSet, ReadError>
     requires { AreReachedBy names.now (said sets.now) }
     ensures { Gives (λ s. s) result (masked names.now.sigma.alphabet (next_events names.now.sigma.alphabet (table names.now.known) (entries_of names.now.entries) (events_by (said sets.now)) name.now)) }
 {
@@ -74,8 +74,8 @@ impl<'a, A: Allocator + Copy> Learner<Table<EventSet, A>> for Definitions<'a, A>
                 sets.insert(name, set)?;
                 Ok(true)
             }
-            Err(Unread::Fault(_)) => Ok(false),
-            Err(Unread::Memory) => Err(AllocError),
+            Err(ReadError::Fault(_)) => Ok(false),
+            Err(ReadError::Memory) => Err(AllocError),
         }
     }
 }

@@ -3,7 +3,7 @@ use Rattle.std.proofs.Common.{◌≡◌, ℕ, zero, suc, ◌-◌, ◌<◌, ◌�
 use Rattle.std.specs.Prelude.{nat_lt}
 use Rattle.std.proofs.lemmas.Bool.{lt-ltb, le-ltb}
 use Rattle.tokens.specs.Lexeme.{Lexeme}
-use Rattle.tokens.specs.declared.unread.Unread.{Unread}
+use Rattle.tokens.specs.declared.read_error.ReadError.{ReadError}
 use Rattle.syntax.specs.declared.operator.Operator.{Operator}
 use Rattle.syntax.specs.declared.piece.Fields.{Fields}
 use Rattle.syntax.specs.declared.piece.Kind.{Kind}
@@ -28,7 +28,7 @@ some_row ts rest = Some (ts, rest)
 
 -- ---- failing
 
-pub gives_as : {X Y : Type 0} (view : X → Y) (result : Result X Unread) (r s : Option Y) → r ≡ s → Gives view result s → Gives view result r
+pub gives_as : {X Y : Type 0} (view : X → Y) (result : Result X ReadError) (r s : Option Y) → r ≡ s → Gives view result s → Gives view result r
 gives_as {Y = Y} view result r s e g = subst (λ (o : Option Y). Gives view result o) (sym e) g
 
 -- ---- signs
@@ -40,13 +40,13 @@ pub kept_reads : (may : Bool) (o : Option (List Lexeme)) (parts : List Syntax) (
 kept_reads true o parts rest m e = ap (λ (o : Option (List Lexeme)). o >>= keep parts) e
 kept_reads false o parts rest m e = absurd cc
 
-pub kept_fails : (e : Unread) (may : Bool) (o : Option (List Lexeme)) (parts : List Syntax) → Fails e o → Fails e (kept may parts o)
+pub kept_fails : (e : ReadError) (may : Bool) (o : Option (List Lexeme)) (parts : List Syntax) → Fails e o → Fails e (kept may parts o)
 kept_fails e true o parts h = fails_on e o (o >>= keep parts) (λ n. ap (λ (o : Option (List Lexeme)). o >>= keep parts) n) h
 kept_fails e false o parts h = fails_none e (kept false parts o) refl
 
 -- ---- one part more
 
-pub added_fails : {X : Type 0} (view : X → Found) (found : Result X Unread) (e : Unread) (wanted : Option Found) (parts : List Syntax) → found ≡ Err e → Gives view found wanted → Fails e (wanted >>= put parts)
+pub added_fails : {X : Type 0} (view : X → Found) (found : Result X ReadError) (e : ReadError) (wanted : Option Found) (parts : List Syntax) → found ≡ Err e → Gives view found wanted → Fails e (wanted >>= put parts)
 added_fails view found e wanted parts is h =
     fails_on e wanted (wanted >>= put parts) (λ n. ap (λ (o : Option Found). o >>= put parts) n) (subst (λ r. Gives view r wanted) is h)
 
@@ -116,7 +116,7 @@ node_is read opening m f g toks rest last first second none ps qs t e1 e2 e3 e4 
     ∙ ap (λ (r : Option Row). r >>= node_of g) e6
     ∙ ap (λ (u : Syntax). some_found u last) (sym e7)
 
-pub node_fails : (e : Unread) (read : Reader) (opening : Bool) (m : Fields) (f g : Form) (toks rest : List Lexeme) (first second : List Piece) (none ps : List Syntax) → first ≡ front f → none ≡ [] → row read opening first none toks ≡ some_row ps rest → g ≡ turned f rest → second ≡ back m g → Fails e (row read opening second ps rest) → Fails e (node read opening m f toks)
+pub node_fails : (e : ReadError) (read : Reader) (opening : Bool) (m : Fields) (f g : Form) (toks rest : List Lexeme) (first second : List Piece) (none ps : List Syntax) → first ≡ front f → none ≡ [] → row read opening first none toks ≡ some_row ps rest → g ≡ turned f rest → second ≡ back m g → Fails e (row read opening second ps rest) → Fails e (node read opening m f toks)
 node_fails e read opening m f g toks rest first second none ps e1 e2 e3 e4 e5 h =
     fails_on e (row read opening second ps rest) (node read opening m f toks)
     (λ e. node_row read opening m f g toks rest first second none ps e1 e2 e3 e4 e5 ∙ ap (λ (r : Option Row). r >>= node_of g) e) h
@@ -135,7 +135,7 @@ grown_is read opening op left t toks last ps parts qs e1 e2 e3 e4 =
     ∙ ap (λ (r : Option Row). r >>= node_of (forms.Operation op)) e3
     ∙ ap (λ (u : Syntax). some_found u last) (sym e4)
 
-pub grown_fails : (e : Unread) (read : Reader) (opening : Bool) (op : Operator) (left : Syntax) (toks : List Lexeme) (ps : List Piece) (parts : List Syntax) → ps ≡ behind op → parts ≡ left ∷ [] → Fails e (row read opening ps parts toks) → Fails e (grown read opening op left toks)
+pub grown_fails : (e : ReadError) (read : Reader) (opening : Bool) (op : Operator) (left : Syntax) (toks : List Lexeme) (ps : List Piece) (parts : List Syntax) → ps ≡ behind op → parts ≡ left ∷ [] → Fails e (row read opening ps parts toks) → Fails e (grown read opening op left toks)
 grown_fails e read opening op left toks ps parts e1 e2 h =
     fails_on e (row read opening ps parts toks) (grown read opening op left toks)
     (λ e. grown_row read opening op left toks ps parts e1 e2 ∙ ap (λ (r : Option Row). r >>= node_of (forms.Operation op)) e) h

@@ -12,8 +12,8 @@ use Rattle.syntax.specs.declared.form.Form.{Form}
 use Rattle.syntax.specs.declared.form.Form.TheVariants as forms
 use Rattle.syntax.specs.Rules.{rule, form_level, is_heavy}
 use Rattle.syntax.specs.Grammar.{Syntax, Called, Numeral, Node, Syntaxes, NoSyntax, MoreSyntax, flat, height_of, highest, nesting, is, is_open, is_event, is_value, is_numeral, is_field, is_generator, is_generators, is_pair, is_called, is_names, is_constants, is_field_sets, is_declaration, is_script, level_in, Fits, FitAll, FitsPart}
-use Rattle.tokens.specs.declared.unread.Unread.{Unread}
-use Rattle.tokens.specs.declared.unread.Unread.TheVariants.{Memory}
+use Rattle.tokens.specs.declared.read_error.ReadError.{ReadError}
+use Rattle.tokens.specs.declared.read_error.ReadError.TheVariants.{Memory}
 use Rattle.syntax.specs.Script.{IsPhrase, IsScript}
 use Rattle.syntax.specs.Parsing.{◌>>=◌, Found, operand, go_on, read_in, climb, reader, may_open, reads, is_alone, numeral_at, number_at, name_at, may_be_number, ended, whole}
 use Rattle.syntax.specs.Answers.{Fails}
@@ -230,5 +230,5 @@ pub tree_is : (k : Kind) (toks : List Lexeme) (t u : Syntax) → whole k toks �
 tree_is k toks t u e h = same_tree u t (sym e ∙ h)
 
 -- where it is not read, memory has run out
-pub memory_only : (k : Kind) (e : Unread) (toks : List Lexeme) (t : Syntax) → Fails e (whole k toks) → whole k toks ≡ Some t → e ≡ Memory
+pub memory_only : (k : Kind) (e : ReadError) (toks : List Lexeme) (t : Syntax) → Fails e (whole k toks) → whole k toks ≡ Some t → e ≡ Memory
 memory_only k e toks t f h = only_memory e t (subst (λ (o : Option Syntax). Fails e o) h f)

@@ -12,7 +12,7 @@ use crate::form::{Form, looseness};
 use crate::operator::{Operator, of_keyword, of_symbol};
 use crate::piece::{Fields, Kind, Sign};
 use std::alloc::Allocator;
-use tokens::{Keyword, Symbol, Token, Unread, Word};
+use tokens::{Keyword, ReadError, Symbol, Token, Word};
 
 /// Whether a token says this sign.
 #[tactic(auto, unfolding(crate::specs::Parsing::is_sign))]
@@ -54,7 +54,7 @@ fn begins_with<A: Allocator>(tokens: &[Token<A>], symbol: Symbol) -> bool
 }
 
 /// The tokens after a sign that must stand first.
-pub(crate) fn after<A: Allocator>(tokens: &[Token<A>], sign: Sign) -> Result<&[Token<A>], Unread>
+pub(crate) fn after<A: Allocator>(tokens: &[Token<A>], sign: Sign) -> Result<&[Token<A>], ReadError>
     ensures { Gives (λ x. lexemes x.now) result (after_sign sign (lexemes tokens.now)) }
 {
     match past(tokens, sign) {

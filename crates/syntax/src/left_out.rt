@@ -8,7 +8,7 @@ use crate::piece::{Kind, Sign};
 use crate::reading::read;
 use crate::tree::Tree;
 use std::alloc::Allocator;
-use tokens::{Symbol, Token, Unread, Word};
+use tokens::{ReadError, Symbol, Token, Word};
 
 /// What a definition by patterns has in place of a parameter: a phrase that is no name.
 ///
@@ -16,8 +16,8 @@ use tokens::{Symbol, Token, Unread, Word};
 fn unless_patterns<A: Allocator + Clone + Drop>(
     alloc: &A,
     tokens: &[Token<A>],
-    fault: Unread,
-) -> Unread {
+    fault: ReadError,
+) -> ReadError {
     let limits = Limits {
         brackets: MAX_BRACKETS - 1,
         room: MAX_HEIGHT,
@@ -64,8 +64,8 @@ fn of_declaration<A: Allocator + Clone + Drop>(
     alloc: &A,
     tokens: &[Token<A>],
     datatype: bool,
-    fault: Unread,
-) -> Unread {
+    fault: ReadError,
+) -> ReadError {
     match tokens {
         [first, second, parameters @ ..] => match (&first.word, &second.word) {
             (Word::Symbol(Symbol::Dot), _) if datatype => unsupported(tokens),
@@ -88,8 +88,8 @@ fn of_declaration<A: Allocator + Clone + Drop>(
 pub(crate) fn unless_left_out<A: Allocator + Clone + Drop>(
     alloc: &A,
     tokens: &[Token<A>],
-    fault: Unread,
-) -> Unread {
+    fault: ReadError,
+) -> ReadError {
     let limits = Limits {
         brackets: MAX_BRACKETS,
         room: MAX_HEIGHT,
@@ -105,8 +105,8 @@ pub(crate) fn unless_left_out<A: Allocator + Clone + Drop>(
             }
             Err(error) => {
                 return match error {
-                    Unread::Memory => error,
-                    Unread::Fault(_) => of_declaration(alloc, rest, datatype, fault),
+                    ReadError::Memory => error,
+                    ReadError::Fault(_) => of_declaration(alloc, rest, datatype, fault),
                 };
             }
         }

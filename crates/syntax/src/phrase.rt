@@ -1,7 +1,7 @@
 //! The tree of a phrase by itself.
 ghost use Rattle.std.specs.Prelude.{◌≡◌, ◌≤◌, IfOk, MatchResult, length};
 ghost use Rattle.tokens.specs.declared.error.ScriptErrorKind.TheVariants as kinds;
-ghost use Rattle.tokens.specs.declared.unread.Unread.TheVariants.{Memory};
+ghost use Rattle.tokens.specs.declared.read_error.ReadError.TheVariants.{Memory};
 ghost use Rattle.std.specs.List.{list_all};
 ghost use Rattle.tokens.specs.Lexeme.{lexemes};
 ghost use Rattle.tokens.specs.Text.{is_of_line};
@@ -14,7 +14,9 @@ use crate::reading::whole;
 use crate::script::at_end;
 use crate::tree::Tree;
 use std::alloc::Allocator;
-use tokens::{MAX_SCRIPT_LEN, Position, ScriptError, ScriptErrorKind, Token, Unread, scan_phrase};
+use tokens::{
+    MAX_SCRIPT_LEN, Position, ReadError, ScriptError, ScriptErrorKind, Token, scan_phrase,
+};
 
 fn has_no_line_feed(text: &[u8]) -> bool
     ensures { result ≡ list_all is_of_line text.now }
@@ -59,13 +61,13 @@ fn read_phrase<A: Allocator + Clone + Drop>(
     alloc: &A,
     tokens: &[Token<A>],
     end: Position,
-) -> Result<Tree<A>, Unread>
+) -> Result<Tree<A>, ReadError>
     ensures found { IfOk result (λ tree. IsPhrase (lexemes tokens.now) (shape tree)) }
     ensures only { (t : Syntax) → IsPhrase (lexemes tokens.now) t → MatchResult result (λ tree. shape tree ≡ t) (λ e. e ≡ Memory) }
 {
     match whole(alloc, Kind::Phrase(16), tokens) {
         Ok(tree) => Ok(tree),
-        Err(unread) => Err(at_end(unread, end)),
+        Err(read_error) => Err(at_end(read_error, end)),
     }
 }
 

@@ -24,14 +24,14 @@ use crate::parts::{Parsed, Parts};
 use crate::piece::{Fields, Kind, Piece, Place, Sign, Start};
 use crate::tree::Tree;
 use std::alloc::Allocator;
-use tokens::{Position, Symbol, Token, Unread, Word};
+use tokens::{Position, ReadError, Symbol, Token, Word};
 
 /// A name that must stand first.
 #[tactic(auto, unfolding(crate::specs::Parsing::name_at, crate::specs::Grammar::is_open))]
 fn name_at<'t, A: Allocator + Clone + Drop>(
     alloc: &A,
     tokens: &'t [Token<A>],
-) -> Result<(Parsed<A>, &'t [Token<A>]), Unread>
+) -> Result<(Parsed<A>, &'t [Token<A>]), ReadError>
     ensures read { Gives (λ x. (shape x.0.tree, lexemes x.1.now)) result (name_at_of (lexemes tokens.now)) }
     ensures low { (room : ℕ) → IfOk result (λ x. x.0.height ≤ room) }
 {
@@ -179,7 +179,7 @@ fn kept<'t, A: Allocator + Clone + Drop>(
     tokens: &'t [Token<A>],
     sign: Sign,
     may: bool,
-) -> Result<(Parts<A>, &'t [Token<A>]), Unread>
+) -> Result<(Parts<A>, &'t [Token<A>]), ReadError>
     ensures read { Gives (λ x. (shapes x.0.trees.items, lexemes x.1.now)) result (if may then onward (after_sign sign (lexemes tokens.now)) (keep (shapes parts.trees.items)) else None) }
     ensures high { (room : ℕ) → parts.height ≤ room → IfOk result (λ x. x.0.height ≤ room) }
 {
@@ -194,14 +194,14 @@ fn kept<'t, A: Allocator + Clone + Drop>(
 /// The parts with this one, if it was read, and the tokens after it.
 fn added<'t, A: Allocator + Clone + Drop>(
     parts: Parts<A>,
-    found: Result<(Parsed<A>, &'t [Token<A>]), Unread>,
-) -> Result<(Parts<A>, &'t [Token<A>]), Unread>
+    found: Result<(Parsed<A>, &'t [Token<A>]), ReadError>,
+) -> Result<(Parts<A>, &'t [Token<A>]), ReadError>
     ensures read { (wanted : Option Found) → Gives (λ x. (shape x.0.tree, lexemes x.1.now)) found.entry wanted → Gives (λ x. (shapes x.0.trees.items, lexemes x.1.now)) result (onward wanted (put (shapes parts.trees.items))) }
     ensures high { (room : ℕ) → parts.height ≤ room → IfOk found.entry (λ x. x.0.height ≤ room) → IfOk result (λ x. x.0.height ≤ room) }
 {
     match found {
         Ok((one, rest)) => Ok((parts.with(one)?, rest)),
-        Err(unread) => Err(unread),
+        Err(read_error) => Err(read_error),
     }
 }
 
@@ -214,7 +214,7 @@ fn part<'t, A: Allocator + Clone + Drop>(
     kind: Kind,
     tokens: &'t [Token<A>],
     limits: Limits,
-) -> Result<(Parsed<A>, &'t [Token<A>]), Unread>
+) -> Result<(Parsed<A>, &'t [Token<A>]), ReadError>
     requires { limits.room ≤ 250 }
     ensures read { Gives (λ x. (shape x.0.tree, lexemes x.1.now)) result (reader limits.brackets limits.room limits.layers place kind (lexemes tokens.now)) }
     ensures high { IfOk result (λ x. x.0.height ≤ limits.room) }
@@ -245,7 +245,7 @@ fn others<'t, A: Allocator + Clone + Drop>(
     front: Parts<A>,
     tokens: &'t [Token<A>],
     limits: Limits,
-) -> Result<(Parts<A>, &'t [Token<A>]), Unread>
+) -> Result<(Parts<A>, &'t [Token<A>]), ReadError>
     requires room { limits.room ≤ 250 }
     requires low { front.height ≤ limits.room }
     ensures read { Gives (λ x. (shapes x.0.trees.items, lexemes x.1.now)) result (others_of (reader limits.brackets limits.room limits.layers place kind) start (length (lexemes tokens.now)) (shapes front.trees.items) (lexemes tokens.now)) }
@@ -275,7 +275,7 @@ fn step<'t, A: Allocator + Clone + Drop>(
     parts: Parts<A>,
     tokens: &'t [Token<A>],
     limits: Limits,
-) -> Result<(Parts<A>, &'t [Token<A>]), Unread>
+) -> Result<(Parts<A>, &'t [Token<A>]), ReadError>
     requires room { limits.room ≤ 250 }
     requires low { parts.height ≤ limits.room }
     ensures read { Gives (λ x. (shapes x.0.trees.items, lexemes x.1.now)) result (step_of (reader limits.brackets limits.room limits.layers) (may_open_of limits.brackets) piece (shapes parts.trees.items) (lexemes tokens.now)) }
@@ -304,7 +304,7 @@ fn row<'t, A: Allocator + Clone + Drop>(
     parts: Parts<A>,
     tokens: &'t [Token<A>],
     limits: Limits,
-) -> Result<(Parts<A>, &'t [Token<A>]), Unread>
+) -> Result<(Parts<A>, &'t [Token<A>]), ReadError>
     requires short { length pieces.now ≤ 9 }
     requires room { limits.room ≤ 250 }
     requires low { parts.height ≤ limits.room }
@@ -329,7 +329,7 @@ fn node<'t, A: Allocator + Clone + Drop>(
     fields: Fields,
     tokens: &'t [Token<A>],
     limits: Limits,
-) -> Result<(Parsed<A>, &'t [Token<A>]), Unread>
+) -> Result<(Parsed<A>, &'t [Token<A>]), ReadError>
     requires { (if is_heavy form then 1 else 0) + limits.room ≤ 250 }
     ensures read { Gives (λ x. (shape x.0.tree, lexemes x.1.now)) result (node_of_form (reader limits.brackets limits.room limits.layers) (may_open_of limits.brackets) fields form (lexemes tokens.now)) }
     ensures high { IfOk result (λ x. x.0.height ≤ (if is_heavy form then 1 else 0) + limits.room) }
@@ -350,7 +350,7 @@ fn operand<'t, A: Allocator + Clone + Drop>(
     kind: Kind,
     tokens: &'t [Token<A>],
     limits: Limits,
-) -> Result<(Parsed<A>, &'t [Token<A>]), Unread>
+) -> Result<(Parsed<A>, &'t [Token<A>]), ReadError>
     requires room { (0 < limits.room) × (limits.room ≤ 250) }
     requires layers { 0 < limits.layers }
     ensures read { Gives (λ x. (shape x.0.tree, lexemes x.1.now)) result (operand_of (reader limits.brackets (limits.room - 1) 4) (reader limits.brackets limits.room (limits.layers - 1)) (may_open_of limits.brackets) kind (lexemes tokens.now)) }
@@ -396,7 +396,7 @@ fn grown<'t, A: Allocator + Clone + Drop>(
     left: Parsed<A>,
     tokens: &'t [Token<A>],
     limits: Limits,
-) -> Result<(Parsed<A>, &'t [Token<A>]), Unread>
+) -> Result<(Parsed<A>, &'t [Token<A>]), ReadError>
     requires { (left.height < limits.room) × (limits.room ≤ 250) }
     ensures read { Gives (λ x. (shape x.0.tree, lexemes x.1.now)) result (grown_of (reader limits.brackets (limits.room - 1) 4) (may_open_of limits.brackets) operator (shape left.tree) (lexemes tokens.now)) }
     ensures high { IfOk result (λ x. x.0.height ≤ limits.room) }
@@ -422,7 +422,7 @@ fn climb<'t, A: Allocator + Clone + Drop>(
     limits: Limits,
     limit: u32,
     turns: u32,
-) -> Result<(Parsed<A>, &'t [Token<A>]), Unread>
+) -> Result<(Parsed<A>, &'t [Token<A>]), ReadError>
     requires room { (0 < limits.room) × (limits.room ≤ 250) }
     requires turns { turns ≤ 250 }
     requires left { left.height ≤ limits.room }
@@ -450,7 +450,7 @@ pub(crate) fn read<'t, A: Allocator + Clone + Drop>(
     kind: Kind,
     tokens: &'t [Token<A>],
     limits: Limits,
-) -> Result<(Parsed<A>, &'t [Token<A>]), Unread>
+) -> Result<(Parsed<A>, &'t [Token<A>]), ReadError>
     requires { limits.room ≤ 250 }
     ensures read { Gives (λ x. (shape x.0.tree, lexemes x.1.now)) result (reads limits.brackets limits.room limits.layers kind (lexemes tokens.now)) }
     ensures high { IfOk result (λ x. x.0.height ≤ limits.room) }
@@ -476,7 +476,7 @@ pub(crate) fn whole<A: Allocator + Clone + Drop>(
     alloc: &A,
     kind: Kind,
     tokens: &[Token<A>],
-) -> Result<Tree<A>, Unread>
+) -> Result<Tree<A>, ReadError>
     ensures { Gives shape result (whole_of kind (lexemes tokens.now)) }
 {
     let limits = Limits {

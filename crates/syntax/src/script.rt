@@ -1,7 +1,7 @@
 //! The tree of a script.
 ghost use Rattle.std.specs.Prelude.{◌≡◌, IfOk, MatchResult};
 ghost use Rattle.tokens.specs.declared.error.ScriptErrorKind.TheVariants as kinds;
-ghost use Rattle.tokens.specs.declared.unread.Unread.TheVariants.{Memory};
+ghost use Rattle.tokens.specs.declared.read_error.ReadError.TheVariants.{Memory};
 ghost use Rattle.tokens.specs.Lexeme.{lexemes};
 ghost use Rattle.syntax.specs.Grammar.{Syntax};
 ghost use Rattle.syntax.specs.Script.{HasTree, IsScript};
@@ -12,14 +12,14 @@ use crate::piece::Kind;
 use crate::reading::whole;
 use crate::tree::Tree;
 use std::alloc::Allocator;
-use tokens::{Position, ScriptError, ScriptErrorKind, Token, Unread, end_line, scan};
+use tokens::{Position, ReadError, ScriptError, ScriptErrorKind, Token, end_line, scan};
 
 /// The fault with the place where the text ends in place of line 0.
-pub(crate) fn at_end(unread: Unread, end: Position) -> Unread
-    ensures { unread ≡ Memory → result ≡ Memory }
+pub(crate) fn at_end(read_error: ReadError, end: Position) -> ReadError
+    ensures { read_error ≡ Memory → result ≡ Memory }
 {
-    match unread {
-        Unread::Fault(error) => Unread::Fault(ScriptError {
+    match read_error {
+        ReadError::Fault(error) => ReadError::Fault(ScriptError {
             line: if error.line == Position::Line(0) {
                 end
             } else {
@@ -27,20 +27,24 @@ pub(crate) fn at_end(unread: Unread, end: Position) -> Unread
             },
             kind: error.kind,
         }),
-        Unread::Memory => Unread::Memory,
+        ReadError::Memory => ReadError::Memory,
     }
 }
 
 /// The fault of tokens that are no script: one that names what CSPM has and this profile leaves out, where that is why.
-fn explained<A: Allocator + Clone + Drop>(alloc: &A, tokens: &[Token<A>], unread: Unread) -> Unread
-    ensures { unread ≡ Memory → result ≡ Memory }
+fn explained<A: Allocator + Clone + Drop>(
+    alloc: &A,
+    tokens: &[Token<A>],
+    read_error: ReadError,
+) -> ReadError
+    ensures { read_error ≡ Memory → result ≡ Memory }
 {
-    match unread {
-        Unread::Fault(error) => match error.kind {
-            ScriptErrorKind::Expected => unless_left_out(alloc, tokens, unread),
-            _ => unread,
+    match read_error {
+        ReadError::Fault(error) => match error.kind {
+            ScriptErrorKind::Expected => unless_left_out(alloc, tokens, read_error),
+            _ => read_error,
         },
-        Unread::Memory => Unread::Memory,
+        ReadError::Memory => ReadError::Memory,
     }
 }
 
@@ -49,13 +53,13 @@ pub(crate) fn read_script<A: Allocator + Clone + Drop>(
     alloc: &A,
     tokens: &[Token<A>],
     end: Position,
-) -> Result<Tree<A>, Unread>
+) -> Result<Tree<A>, ReadError>
     ensures found { IfOk result (λ tree. IsScript (lexemes tokens.now) (shape tree)) }
     ensures only { (t : Syntax) → IsScript (lexemes tokens.now) t → MatchResult result (λ tree. shape tree ≡ t) (λ e. e ≡ Memory) }
 {
     match whole(alloc, Kind::Script, tokens) {
         Ok(tree) => Ok(tree),
-        Err(unread) => Err(at_end(explained(alloc, tokens, unread), end)),
+        Err(read_error) => Err(at_end(explained(alloc, tokens, read_error), end)),
     }
 }
 

@@ -8,7 +8,7 @@ use Rattle.syntax.specs.declared.form.Form.TheVariants as forms
 use Rattle.syntax.specs.Grammar.{Syntax, Node, Syntaxes, NoSyntax, MoreSyntax}
 use Rattle.syntax.specs.Parsing.{syntaxes}
 use Rattle.syntax.specs.View.{shape, shapes}
-use Rattle.tokens.specs.declared.unread.Unread.{Unread}
+use Rattle.tokens.specs.declared.read_error.ReadError.{ReadError}
 use Rattle.values.specs.Values.{◌>>=◌}
 use Rattle.values.specs.Worths.{Worth, truth, Known, worth, worths, one, formed, operated, is_comparison, computed, calculated, two_numbers, the_truth, truth_only, condition}
 use Rattle.values.specs.Lazy.{connective}
@@ -121,7 +121,7 @@ module _ {A : Type 0} (known : Known) (ts : List (Tree A)) where
     if_parts : conditional ≡ (condition known (shape c) >>= λ b. cond b (worth known (shape t)) (worth known (shape u)))
     if_parts = ap (λ us. worth known (Node forms.If us)) (three_in ts c t u three first second third) ∙ if_by known (shape c) (shape t) (shape u)
 
-    pub if_fails : (k : Unread) → Fails k (condition known (shape c)) → Fails k conditional
+    pub if_fails : (k : ReadError) → Fails k (condition known (shape c)) → Fails k conditional
     if_fails k f = fails_on k (condition known (shape c)) conditional (λ e. if_parts ∙ ap (λ o. o >>= λ b. cond b (worth known (shape t)) (worth known (shape u))) e) f
 
     pub if_so : (b : Bool) → condition known (shape c) ≡ Some b → b ≡ true → conditional ≡ worth known (shape t)
@@ -143,7 +143,7 @@ module _ {A : Type 0} (known : Known) (ts : List (Tree A)) where
       connected_parts : connection ≡ (condition known (shape t) >>= λ b. connected d other_side b)
       connected_parts = ap (λ us. worth known (Node (forms.Operation (connective d)) us)) (two_in ts t u two first second) ∙ connected_by known d (shape t) (shape u)
 
-      pub first_fails : (k : Unread) → Fails k (condition known (shape t)) → Fails k connection
+      pub first_fails : (k : ReadError) → Fails k (condition known (shape t)) → Fails k connection
       first_fails k f = fails_on k (condition known (shape t)) connection (λ e. connected_parts ∙ ap (λ o. o >>= λ b. connected d other_side b) e) f
 
       pub first_decides : (b : Bool) → condition known (shape t) ≡ Some b → beq b d ≡ true → connection ≡ Some (truth b)
@@ -152,7 +152,7 @@ module _ {A : Type 0} (known : Known) (ts : List (Tree A)) where
       second_is : (b : Bool) → condition known (shape t) ≡ Some b → beq b d ≡ false → connection ≡ other_side
       second_is b h n = connected_parts ∙ ap (λ o. o >>= λ b. connected d other_side b) h ∙ undecided d b other_side n
 
-      pub second_fails : (k : Unread) (b : Bool) → condition known (shape t) ≡ Some b → beq b d ≡ false → Fails k (condition known (shape u)) → Fails k connection
+      pub second_fails : (k : ReadError) (b : Bool) → condition known (shape t) ≡ Some b → beq b d ≡ false → Fails k (condition known (shape u)) → Fails k connection
       second_fails k b h n f = fails_on k (condition known (shape u)) connection (λ e. second_is b h n ∙ ap (λ o. o >>= λ b. some_of (truth b)) e) f
 
       pub second_decides : (b c : Bool) → condition known (shape t) ≡ Some b → beq b d ≡ false → condition known (shape u) ≡ Some c → connection ≡ Some (truth c)

@@ -11,7 +11,7 @@ use Rattle.indexmap.specs.IndexMap.{insert_entry}
 use Rattle.std.specs.Cmp.Lexicographic.{pointwise, bytes_decides}
 use Rattle.std.specs.BTreeSet.{insert_key}
 use Rattle.std.specs.List.{AllZip}
-use Rattle.tokens.specs.declared.unread.Unread.{Unread}
+use Rattle.tokens.specs.declared.read_error.ReadError.{ReadError}
 use Rattle.alphabet.specs.Channels.{FieldValue, constant, Values}
 use Rattle.values.specs.Values.{◌>>=◌, Name, value_cmp, set_of}
 use Rattle.values.specs.Names.{same_name}
@@ -82,11 +82,11 @@ copied f (Some w) = refl
 -- ---- options
 
 -- a fault of the second step is one of both
-pub bind_fails : {X Y : Type 0} (k : Unread) (o : Option X) (x : X) (f : X → Option Y) → o ≡ Some x → Fails k (f x) → Fails k (o >>= f)
+pub bind_fails : {X Y : Type 0} (k : ReadError) (o : Option X) (x : X) (f : X → Option Y) → o ≡ Some x → Fails k (f x) → Fails k (o >>= f)
 bind_fails k o x f h e = fails_on k (f x) (o >>= f) (λ n. ap (λ o. o >>= f) h ∙ n) e
 
 -- a fault of the first step is one of both
-pub first_fails : {X Y : Type 0} (k : Unread) (o : Option X) (f : X → Option Y) → Fails k o → Fails k (o >>= f)
+pub first_fails : {X Y : Type 0} (k : ReadError) (o : Option X) (f : X → Option Y) → Fails k o → Fails k (o >>= f)
 first_fails k o f e = fails_on k o (o >>= f) (λ n. ap (λ o. o >>= f) n) e
 
 -- what is empty has length 0
@@ -158,7 +158,7 @@ listed_more ws front w ks ls v whole inv h is put =
     ap (λ xs. onto (map worth front) xs) (ap (map value) put ∙ insert_view ks v)
     ∙ sym (listed_next ws front w (map value ks) h ∙ ap (λ o. o >>= λ v. onto (map worth front) (insert_key value_cmp (map value ks) v)) is) ∙ inv
 
-pub listed_fails : {A : Type 0} (k : Unread) (ws front : List (Worth A)) (w : Worth A) (ks : List (Value A)) (whole : Option Values) → onto (map worth ws) (map value ks) ≡ whole → ws ≡ front ++ w ∷ [] → Fails k (the_value (worth w)) → Fails k whole
+pub listed_fails : {A : Type 0} (k : ReadError) (ws front : List (Worth A)) (w : Worth A) (ks : List (Value A)) (whole : Option Values) → onto (map worth ws) (map value ks) ≡ whole → ws ≡ front ++ w ∷ [] → Fails k (the_value (worth w)) → Fails k whole
 listed_fails k ws front w ks whole inv h f =
     fails_on k (the_value (worth w)) whole (λ e. sym inv ∙ listed_next ws front w (map value ks) h ∙ ap (λ o. o >>= λ v. onto (map worth front) (insert_key value_cmp (map value ks) v)) e) f
 

@@ -13,7 +13,7 @@ use Rattle.values.specs.declared.worth.Worth.{Worth}
 use Rattle.values.specs.Values.{◌>>=◌, Name}
 use Rattle.values.specs.Worths.{Worth as Plain, Known, formed, is_lazy, condition, the_truth}
 use Rattle.values.specs.Worths.{worth as worth_in, worths as worths_in}
-use Rattle.tokens.specs.declared.unread.Unread.{Unread}
+use Rattle.tokens.specs.declared.read_error.ReadError.{ReadError}
 use Rattle.values.specs.View.{worth, Fails}
 use Rattle.syntax.proofs.Failing.{fails_on}
 use Rattle.values.proofs.Keeps.{strict_is}
@@ -40,7 +40,7 @@ pub node_made : {A : Type 0} (known : Known) (tree : Tree A) (line : Position) (
 node_made known tree line form v ts ws h is strict got =
     ap (worth_in known) (node_is tree line form v ts h is) ∙ strict_is known form (syntaxes (shapes ts)) strict ∙ ap (λ o. o >>= λ ws. formed form ws) got
 
-pub node_fails : {A : Type 0} (k : Unread) (known : Known) (tree : Tree A) (line : Position) (form : Form) (v : Vec (Tree A) A) (ts : List (Tree A)) → tree ≡ TreeNode line form v → ts ≡ v.items → is_lazy form ≡ false → Fails k (worths_in known (syntaxes (shapes ts))) → Fails k (worth_in known (shape tree))
+pub node_fails : {A : Type 0} (k : ReadError) (known : Known) (tree : Tree A) (line : Position) (form : Form) (v : Vec (Tree A) A) (ts : List (Tree A)) → tree ≡ TreeNode line form v → ts ≡ v.items → is_lazy form ≡ false → Fails k (worths_in known (syntaxes (shapes ts))) → Fails k (worth_in known (shape tree))
 node_fails k known tree line form v ts h is strict f =
     fails_on k (worths_in known (syntaxes (shapes ts))) (worth_in known (shape tree)) (λ e. ap (worth_in known) (node_is tree line form v ts h is) ∙ strict_is known form (syntaxes (shapes ts)) strict ∙ ap (λ o. o >>= λ ws. formed form ws) e) f
 
@@ -103,7 +103,7 @@ module _ {A : Type 0} (known : Known) where
       ∙ ap (with_front (map worth front)) (sym (from_here ts i t h is ∙ ap (λ o. o >>= λ w. rest >>= λ ws. some_worths (w ∷ ws)) got))
       ∙ inv
 
-  pub parts_fail : (k : Unread) (ts : List (Tree A)) (i : ℕ) (t : Tree A) (front : List (Worth A)) (whole : Option (List Plain)) → with_front (map worth front) (worths_in known (syntaxes (shapes (drop i ts)))) ≡ whole → i < length ts → t ≡ get_or ts i t → Fails k (worth_in known (shape t)) → Fails k whole
+  pub parts_fail : (k : ReadError) (ts : List (Tree A)) (i : ℕ) (t : Tree A) (front : List (Worth A)) (whole : Option (List Plain)) → with_front (map worth front) (worths_in known (syntaxes (shapes (drop i ts)))) ≡ whole → i < length ts → t ≡ get_or ts i t → Fails k (worth_in known (shape t)) → Fails k whole
   parts_fail k ts i t front whole inv h is f =
       fails_on k (worth_in known (shape t)) whole (λ e. sym inv ∙ ap (with_front (map worth front)) (from_here ts i t h is ∙ ap (λ o. o >>= λ w. worths_in known (syntaxes (shapes (drop (i + 1) ts))) >>= λ ws. some_worths (w ∷ ws)) e)) f
 

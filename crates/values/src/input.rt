@@ -8,7 +8,7 @@ use crate::known::Known;
 use crate::value::Value;
 use crate::worth::Worth;
 use std::alloc::Allocator;
-use tokens::{Position, Unread};
+use tokens::{Position, ReadError};
 
 /// An input: its name, and the value that the name means after it.
 #[derive(Drop)]
@@ -40,7 +40,7 @@ pub(crate) fn worth_behind<A: Allocator + Clone>(
     inputs: &[Input<A>],
     name: &[u8],
     line: Position,
-) -> Result<Worth<A>, Unread>
+) -> Result<Worth<A>, ReadError>
     ensures { Gives worth_of result (behind (table known.now) (map input inputs.now) name.now) }
 {
     match last_value(inputs, name) {

@@ -9,7 +9,7 @@ use crate::worth::Worth;
 use indexmap::IndexMap;
 use std::alloc::{AllocError, Allocator};
 use std::hash::{BuildHasherDefault, FoldHasher};
-use tokens::{Position, ScriptErrorKind, Unread, fault};
+use tokens::{Position, ReadError, ScriptErrorKind, fault};
 
 type Hashing = BuildHasherDefault<FoldHasher>;
 
@@ -75,7 +75,7 @@ impl<A: Allocator + Clone> Known<A> {
     }
 
     /// A copy of what the name means; `UnknownName` where the table hasn't got it.
-    pub fn worth(&self, name: &[u8], line: Position) -> Result<Worth<A>, Unread>
+    pub fn worth(&self, name: &[u8], line: Position) -> Result<Worth<A>, ReadError>
         ensures { Gives worth_of result (table self.now name.now) }
     {
         match self.get(name) {

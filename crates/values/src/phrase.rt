@@ -18,11 +18,11 @@ use crate::worth::{Worth, listed, the_number, the_only, the_truth, two_numbers, 
 use std::alloc::Allocator;
 use std::collections::BTreeSet;
 use syntax::{Form, Operator, Tree};
-use tokens::{Position, ScriptErrorKind, Unread, fault};
+use tokens::{Position, ReadError, ScriptErrorKind, fault};
 
 /// What `+`, `-`, `*` and `%` make of two numbers.
 #[tactic(auto, unfolding(crate::specs::Worths::calculated))]
-fn calculated(operator: Operator, numbers: (i64, i64), line: Position) -> Result<i64, Unread>
+fn calculated(operator: Operator, numbers: (i64, i64), line: Position) -> Result<i64, ReadError>
     ensures { Gives (λ z. z) result (calculated_of operator numbers.0 numbers.1) }
 {
     let (first, second) = numbers;
@@ -41,7 +41,7 @@ fn computed<A: Allocator>(
     operator: Operator,
     worths: Vec<Worth<A>, A>,
     line: Position,
-) -> Result<Worth<A>, Unread>
+) -> Result<Worth<A>, ReadError>
     ensures { Gives worth_of result (computed_of operator (map worth_of worths.items)) }
 {
     let numbers = two_numbers(worths, line)?;
@@ -55,7 +55,7 @@ fn operated<A: Allocator>(
     operator: Operator,
     worths: Vec<Worth<A>, A>,
     line: Position,
-) -> Result<Worth<A>, Unread>
+) -> Result<Worth<A>, ReadError>
     ensures { Gives worth_of result (operated_of operator (map worth_of worths.items)) }
 {
     if is_comparison(operator) {
@@ -67,7 +67,7 @@ fn operated<A: Allocator>(
 
 /// The number with its sign turned.
 #[tactic(auto, unfolding(crate::specs::Worths::negated))]
-fn negated<A: Allocator>(worths: Vec<Worth<A>, A>, line: Position) -> Result<Worth<A>, Unread>
+fn negated<A: Allocator>(worths: Vec<Worth<A>, A>, line: Position) -> Result<Worth<A>, ReadError>
     ensures { Gives worth_of result (negated_of (map worth_of worths.items)) }
 {
     let only = the_only(worths, line)?;
@@ -82,7 +82,7 @@ fn nothing<A: Allocator + Clone>(
     alloc: &A,
     worths: Vec<Worth<A>, A>,
     line: Position,
-) -> Result<Worth<A>, Unread>
+) -> Result<Worth<A>, ReadError>
     ensures { Gives worth_of result (nothing_of (map worth_of worths.items)) }
 {
     if worths.is_empty() {
@@ -97,7 +97,7 @@ fn set_with<A: Allocator + Clone>(
     alloc: &A,
     worths: Vec<Worth<A>, A>,
     line: Position,
-) -> Result<Worth<A>, Unread>
+) -> Result<Worth<A>, ReadError>
     ensures { Gives worth_of result (set_with_of (map worth_of worths.items)) }
 {
     let set = listed(alloc, worths, line)?;
@@ -110,7 +110,7 @@ fn range_with<A: Allocator + Clone>(
     alloc: &A,
     worths: Vec<Worth<A>, A>,
     line: Position,
-) -> Result<Worth<A>, Unread>
+) -> Result<Worth<A>, ReadError>
     ensures { Gives worth_of result (range_with_of (map worth_of worths.items)) }
 {
     let numbers = two_numbers(worths, line)?;
@@ -122,7 +122,7 @@ fn range_with<A: Allocator + Clone>(
 fn union_with<A: Allocator + Clone>(
     worths: Vec<Worth<A>, A>,
     line: Position,
-) -> Result<Worth<A>, Unread>
+) -> Result<Worth<A>, ReadError>
     ensures { Gives worth_of result (union_with_of (map worth_of worths.items)) }
 {
     let (first, second) = two_sets(worths, line)?;
@@ -135,7 +135,7 @@ fn union_with<A: Allocator + Clone>(
 fn intersection_with<A: Allocator>(
     worths: Vec<Worth<A>, A>,
     line: Position,
-) -> Result<Worth<A>, Unread>
+) -> Result<Worth<A>, ReadError>
     ensures { Gives worth_of result (intersection_with_of (map worth_of worths.items)) }
 {
     let (first, second) = two_sets(worths, line)?;
@@ -147,7 +147,7 @@ fn intersection_with<A: Allocator>(
 fn difference_with<A: Allocator>(
     worths: Vec<Worth<A>, A>,
     line: Position,
-) -> Result<Worth<A>, Unread>
+) -> Result<Worth<A>, ReadError>
     ensures { Gives worth_of result (difference_with_of (map worth_of worths.items)) }
 {
     let (first, second) = two_sets(worths, line)?;
@@ -162,7 +162,7 @@ fn formed<A: Allocator + Clone>(
     form: Form,
     worths: Vec<Worth<A>, A>,
     line: Position,
-) -> Result<Worth<A>, Unread>
+) -> Result<Worth<A>, ReadError>
     ensures { Gives worth_of result (formed_of form (map worth_of worths.items)) }
 {
     match form {
@@ -196,7 +196,7 @@ pub fn stands_for<A: Allocator + Clone>(
     known: &Known<A>,
     inputs: &[Input<A>],
     tree: &Tree<A>,
-) -> Result<Worth<A>, Unread>
+) -> Result<Worth<A>, ReadError>
     ensures { Gives worth_of result (worth_in (behind (table known.now) (map input inputs.now)) (shape tree.now)) }
 {
     match tree {
@@ -226,7 +226,7 @@ fn conditional<A: Allocator + Clone>(
     inputs: &[Input<A>],
     parts: &[Tree<A>],
     line: Position,
-) -> Result<Worth<A>, Unread>
+) -> Result<Worth<A>, ReadError>
     ensures { Gives worth_of result (worth_in (behind (table known.now) (map input inputs.now)) (Node Form.If (syntaxes (shapes parts.now)))) }
 {
     match parts {
@@ -251,7 +251,7 @@ fn connected<A: Allocator + Clone>(
     decisive: bool,
     sides: &[Tree<A>],
     line: Position,
-) -> Result<Worth<A>, Unread>
+) -> Result<Worth<A>, ReadError>
     ensures { Gives worth_of result (worth_in (behind (table known.now) (map input inputs.now)) (Node (Form.Operation (connective decisive)) (syntaxes (shapes sides.now)))) }
 {
     match sides {
@@ -275,7 +275,7 @@ fn truth_of_phrase<A: Allocator + Clone>(
     known: &Known<A>,
     inputs: &[Input<A>],
     tree: &Tree<A>,
-) -> Result<bool, Unread>
+) -> Result<bool, ReadError>
     ensures { Gives (λ b. b) result (condition_of (behind (table known.now) (map input inputs.now)) (shape tree.now)) }
 {
     let worth = stands_for(alloc, known, inputs, tree)?;
@@ -289,7 +289,7 @@ fn each_stands_for<A: Allocator + Clone>(
     known: &Known<A>,
     inputs: &[Input<A>],
     trees: &[Tree<A>],
-) -> Result<Vec<Worth<A>, A>, Unread>
+) -> Result<Vec<Worth<A>, A>, ReadError>
     ensures { Gives (λ v. map worth_of v.items) result (worths_in (behind (table known.now) (map input inputs.now)) (syntaxes (shapes trees.now))) }
 {
     let mut worths = Vec::new(alloc.clone()?);

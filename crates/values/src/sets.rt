@@ -7,7 +7,7 @@ ghost use Rattle.values.specs.View.{Gives, value, values};
 use crate::value::Value;
 use std::alloc::{AllocError, Allocator};
 use std::collections::BTreeSet;
-use tokens::{Position, ScriptErrorKind, Unread, fault};
+use tokens::{Position, ReadError, ScriptErrorKind, fault};
 
 /// A set of values, in their order.
 pub type Values<A> = BTreeSet<Value<A>, A>;
@@ -53,7 +53,7 @@ pub(crate) fn difference<A: Allocator>(first: Values<A>, second: &Values<A>) -> 
 }
 
 /// The set, if it has no more values than the limit.
-pub(crate) fn fitting<A: Allocator>(set: Values<A>, line: Position) -> Result<Values<A>, Unread>
+pub(crate) fn fitting<A: Allocator>(set: Values<A>, line: Position) -> Result<Values<A>, ReadError>
     ensures { Gives values result (fitting_set (values set)) }
 {
     if set.len() > SET_LIMIT {
@@ -84,7 +84,7 @@ pub(crate) fn range<A: Allocator + Clone>(
     alloc: &A,
     ends: (i64, i64),
     line: Position,
-) -> Result<Values<A>, Unread>
+) -> Result<Values<A>, ReadError>
     ensures { Gives values result (range_of ends.0 ends.1) }
 {
     let (first, last) = ends;

@@ -8,7 +8,7 @@ use crate::value::Value;
 use crate::worth::{Worth, the_number, the_only, the_truth, the_two};
 use std::alloc::Allocator;
 use syntax::{Form, Operator};
-use tokens::{Position, ScriptErrorKind, Unread, fault};
+use tokens::{Position, ReadError, ScriptErrorKind, fault};
 
 /// A form of which not all parts are looked at.
 #[derive(Clone, Copy)]
@@ -37,7 +37,7 @@ pub(crate) fn truth_of<A: Allocator>(
     truth: bool,
     worths: Vec<Worth<A>, A>,
     line: Position,
-) -> Result<Worth<A>, Unread>
+) -> Result<Worth<A>, ReadError>
     ensures { Gives worth_of result (truth_of_bool truth (map worth_of worths.items)) }
 {
     if worths.is_empty() {
@@ -51,7 +51,7 @@ pub(crate) fn truth_of<A: Allocator>(
 pub(crate) fn negated_truth<A: Allocator>(
     worths: Vec<Worth<A>, A>,
     line: Position,
-) -> Result<Worth<A>, Unread>
+) -> Result<Worth<A>, ReadError>
     ensures { Gives worth_of result (negated_truth_of (map worth_of worths.items)) }
 {
     let only = the_only(worths, line)?;
@@ -65,7 +65,7 @@ fn are_same_values<A: Allocator>(
     first: &Value<A>,
     second: &Value<A>,
     line: Position,
-) -> Result<bool, Unread>
+) -> Result<bool, ReadError>
     ensures { Gives (λ b. b) result (are_same_of (one (value_of first.now)) (one (value_of second.now))) }
 {
     match (first, second) {
@@ -78,7 +78,11 @@ fn are_same_values<A: Allocator>(
 
 /// Whether two numbers, two constants or two truths are the same.
 #[tactic(auto, unfolding(crate::specs::Worths::are_same))]
-fn are_same<A: Allocator>(first: Worth<A>, second: Worth<A>, line: Position) -> Result<bool, Unread>
+fn are_same<A: Allocator>(
+    first: Worth<A>,
+    second: Worth<A>,
+    line: Position,
+) -> Result<bool, ReadError>
     ensures { Gives (λ b. b) result (are_same_of (worth_of first) (worth_of second)) }
 {
     match (first, second) {
@@ -90,7 +94,11 @@ fn are_same<A: Allocator>(first: Worth<A>, second: Worth<A>, line: Position) -> 
 
 /// Whether the first of two numbers is below the second.
 #[tactic(auto, unfolding(crate::specs::Worths::is_less))]
-fn is_less<A: Allocator>(first: Worth<A>, second: Worth<A>, line: Position) -> Result<bool, Unread>
+fn is_less<A: Allocator>(
+    first: Worth<A>,
+    second: Worth<A>,
+    line: Position,
+) -> Result<bool, ReadError>
     ensures { Gives (λ b. b) result (is_less_of (worth_of first) (worth_of second)) }
 {
     let first = the_number(first, line)?;
@@ -104,7 +112,7 @@ fn is_at_most<A: Allocator>(
     first: Worth<A>,
     second: Worth<A>,
     line: Position,
-) -> Result<bool, Unread>
+) -> Result<bool, ReadError>
     ensures { Gives (λ b. b) result (is_at_most_of (worth_of first) (worth_of second)) }
 {
     let first = the_number(first, line)?;
@@ -118,7 +126,7 @@ fn compared<A: Allocator>(
     operator: Operator,
     sides: (Worth<A>, Worth<A>),
     line: Position,
-) -> Result<bool, Unread>
+) -> Result<bool, ReadError>
     ensures { Gives (λ b. b) result (compared_of operator (worth_of sides.0) (worth_of sides.1)) }
 {
     let (first, second) = sides;
@@ -152,7 +160,7 @@ pub(crate) fn comparison<A: Allocator>(
     operator: Operator,
     worths: Vec<Worth<A>, A>,
     line: Position,
-) -> Result<Worth<A>, Unread>
+) -> Result<Worth<A>, ReadError>
     ensures { Gives worth_of result (comparison_of operator (map worth_of worths.items)) }
 {
     let sides = the_two(worths, line)?;

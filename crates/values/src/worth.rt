@@ -9,7 +9,7 @@ use crate::sets::Values;
 use crate::value::Value;
 use std::alloc::{AllocError, Allocator};
 use std::collections::BTreeSet;
-use tokens::{Position, ScriptErrorKind, Unread, fault};
+use tokens::{Position, ReadError, ScriptErrorKind, fault};
 
 /// What a phrase means.
 #[derive(Drop)]
@@ -36,7 +36,7 @@ impl<A: Allocator + Clone> Worth<A> {
 
 /// The value, where it is one; else `Expected`.
 #[tactic(auto, unfolding(crate::specs::Worths::the_value))]
-pub fn the_value<A: Allocator>(worth: Worth<A>, line: Position) -> Result<Value<A>, Unread>
+pub fn the_value<A: Allocator>(worth: Worth<A>, line: Position) -> Result<Value<A>, ReadError>
     ensures { Gives value result (the_value_of (worth_of worth)) }
 {
     match worth {
@@ -47,7 +47,7 @@ pub fn the_value<A: Allocator>(worth: Worth<A>, line: Position) -> Result<Value<
 
 /// The number, where it is one.
 #[tactic(auto, unfolding(crate::specs::Worths::the_number))]
-pub(crate) fn the_number<A: Allocator>(worth: Worth<A>, line: Position) -> Result<i64, Unread>
+pub(crate) fn the_number<A: Allocator>(worth: Worth<A>, line: Position) -> Result<i64, ReadError>
     ensures { Gives (λ z. z) result (the_number_of (worth_of worth)) }
 {
     match worth {
@@ -59,7 +59,7 @@ pub(crate) fn the_number<A: Allocator>(worth: Worth<A>, line: Position) -> Resul
 
 /// The set, where it is one; else `Expected`.
 #[tactic(auto, unfolding(crate::specs::Worths::the_set))]
-pub fn the_set<A: Allocator>(worth: Worth<A>, line: Position) -> Result<Values<A>, Unread>
+pub fn the_set<A: Allocator>(worth: Worth<A>, line: Position) -> Result<Values<A>, ReadError>
     ensures { Gives values result (the_set_of (worth_of worth)) }
 {
     match worth {
@@ -70,7 +70,7 @@ pub fn the_set<A: Allocator>(worth: Worth<A>, line: Position) -> Result<Values<A
 
 /// The truth, where it is one; else `Expected`.
 #[tactic(auto, unfolding(crate::specs::Worths::the_truth))]
-pub fn the_truth<A: Allocator>(worth: Worth<A>, line: Position) -> Result<bool, Unread>
+pub fn the_truth<A: Allocator>(worth: Worth<A>, line: Position) -> Result<bool, ReadError>
     ensures { Gives (λ b. b) result (the_truth_of (worth_of worth)) }
 {
     match worth {
@@ -83,7 +83,7 @@ pub fn the_truth<A: Allocator>(worth: Worth<A>, line: Position) -> Result<bool, 
 pub(crate) fn the_only<A: Allocator>(
     worths: Vec<Worth<A>, A>,
     line: Position,
-) -> Result<Worth<A>, Unread>
+) -> Result<Worth<A>, ReadError>
     ensures { Gives worth_of result (the_only_of (map worth_of worths.items)) }
 {
     let mut worths = worths;
@@ -101,7 +101,7 @@ pub(crate) fn the_only<A: Allocator>(
 pub(crate) fn the_two<A: Allocator>(
     worths: Vec<Worth<A>, A>,
     line: Position,
-) -> Result<(Worth<A>, Worth<A>), Unread>
+) -> Result<(Worth<A>, Worth<A>), ReadError>
     ensures { Gives (λ p. (worth_of p.0, worth_of p.1)) result (the_two_of (map worth_of worths.items)) }
 {
     let mut worths = worths;
@@ -122,7 +122,7 @@ pub(crate) fn the_two<A: Allocator>(
 pub(crate) fn two_numbers<A: Allocator>(
     worths: Vec<Worth<A>, A>,
     line: Position,
-) -> Result<(i64, i64), Unread>
+) -> Result<(i64, i64), ReadError>
     ensures { Gives (λ p. (p.0, p.1)) result (two_numbers_of (map worth_of worths.items)) }
 {
     let (first, second) = the_two(worths, line)?;
@@ -136,7 +136,7 @@ pub(crate) fn two_numbers<A: Allocator>(
 pub(crate) fn two_sets<A: Allocator>(
     worths: Vec<Worth<A>, A>,
     line: Position,
-) -> Result<(Values<A>, Values<A>), Unread>
+) -> Result<(Values<A>, Values<A>), ReadError>
     ensures { Gives (λ p. (values p.0, values p.1)) result (two_sets_of (map worth_of worths.items)) }
 {
     let (first, second) = the_two(worths, line)?;
@@ -151,7 +151,7 @@ pub(crate) fn listed<A: Allocator + Clone>(
     alloc: &A,
     worths: Vec<Worth<A>, A>,
     line: Position,
-) -> Result<Values<A>, Unread>
+) -> Result<Values<A>, ReadError>
     ensures { Gives values result (set_of_all (map worth_of worths.items)) }
 {
     let mut worths = worths;
@@ -168,7 +168,7 @@ pub(crate) fn listed<A: Allocator + Clone>(
 pub fn constant_set<A: Allocator + Clone>(
     alloc: &A,
     names: &[Vec<u8, A>],
-) -> Result<Values<A>, Unread>
+) -> Result<Values<A>, ReadError>
     ensures { Gives values result (Some (set_of (map (λ n. constant n.items) names.now))) }
 {
     let mut worths = Vec::new(alloc.clone()?);

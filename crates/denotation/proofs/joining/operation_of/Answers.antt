@@ -1,7 +1,7 @@
 use Rattle.std.proofs.Common.{◌≡◌, map, Some, sym, ap, subst, ◌∙◌}
 use Rattle.std.proofs.lemmas.Result.{err_from_is_err_and}
 use Rattle.syntax.specs.View.{shape}
-use Rattle.tokens.specs.declared.unread.Unread.{Unread}
+use Rattle.tokens.specs.declared.read_error.ReadError.{ReadError}
 use Rattle.values.specs.Values.{◌>>=◌}
 use Rattle.values.specs.Tables.{input}
 use Rattle.values.specs.View.{Fails}
@@ -13,7 +13,7 @@ use Rattle.denotation.specs.Phrases.{Between, with_set, with_sets, operation_of}
 use Rattle.denotation.specs.Shapes.{plain_between}
 use Rattle.denotation.proofs.joining.operation_of.Goals as goal
 
-fails_so : (s : Scope) (m is : Between) → m ≡ is → (k : Unread) → Fails k (operation_of s is) → Fails k (operation_of s m)
+fails_so : (s : Scope) (m is : Between) → m ≡ is → (k : ReadError) → Fails k (operation_of s is) → Fails k (operation_of s m)
 fails_so s m is h k f = subst (λ m. Fails k (operation_of s m)) (sym h) f
 
 pub returns-in_err-set-in-Sharing : goal.returns-in_err-set-in-Sharing

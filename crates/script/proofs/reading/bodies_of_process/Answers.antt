@@ -1,6 +1,6 @@
 use Rattle.std.proofs.Common.{◌≡◌, List, subst, sym, ◌∙◌}
 use Rattle.term.specs.Proc.{Proc}
-use Rattle.tokens.specs.declared.unread.Unread.TheVariants.{Fault, Memory}
+use Rattle.tokens.specs.declared.read_error.ReadError.TheVariants.{Fault, Memory}
 use Rattle.values.specs.Tables.{table}
 use Rattle.declared_names.specs.View.{entries}
 use Rattle.denotation.specs.Denotes.{Root}

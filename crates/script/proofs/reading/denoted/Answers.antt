@@ -5,7 +5,7 @@ use Rattle.syntax.specs.Script.{HasPhrase}
 use Rattle.syntax.specs.View.{shape}
 use Rattle.term.specs.Specs.{Specified}
 use Rattle.tokens.specs.Unreads.{reported}
-use Rattle.tokens.specs.declared.unread.Unread.{Unread}
+use Rattle.tokens.specs.declared.read_error.ReadError.{ReadError}
 use Rattle.values.specs.Channels.{Declares}
 use Rattle.values.specs.Tables.{table}
 use Rattle.declared_names.specs.View.{entries}
@@ -18,7 +18,7 @@ use Rattle.script.proofs.reading.denoted.Goals as goal
 pub returns-in_err-declared-clause-only : goal.returns-in_err-declared-clause-only
 returns-in_err-declared-clause-only g c = λ spec u h d _.
     let p = err_from_is_err_and c.from_residual.result c.from_residual.ensures.1 in
-    rw (p.1, p.2) (ap (λ (e : Unread). (reported e).kind) (only_memory c.in_err-declared.field-0.0 (d.entries, d.known, spec.alphabet) (c.in_err-declared.ensures.only d.entries d.known spec.alphabet d.declares)))
+    rw (p.1, p.2) (ap (λ (e : ReadError). (reported e).kind) (only_memory c.in_err-declared.field-0.0 (d.entries, d.known, spec.alphabet) (c.in_err-declared.ensures.only d.entries d.known spec.alphabet d.declares)))
 
 pub returns-clause-found : goal.returns-clause-found
 returns-clause-found g c =

@@ -2,7 +2,7 @@ use Rattle.std.proofs.lemmas.Bool.{true≢false}
 use Rattle.std.proofs.Common.{◌≡◌, ap, subst, sym, ◌∙◌, List}
 use Rattle.tokens.specs.Lexeme.{Lexeme, lexemes}
 use Rattle.tokens.specs.Unreads.{reported}
-use Rattle.tokens.specs.declared.unread.Unread.{Unread}
+use Rattle.tokens.specs.declared.read_error.ReadError.{ReadError}
 use Rattle.syntax.specs.Script.{IsPhrase}
 use Rattle.syntax.specs.View.{shape}
 use Rattle.syntax.proofs.Texts.{only_memory}
@@ -17,7 +17,7 @@ pub returns-in_err-read_phrase-clause-only : goal.returns-in_err-read_phrase-cla
 returns-in_err-read_phrase-clause-only g c t h =
     let told = c.from_residual-in_err-read_phrase.ensures in
     only_memory (λ tree. shape tree ≡ t) c.from_residual-in_err-read_phrase.result (reported c.in_err-read_phrase.field-0.0) told.0 told.1
-    (ap (λ (u : Unread). (reported u).kind) (c.in_err-read_phrase.ensures.only t (subst (λ (toks : List Lexeme). IsPhrase toks t) (sym (ap lexemes c.deref.ensures.value ∙ c.in_ok-tokens.ensures.only h.tokens h.read)) h.is)))
+    (ap (λ (u : ReadError). (reported u).kind) (c.in_err-read_phrase.ensures.only t (subst (λ (toks : List Lexeme). IsPhrase toks t) (sym (ap lexemes c.deref.ensures.value ∙ c.in_ok-tokens.ensures.only h.tokens h.read)) h.is)))
 
 pub returns-clause-only : goal.returns-clause-only
 returns-clause-only g c t h =

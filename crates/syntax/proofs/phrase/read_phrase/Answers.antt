@@ -13,4 +13,4 @@ returns-in-Ok-clause-only g c t i = tree_is (kinds.Phrase 16) (lexemes c.args.to
 
 pub returns-in-Err-clause-only : goal.returns-in-Err-clause-only
 returns-in-Err-clause-only g c t i =
-    c.at_end.ensures (memory_only (kinds.Phrase 16) c.in-Err.unread (lexemes c.args.tokens.now) t c.in-Err.ensures (phrase_is (lexemes c.args.tokens.now) t i))
+    c.at_end.ensures (memory_only (kinds.Phrase 16) c.in-Err.read_error (lexemes c.args.tokens.now) t c.in-Err.ensures (phrase_is (lexemes c.args.tokens.now) t i))

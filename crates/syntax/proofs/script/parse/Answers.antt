@@ -1,7 +1,7 @@
 use Rattle.std.proofs.Common.{◌≡◌, ap, subst, sym, ◌∙◌, List}
 use Rattle.tokens.specs.Lexeme.{Lexeme, lexemes}
 use Rattle.tokens.specs.Unreads.{reported}
-use Rattle.tokens.specs.declared.unread.Unread.{Unread}
+use Rattle.tokens.specs.declared.read_error.ReadError.{ReadError}
 use Rattle.syntax.specs.Script.{IsScript}
 use Rattle.syntax.specs.View.{shape}
 use Rattle.syntax.proofs.Texts.{only_memory}
@@ -16,7 +16,7 @@ pub returns-in_err-read_script-clause-only : goal.returns-in_err-read_script-cla
 returns-in_err-read_script-clause-only g c t h =
     let told = c.from_residual-in_err-read_script.ensures in
     only_memory (λ tree. shape tree ≡ t) c.from_residual-in_err-read_script.result (reported c.in_err-read_script.field-0.0) told.0 told.1
-    (ap (λ (u : Unread). (reported u).kind) (c.in_err-read_script.ensures.only t (subst (λ (toks : List Lexeme). IsScript toks t) (sym (ap lexemes c.deref.ensures.value ∙ c.in_ok-tokens.ensures.only h.tokens h.read)) h.is)))
+    (ap (λ (u : ReadError). (reported u).kind) (c.in_err-read_script.ensures.only t (subst (λ (toks : List Lexeme). IsScript toks t) (sym (ap lexemes c.deref.ensures.value ∙ c.in_ok-tokens.ensures.only h.tokens h.read)) h.is)))
 
 pub returns-clause-only : goal.returns-clause-only
 returns-clause-only g c t h =
