@@ -1,6 +1,7 @@
 pub mod ChannelPlaces
 pub mod Choices
 pub mod Copies
+pub mod CopyLemmas
 pub mod Declaring
 pub mod DistinctNames
 pub mod Empty

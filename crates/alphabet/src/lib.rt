@@ -2,6 +2,7 @@
 #![tactic(auto)]
 
 mod alphabet_error;
+mod copying;
 mod event_set;
 mod events;
 mod field_value;
@@ -11,6 +12,7 @@ mod naming;
 mod table;
 
 pub use alphabet_error::AlphabetError;
+pub use copying::copy_of;
 pub use event_set::{EventSet, Members};
 pub use events::{Event, Report};
 pub use field_value::{Field, Value};

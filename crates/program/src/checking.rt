@@ -17,11 +17,11 @@ ghost use Rattle.program.specs.Conversations.{Conversed, no_answers};
 ghost use Rattle.program.specs.Exits.{exit_of};
 
 use crate::exit::exit_after;
-use alphabet::Alphabet;
+use alphabet::{Alphabet, copy_of};
 use answers::Exit;
 use disk::Disk;
 use journal::Journal;
-use seats::{SeatJudge, copy_of};
+use seats::SeatJudge;
 use shared::{Naming, Opened, Recorder, Session, SessionError, Share, Shared, Sharing};
 use std::alloc::{Allocator, Global};
 use std::marker::Brand;

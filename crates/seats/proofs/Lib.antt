@@ -1,3 +1,2 @@
-pub mod CopyLemmas
 pub mod GroupLemmas
 pub mod SigmaLemmas

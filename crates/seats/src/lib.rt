@@ -5,11 +5,9 @@
 //! client may come back by a name.
 #![tactic(auto)]
 
-mod copying;
 mod groups;
 mod judge;
 mod service;
 
-pub use copying::copy_of;
 pub use judge::SeatJudge;
 pub use service::ServiceJudge;

@@ -23,7 +23,7 @@ where
 }
 
 impl<'a, J: Recorder, N: Sharing<J>> ServiceGate<'a, J, N> {
-    /// The gate to this service. The alphabet is that of its specification; it may be a copy (`seats::copy_of`), which all threads read
+    /// The gate to this service. The alphabet is that of its specification; it may be a copy (`alphabet::copy_of`), which all threads read
     /// without the session's lock. By it `connections::serve_on` serves the session, with the places that `Shared::service` made.
     /// Constant cost; takes no memory.
     pub fn new(

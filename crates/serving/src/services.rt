@@ -16,10 +16,9 @@ ghost use Rattle.serving.specs.Services.{IsServedAt, Ran};
 
 use crate::service_gate::ServiceGate;
 use crate::sessions::give_up;
-use alphabet::{Alphabet, EventSet};
+use alphabet::{Alphabet, EventSet, copy_of};
 use connections::{Closed, Listen, Terms, Totals, serve_on};
 use journal::Prepared;
-use seats::copy_of;
 use shared::{
     Counts, Failed, Names, Opened, Places, Publisher, Recorder, SessionOn, Shared, Sharing, Source,
     Spine, Waiting, crosses, legal_crosses,

@@ -11,10 +11,9 @@ ghost use Rattle.connections.specs.Outcomes.{WasTold, ending_of, places_of};
 ghost use Rattle.serving.specs.Runs.{CameTo, Went};
 
 use crate::shared_gate::SharedGate;
-use alphabet::{Alphabet, EventSet};
+use alphabet::{Alphabet, EventSet, copy_of};
 use connections::{Accept, Connections, Ending, part, serve_all};
 use journal::Prepared;
-use seats::copy_of;
 use shared::{
     Counts, Failed, Names, Opened, Publisher, Recorder, SessionOn, Share, Shared, Sharing, Source,
     Spine, Waiting, crosses, legal_crosses,

@@ -4,12 +4,12 @@ ghost use Rattle.std.specs.Prelude.{[], ◌≡◌, ◌+◌, ◌<◌, ◌≤◌, 
 ghost use Rattle.alphabet.specs.Channels.{event_count};
 
 use crate::ends::{put_kept, put_session, put_talk, put_unopened};
-use alphabet::Alphabet;
+use alphabet::{Alphabet, copy_of};
 use disk::Disk;
 use journal::Journal;
 use memory_disks::{Afterwards, FaultDisk};
 use rows::{Output, first_word, number_of, parts};
-use seats::{ServiceJudge, copy_of};
+use seats::ServiceJudge;
 use shared::{Opened, Places, Session, Share, Shared, Sharing};
 use std::alloc::Global;
 use std::marker::Brand;

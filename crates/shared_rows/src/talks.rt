@@ -5,11 +5,11 @@ ghost use Rattle.alphabet.specs.Channels.{event_count};
 
 use crate::ends::{put_kept, put_looks, put_session, put_talk, put_unopened};
 use crate::memory::Memory;
-use alphabet::Alphabet;
+use alphabet::{Alphabet, copy_of};
 use disk::Disk;
 use journal::Journal;
 use rows::{Output, first_word, number_of, parts};
-use seats::{SeatJudge, copy_of};
+use seats::SeatJudge;
 use shared::{Opened, Session, Share, Shared, Sharing};
 use std::alloc::{Allocator, Global};
 use std::marker::Brand;

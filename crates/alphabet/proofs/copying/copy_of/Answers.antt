@@ -3,8 +3,8 @@ use Rattle.std.specs.List.{list_all}
 use Rattle.alphabet.specs.Names.{is_name}
 use Rattle.alphabet.specs.Channels.{Channel, is_field, are_apart}
 use Rattle.alphabet.specs.Stored.{channel_of}
-use Rattle.seats.proofs.CopyLemmas.{all_at, apart_next, take_next, on_ok}
-use Rattle.seats.proofs.copying.copy_of.Goals as goal
+use Rattle.alphabet.proofs.CopyLemmas.{all_at, apart_next, take_next, on_ok}
+use Rattle.alphabet.proofs.copying.copy_of.Goals as goal
 
 pub declare-requires-clause-named : goal.declare-requires-clause-named
 declare-requires-clause-named g c =

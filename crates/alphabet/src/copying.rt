@@ -1,7 +1,7 @@
 //! A second alphabet with the same events.
 ghost use Rattle.std.specs.Prelude.{◌≡◌, IfOk};
 
-use alphabet::Alphabet;
+use crate::table::Alphabet;
 use std::alloc::{AllocError, Allocator};
 
 /// A copy of the alphabet in memory of `alloc`. Costs what declaring its channels costs.
