@@ -20,9 +20,6 @@ use Rattle.declared_names.specs.Stored.{meaning_of, Stored, listed}
 use Rattle.declared_names.specs.Entering.{has_name}
 use Rattle.declared_names.specs.ProcessAnswers.{name_in}
 
-abbrev finds : {A : Type 0} → Name → Vec ℕ A → Bool
-finds n k = pointwise nat_eq n k.items
-
 pub looked_up : {A : Type 0} (es : Stored A) (n : Name) → option_map (λ (e : Entry A). meaning_of e.meaning) (lookup (λ (k : Vec ℕ A). pointwise nat_eq n k.items) es) ≡ meaning (listed es) n
 unfolding meaning
 looked_up [] n = refl

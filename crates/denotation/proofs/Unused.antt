@@ -123,9 +123,6 @@ each_empty on s x h (v ∷ vs) = first_append (on (with_input s x v)) (behind_ea
 abbrev pub NoneMet : Scope → List Syntax → List Syntax → Type 0
 NoneMet s before gs = (t : Scope) → Agree before s t → first_scope (visits gs t) ≡ Some []
 
-pub at_begin : (s : Scope) (gs : List Syntax) → NoneMet s [] gs → first_scope (visits gs s) ≡ Some []
-at_begin s gs h = h s (refl, λ n e. refl)
-
 -- a generator with these values, of which the set doesn't use the names of those before it
 module _ (s : Scope) (before : List Syntax) (g : Syntax) (x : Name) (set : Syntax) (vs : Values) (n : generator_of g ≡ Some (x, set)) (u : uses before set ≡ false) (e : generator_values s x set ≡ Some vs) (rest : List Syntax) where
   found : (t : Scope) → Agree before s t → found_generator t g ≡ some_found x vs

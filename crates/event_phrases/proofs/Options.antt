@@ -11,10 +11,6 @@ some_is h = cc
 abbrev pub some_truth : Bool → Option Bool
 some_truth b = Some b
 
-pub bind_some : {X Y : Type 0} (o : Option X) (f : X → Option Y) (y : Y) → (o >>= f) ≡ Some y → (x : X) × (o ≡ Some x) × (f x ≡ Some y)
-bind_some None f y h = absurd cc
-bind_some (Some x) f y h = (x, refl, h)
-
 pub bind_none : {A B : Type 0} (o : Option A) (f : A → Option B) → ((x : A) → f x ≡ None) → (o >>= f) ≡ None
 bind_none None f h = refl
 bind_none (Some x) f h = h x

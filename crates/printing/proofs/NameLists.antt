@@ -1,6 +1,6 @@
 -- Names in memory, and how many primes they have.
-use Rattle.std.proofs.Common.{◌≡◌, ℕ, zero, suc, ◌+◌, ◌-◌, ◌<◌, ◌≤◌, List, [], ◌∷◌, ◌++◌, map, length, take, get_or, max, fold, append_assoc, inl, inr, Bool, true, false, not, ◌&&◌, cond, Vec, Some, slice_get, refl, sym, ap, ◌∙◌, arith}
-use Rattle.std.proofs.lemmas.List.Folds.{fold-map, list_all-append}
+use Rattle.std.proofs.Common.{◌≡◌, ℕ, zero, suc, ◌+◌, ◌-◌, ◌<◌, ◌≤◌, List, [], ◌∷◌, ◌++◌, map, length, take, get_or, append_assoc, inl, inr, Bool, true, false, not, ◌&&◌, cond, Vec, Some, slice_get, refl, sym, ap, ◌∙◌, arith}
+use Rattle.std.proofs.lemmas.List.Folds.{list_all-append}
 use Rattle.std.proofs.lemmas.List.FromFn.{map-range_with_len_more}
 use Rattle.std.proofs.lemmas.Map.Text.{is_eq-slice_cmp}
 use Rattle.std.proofs.lemmas.Bool.Decides.{eqb_tells}
@@ -11,7 +11,7 @@ use Rattle.std.specs.BTreeSet.{insert_key}
 use Rattle.std.specs.BTreeMap.{is_at}
 use Rattle.std.specs.declared.cmp.Ordering.{Ordering}
 use Rattle.std.specs.declared.cmp.Ordering.TheVariants.{Less, Equal, Greater}
-use Rattle.printing.specs.Names.{Name, byte_order, with_names, is_among, primed, differ, first_from, longest}
+use Rattle.printing.specs.Names.{Name, byte_order, with_names, is_among, primed, differ, first_from}
 use Rattle.printing.specs.View.{bytes}
 use Rattle.printing.proofs.Lists.{flat_more, flat_next, map_next}
 
@@ -37,9 +37,6 @@ with_names-append ks (n ∷ ns) ms = with_names-append (insert_key byte_order ks
 pub among_view : {B : Type 0} (n : Name) (ks : List (Vec ℕ B)) → list_any (is_at (λ k. slice_cmp nat_cmp n k.items)) ks ≡ is_among (bytes ks) n
 among_view n [] = refl
 among_view n (k ∷ ks) = rw (is_eq-slice_cmp n k.items, among_view n ks) refl
-
-pub longest_view : {B : Type 0} (ks : List (Vec ℕ B)) → fold (λ most k. max most (length k.items)) 0 ks ≡ longest (bytes ks)
-longest_view ks = sym (fold-map (λ most n. max most (length n)) (λ k. k.items) 0 ks)
 
 -- the names with those of one item more
 pub names_item : {V X : Type 0} (view : V → X) (f : X → List Name) (ks now new : List Name) (vs : List V) (i : ℕ) (v : V) → i < length vs → v ≡ get_or vs i v →

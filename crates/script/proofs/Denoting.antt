@@ -63,9 +63,6 @@ module _ (cs : List Channel) (known : Known) (es : List Entry) where
   with_sets sets = record { entries = es; channels = cs; known = known; sets = sets }
 
 module _ (cs : List Channel) (known : Known) (es : List Entry) (root : Root) where
-  pub bodies_are : (sets : KnownEvents) (ps : List Proc) → EventsStand cs known es sets → Gathered (body_under root (with_sets cs known es sets)) (root_key root) ps → AreBodies cs known es root ps
-  bodies_are sets ps e g = record { sets = sets; events = e; gathered = g }
-
   pub bodies_with : (sets : KnownEvents) (ps : List Proc) → EventsStand cs known es sets → AreBodies cs known es root ps → Gathered (body_under root (with_sets cs known es sets)) (root_key root) ps
   bodies_with sets ps e a = subst (λ f. Gathered (body_under root (with_sets cs known es f)) (root_key root) ps) (one_sets cs known es a.sets sets a.events e) a.gathered
 

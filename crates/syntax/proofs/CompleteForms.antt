@@ -22,12 +22,6 @@ first_form forms.Range = forms.Set
 first_form forms.ChannelsWithFields = forms.Channels
 first_form f = f
 
-pub heavy_first : (f : Form) → is_heavy (first_form f) ≡ is_heavy f
-unfolding is_heavy
-heavy_first forms.Range = refl
-heavy_first forms.ChannelsWithFields = refl
-heavy_first f = refl
-
 abbrev pub some_form : Form → Option Form
 some_form f = Some f
 

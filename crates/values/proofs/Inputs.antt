@@ -57,11 +57,6 @@ module _ {X : Type 0} (view : X → Name × FieldValue) (xs : List X) (n : Name)
   pub last_before : (whole : Option FieldValue) → last_of (map view (take (suc k) xs)) n ≡ whole → same_name n (view x).0 ≡ false → last_of (map view (take k xs)) n ≡ whole
   last_before whole inv e = sym (ap (λ b. or_else (cond b (Some (view x).1) None) (last_of (map view (take k xs)) n)) e) ∙ sym last_here ∙ inv
 
--- without inputs names stand for what the table says
-pub behind-none : (known : Known) (n : Name) → behind known [] n ≡ known n
-unfolding behind
-behind-none known n = refl
-
 -- one more input
 pub behind-more : (known : Known) (is : List (Name × FieldValue)) (x : Name) (v : FieldValue) → behind known (is ++ (x, v) ∷ []) ≡ with_input (behind known is) x v
 unfolding behind

@@ -161,6 +161,3 @@ module _ (P : Worth → Type 0) (numbers_have : (y z : ℤ) → limited y ≡ So
 
   pub worth_keeps : (t : Syntax) (w : Worth) → worth known t ≡ Some w → P w
   worth_keeps t = by_parts Keeps name_keeps number_keeps (λ f ts parts. node_keeps f ts (parted f ts) parts (each_keeps ts parts)) t
-
-  pub worths_keep : (ts : Syntaxes) (ws : List Worth) → worths known ts ≡ Some ws → EachWorth P ws
-  worths_keep ts = each_keeps ts (each_by_parts Keeps name_keeps number_keeps (λ f ts parts. node_keeps f ts (parted f ts) parts (each_keeps ts parts)) ts)

@@ -81,14 +81,6 @@ copied f (Some w) = refl
 
 -- ---- options
 
--- a fault of the second step is one of both
-pub bind_fails : {X Y : Type 0} (k : ReadError) (o : Option X) (x : X) (f : X → Option Y) → o ≡ Some x → Fails k (f x) → Fails k (o >>= f)
-bind_fails k o x f h e = fails_on k (f x) (o >>= f) (λ n. ap (λ o. o >>= f) h ∙ n) e
-
--- a fault of the first step is one of both
-pub first_fails : {X Y : Type 0} (k : ReadError) (o : Option X) (f : X → Option Y) → Fails k o → Fails k (o >>= f)
-first_fails k o f e = fails_on k o (o >>= f) (λ n. ap (λ o. o >>= f) n) e
-
 -- what is empty has length 0
 pub none_left : {X : Type 0} (o : Option X) (n : ℕ) → o ≡ None → IsSome o ↔ (0 < n) → n ≡ 0
 none_left o zero e v = refl
