@@ -47,7 +47,8 @@ long_of Bodies h number (inl full) le = omega (arith, full)
 long_of Bodies h number (inr full) le = omega (arith, full, le)
 
 pub refused : {D : Type 0} (old new : SessionView D) (seat number : ℕ) (r : Report) (fault : SessionFault) →
-    (old.failed ≡ None → old.offered ≡ []) → seat ≡ 1 → number ≡ next_number (entries old) seat → new.history ≡ old.history → ExplainsReport old new seat number 0 r fault →
+    (old.failed ≡ None → old.offered ≡ []) → seat ≡ 1 → number ≡ next_number (entries old) seat → new.history ≡ old.history →
+    ExplainsReport old new (record { seat = seat; number = number; floor = 0; report = r }) fault →
     Leaves old.spec (course_of old.history old.failed) r (plain_of fault) (course_of new.history new.failed)
 refused old new seat number r session.Depth idle one turn same (e, left, now) = record {
   why = subst (λ (h : List Entry). Stops old.spec (events h) r limit.Depth) (all old (idle e.0.is_open)) e.1;
