@@ -7,7 +7,7 @@ use Rattle.std.specs.Io.KnownBytes.{Appends, Consumes}
 use Rattle.term.specs.Specs.{Specified}
 use Rattle.session.specs.Entry.{Entry}
 use Rattle.wire.specs.Requests.{Lacks}
-use Rattle.wire.specs.Talks.{joined, IsHeard, IsShort, Talk, Open, HasQuit, IsCutOff, Hears, Serves}
+use Rattle.wire.specs.Talks.{joined, IsHeard, IsShort, Talk, Open, HasQuit, IsCutOff, Hears, Conversation}
 use Rattle.wire.specs.declared.answer.Tally.{Tally}
 use Rattle.wire.specs.declared.engine.End.{End}
 use Rattle.wire.specs.declared.engine.End.TheVariants.{Quit, Input, Line}
@@ -153,14 +153,15 @@ module _ (manner : Manner) (spec : Specified) where
       (hears_long Says j old new bytes more d (Err Write) long plain tt sent (inr refl))
 
   -- the end of the whole
-  pub attendance_end : (j k : Standing) (left rest old new : Option (List ℕ)) (h c : List ℕ) (end : Ending) → Consumes left rest h → GoesOn manner k.tally (Ok (Some end)) →
-      Listens manner spec j k old new h c (Ok (Some end)) → Attendance manner spec j k left rest old new (Ok end)
-  attendance_end j k left rest old new h c (By end) took going m = (serves_end Says j k left rest old new h c end took m, going)
-  attendance_end j k left rest old new h c Rejected took going m = (h, took, going, m)
+  pub attendance_end : (talked : Conversation Standing) (h c : List ℕ) (end : Ending) → Consumes talked.unread_before talked.unread_after h →
+      GoesOn manner talked.after.tally (Ok (Some end)) →
+      Listens manner spec talked.before talked.after talked.written_before talked.written_after h c (Ok (Some end)) → Attendance manner spec talked (Ok end)
+  attendance_end talked h c (By end) took going m = (serves_end Says talked h c end took m, going)
+  attendance_end talked h c Rejected took going m = (h, took, going, m)
 
-  pub attendance_err : (j k : Standing) (left rest old new : Option (List ℕ)) (h c : List ℕ) (e : WireError) → Consumes left rest h →
-      Listens manner spec j k old new h c (Err e) → Attendance manner spec j k left rest old new (Err e)
-  attendance_err j k left rest old new h c e took m = serves_err Says j k left rest old new h c e took m
+  pub attendance_err : (talked : Conversation Standing) (h c : List ℕ) (e : WireError) → Consumes talked.unread_before talked.unread_after h →
+      Listens manner spec talked.before talked.after talked.written_before talked.written_after h c (Err e) → Attendance manner spec talked (Err e)
+  attendance_err talked h c e took m = serves_err Says talked h c e took m
 
 -- of the same manner and specification
 pub listens_as : (m m' : Manner) (s s' : Specified) (j k : Standing) (old new : Option (List ℕ)) (h c : List ℕ) (r : Result (Option Ending) WireError) → m ≡ m' → s ≡ s' →

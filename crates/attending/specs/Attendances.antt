@@ -3,7 +3,7 @@ use Rattle.std.specs.Prelude.{◌≡◌, ℕ, List, [], ◌∷◌, ◌++◌, tru
 use Rattle.std.specs.List.{AllByRecursion}
 use Rattle.std.specs.Io.KnownBytes.{Appends, Consumes}
 use Rattle.term.specs.Specs.{Specified}
-use Rattle.wire.specs.Talks.{IsHeard, Talk, Hears, Serves, joined}
+use Rattle.wire.specs.Talks.{Conversation, IsHeard, Talk, Hears, Serves, joined}
 use Rattle.wire.specs.declared.engine.WireError.{WireError}
 use Rattle.attending.specs.Standing.{Standing}
 use Rattle.attending.specs.Lines.{Attends}
@@ -36,9 +36,10 @@ Listens manner spec j k old new heard begun (Err error) = Hears (Attends manner 
 
 -- The whole of a conversation, by the bytes that reader and writer know. With --first it ends after the first rejected report, and so no
 -- other end comes where a report was rejected.
-abbrev pub Attendance : Manner → Specified → Standing → Standing → Option (List ℕ) → Option (List ℕ) → Option (List ℕ) → Option (List ℕ) → Result Ending WireError → Type 0
-Attendance manner spec j k left rest old new (Ok (By end)) =
-    Serves (Attends manner spec) j k left rest old new (Ok end) × (manner.first ≡ true → k.tally.rejected ≡ false)
-Attendance manner spec j k left rest old new (Ok Rejected) =
-    (heard : List ℕ) × Consumes left rest heard × (manner.first ≡ true) × IsStopped manner spec j k old new heard
-Attendance manner spec j k left rest old new (Err error) = Serves (Attends manner spec) j k left rest old new (Err error)
+abbrev pub Attendance : Manner → Specified → Conversation Standing → Result Ending WireError → Type 0
+Attendance manner spec conversation (Ok (By end)) =
+    Serves (Attends manner spec) conversation (Ok end) × (manner.first ≡ true → conversation.after.tally.rejected ≡ false)
+Attendance manner spec conversation (Ok Rejected) =
+    (heard : List ℕ) × Consumes conversation.unread_before conversation.unread_after heard × (manner.first ≡ true)
+    × IsStopped manner spec conversation.before conversation.after conversation.written_before conversation.written_after heard
+Attendance manner spec conversation (Err error) = Serves (Attends manner spec) conversation (Err error)

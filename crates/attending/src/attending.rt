@@ -101,9 +101,15 @@ fn hear<R: Wait, D: Disk + Drop, A: Allocator + Copy, T: Source, W: Sink, E: Wri
     requires ready { IsReady attendant.manner attendant.alone.session.spec attendant.alone.session.history attendant.monitor attendant.whole }
     requires none { (attendant.alone.session.history ≡ []) × (attendant.alone.session.failed ≡ None) }
     ensures spec { IfOk result (λ c. c.session.spec ≡ attendant.alone.session.spec) }
-    ensures attends { IfOk result (λ c. Attendance attendant.manner attendant.alone.session.spec (unattended (E.contents errors.old))
-        (standing c.session.history c.session.failed c.tally c.lines c.whole (E.contents errors.new))
-        (T.left reader.old) (T.left reader.new) (W.contents writer.old) (W.contents writer.new) c.end) }
+    ensures attends { IfOk result (λ c. Attendance attendant.manner attendant.alone.session.spec
+        (record {
+          before = unattended (E.contents errors.old);
+          after = standing c.session.history c.session.failed c.tally c.lines c.whole (E.contents errors.new);
+          unread_before = T.left reader.old;
+          unread_after = T.left reader.new;
+          written_before = W.contents writer.old;
+          written_after = W.contents writer.new;
+        }) c.end) }
     ensures untouched { IfErr result (λ _. (reader.new ≡ reader.old) × (writer.new ≡ writer.old) × (errors.new ≡ errors.old)) }
     ensures handed_on { IfOk result (λ c. W.has_handed_on writer.old → c.end ≢ Err WireError.Write → W.has_handed_on writer.new) }
     ensures reader_failed { IfOk result (λ c. IsErrOf c.end WireError.Read → T.failures reader.old < T.failures reader.new) }
@@ -148,9 +154,15 @@ pub fn attend<R: Wait, D: Disk + Drop, A: Allocator + Copy + Drop, T: Source, W:
     ensures read { IfOk result (λ c. IsReadAs names script.now process.now c.session.spec) }
 
     // The bytes out, and those on the errors, are the definition's for the bytes in, from the empty history to the session's.
-    ensures attends { IfOk result (λ c. Attendance manner c.session.spec (unattended (E.contents errors.old))
-        (standing c.session.history c.session.failed c.tally c.lines c.whole (E.contents errors.new))
-        (T.left reader.old) (T.left reader.new) (W.contents writer.old) (W.contents writer.new) c.end) }
+    ensures attends { IfOk result (λ c. Attendance manner c.session.spec
+        (record {
+          before = unattended (E.contents errors.old);
+          after = standing c.session.history c.session.failed c.tally c.lines c.whole (E.contents errors.new);
+          unread_before = T.left reader.old;
+          unread_after = T.left reader.new;
+          written_before = W.contents writer.old;
+          written_after = W.contents writer.new;
+        }) c.end) }
 
     // Or there is no session for this reason. Where the script denotes a specification, no fault of the script but out of memory comes.
     ensures fault { IfErr result (IsUnbegun names script.now process.now) }

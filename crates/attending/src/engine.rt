@@ -186,9 +186,14 @@ pub(crate) fn serve<R: Wait, D: Disk, A: Allocator + Copy, T: Source, W: Sink, E
     requires going { attendant.old.tally.rejected ≡ false }
     ensures ready { IsReady attendant.new.manner attendant.new.alone.session.spec attendant.new.alone.session.history attendant.new.monitor attendant.new.whole }
     ensures attends { Attendance attendant.old.manner attendant.old.alone.session.spec
-        (standing attendant.old.alone.session.history attendant.old.alone.session.failed attendant.old.tally attendant.old.lines attendant.old.whole (E.contents errors.old))
-        (standing attendant.new.alone.session.history attendant.new.alone.session.failed attendant.new.tally attendant.new.lines attendant.new.whole (E.contents errors.new))
-        (T.left reader.old) (T.left reader.new) (W.contents writer.old) (W.contents writer.new) result }
+        (record {
+          before = standing attendant.old.alone.session.history attendant.old.alone.session.failed attendant.old.tally attendant.old.lines attendant.old.whole (E.contents errors.old);
+          after = standing attendant.new.alone.session.history attendant.new.alone.session.failed attendant.new.tally attendant.new.lines attendant.new.whole (E.contents errors.new);
+          unread_before = T.left reader.old;
+          unread_after = T.left reader.new;
+          written_before = W.contents writer.old;
+          written_after = W.contents writer.new;
+        }) result }
     ensures same { attendant.new.alone.session.spec ≡ attendant.old.alone.session.spec }
     ensures handed_on { W.has_handed_on writer.old → result ≢ Err WireError.Write → W.has_handed_on writer.new }
     ensures reader_failed { IsErrOf result WireError.Read → T.failures reader.old < T.failures reader.new }

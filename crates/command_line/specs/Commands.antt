@@ -8,7 +8,7 @@ use Rattle.wire.specs.declared.engine.End.{End}
 use Rattle.wire.specs.declared.engine.WireError.{WireError}
 use Rattle.wire.specs.Replies.{status_text}
 use Rattle.script.specs.Reading.{IsRead}
-use Rattle.program.specs.Conversations.{Conversed}
+use Rattle.program.specs.Conversations.{Conversed, no_answers}
 use Rattle.program.specs.Courses.{status_of}
 use Rattle.program.specs.Exits.{attended_exit, exit_of, replay_exit}
 use Rattle.program.specs.Standing.{Standing, unattended}
@@ -37,7 +37,9 @@ pub record Judged (process : List ℕ) (left rest old new : Option (List ℕ)) (
   pub end : Result End WireError
   pub history : List Entry
   pub tally : Tally
-  pub conversed : Conversed spec left rest old new end history tally
+  pub conversed : Conversed spec
+      (record { before = no_answers; after = tally; unread_before = left; unread_after = rest; written_before = old; written_after = new })
+      end history
   pub exit_is : exit ≡ exit_of end tally
 
 -- The bytes out, and those on the errors up to its end, are the definition's for the bytes in and this manner, by what some script denotes
@@ -48,7 +50,9 @@ pub record AttendedTo (manner : Manner) (process : List ℕ) (left rest old new 
   pub read : IsRead script process spec
   pub end : Result Ending WireError
   pub last : Standing
-  pub attended : Attendance manner spec (unattended errors) last left rest old new end
+  pub attended : Attendance manner spec
+      (record { before = unattended errors; after = last; unread_before = left; unread_after = rest; written_before = old; written_after = new })
+      end
   pub exit_is : exit ≡ attended_exit end last.tally
 
 -- What was written is the printed form of what some script denotes for the process.

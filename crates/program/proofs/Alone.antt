@@ -34,10 +34,10 @@ use Rattle.wire.specs.declared.answer.Tally.{Tally}
 use Rattle.wire.specs.declared.engine.End.{End}
 use Rattle.wire.specs.declared.engine.WireError.{WireError}
 use Rattle.wire.specs.Replies.{Noted, noted, TakesNoName, LineReplies}
-use Rattle.wire.specs.Talks.{Serves}
+use Rattle.wire.specs.Talks.{Conversation, Serves, with_judge}
 use Rattle.wire.proofs.CarryLemmas.{CarriesCalls, lines_carried, serves_on, serves_back}
 use Rattle.attending.specs.Courses.{Course, begun, Adds, Leaves, IsWhy, closes, Reports, Statuses, Nexts, status_of}
-use Rattle.program.specs.Conversations.{no_answers, Conversed}
+use Rattle.program.specs.Conversations.{Conversed}
 
 -- what the seat has seen, as a course
 abbrev course : SeatView → Course
@@ -198,14 +198,13 @@ carried spec = record {
 
 -- Of a seat that had reported nothing and knew of no closing, where the final history begins with all that it has seen and has as many
 -- entries as it has reports.
-pub conversed : (spec : Specified) (first last : SeatView) (tally : Tally) (left rest old new : Option (List ℕ)) (result : Result End WireError) (h : List Entry)
+pub conversed : (spec : Specified) (first last : SeatView) (talked : Conversation Tally) (result : Result End WireError) (h : List Entry)
     → first.mine ≡ [] → first.closed ≡ false → StartsWith h last.seen → length h ≡ length last.mine
-    → Serves (LineReplies (seat.Reports spec) (seat.Statuses (bodies_of spec.bodies)) (seat.Nexts (bodies_of spec.bodies)) TakesNoName spec.alphabet)
-    (noted first no_answers) (noted last tally) left rest old new result
-    → Conversed spec left rest old new result h tally
-conversed spec first last tally left rest old new result h mine closed begins count serves =
+    → Serves (seat.SeatReplies spec spec.alphabet) (with_judge talked (noted first talked.before) (noted last talked.after)) result
+    → Conversed spec talked result h
+conversed spec first last talked result h mine closed begins count serves =
     let B = bodies_of spec.bodies in
-    let Says = LineReplies (seat.Reports spec) (seat.Statuses B) (seat.Nexts B) TakesNoName spec.alphabet in
+    let Says = seat.SeatReplies spec spec.alphabet in
     let Other = LineReplies (Reports spec) Statuses (Nexts B) TakesNoName spec.alphabet in
     let P : Noted SeatView → Type 0 = λ n. IsOwn n.judge in
     let Q : Noted SeatView → Type 0 = λ n. IsAlone n.judge in
@@ -213,14 +212,15 @@ conversed spec first last tally left rest old new result h mine closed begins co
     let by = lines_carried (seat.Reports spec) (seat.Statuses B) (seat.Nexts B) TakesNoName (Reports spec) Statuses (Nexts B) TakesNoName course IsOwn IsAlone (carried spec) spec.alphabet in
     let own : IsOwn first = (calls first.seen first.seat, ap (λ (l : List Entry). l ++ calls first.seen first.seat) (sym mine)) in
     let alone : IsAlone last = omega (arith, ap length begins.1, length-append last.seen begins.0, count) in
-    let late : IsOwn last = serves_on Says Other f P Q by (noted first no_answers) (noted last tally) left rest old new result own serves in
-    let back = serves_back Says Other f P Q by (noted first no_answers) (noted last tally) left rest old new result own alone serves in
+    let seated : Conversation (Noted SeatView) = with_judge talked (noted first talked.before) (noted last talked.after) in
+    let late : IsOwn last = serves_on Says Other f P Q by seated result own serves in
+    let back = serves_back Says Other f P Q by seated result own alone serves in
     let none : first.seen ≡ [] = same_as first.seen [] (first.seen, refl) (let n : length first.seen ≤ length first.mine = back.0 in omega (arith, n, ap length mine)) in
     let start : course first ≡ begun = λ i. record { history = none i; closed = closed i } in
     record {
       last = course last;
       history_is = sym (same_as h last.seen begins (omega (arith, count, own_le last late)));
-      serves = subst (λ (c : Course). Serves Other (noted c no_answers) (noted (course last) tally) left rest old new result) start back.1;
+      serves = subst (λ (c : Course). Serves Other (with_judge talked (noted c talked.before) (noted (course last) talked.after)) result) start back.1;
     }
 
 -- where a number is answered at the end, the only share has all reports

@@ -10,8 +10,8 @@ ghost use Rattle.shared.specs.Replays.{IsUnopened};
 ghost use Rattle.shared.specs.Scripts.{IsReadAs, IsUnbegun};
 ghost use Rattle.shared.specs.SessionView.{IsFor};
 ghost use Rattle.shared.specs.View.{SeatView};
-ghost use Rattle.seats.specs.Judges.{Reports, Statuses, Nexts};
-ghost use Rattle.wire.specs.Replies.{LineReplies, TakesNoName, noted};
+ghost use Rattle.seats.specs.Judges.{SeatReplies};
+ghost use Rattle.wire.specs.Replies.{noted};
 ghost use Rattle.wire.specs.Talks.{Serves};
 ghost use Rattle.program.specs.Conversations.{Conversed, no_answers};
 ghost use Rattle.program.specs.Exits.{exit_of};
@@ -71,9 +71,15 @@ fn hear<R: Wait, J: Recorder, A: Allocator + Copy + Drop, N: Sharing<J>, T: Sour
     requires alphabet { alphabet.now ≡ N.spec.alphabet }
     requires none { shares.old.items ≡ [] }
     ensures serves { IfSome result (λ t. (first : SeatView) × (last : SeatView) × (first.mine ≡ []) × (first.closed ≡ false) × (shares.new.items ≡ last ∷ [])
-        × Serves (LineReplies (Reports N.spec) (Statuses (bodies_of N.spec.bodies)) (Nexts (bodies_of N.spec.bodies)) TakesNoName N.spec.alphabet)
-        (noted first no_answers) (noted last t.tally)
-        (T.left reader.old) (T.left reader.new) (W.contents writer.old) (W.contents writer.new) t.end) }
+        × Serves (SeatReplies N.spec N.spec.alphabet)
+        (record {
+          before = noted first no_answers;
+          after = noted last t.tally;
+          unread_before = T.left reader.old;
+          unread_after = T.left reader.new;
+          written_before = W.contents writer.old;
+          written_after = W.contents writer.new;
+        }) t.end) }
     ensures untouched { IfNone result ((reader.new ≡ reader.old) × (writer.new ≡ writer.old)) }
     ensures handed_on { IfSome result (λ t. W.has_handed_on writer.old → t.end ≢ Err WireError.Write → W.has_handed_on writer.new) }
     ensures reader_failed { IfSome result (λ t. IsErrOf t.end WireError.Read → T.failures reader.old < T.failures reader.new) }
@@ -116,8 +122,15 @@ fn hear_alone<
     requires ledger { (blank.name ≡ N.name) × (blank.parts ≡ N.parts) × (N.all ≡ N.parts) × (N.all ≡ 2) }
     requires alphabet { alphabet.now ≡ N.spec.alphabet }
     ensures spec { IfOk result (λ c. c.session.spec ≡ N.spec) }
-    ensures conversed { IfOk result (λ c. Conversed N.spec (T.left reader.old) (T.left reader.new) (W.contents writer.old) (W.contents writer.new)
-        c.end c.session.history c.tally) }
+    ensures conversed { IfOk result (λ c. Conversed N.spec
+        (record {
+          before = no_answers;
+          after = c.tally;
+          unread_before = T.left reader.old;
+          unread_after = T.left reader.new;
+          written_before = W.contents writer.old;
+          written_after = W.contents writer.new;
+        }) c.end c.session.history) }
     ensures legal { IfOk result (λ c. Legal (bodies_of N.spec.bodies) c.session.history) }
     ensures exit { IfOk result (λ c. c.exit ≡ exit_of c.end c.tally) }
     ensures memory { IfErr result (λ error. error ≡ SessionError.Memory) }
@@ -157,8 +170,15 @@ fn judge_by<R: Wait, D: Disk + Drop, A: Allocator + Copy + Drop, T: Source, W: S
     requires history { session.history ≡ [] }
     requires offered { session.offered ≡ [] }
     ensures spec { IfOk result (λ c. c.session.spec ≡ session.spec) }
-    ensures conversed { IfOk result (λ c. Conversed session.spec (T.left reader.old) (T.left reader.new) (W.contents writer.old) (W.contents writer.new)
-        c.end c.session.history c.tally) }
+    ensures conversed { IfOk result (λ c. Conversed session.spec
+        (record {
+          before = no_answers;
+          after = c.tally;
+          unread_before = T.left reader.old;
+          unread_after = T.left reader.new;
+          written_before = W.contents writer.old;
+          written_after = W.contents writer.new;
+        }) c.end c.session.history) }
     ensures legal { IfOk result (λ c. Legal (bodies_of session.spec.bodies) c.session.history) }
     ensures exit { IfOk result (λ c. c.exit ≡ exit_of c.end c.tally) }
     ensures memory { IfErr result (λ error. error ≡ SessionError.Memory) }
@@ -203,8 +223,15 @@ pub fn check<R: Wait, D: Disk + Drop, A: Allocator + Copy + Drop, T: Source, W: 
     ensures read { IfOk result (λ c. IsReadAs names script.now process.now c.session.spec) }
 
     // The bytes out are the definition's replies to the bytes in, from the empty history to the session's.
-    ensures conversed { IfOk result (λ c. Conversed c.session.spec (T.left reader.old) (T.left reader.new) (W.contents writer.old) (W.contents writer.new)
-        c.end c.session.history c.tally) }
+    ensures conversed { IfOk result (λ c. Conversed c.session.spec
+        (record {
+          before = no_answers;
+          after = c.tally;
+          unread_before = T.left reader.old;
+          unread_after = T.left reader.new;
+          written_before = W.contents writer.old;
+          written_after = W.contents writer.new;
+        }) c.end c.session.history) }
     ensures legal { IfOk result (λ c. Legal (bodies_of c.session.spec.bodies) c.session.history) }
     ensures exit { IfOk result (λ c. c.exit ≡ exit_of c.end c.tally) }
 

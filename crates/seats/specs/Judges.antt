@@ -1,5 +1,6 @@
 -- What is answered to a seat, and how that moves what it knows and has done.
-use Rattle.std.specs.Prelude.{◌≡◌, ◌↔◌, ◌⊎◌, ℕ, [], ◌∷◌, ◌++◌, length, IsTrue, Option, Some, None, Result, Ok, Err}
+use Rattle.std.specs.Prelude.{◌≡◌, ◌↔◌, ◌⊎◌, ℕ, List, [], ◌∷◌, ◌++◌, length, IsTrue, Option, Some, None, Result, Ok, Err}
+use Rattle.alphabet.specs.Channels.{Channel}
 use Rattle.alphabet.specs.declared.events.Event.{Event}
 use Rattle.alphabet.specs.declared.events.Report.{Report}
 use Rattle.alphabet.specs.EventSets.{Set, member}
@@ -15,6 +16,7 @@ use Rattle.shared.specs.Seats.{Answered, Refused, Named}
 use Rattle.answers.specs.declared.receipt.Receipt.{Receipt}
 use Rattle.answers.specs.declared.receipt.Status.{Status}
 use Rattle.wire.specs.Faults.{Fault}
+use Rattle.wire.specs.Replies.{LineReplies, Noted, TakesNoName}
 use Rattle.answers.specs.declared.fault.Fault.TheVariants.{Taken, Closed}
 use Rattle.answers.specs.Faults.{plain_of}
 
@@ -54,3 +56,12 @@ abbrev pub Identifies : (ℕ → Proc) → SeatView → ℕ → Option (Result �
 Identifies B old name None new = new ≡ old
 Identifies B old name (Some (Ok count)) new = Named B old new name count
 Identifies B old name (Some (Err fault)) new = (new ≡ old) × ((fault ≡ Taken) ⊎ (fault ≡ Closed tt))
+
+-- what a line is answered with at a seat that takes no name, in an alphabet of these channels
+abbrev pub SeatReplies : Specified → List Channel → Noted SeatView → List ℕ → Noted SeatView → List ℕ → Type 0
+SeatReplies spec channels = LineReplies (Reports spec) (Statuses (bodies_of spec.bodies)) (Nexts (bodies_of spec.bodies)) TakesNoName channels
+
+-- and what at a seat of a service
+abbrev pub ServiceReplies : Specified → List Channel → Noted SeatView → List ℕ → Noted SeatView → List ℕ → Type 0
+ServiceReplies spec channels =
+    LineReplies (Reports spec) (Statuses (bodies_of spec.bodies)) (Nexts (bodies_of spec.bodies)) (Identifies (bodies_of spec.bodies)) channels

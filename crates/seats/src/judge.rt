@@ -1,10 +1,9 @@
 //! A seat as a judge.
 ghost use Rattle.std.specs.Prelude.{◌≡◌, ◌≢◌, ◌<◌, Err, IsErrOf};
 ghost use Rattle.alphabet.specs.Channels.{event_count};
-ghost use Rattle.term.specs.Proc.{bodies_of};
-ghost use Rattle.wire.specs.Replies.{LineReplies, TakesNoName, noted};
+ghost use Rattle.wire.specs.Replies.{noted};
 ghost use Rattle.wire.specs.Talks.{Serves};
-ghost use Rattle.seats.specs.Judges.{Reports, Statuses, Nexts};
+ghost use Rattle.seats.specs.Judges.{SeatReplies};
 
 use alphabet::{Alphabet, EventSet, Report};
 use left_right::Absorb;
@@ -110,9 +109,15 @@ impl<J: Recorder, A: Allocator + Copy + Drop, N: Sharing<J>, R: Wait> SeatJudge<
         tally: &mut Tally,
     ) -> Result<End, WireError>
         requires { event_count N.spec.alphabet ≡ event_count alphabet.now }
-        ensures serves { Serves (LineReplies (Reports N.spec) (Statuses (bodies_of N.spec.bodies)) (Nexts (bodies_of N.spec.bodies)) TakesNoName alphabet.now)
-            (noted self.old.seat.share tally.old) (noted self.new.seat.share tally.new)
-            (T.left reader.old) (T.left reader.new) (W.contents writer.old) (W.contents writer.new) result }
+        ensures serves { Serves (SeatReplies N.spec alphabet.now)
+            (record {
+              before = noted self.old.seat.share tally.old;
+              after = noted self.new.seat.share tally.new;
+              unread_before = T.left reader.old;
+              unread_after = T.left reader.new;
+              written_before = W.contents writer.old;
+              written_after = W.contents writer.new;
+            }) result }
         ensures handed_on { W.has_handed_on writer.old → result ≢ Err WireError.Write → W.has_handed_on writer.new }
         ensures reader_failed { IsErrOf result WireError.Read → T.failures reader.old < T.failures reader.new }
         ensures writer_failed { IsErrOf result WireError.Write → W.failures writer.old < W.failures writer.new }

@@ -1,10 +1,9 @@
 //! A seat of a service as a judge.
 ghost use Rattle.std.specs.Prelude.{◌≡◌, ◌≢◌, ◌<◌, Err, IsErrOf};
 ghost use Rattle.alphabet.specs.Channels.{event_count};
-ghost use Rattle.term.specs.Proc.{bodies_of};
-ghost use Rattle.wire.specs.Replies.{LineReplies, noted};
+ghost use Rattle.wire.specs.Replies.{noted};
 ghost use Rattle.wire.specs.Talks.{Serves};
-ghost use Rattle.seats.specs.Judges.{Reports, Statuses, Nexts, Identifies};
+ghost use Rattle.seats.specs.Judges.{ServiceReplies};
 
 use crate::judge::SeatJudge;
 use alphabet::{Alphabet, EventSet, Report};
@@ -104,9 +103,15 @@ impl<J: Recorder, A: Allocator + Copy + Drop, N: Sharing<J>, R: Wait> ServiceJud
         tally: &mut Tally,
     ) -> Result<End, WireError>
         requires { event_count N.spec.alphabet ≡ event_count alphabet.now }
-        ensures serves { Serves (LineReplies (Reports N.spec) (Statuses (bodies_of N.spec.bodies)) (Nexts (bodies_of N.spec.bodies)) (Identifies (bodies_of N.spec.bodies)) alphabet.now)
-            (noted self.old.judge.seat.share tally.old) (noted self.new.judge.seat.share tally.new)
-            (T.left reader.old) (T.left reader.new) (W.contents writer.old) (W.contents writer.new) result }
+        ensures serves { Serves (ServiceReplies N.spec alphabet.now)
+            (record {
+              before = noted self.old.judge.seat.share tally.old;
+              after = noted self.new.judge.seat.share tally.new;
+              unread_before = T.left reader.old;
+              unread_after = T.left reader.new;
+              written_before = W.contents writer.old;
+              written_after = W.contents writer.new;
+            }) result }
         ensures handed_on { W.has_handed_on writer.old → result ≢ Err WireError.Write → W.has_handed_on writer.new }
         ensures reader_failed { IsErrOf result WireError.Read → T.failures reader.old < T.failures reader.new }
         ensures writer_failed { IsErrOf result WireError.Write → W.failures writer.old < W.failures writer.new }

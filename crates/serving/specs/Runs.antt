@@ -1,6 +1,5 @@
 -- How a session goes whose connections are served at seats of it.
 use Rattle.std.specs.Prelude.{◌≡◌, ◌+◌, ℕ, Bool, false, List, [], length, map, Option, Result, IfSome}
-use Rattle.term.specs.Proc.{bodies_of}
 use Rattle.term.specs.Specs.{Specified}
 use Rattle.shared.specs.Entry.{Entry}
 use Rattle.shared.specs.Beginnings.{StartsWith}
@@ -8,12 +7,12 @@ use Rattle.wire.specs.Faults.{Fault}
 use Rattle.wire.specs.declared.answer.Tally.{Tally}
 use Rattle.wire.specs.declared.engine.End.{End}
 use Rattle.wire.specs.declared.engine.WireError.{WireError}
-use Rattle.wire.specs.Replies.{LineReplies, TakesNoName, noted}
+use Rattle.wire.specs.Replies.{noted}
 use Rattle.wire.specs.Talks.{Serves}
 use Rattle.shared.specs.View.{SeatView}
 use Rattle.shared.specs.Seats.{AllTold, receipts}
 use Rattle.answers.specs.Faults.{IsNoSeat}
-use Rattle.seats.specs.Judges.{Reports, Statuses, Nexts}
+use Rattle.seats.specs.Judges.{SeatReplies}
 use Rattle.connections.specs.declared.outcome.Ending.{Ending}
 use Rattle.connections.specs.declared.outcome.Outcome.{Outcome}
 use Rattle.connections.specs.Outcomes.{InTurn, IsLast, IsOutcome, WasClosed, ending_of, places_of}
@@ -30,8 +29,16 @@ IsNewSeat opening seat = (seat.mine ≡ []) × (seat.begun ≡ 0) × (seat.close
 -- and the place of that line's own entry, in a legal history that begins with all that the seat had seen.
 abbrev pub IsAnsweredAt : Specified → SeatView → SeatView → Tally → Option (List ℕ) → Option (List ℕ) → Option (List ℕ) → Option (List ℕ) → Result End WireError → Type 0
 IsAnsweredAt spec first last tally left rest old new end =
-    Serves (LineReplies (Reports spec) (Statuses (bodies_of spec.bodies)) (Nexts (bodies_of spec.bodies)) TakesNoName spec.alphabet)
-    (noted first no_answers) (noted last tally) left rest old new end
+    Serves (SeatReplies spec spec.alphabet)
+    (record {
+      before = noted first no_answers;
+      after = noted last tally;
+      unread_before = left;
+      unread_after = rest;
+      written_before = old;
+      written_after = new;
+    })
+    end
 
 -- For an accept that takes such connections, or fails, of readers and writers that know these bytes, where a connection is closed and told a
 -- fault so.

@@ -1,17 +1,16 @@
 -- How a session goes as a service, whose seats come and go.
 use Rattle.std.specs.Prelude.{◌≡◌, ◌+◌, ℕ, Bool, List, [], length, map, Option, Some, Result}
-use Rattle.term.specs.Proc.{bodies_of}
 use Rattle.term.specs.Specs.{Specified}
 use Rattle.shared.specs.Entry.{Entry}
 use Rattle.wire.specs.Faults.{Fault}
 use Rattle.wire.specs.declared.answer.Tally.{Tally}
 use Rattle.wire.specs.declared.engine.End.{End}
 use Rattle.wire.specs.declared.engine.WireError.{WireError}
-use Rattle.wire.specs.Replies.{LineReplies, noted}
+use Rattle.wire.specs.Replies.{noted}
 use Rattle.wire.specs.Talks.{Serves}
 use Rattle.shared.specs.View.{SeatView}
 use Rattle.shared.specs.Seats.{receipts}
-use Rattle.seats.specs.Judges.{Reports, Statuses, Nexts, Identifies}
+use Rattle.seats.specs.Judges.{ServiceReplies}
 use Rattle.connections.specs.declared.outcome.Outcome.{Outcome}
 use Rattle.connections.specs.declared.totals.Totals.{Totals}
 use Rattle.connections.specs.declared.services.Terms.{Terms}
@@ -24,8 +23,16 @@ use Rattle.answers.specs.Faults.{IsNoSeat}
 -- say which seat it is, and go on from that seat's entries.
 abbrev pub IsServedAt : Specified → SeatView → SeatView → Tally → Option (List ℕ) → Option (List ℕ) → Option (List ℕ) → Option (List ℕ) → Result End WireError → Type 0
 IsServedAt spec first last tally left rest old new end =
-    Serves (LineReplies (Reports spec) (Statuses (bodies_of spec.bodies)) (Nexts (bodies_of spec.bodies)) (Identifies (bodies_of spec.bodies)) spec.alphabet)
-    (noted first no_answers) (noted last tally) left rest old new end
+    Serves (ServiceReplies spec spec.alphabet)
+    (record {
+      before = noted first no_answers;
+      after = noted last tally;
+      unread_before = left;
+      unread_after = rest;
+      written_before = old;
+      written_after = new;
+    })
+    end
 
 -- For an accept that takes such connections, fails, or waits for one, of readers and writers that know these bytes, where a connection is closed
 -- and told a fault so.

@@ -590,8 +590,14 @@ pub fn serve<T: Wait, R: Source, W: Sink, J: Judge, A: Allocator, B: Allocator +
 ) -> Result<End, WireError>
     requires { J.event_count judge.old ≡ event_count alphabet.now }
     ensures serves { Serves (LineReplies J.reports J.statuses J.nexts J.identifies alphabet.now)
-        (noted judge.old tally.old) (noted judge.new tally.new)
-        (R.left reader.old) (R.left reader.new) (W.contents writer.old) (W.contents writer.new) result }
+        (record {
+          before = noted judge.old tally.old;
+          after = noted judge.new tally.new;
+          unread_before = R.left reader.old;
+          unread_after = R.left reader.new;
+          written_before = W.contents writer.old;
+          written_after = W.contents writer.new;
+        }) result }
     ensures handed_on { W.has_handed_on writer.old → result ≢ Err WireError.Write → W.has_handed_on writer.new }
     ensures events { J.event_count judge.new ≡ J.event_count judge.old }
     ensures reader_failed { IsErrOf result WireError.Read → R.failures reader.old < R.failures reader.new }

@@ -66,7 +66,8 @@ returns-in-Ok-Some-clause-attends g c =
     let end = c.in-Ok-Some.end in
     let heard : Listens b.manner b.alone.session.spec i k mid new (begun ++ piece) later (Ok (Some end)) = rw c.in-Ok-Some.field-0-is at c.in-Ok-Some.ensures.listens in
     let goes : GoesOn b.manner d.tally (Ok (Some end)) = rw c.in-Ok-Some.field-0-is at c.in-Ok-Some.ensures.going in
-    attendance_end a.manner a.alone.session.spec j k left rest old new (talk.0 ++ piece) later end took (goes_as b.manner a.manner d.tally (Ok (Some end)) so_far.same.0 goes)
+    attendance_end a.manner a.alone.session.spec
+    (record { before = j; after = k; unread_before = left; unread_after = rest; written_before = old; written_after = new }) (talk.0 ++ piece) later end took (goes_as b.manner a.manner d.tally (Ok (Some end)) so_far.same.0 goes)
     (listens_then a.manner a.alone.session.spec j i k old mid new talk.0 begun piece later (Ok (Some end)) talk.2
     (listens_as b.manner a.manner b.alone.session.spec a.alone.session.spec i k mid new (begun ++ piece) later (Ok (Some end)) so_far.same.0 so_far.same.1 heard))
 
@@ -91,7 +92,8 @@ returns-in-Err-clause-attends g c =
     let piece = take c.in-Ok.count c.read.new.buffer in
     let took = consumes_more left front rest talk.0 piece talk.1 (c.in-Ok.ensures.bytes.0) in
     let fault = c.in-Err.fault in
-    attendance_err a.manner a.alone.session.spec j k left rest old new (talk.0 ++ piece) later fault took
+    attendance_err a.manner a.alone.session.spec
+    (record { before = j; after = k; unread_before = left; unread_after = rest; written_before = old; written_after = new }) (talk.0 ++ piece) later fault took
     (listens_then a.manner a.alone.session.spec j i k old mid new talk.0 begun piece later (Err fault) talk.2
     (listens_as b.manner a.manner b.alone.session.spec a.alone.session.spec i k mid new (begun ++ piece) later (Err fault) so_far.same.0 so_far.same.1 c.in-Err.ensures.listens))
 

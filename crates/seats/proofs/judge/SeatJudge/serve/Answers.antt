@@ -9,6 +9,12 @@ pub returns-clause-serves : goal.returns-clause-serves
 returns-clause-serves g c =
     let B = bodies_of g.N.Naming.spec.bodies in
     serves_by (λ j. j.seat.share) (Reports g.N.Naming.spec) (Statuses B) (Nexts B) TakesNoName c.args.alphabet.now
-    (noted c.args.self.now c.args.tally.now) (noted c.serve.new.judge c.serve.new.tally)
-    (g.T.Source.left c.args.reader.now) (g.T.Source.left c.serve.new.reader) (g.W.Sink.contents c.args.writer.now) (g.W.Sink.contents c.serve.new.writer)
+    (record {
+      before = noted c.args.self.now c.args.tally.now;
+      after = noted c.serve.new.judge c.serve.new.tally;
+      unread_before = g.T.Source.left c.args.reader.now;
+      unread_after = g.T.Source.left c.serve.new.reader;
+      written_before = g.W.Sink.contents c.args.writer.now;
+      written_after = g.W.Sink.contents c.serve.new.writer;
+    })
     c.serve.result c.serve.ensures.serves
