@@ -1,9 +1,6 @@
 -- How a run of the server ends.
 use Rattle.std.proofs.Common.{◌≡◌, ℕ, Bool, Option, List, sym, subst}
 use Rattle.std.specs.Prelude.{Result, Ok, Err, IfOk, IfErr}
-use Rattle.disk.specs.State.{DiskState, FolderState}
-use Rattle.journal.specs.Journal.{Held}
-use Rattle.parts.specs.Parts as parts
 use Rattle.term.specs.Proc.{bodies_of}
 use Rattle.term.specs.Specs.{Specified}
 use Rattle.term.specs.declared.names.Names.{Names}
@@ -23,6 +20,7 @@ use Rattle.serving.specs.Beginnings.{StartsWith}
 use Rattle.serving.specs.Entries.{summary_of}
 use Rattle.serving.specs.Entry.{Entry}
 use Rattle.serving.specs.Legal.{Legal}
+use Rattle.serving.specs.SessionView.{SessionView}
 use Rattle.tokens.specs.declared.error.ScriptError.{ScriptError}
 use Rattle.tokens.specs.declared.error.ScriptErrorKind.{ScriptErrorKind}
 use Rattle.tokens.specs.declared.error.ScriptErrorKind.TheVariants as kind
@@ -94,17 +92,10 @@ pub script_refused : (f : ScriptError) (exit : Exit) → exit ≡ script_exit f 
 script_refused f exit is = subst (λ (x : Exit). IsRefusal x) (sym is) (kind_refused f.kind)
 
 -- a door that didn't open
-pub shut_for : {D : Type 0} (state : D → DiskState) (names : Names) (before : DiskState) (script root : List ℕ) (u : Unserved D (Held D))
-    → one.IsUnserved state names before script root (λ exit. IsUnserved exit) u → IsShutFor u
-shut_for state names before script root (Unopened error disk) why = tt
-shut_for state names before script root (Shut exit session) why = why.0
-shut_for state names before script root Memory why = tt
-
-pub shut_in_parts : {F : Type 0} (state : F → FolderState) (size : ℕ) (before : FolderState) (script root : List ℕ) (u : Unserved F (parts.Held F))
-    → one.AreUnserved state size before script root (λ exit. IsUnserved exit) u → IsShutFor u
-shut_in_parts state size before script root (Unopened error folder) why = tt
-shut_in_parts state size before script root (Shut exit session) why = why.0
-shut_in_parts state size before script root Memory why = tt
+pub shut_for : {D J : Type 0} (is_unopened : OpenError → D → Type 0) (is_opened : SessionView J → Type 0) (u : Unserved D J) → one.IsUnserved is_unopened is_opened (λ exit. IsUnserved exit) u → IsShutFor u
+shut_for is_unopened is_opened (Unopened error disk) why = tt
+shut_for is_unopened is_opened (Shut exit session) why = why.0
+shut_for is_unopened is_opened Memory why = tt
 
 -- what is so of a call that went well, or of one that didn't
 pub of_ok : {A B : Type 0} (P : A → Type 0) (r : Result A B) (a : A) → r ≡ Ok a → IfOk r P → P a

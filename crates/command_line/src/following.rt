@@ -1,5 +1,9 @@
 //! `cspwatch show --follow`: the reports of a journal, and then those that come.
 
+ghost use Rattle.std.specs.Prelude.{◌≡◌, ◌*◌, ◌-◌, ◌≤◌, max};
+ghost use Rattle.std.specs.Duration.{as_nanos};
+ghost use Rattle.std.specs.Time.{instant_nanos};
+
 use crate::evidence::{Stamp, bytes_of, files_of, is_large, stamp_of};
 use crate::limits::PART_SIZE;
 use crate::telling::{tell_fault, tell_journal};
@@ -12,9 +16,9 @@ use std::io::{IsTerminal, Write};
 use std::rt::Files;
 use std::sync::Wait;
 use std::thread::sleep;
-use std::time::{Clock, Duration};
+use std::time::{Clock, Duration, Instant};
 
-/// How many milliseconds there are between two looks at the file.
+/// How many milliseconds there are between two looks at the file at least.
 const PAUSE: u64 = 500;
 
 // Reports why nothing further is shown, and answers the status.
@@ -89,10 +93,33 @@ fn look<R: Files<File = File> + FileSystem + AllocGlobal, O: Write, E: Write + I
     }
 }
 
+// How long to wait after a look from the first of these moments to the second: as long as it took, and half a second at least.
+fn pause_since(began: Instant, ended: Instant) -> Duration
+    ensures { as_nanos result ≡ max (PAUSE * 1_000_000) (instant_nanos ended - instant_nanos began) }
+{
+    let took = ended.duration_since(began);
+    let least = Duration::from_millis(PAUSE);
+    if took.as_nanos() < least.as_nanos() {
+        least
+    } else {
+        took
+    }
+}
+
+// How long to wait now, after a look that began then; half a second where the clock can't be read.
+fn pause<R: Clock>(rt: &R, began: Option<Instant>) -> Duration
+    ensures { PAUSE * 1_000_000 ≤ as_nanos result }
+{
+    match (began, Instant::now(rt)) {
+        (Some(began), Ok(ended)) => pause_since(began, ended),
+        _ => Duration::from_millis(PAUSE),
+    }
+}
+
 /// Judges the records of the journal in the file again, writes what is asked for of them, and then, as records come to the file, what
 /// is asked for of those, until the program is stopped; or answers the status of the fault that was reported. The file is only read. It
-/// is looked at each half second, and judged again where it has changed since the look before, and once more after that: a server
-/// opens the gate of a record some time after it wrote its line.
+/// is looked at twice a second at most, and with pauses that are no shorter than the looks. It is judged again where it has changed since the
+/// look before, and once more after that: a server opens the gate of a record some time after it wrote its line.
 pub(crate) fn follow<
     R: Files<File = File> + FileSystem + AllocGlobal + Clock + Wait,
     O: Write,
@@ -102,6 +129,7 @@ pub(crate) fn follow<
     let mut seen = Stamp::none();
     let mut has_changed = true;
     for _ in rt.forever() {
+        let began = Instant::now(rt).ok();
         let stamp = stamp_of(rt, name);
         let is_due = has_changed || stamp != seen;
         has_changed = stamp != seen;
@@ -112,7 +140,7 @@ pub(crate) fn follow<
                 Err(exit) => return exit,
             };
         }
-        sleep(rt, Duration::from_millis(PAUSE));
+        sleep(rt, pause(rt, began));
     }
     unreachable!()
 }

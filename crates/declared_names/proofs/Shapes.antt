@@ -6,10 +6,10 @@ use Rattle.syntax.specs.declared.tree.Tree.{Tree, Node as TreeNode}
 use Rattle.syntax.specs.Grammar.{Syntax, Node, NoSyntax, MoreSyntax}
 use Rattle.syntax.specs.Parsing.{syntaxes}
 use Rattle.syntax.specs.View.{shape, shapes}
+use Rattle.syntax.proofs.Lists.{node_shape}
 use Rattle.values.specs.declared.input.Input.{Input}
 use Rattle.values.specs.Worths.{Known, worth}
 use Rattle.values.specs.Tables.{input, behind}
-use Rattle.values.proofs.Parts.{node_shape}
 use Rattle.declared_names.specs.Steps.{only_of, two_of, three_of}
 
 pub node_part : {A : Type 0} (tree : Tree A) (line : Position) (form : Form) (v : Vec (Tree A) A) (ts : List (Tree A)) → tree ≡ TreeNode line form v → ts ≡ v.items → shape tree ≡ Node form (syntaxes (shapes ts))

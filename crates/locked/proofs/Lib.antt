@@ -1,4 +1,5 @@
 pub mod Faults
+pub mod Giving
 pub mod Lasting
 pub mod Stretches
 pub mod Waits

@@ -18,7 +18,7 @@ use Rattle.shared.specs.Entry.{Entry}
 use Rattle.shared.specs.Lasting.{Lasts}
 use Rattle.shared.specs.Legal.{IsJudged, Legal}
 use Rattle.shared.specs.Reading.{IsRead}
-use Rattle.shared.specs.Recorder.{on_disk}
+use Rattle.shared.specs.Recorder.{Recording, on_disk}
 use Rattle.shared.specs.Records.{AreReports, Keeps, names_of, records_of}
 use Rattle.shared.specs.Scripts.{IsReplayOf}
 use Rattle.shared.specs.SessionView.{SessionView, IsRecorded}
@@ -30,6 +30,7 @@ use Rattle.parts.specs.Format.{Hold, IsPart, whole}
 use Rattle.large_sessions.specs.Parts as parts
 use Rattle.large_sessions.specs.Recorder.{AreOf, in_folder}
 use Rattle.large_sessions.specs.Sessions.{AreReplayOf}
+use Rattle.serving.specs.declared.opening.OpenError.{OpenError}
 use Rattle.serving.specs.HeldInParts.{AreNew, HoldAlike}
 use Rattle.serving.specs.Served.{WasServed}
 use Rattle.serving.proofs.Openings.{journal_of}
@@ -37,7 +38,19 @@ use Rattle.serving.proofs.Standing.{served_left, served_parts_left}
 use Rattle.program.specs.declared.served.Served.{Served}
 use Rattle.program.specs.declared.served.Unserved.{Unserved}
 use Rattle.program.specs.declared.served.Unserved.TheVariants.{Unopened, Shut, Memory}
-use Rattle.program.specs.Servers.{AreOpenedIn, AreServedIn, AreUnserved, IsOpenedOn, IsServedOn, IsShutOn, IsUnserved}
+use Rattle.program.specs.Servers.{AreOpenedIn, AreServedIn, IsOpenedOn, IsServedOn, IsShutOn, IsUnserved}
+
+-- what the calls say of a session that was served and given back
+pub record WasGivenBack {J : Type 0} (r : Recording J) (opened closed : SessionView J) : Type 0 where
+  pub judged_first : IsJudged opened.spec opened.history
+  pub reports_first : AreReports opened.spec.alphabet opened.history
+  pub names_first : opened.spec.names ≡ names_of (r.version opened.journal)
+  pub begins : StartsWith closed.history opened.history
+  pub legal : Legal (bodies_of opened.spec.bodies) closed.history
+  pub lasts : Lasts r opened closed
+  pub judged : IsJudged closed.spec closed.history
+  pub reports : AreReports closed.spec.alphabet closed.history
+  pub names_are : closed.spec.names ≡ names_of (r.version closed.journal)
 
 -- ---- a journal that is one file
 
@@ -62,15 +75,7 @@ pub record WasServedOn {D : Type 0} (state : D → DiskState) (names : Names) (b
   pub opened_on : IsOpenedOn state names before script root opened
   pub any_moment : IsTrue before.claims_bytes → IsTrue before.claims_files → before.bytes ≢ []
       → LeavesOnly before (state opened.journal.disk) (λ c. before.leaves c ⊎ StandsAlike before.bytes c)
-  pub judged_first : IsJudged opened.spec opened.history
-  pub reports_first : AreReports opened.spec.alphabet opened.history
-  pub names_first : opened.spec.names ≡ names_of opened.journal.version
-  pub begins : StartsWith closed.history opened.history
-  pub legal : Legal (bodies_of opened.spec.bodies) closed.history
-  pub lasts : Lasts (on_disk state) opened closed
-  pub judged : IsJudged closed.spec closed.history
-  pub reports : AreReports closed.spec.alphabet closed.history
-  pub names_are : closed.spec.names ≡ names_of closed.journal.version
+  pub back : WasGivenBack (on_disk state) opened closed
 
 module _ {D : Type 0} (state : D → DiskState) (names : Names) (before : DiskState) (script root : List ℕ) (opened closed : SessionView (Held D)) (w : WasServedOn state names before script root opened closed) where
   claims_opened : IsTrue before.claims_bytes → IsTrue (state opened.journal.disk).claims_bytes
@@ -80,17 +85,17 @@ module _ {D : Type 0} (state : D → DiskState) (names : Names) (before : DiskSt
   files_opened files = subst IsTrue (sym w.opened_on.continues.files_claim) files
 
   goes : Continues before (state closed.journal.disk)
-  goes = continues_on before (state opened.journal.disk) (state closed.journal.disk) w.opened_on.continues w.lasts.continues
+  goes = continues_on before (state opened.journal.disk) (state closed.journal.disk) w.opened_on.continues w.back.lasts.continues
 
   read_still : IsRead script root closed.spec
-  read_still = subst (λ (s : Specified). IsRead script root s) (sym w.lasts.spec_is) w.opened_on.read.read
+  read_still = subst (λ (s : Specified). IsRead script root s) (sym w.back.lasts.spec_is) w.opened_on.read.read
 
   abbrev HasBegun : List ℕ → Type 0
   HasBegun file = (h : List Entry) × StartsWith h opened.history × IsReplayOf file script root opened.spec h
 
   since : IsTrue before.claims_bytes → IsTrue before.claims_files → LeavesOnly (state opened.journal.disk) (state closed.journal.disk) HasBegun
   since claims files =
-      let was : WasServed (on_disk state) names script root opened closed = record { read = w.opened_on.read; kept = w.opened_on.kept; names_are = w.names_first; lasts = w.lasts } in
+      let was : WasServed (on_disk state) names script root opened closed = record { read = w.opened_on.read; kept = w.opened_on.kept; names_are = w.back.names_first; lasts = w.back.lasts } in
       served_left state names script root opened closed was (claims_opened claims) (files_opened files)
 
   moment : IsTrue before.claims_bytes → IsTrue before.claims_files → before.bytes ≢ [] → LeavesOnly before (state closed.journal.disk) (λ file. before.leaves file ⊎ HasBegun file)
@@ -106,20 +111,20 @@ module _ {D : Type 0} (state : D → DiskState) (names : Names) (before : DiskSt
   pub served_on : IsServedOn state names before script root opened.spec opened.history closed
   served_on = record {
     read = w.opened_on.read;
-    spec_is = w.lasts.spec_is;
+    spec_is = w.back.lasts.spec_is;
     held = w.opened_on.held;
-    begins = w.begins;
-    legal = w.legal;
+    begins = w.back.begins;
+    legal = w.back.legal;
     continues = goes;
     stands = λ is_open claims.
-        subst (λ (s : Specified). IsReplayOf (state closed.journal.disk).bytes script root s closed.history) w.lasts.spec_is
-        (open_file state closed script root w.judged w.names_are w.reports is_open (w.lasts.kept script root w.opened_on.kept) read_still (subst IsTrue (sym goes.bytes_claim) claims));
+        subst (λ (s : Specified). IsReplayOf (state closed.journal.disk).bytes script root s closed.history) w.back.lasts.spec_is
+        (open_file state closed script root w.back.judged w.back.names_are w.back.reports is_open (w.back.lasts.kept script root w.opened_on.kept) read_still (subst IsTrue (sym goes.bytes_claim) claims));
     any_crash = λ is_open claims files file left.
-        subst (λ (s : Specified). IsReplayOf file script root s closed.history) w.lasts.spec_is
-        (crashed_file state closed script root w.judged w.names_are w.reports is_open (w.lasts.kept script root w.opened_on.kept) read_still (subst IsTrue (sym goes.bytes_claim) claims) (subst IsTrue (sym goes.files_claim) files) file left);
+        subst (λ (s : Specified). IsReplayOf file script root s closed.history) w.back.lasts.spec_is
+        (crashed_file state closed script root w.back.judged w.back.names_are w.back.reports is_open (w.back.lasts.kept script root w.opened_on.kept) read_still (subst IsTrue (sym goes.bytes_claim) claims) (subst IsTrue (sym goes.files_claim) files) file left);
     opened = opened.journal.disk;
     goes = w.opened_on.continues;
-    stood = λ claims. open_file state opened script root w.judged_first w.names_first w.reports_first w.opened_on.begun.failed w.opened_on.kept w.opened_on.read.read (claims_opened claims);
+    stood = λ claims. open_file state opened script root w.back.judged_first w.back.names_first w.back.reports_first w.opened_on.begun.failed w.opened_on.kept w.opened_on.read.read (claims_opened claims);
     since = since;
     any_moment = moment;
   }
@@ -132,15 +137,7 @@ pub record WasServedIn {F : Type 0} (state : F → FolderState) (size : ℕ) (be
   pub size_is : opened.journal.size ≡ size
   pub any_moment : IsTrue before.claims_bytes → IsTrue before.claims_files → (AreNew before.bytes → ⊥)
       → LeavesOnly before (state opened.journal.folder) (λ files. before.leaves files ⊎ HoldAlike size before.bytes files)
-  pub judged_first : IsJudged opened.spec opened.history
-  pub reports_first : AreReports opened.spec.alphabet opened.history
-  pub names_first : opened.spec.names ≡ names_of opened.journal.version
-  pub begins : StartsWith closed.history opened.history
-  pub legal : Legal (bodies_of opened.spec.bodies) closed.history
-  pub lasts : Lasts (in_folder state) opened closed
-  pub judged : IsJudged closed.spec closed.history
-  pub reports : AreReports closed.spec.alphabet closed.history
-  pub names_are : closed.spec.names ≡ names_of closed.journal.version
+  pub back : WasGivenBack (in_folder state) opened closed
 
 -- the files of an open session hold its history
 holds_here : {F : Type 0} (state : F → FolderState) (h : parts.Held F) (script root : List ℕ) (records : List Recorded) → AreOf state h script root records → IsTrue (state h.folder).claims_bytes → Hold h.size (state h.folder).bytes h.version script root records
@@ -177,23 +174,23 @@ module _ {F : Type 0} (state : F → FolderState) (size : ℕ) (before : FolderS
   claims_in claims = subst IsTrue (sym w.opened_in.continues.bytes_claim) claims
 
   go : Continues before (state closed.journal.folder)
-  go = continues_on before (state opened.journal.folder) (state closed.journal.folder) w.opened_in.continues w.lasts.continues
+  go = continues_on before (state opened.journal.folder) (state closed.journal.folder) w.opened_in.continues w.back.lasts.continues
 
   -- in parts of this size
   in_size : (records : List Recorded) (files : List (List ℕ)) → Hold closed.journal.size files closed.journal.version script root records → Hold size files closed.journal.version script root records
   in_size records files hold =
-      let there : Hold opened.journal.size files opened.journal.version script root records = (w.lasts.alike.holds script root records files).0 hold in
+      let there : Hold opened.journal.size files opened.journal.version script root records = (w.back.lasts.alike.holds script root records files).0 hold in
       subst (λ (n : ℕ). Hold n files closed.journal.version script root records) w.size_is
-      (subst (λ (v : Version). Hold opened.journal.size files v script root records) (sym w.lasts.alike.version) there)
+      (subst (λ (v : Version). Hold opened.journal.size files v script root records) (sym w.back.lasts.alike.version) there)
 
   kept_then : IsRecorded (in_folder state) script root closed
-  kept_then = w.lasts.kept script root w.opened_in.kept
+  kept_then = w.back.lasts.kept script root w.opened_in.kept
 
   replay_then : (files : List (List ℕ)) → Hold closed.journal.size files closed.journal.version script root (records_of closed.journal.version closed.spec.alphabet closed.history) → AreReplayOf size files script root opened.spec closed.history
   replay_then files hold =
-      subst (λ (s : Specified). AreReplayOf size files script root s closed.history) w.lasts.spec_is
+      subst (λ (s : Specified). AreReplayOf size files script root s closed.history) w.back.lasts.spec_is
       (files_replay closed size files script root (in_size (records_of closed.journal.version closed.spec.alphabet closed.history) files hold)
-      (subst (λ (s : Specified). IsRead script root s) (sym w.lasts.spec_is) w.opened_in.read.read) w.judged w.reports w.names_are)
+      (subst (λ (s : Specified). IsRead script root s) (sym w.back.lasts.spec_is) w.opened_in.read.read) w.back.judged w.back.reports w.back.names_are)
 
   stand_then : closed.failed ≡ None → IsTrue before.claims_bytes → AreReplayOf size (state closed.journal.folder).bytes script root opened.spec closed.history
   stand_then is_open claims =
@@ -212,14 +209,14 @@ module _ {F : Type 0} (state : F → FolderState) (size : ℕ) (before : FolderS
       let of : AreOf state opened.journal script root (records_of opened.journal.version opened.spec.alphabet opened.history) =
       subst (λ (f : Option Entry). Keeps (in_folder state) opened.journal script root opened.spec.alphabet opened.history opened.offered f) w.opened_in.begun.failed w.opened_in.kept in
       subst (λ (n : ℕ). AreReplayOf n (state opened.journal.folder).bytes script root opened.spec opened.history) w.size_is
-      (files_replay opened opened.journal.size (state opened.journal.folder).bytes script root (holds_here state opened.journal script root (records_of opened.journal.version opened.spec.alphabet opened.history) of (claims_in claims)) w.opened_in.read.read w.judged_first w.reports_first w.names_first)
+      (files_replay opened opened.journal.size (state opened.journal.folder).bytes script root (holds_here state opened.journal script root (records_of opened.journal.version opened.spec.alphabet opened.history) of (claims_in claims)) w.opened_in.read.read w.back.judged_first w.back.reports_first w.back.names_first)
 
   abbrev HaveBegun : ℕ → List (List ℕ) → Type 0
   HaveBegun n files = (h : List Entry) × StartsWith h opened.history × AreReplayOf n files script root opened.spec h
 
   since_then : IsTrue before.claims_bytes → IsTrue before.claims_files → LeavesOnly (state opened.journal.folder) (state closed.journal.folder) (HaveBegun size)
   since_then claims files =
-      let was : WasServed (in_folder state) Bodies script root opened closed = record { read = w.opened_in.read; kept = w.opened_in.kept; names_are = w.names_first; lasts = w.lasts } in
+      let was : WasServed (in_folder state) Bodies script root opened closed = record { read = w.opened_in.read; kept = w.opened_in.kept; names_are = w.back.names_first; lasts = w.back.lasts } in
       subst (λ (n : ℕ). LeavesOnly (state opened.journal.folder) (state closed.journal.folder) (HaveBegun n)) w.size_is
       (served_parts_left state Bodies script root opened closed was (claims_in claims) (subst IsTrue (sym w.opened_in.continues.files_claim) files))
 
@@ -235,10 +232,10 @@ module _ {F : Type 0} (state : F → FolderState) (size : ℕ) (before : FolderS
   pub served_in : AreServedIn state size before script root opened.spec opened.history closed
   served_in = record {
     read = w.opened_in.read;
-    spec_is = w.lasts.spec_is;
+    spec_is = w.back.lasts.spec_is;
     held = w.opened_in.held;
-    begins = w.begins;
-    legal = w.legal;
+    begins = w.back.begins;
+    legal = w.back.legal;
     continues = go;
     stand = stand_then;
     any_crash = left_then;
@@ -251,24 +248,34 @@ module _ {F : Type 0} (state : F → FolderState) (size : ℕ) (before : FolderS
 
 -- ---- what is answered
 
--- where all of this is so of the answer
-pub and_all : {A E : Type 0} (P Q R S T : A → Type 0) (o : Result A E) → ((a : A) → P a → Q a → R a → S a → T a) → IfOk o P → IfOk o Q → IfOk o R → IfOk o S → IfOk o T
-and_all P Q R S T (Ok a) step p q r s = step a p q r s
-and_all P Q R S T (Err e) step p q r s = tt
+-- where this is so of each session that is given back, and of its answer
+pub given_back : {J E : Type 0} (r : Recording J) (opened : SessionView J) (P Q : Served J → Type 0) (o : Result (Served J) E) → IsJudged opened.spec opened.history → AreReports opened.spec.alphabet opened.history
+    → opened.spec.names ≡ names_of (r.version opened.journal)
+    → IfOk o (λ a. (a.session.spec ≡ opened.spec) × StartsWith a.session.history opened.history × Legal (bodies_of opened.spec.bodies) a.session.history)
+    → IfOk o (λ a. Lasts r opened a.session)
+    → IfOk o (λ a. IsJudged a.session.spec a.session.history × AreReports a.session.spec.alphabet a.session.history × (a.session.spec.names ≡ names_of (r.version a.session.journal)))
+    → IfOk o P → ((a : Served J) → WasGivenBack r opened a.session → P a → Q a) → IfOk o Q
+given_back r opened P Q (Ok a) judged_first reports_first names_first session lasts judged by step =
+    step a (record {
+      judged_first = judged_first;
+      reports_first = reports_first;
+      names_first = names_first;
+      begins = session.1;
+      legal = session.2;
+      lasts = lasts;
+      judged = judged.0;
+      reports = judged.1;
+      names_are = judged.2;
+    }) by
+given_back r opened P Q (Err e) judged_first reports_first names_first session lasts judged by step = tt
 
-pub unserved_on : {D A : Type 0} (state : D → DiskState) (names : Names) (before : DiskState) (script root : List ℕ) (refuses : Exit → Type 0) (opened : SessionView (Held D)) → IsOpenedOn state names before script root opened
-    → (o : Result A (Unserved D (Held D))) → IfErr o (IsShutOn refuses opened) → IfErr o (IsUnserved state names before script root refuses)
-unserved_on state names before script root refuses opened is (Ok a) shut = tt
-unserved_on state names before script root refuses opened is (Err (Unopened error disk)) shut = absurd shut
-unserved_on {D} state names before script root refuses opened is (Err (Shut exit back)) shut = (shut.0, subst (λ (t : SessionView (Held D)). IsOpenedOn state names before script root t) (sym shut.1) is)
-unserved_on state names before script root refuses opened is (Err Memory) shut = tt
-
-pub unserved_in : {F A : Type 0} (state : F → FolderState) (size : ℕ) (before : FolderState) (script root : List ℕ) (refuses : Exit → Type 0) (opened : SessionView (parts.Held F)) → AreOpenedIn state size before script root opened
-    → (o : Result A (Unserved F (parts.Held F))) → IfErr o (IsShutOn refuses opened) → IfErr o (AreUnserved state size before script root refuses)
-unserved_in state size before script root refuses opened is (Ok a) shut = tt
-unserved_in state size before script root refuses opened is (Err (Unopened error folder)) shut = absurd shut
-unserved_in {F} state size before script root refuses opened is (Err (Shut exit back)) shut = (shut.0, subst (λ (t : SessionView (parts.Held F)). AreOpenedIn state size before script root t) (sym shut.1) is)
-unserved_in state size before script root refuses opened is (Err Memory) shut = tt
+-- a session that was opened, where nothing was served
+pub unserved_by : {D J A : Type 0} (is_unopened : OpenError → D → Type 0) (is_opened : SessionView J → Type 0) (refuses : Exit → Type 0) (opened : SessionView J) → is_opened opened
+    → (o : Result A (Unserved D J)) → IfErr o (IsShutOn refuses opened) → IfErr o (IsUnserved is_unopened is_opened refuses)
+unserved_by is_unopened is_opened refuses opened is (Ok a) shut = tt
+unserved_by is_unopened is_opened refuses opened is (Err (Unopened error disk)) shut = absurd shut
+unserved_by {D} {J} is_unopened is_opened refuses opened is (Err (Shut exit back)) shut = (shut.0, subst is_opened (sym shut.1) is)
+unserved_by is_unopened is_opened refuses opened is (Err Memory) shut = tt
 
 -- a session that was opened is served, or in its place comes no door, or that memory ran out
 pub in_place : {D J : Type 0} (P : Served J → Type 0) (Q : Unserved D J → Type 0) (refuses : Exit → Type 0) (opened : SessionView J) (o : Result (Served J) (Unserved D J)) → IfOk o P

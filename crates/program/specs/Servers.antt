@@ -115,12 +115,6 @@ pub record IsOpenedOn {D : Type 0} (state : D → DiskState) (names : Names) (be
   pub held : IsTrue before.claims_bytes → Holds names before.bytes script root session.spec session.history
   pub continues : Continues before (state session.journal.disk)
 
--- Why nothing was served: there is no session, or there is one, but no door, for which the status is the doors' own. Out of memory says nothing.
-abbrev pub IsUnserved : {D : Type 0} → (D → DiskState) → Names → DiskState → List ℕ → List ℕ → (Exit → Type 0) → Unserved D (Held D) → Type 0
-IsUnserved state names before script root refuses (Unopened error disk) = IsUnopenedOn state names before script root error disk
-IsUnserved state names before script root refuses (Shut exit session) = refuses exit × IsOpenedOn state names before script root session
-IsUnserved state names before script root refuses Memory = Unit {0}
-
 -- What may come in place of serving the session of this specification and history that the file holds: what may come in place of opening it, or
 -- no door.
 abbrev pub IsInPlace : {D : Type 0} → List ℕ → Specified → List Entry → Unserved D (Held D) → Type 0
@@ -164,12 +158,6 @@ pub record AreOpenedIn {F : Type 0} (state : F → FolderState) (size : ℕ) (be
   pub held : IsTrue before.claims_bytes → HoldSession size before.bytes script root session.spec session.history
   pub continues : Continues before (state session.journal.folder)
 
--- why nothing was served
-abbrev pub AreUnserved : {F : Type 0} → (F → FolderState) → ℕ → FolderState → List ℕ → List ℕ → (Exit → Type 0) → Unserved F (parts.Held F) → Type 0
-AreUnserved state size before script root refuses (Unopened error folder) = AreUnopenedIn state size before script root error folder
-AreUnserved state size before script root refuses (Shut exit session) = refuses exit × AreOpenedIn state size before script root session
-AreUnserved state size before script root refuses Memory = Unit {0}
-
 -- what may come in place of serving the session of this specification and history that the files hold
 abbrev pub AreInPlace : {F : Type 0} → List (List ℕ) → Specified → List Entry → Unserved F (parts.Held F) → Type 0
 AreInPlace files spec h (Unopened error folder) = several.IsInPlace files spec error
@@ -177,6 +165,13 @@ AreInPlace files spec h (Shut exit session) = (session.spec ≡ spec) × (sessio
 AreInPlace files spec h Memory = Unit {0}
 
 -- ---- both
+
+-- Why nothing was served, where this is so of an error and the disk, and that of a session that was opened: there is no session, or there is one, but
+-- no door, for which the status is the doors' own. Out of memory says nothing.
+abbrev pub IsUnserved : {D J : Type 0} → (OpenError → D → Type 0) → (SessionView J → Type 0) → (Exit → Type 0) → Unserved D J → Type 0
+IsUnserved is_unopened is_opened refuses (Unopened error disk) = is_unopened error disk
+IsUnserved is_unopened is_opened refuses (Shut exit session) = refuses exit × is_opened session
+IsUnserved is_unopened is_opened refuses Memory = Unit {0}
 
 -- no door could be opened for this session
 abbrev pub IsShutOn : {D J : Type 0} → (Exit → Type 0) → SessionView J → Unserved D J → Type 0

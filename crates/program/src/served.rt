@@ -18,7 +18,7 @@ ghost use Rattle.connections.specs.declared.totals.Totals.{Totals};
 ghost use Rattle.connections.specs.Outcomes.{WasTold};
 ghost use Rattle.serving.specs.Held.{Holds, IsOfAnother};
 ghost use Rattle.serving.specs.HeldInParts.{AreOfAnother, HoldSession};
-ghost use Rattle.program.specs.Servers.{AreInPlace, AreServedIn, AreUnserved, IsBefore, IsEnd, IsInPlace, IsServedBy, IsServedOn, IsShutOn, IsTold, IsUnopenedFor, IsUnserved, IsWritten};
+ghost use Rattle.program.specs.Servers.{AreInPlace, AreOpenedIn, AreServedIn, AreUnopenedIn, IsBefore, IsEnd, IsInPlace, IsOpenedOn, IsServedBy, IsServedOn, IsShutOn, IsTold, IsUnopenedFor, IsUnopenedOn, IsUnserved, IsWritten};
 
 use crate::showing::put_out;
 use crate::summaries::summary_line;
@@ -228,7 +228,8 @@ pub fn serve<D: Disk + Drop + Send, R: Threads + Wait + Clock + Sync, S: Doors, 
         demand spec opening r.session.history (is_some r.session.failed) doors.old doors.new (O.contents output.old) (O.contents output.new) r.line r.exit) }
 
     // Or nothing was served, for this reason.
-    ensures unserved { IfErr result (IsUnserved D.state names (D.state disk) script.now root.now (S.refuses doors.old)) }
+    ensures unserved { IfErr result (IsUnserved (IsUnopenedOn D.state names (D.state disk) script.now root.now)
+        (IsOpenedOn D.state names (D.state disk) script.now root.now) (S.refuses doors.old)) }
     ensures doors { IfErr result (IsBefore S.opens doors.old doors.new (O.contents output.old) (O.contents output.new)) }
 
     // A file that holds a session gives it, if a door can be opened; a journal of another script, root or way of keeping names is refused as that,
@@ -268,7 +269,8 @@ pub fn serve_parts<F: Folder + Drop + Send, R: Threads + Wait + Clock + Sync, S:
         × IsServedBy S.opens S.closes S.Accept.takes S.Accept.fails S.Accept.waits S.Accept.Reader.left S.Accept.Reader.is_closed S.Accept.Writer.contents
         (WasTold S.Accept.Writer.contents S.Accept.Writer.has_handed_on S.Accept.Writer.failures)
         demand spec opening r.session.history (is_some r.session.failed) doors.old doors.new (O.contents output.old) (O.contents output.new) r.line r.exit) }
-    ensures unserved { IfErr result (AreUnserved F.state size (F.state folder) script.now root.now (S.refuses doors.old)) }
+    ensures unserved { IfErr result (IsUnserved (AreUnopenedIn F.state size (F.state folder) script.now root.now)
+        (AreOpenedIn F.state size (F.state folder) script.now root.now) (S.refuses doors.old)) }
     ensures doors { IfErr result (IsBefore S.opens doors.old doors.new (O.contents output.old) (O.contents output.new)) }
     ensures only { IsTrue (F.state folder).claims_bytes → (spec : Specified) (h : List Entry)
         → HoldSession size (F.state folder).bytes script.now root.now spec h → length h < 2 ^ 62

@@ -11,10 +11,10 @@ use Rattle.std.specs.Cmp.Lexicographic.{pointwise, bytes_decides}
 use Rattle.alphabet.specs.Channels.{FieldValue, number, constant, Values, Channel}
 use Rattle.alphabet.specs.Elements.{In, here, there, Distinct}
 use Rattle.alphabet.proofs.Lists.{In-append_left, In-append_right, In-flat_map, In-under_map, all-In, none-from_In}
-use Rattle.tokens.proofs.Complete.{same_head}
 use Rattle.printing.specs.Names.{Name, byte_order, with_names, constant_in, constants_in, constants, taken, is_among, primed, differ, first_from, longest, least_primes, datatype_name, datatype_primes, body_name, body_primes}
 use Rattle.printing.specs.Printed.{reference}
 use Rattle.read_back.proofs.Ordered.{in_flat, range_in, Rises, rises_insert, in_kept, in_from, in_put, rises_distinct}
+use Rattle.tokens.proofs.Comments.{same_head}
 
 -- ---- the least number of primes
 

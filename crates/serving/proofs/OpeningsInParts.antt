@@ -5,15 +5,14 @@ use Rattle.disk.specs.Calls.{Continues}
 use Rattle.disk.specs.Runs.{LeavesOnly}
 use Rattle.disk.proofs.Moments.{continues_on, run_more, weaker}
 use Rattle.term.specs.Specs.{Specified}
-use Rattle.term.specs.declared.names.Names.{Names}
 use Rattle.term.specs.declared.names.Names.TheVariants.{Bodies}
 use Rattle.journal.specs.declared.version.Version.{Version}
 use Rattle.shared.specs.Entry.{Entry}
 use Rattle.shared.specs.SessionError.TheVariants.{Device}
 use Rattle.shared.specs.Scripts.{IsReadAs}
-use Rattle.shared.specs.SessionView.{SessionView}
+use Rattle.shared.specs.SessionView.{IsOn, SessionView}
 use Rattle.shared.proofs.Keeping.{if_ok}
-use Rattle.shared.proofs.ScriptLemmas.{if_err, read_at}
+use Rattle.shared.proofs.ScriptLemmas.{if_err}
 use Rattle.large_sessions.specs.Parts.{Held, IsAlike, IsOf}
 use Rattle.large_sessions.specs.Sessions.{AreReplayOf, HaveNoSession, IsStartOf, Replayed}
 use Rattle.large_sessions.proofs.Firsts.{hold_first}
@@ -22,6 +21,7 @@ use Rattle.serving.specs.declared.opening.OpenError.{OpenError}
 use Rattle.serving.specs.declared.opening.OpenError.TheVariants.{Begin, Replay, OtherSpecification}
 use Rattle.serving.specs.Held.{IsDevice, IsOutside}
 use Rattle.serving.specs.HeldInParts.{AreNew, AreOfAnother, AreUnheld, HoldAlike, HoldSession, IsInPlace}
+use Rattle.serving.specs.Openings.{OpensParts}
 use Rattle.serving.proofs.Openings.{match_map, no_journal}
 
 -- ---- files
@@ -53,16 +53,16 @@ there_of size files script root spec h there (inr r) = r
 pub at_files : (P : ℕ → List (List ℕ) → Type 0) (n size : ℕ) (a files : List (List ℕ)) → n ≡ size → a ≡ files → P n a → P size files
 at_files P n size a files is same p = subst (λ (m : ℕ). P m files) is (subst (λ (l : List (List ℕ)). P n l) same p)
 
+-- a session that went on, of its own specification and history
+pub on_itself : {J : Type 0} (t : SessionView J) (spec : Specified) (h : List Entry) (count : ℕ) → IsOn spec h count t → IsOn t.spec t.history t.gone t
+on_itself t spec h count is = record { spec_is = refl; history_is = refl; gone = refl; offered = is.offered; failed = is.failed; given = is.given }
+
 -- and of a script, a root, a specification and a history
 pub replay_at : (size : ℕ) (files : List (List ℕ)) (a script b root : List ℕ) (x spec : Specified) (l h : List Entry) → a ≡ script → b ≡ root → x ≡ spec → l ≡ h → AreReplayOf size files a b x l → AreReplayOf size files script root spec h
 replay_at size files a script b root x spec l h script_is root_is spec_is history_is r =
     subst (λ (i : List Entry). AreReplayOf size files script root spec i) history_is
     (subst (λ (s : Specified). AreReplayOf size files script root s l) spec_is
     (subst (λ (t : List ℕ). AreReplayOf size files script t x l) root_is (subst (λ (t : List ℕ). AreReplayOf size files t b x l) script_is r)))
-
-pub read_here : (n names : Names) (a script b root : List ℕ) (x spec : Specified) → n ≡ names → a ≡ script → b ≡ root → x ≡ spec → IsReadAs n a b x → IsReadAs names script root spec
-read_here n names a script b root x spec names_are script_is root_is spec_is r =
-    subst (λ (s : Specified). IsReadAs names script root s) spec_is (read_at names a b script root x script_is root_is (subst (λ (m : Names). IsReadAs m a b x) names_are r))
 
 -- ---- a journal that was read, part by part: how it was after the first part, and at the end
 
@@ -133,12 +133,6 @@ module _ {F : Type 0} (state : F → FolderState) (old : FolderState) (size : �
 
 -- ---- a folder that was looked at
 
--- an error of the device is one from outside
-pub device_outside : (e : OpenError) → IsDevice e → IsOutside e
-device_outside (Begin error) is = inl is
-device_outside (Replay error) is = inl is
-device_outside OtherSpecification is = absurd is
-
 module _ (old mid : FolderState) (steady : Continues old mid) (bytes : IsTrue old.claims_bytes → mid.bytes ≡ old.bytes) where
   pub claims_on : IsTrue old.claims_bytes → IsTrue mid.claims_bytes
   claims_on claims = subst IsTrue (sym steady.bytes_claim) claims
@@ -190,12 +184,6 @@ module _ (old mid : FolderState) (steady : Continues old mid) (bytes : IsTrue ol
     other_before other claims =
         subst (λ (files : List (List ℕ)). (a : AreOfAnother size files script root) → length a.history < 2 ^ 62 → MatchResult o (λ _. ⊥) (λ e. (e.0 ≡ OtherSpecification) ⊎ IsOutside e.0)) (bytes claims) (other (claims_on claims))
 
-    -- where none could be begun the folder is as it was
-    pub untouched_new : (folder : F) → (state folder).bytes ≡ mid.bytes → IfErr o (λ e. (IsDevice e.0 → ⊥) → e.1 ≡ folder) → IfErr o (λ e. (IsOutside e.0 → ⊥) → IsTrue old.claims_bytes → (state e.1).bytes ≡ old.bytes)
-    untouched_new folder is =
-        if_err (λ e. (IsDevice e.0 → ⊥) → e.1 ≡ folder) (λ e. (IsOutside e.0 → ⊥) → IsTrue old.claims_bytes → (state e.1).bytes ≡ old.bytes) o
-        (λ e same inside claims. ap (λ (f : F). (state f).bytes) (same (λ device. inside (device_outside e.0 device))) ∙ is ∙ bytes claims)
-
     pub untouched_before : IfErr o (λ e. (IsOutside e.0 → ⊥) → IsTrue mid.claims_bytes → (state e.1).bytes ≡ mid.bytes) → IfErr o (λ e. (IsOutside e.0 → ⊥) → IsTrue old.claims_bytes → (state e.1).bytes ≡ old.bytes)
     untouched_before =
         if_err (λ e. (IsOutside e.0 → ⊥) → IsTrue mid.claims_bytes → (state e.1).bytes ≡ mid.bytes) (λ e. (IsOutside e.0 → ⊥) → IsTrue old.claims_bytes → (state e.1).bytes ≡ old.bytes) o
@@ -218,3 +206,22 @@ module _ (old mid : FolderState) (steady : Continues old mid) (bytes : IsTrue ol
         match_map (λ s. LeavesOnly mid (state s.journal.folder) (λ c. mid.leaves c ⊎ HoldAlike size mid.bytes c)) (λ s. LeavesOnly old (state s.journal.folder) (λ c. old.leaves c ⊎ HoldAlike size old.bytes c))
         (λ e. LeavesOnly mid (state e.1) (λ c. mid.leaves c ⊎ HoldAlike size mid.bytes c)) (λ e. LeavesOnly old (state e.1) (λ c. old.leaves c ⊎ HoldAlike size old.bytes c)) o
         (λ s. moment_back size (state s.journal.folder) look claims files) (λ e. moment_back size (state e.1) look claims files)
+
+    -- all of it
+    pub opens_parts_before : (IsTrue old.claims_files → LeavesOnly old mid old.leaves) → OpensParts state size mid script root o → OpensParts state size old script root o
+    opens_parts_before look it = record {
+      read = it.read;
+      begun = it.begun;
+      kept = it.kept;
+      size_is = it.size_is;
+      held = held_before it.held;
+      fault = fault_before it.fault;
+      only = only_before it.only;
+      other = other_before it.other;
+      untouched = untouched_before it.untouched;
+      continues = continues_before it.continues;
+      cause = cause_before it.cause;
+      any_moment = λ claims files there.
+          moment_before (look files) claims files
+          (it.any_moment (claims_on claims) (subst IsTrue (sym steady.files_claim) files) (λ new. there (new_back claims new)));
+    }

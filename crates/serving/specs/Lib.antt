@@ -1,6 +1,7 @@
 -- To believe.
 pub mod Held
 pub mod HeldInParts
+pub mod Openings
 pub mod Plans
 pub mod Runs
 pub mod Served

@@ -12,6 +12,7 @@
 //! | `memory until ..`, `memory always ..` | the same where the request and all after it are refused: until the conversation is over; or all |
 //! | `service PLACES ROOT SCRIPT # STEP # STEP ..` | a service with so many places, on a disk in memory. Its steps: `come` (a seat comes, or why it doesn't), `K INPUT` (a conversation with the K-th seat of those that are there), `leave K`. Then how many places are free, and how many reports were answered to the seats that left; and as at the end of a `talk` |
 //! | `service_fault K PLACES ROOT SCRIPT # STEP # STEP ..` | the same on a disk whose K-th call fails |
+//! | `readers PLACES READERS` | a board with places for so many readers, for which so many are asked, one after the other, that stay: the number of each one's seat, or why there is none; and, once they are gone, the same of one more |
 //! | `no_request PLACES ROOT SCRIPT # SEAT INPUT ..` | a `talk` after which every request is refused: what the status and the next events of each seat are then, the last one first, the same end as that of `talk`, and whether there was a request |
 #![tactic(auto)]
 
@@ -20,6 +21,7 @@ mod ends;
 mod held;
 mod memory;
 mod playing;
+mod readers;
 mod services;
 mod talks;
 mod threads;
@@ -44,6 +46,7 @@ fn played<T: Threads + Wait + Clock + Sync>(
     } else if !playing::play(rt, alloc, &row, &mut out)
         && !threads::play(rt, alloc, &row, &mut out)
         && !services::play(rt, alloc, &row, &mut out)
+        && !readers::play(rt, alloc, &row, &mut out)
     {
         out.put("no such kind of row");
     }

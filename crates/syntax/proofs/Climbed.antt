@@ -1,5 +1,5 @@
 -- What climbing reads fits, and its tokens are those that were read.
-use Rattle.std.proofs.Common.{◌≡◌, ℕ, ◌≤◌, List, [], ◌∷◌, ◌++◌, Bool, true, false, cond, Some, None, refl, ap, subst, ◌∙◌, ◌&&◌}
+use Rattle.std.proofs.Common.{◌≡◌, ℕ, ◌≤◌, List, [], ◌∷◌, ◌++◌, true, cond, Some, None, ap, subst, ◌∙◌, ◌&&◌}
 use Rattle.std.specs.Prelude.{nat_le}
 use Rattle.std.proofs.lemmas.Bool.{leb-true}
 use Rattle.tokens.specs.Lexeme.{Lexeme, Kept, Sign}
@@ -14,10 +14,7 @@ use Rattle.syntax.specs.Grammar.{Syntax, spell_signs, is, left_fits}
 use Rattle.syntax.specs.Parsing.{operator_of, operator_at, next_operator}
 use Rattle.syntax.proofs.Table.{some_operator}
 use Rattle.syntax.proofs.Sound.{bind_some, guard_some, some_of, some_is}
-
-pub both_true : (a b : Bool) → (a && b) ≡ true → (a ≡ true) × (b ≡ true)
-both_true true b e = (refl, e)
-both_true false b e = absurd cc
+use Rattle.syntax.proofs.CompleteBools.{both_true}
 
 -- ---- the operator that stands first
 

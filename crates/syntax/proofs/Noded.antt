@@ -2,6 +2,7 @@
 use Rattle.std.proofs.Common.{◌≡◌, ℕ, zero, suc, ◌<◌, ◌≤◌, List, [], ◌∷◌, ◌++◌, length, Bool, true, false, not, Option, Some, None, refl, sym, ap, subst, ◌∙◌, ◌&&◌}
 use Rattle.tokens.specs.Lexeme.{Lexeme, Sign}
 use Rattle.tokens.specs.declared.symbol.Symbol.TheVariants as symbols
+use Rattle.tokens.proofs.Marks.{not_true}
 use Rattle.syntax.specs.declared.piece.Sign.TheVariants as signs
 use Rattle.syntax.specs.declared.piece.Fields.{Fields}
 use Rattle.syntax.specs.declared.piece.Fields.TheVariants as fields
@@ -17,9 +18,9 @@ use Rattle.syntax.specs.Rules.{rule}
 use Rattle.syntax.specs.Grammar.{Syntax, Called, Node, Syntaxes, flat, spell, nests, highest, is_open, shut, may_stand, takes, takes_field, takes_fields, FitAll}
 use Rattle.syntax.specs.Parsing.{◌>>=◌, Found, Row, Reader, syntaxes, begins_field, name_at, another, last_is_open, others_on, others, put, step, row, front, back, turned, node_of, node_on, node}
 use Rattle.syntax.proofs.Sound.{bind_some, guard_some, some_is, some_of, name_is, spell_sign, IsSound, row_sound}
-use Rattle.syntax.proofs.Climbed.{both_true}
 use Rattle.syntax.proofs.Branches.{some_row}
 use Rattle.syntax.proofs.Forms.{tidy_rule, front_turned, is_plain, plain_turned, rowed_rule}
+use Rattle.syntax.proofs.CompleteBools.{both_true}
 
 -- ---- pieces in two runs
 
@@ -69,10 +70,6 @@ takes_push m (u ∷ ts) t h o =
     let both = both_true (takes_field m u) (takes_fields m (syntaxes ts)) h in
     rw (both.0, takes_push m ts t both.1 o) refl
 
-not_is : (b : Bool) → not b ≡ true → b ≡ false
-not_is true e = absurd cc
-not_is false e = refl
-
 -- a field that begins so is one that the name takes
 takes_by : (m : Fields) (t : Syntax) (toks rest : List Lexeme) → begins_field m toks ≡ true → toks ≡ flat t ++ rest → takes_field m t ≡ true
 unfolding takes_field begins_field flat rule
@@ -100,7 +97,7 @@ unfolding another
 field_another m open_end toks begin e =
     let test = guard_some (not open_end && begins_field m toks) (some_of toks) begin e in
     let both = both_true (not open_end) (begins_field m toks) test.0 in
-    (not_is open_end both.0, subst (λ (xs : List Lexeme). begins_field m xs ≡ true) (some_is toks begin test.1) both.1)
+    (not_true open_end both.0, subst (λ (xs : List Lexeme). begins_field m xs ≡ true) (some_is toks begin test.1) both.1)
 
 dot_another : (open_end : Bool) (toks begin : List Lexeme) → another starts.Dot open_end toks ≡ some_of begin → open_end ≡ false
 unfolding another

@@ -5,7 +5,7 @@ use Rattle.std.proofs.lemmas.Bool.{eqb-true}
 use Rattle.std.proofs.lemmas.List.{append-nil}
 use Rattle.tokens.specs.Text.{Comment, Closed, Byte, Nested, comment_bytes, IsComment, marks_comment}
 use Rattle.tokens.specs.Scanning.{behind_comments, comment_step}
-use Rattle.tokens.proofs.Tables.{some_is, some_of}
+use Rattle.tokens.proofs.Tables.{some_is, some_of, both}
 
 none_open : (rest : List ℕ) → behind_comments rest 0 ≡ Some rest
 unfolding behind_comments
@@ -80,7 +80,7 @@ head_of Closed = (45, 125 ∷ [], refl)
 head_of (Byte c k) = (c, comment_bytes k, refl)
 head_of (Nested j k) = (123, 45 ∷ (comment_bytes j ++ comment_bytes k), refl)
 
-or_false : (a b : Bool) → (a || b) ≡ false → (a ≡ false) × (b ≡ false)
+pub or_false : (a b : Bool) → (a || b) ≡ false → (a ≡ false) × (b ≡ false)
 or_false true b e = absurd cc
 or_false false b e = (refl, e)
 
@@ -133,7 +133,7 @@ passed_opening rest d r (j ∷ k ∷ ks) low fine n is =
       spelled = ap (λ (t : List ℕ). 123 ∷ 45 ∷ t) (is ∙ ap (λ (t : List ℕ). t ++ r) (sym (append_assoc (comment_bytes j) (comment_bytes k) (closing ks))));
     }
 
-same_head : (a b : ℕ) (s t : List ℕ) → (a ∷ s) ≡ (b ∷ t) → a ≡ b
+pub same_head : (a b : ℕ) (s t : List ℕ) → (a ∷ s) ≡ (b ∷ t) → a ≡ b
 same_head a b s t e = cc
 
 passed_byte : (c e : ℕ) (rest : List ℕ) (d : ℕ) (r : List ℕ) (ks : List Comment) → 0 < d → (c == 123 && e == 45) ≡ false → (c == 45 && e == 125) ≡ false → AreComments ks → length ks ≡ d → (e ∷ rest) ≡ closing ks ++ r → Passed (c ∷ e ∷ rest) d r
@@ -152,10 +152,6 @@ passed_byte c e rest d r (k ∷ ks) low x y fine n is =
           spelled = ap (λ (t : List ℕ). c ∷ t) is;
         }
 
-and_true : (a b : Bool) → (a && b) ≡ true → (a ≡ true) × (b ≡ true)
-and_true true b e = (refl, e)
-and_true false b e = absurd cc
-
 not_open : (d : ℕ) → (d == 0) ≡ false → 0 < d
 not_open zero z = absurd cc
 not_open (suc d) z = omega arith
@@ -170,13 +166,13 @@ passed_short text d r false z is = absurd (nothing (sym (ap (λ (b : Bool). cond
 passed_long : (c e : ℕ) (rest : List ℕ) (d : ℕ) (r : List ℕ) (opens closes : Bool) → 0 < d → (c == 123 && e == 45) ≡ opens → (c == 45 && e == 125) ≡ closes → chosen opens closes (behind_comments rest (d + 1)) (behind_comments rest (d - 1)) (behind_comments (e ∷ rest) d) ≡ some_of r → (behind_comments rest (d + 1) ≡ Some r → Passed rest (d + 1) r) → (behind_comments rest (d - 1) ≡ Some r → Passed rest (d - 1) r) → (behind_comments (e ∷ rest) d ≡ Some r → Passed (e ∷ rest) d r) → Passed (c ∷ e ∷ rest) d r
 passed_long c e rest d r true closes low x y is open_more close_one stay =
     let inner = open_more is in
-    let tests = and_true (c == 123) (e == 45) x in
+    let tests = both (c == 123) (e == 45) x in
     subst (λ (a : ℕ). Passed (a ∷ e ∷ rest) d r) (sym (eqb-true c 123 tests.0))
     (subst (λ (a : ℕ). Passed (123 ∷ a ∷ rest) d r) (sym (eqb-true e 45 tests.1))
     (passed_opening rest d r inner.comments low inner.fine inner.count inner.spelled))
 passed_long c e rest d r false true low x y is open_more close_one stay =
     let inner = close_one is in
-    let tests = and_true (c == 45) (e == 125) y in
+    let tests = both (c == 45) (e == 125) y in
     subst (λ (a : ℕ). Passed (a ∷ e ∷ rest) d r) (sym (eqb-true c 45 tests.0))
     (subst (λ (a : ℕ). Passed (45 ∷ a ∷ rest) d r) (sym (eqb-true e 125 tests.1))
     (record { comments = Closed ∷ inner.comments; fine = (tt, inner.fine); count = omega (arith, inner.count); spelled = ap (λ (t : List ℕ). 45 ∷ 125 ∷ t) inner.spelled }))

@@ -19,16 +19,12 @@ use Rattle.tokens.specs.Spelling.{symbol_text, keyword_text, mark_text, reserved
 use Rattle.tokens.specs.Text.{All, IsName, IsDigits, Spells, IsLongest, Comment, comment_bytes, IsComment, Part, Blank, Line, Assertion, Block, Token, bytes_of, token_of, opens_comment, EndsLine, IsPart, is_blank, is_of_line, value_of}
 use Rattle.tokens.specs.Scanning.{◌>>=◌, run, name_len, Step, reserved_of, named, name_at, number_at, signed, sign_at, word_at, comment_at, next_at, value_from, behind_comments}
 use Rattle.tokens.proofs.Lists.{prefix_stops, run-le}
-use Rattle.tokens.proofs.Names.{run_exact, name_at_most, name_len-le, name_is, digits_at_most, digits_is, digit_is_no_letter}
+use Rattle.tokens.proofs.Names.{run_exact, name_at_most, name_len-le, name_is, digits_at_most, digits_is, digit_is_no_letter, above}
 use Rattle.tokens.proofs.Known.{known_word}
 use Rattle.tokens.proofs.Marks.{head, begins_is, one_text, found, some_found}
 use Rattle.tokens.proofs.Words.{reserved_name, none_reserved}
-use Rattle.tokens.proofs.Comments.{closes}
+use Rattle.tokens.proofs.Comments.{closes, or_false}
 use Rattle.tokens.proofs.Tables.{some_is, some_of}
-
-pub or_false : (a b : Bool) → (a || b) ≡ false → (a ≡ false) × (b ≡ false)
-or_false true b e = absurd cc
-or_false false b e = (refl, e)
 
 pub or_true : (a b : Bool) → (a || b) ≡ true → (a ≡ true) ⊎ (b ≡ true)
 or_true true b e = inl refl
@@ -36,13 +32,6 @@ or_true false b e = inr e
 
 pub differ : (a : Bool) → a ≡ true → a ≡ false → ⊥
 differ a e f = cc
-
-above : (n c : ℕ) → c < n → nat_le n c ≡ false
-above n c h = at (nat_le n c) refl
-  where
-    at : (b : Bool) → nat_le n c ≡ b → b ≡ false
-    at true e = absurd (omega (arith, leb-true n c e))
-    at false e = refl
 
 small_no_letter : (c : ℕ) → c < 48 → is_ascii_alphabetic c ≡ false
 small_no_letter c h =
@@ -75,9 +64,6 @@ digit_no_blank c h = at (is_blank c) refl
     at : (b : Bool) → is_blank c ≡ b → b ≡ false
     at true e = absurd (differ (is_ascii_digit c) h (small_no_digit c (blank_small c e)))
     at false e = refl
-
-pub same_head : (a b : ℕ) (s t : List ℕ) → (a ∷ s) ≡ (b ∷ t) → a ≡ b
-same_head a b s t e = cc
 
 -- no comment and no blank stands first
 pub next_word : (c : ℕ) (t : List ℕ) → is_blank c ≡ false → opens_comment (c ∷ t) ≡ false → next_at (c ∷ t) ≡ word_at c (c ∷ t)

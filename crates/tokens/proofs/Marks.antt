@@ -54,7 +54,7 @@ pub record Head (w : List ℕ) : Type 0 where
   pub no_digit : is_ascii_digit byte ≡ false
   pub no_blank : is_blank byte ≡ false
 
-not_true : (b : Bool) → not b ≡ true → b ≡ false
+pub not_true : (b : Bool) → not b ≡ true → b ≡ false
 not_true true e = absurd cc
 not_true false e = refl
 

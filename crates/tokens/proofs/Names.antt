@@ -33,7 +33,7 @@ second : (a b : Bool) → (a && b) ≡ true → b ≡ true
 second true b e = e
 second false b e = absurd cc
 
-above : (n c : ℕ) → c < n → nat_le n c ≡ false
+pub above : (n c : ℕ) → c < n → nat_le n c ≡ false
 above n c h = at (nat_le n c) refl
   where
     at : (b : Bool) → nat_le n c ≡ b → b ≡ false

@@ -18,9 +18,9 @@ use Rattle.tokens.proofs.Lists.{run_is, run-le}
 use Rattle.tokens.proofs.Names.{run_passes, name_at_most, name_len-le, name_is, digits_at_most, digits_is, digit_is_no_letter}
 use Rattle.tokens.proofs.Marks.{head, begins_is, found}
 use Rattle.tokens.proofs.Words.{reserved_is, not_reserved}
-use Rattle.tokens.proofs.Comments.{passed_one}
-use Rattle.tokens.proofs.Tables.{some_is, some_of}
-use Rattle.tokens.proofs.Complete.{differ, same_head, word_letter, word_digit, word_sign, begins_complete, value_sound, sign_is}
+use Rattle.tokens.proofs.Comments.{passed_one, same_head}
+use Rattle.tokens.proofs.Tables.{some_is, some_of, both}
+use Rattle.tokens.proofs.Complete.{differ, word_letter, word_digit, word_sign, begins_complete, value_sound, sign_is}
 
 -- a part that stands first, and what was found of it
 pub record IsStep (text : List ℕ) (x : Step) : Type 0 where
@@ -165,17 +165,13 @@ comment_sound rest x e =
     subst (IsStep (123 ∷ 45 ∷ rest)) (some_is (None, read.0) x read.2)
     (record { part = Block found.0; is = found.1; spelled = ap (λ (r : List ℕ). 123 ∷ 45 ∷ r) found.2; word = refl })
 
-and_true : (a b : Bool) → (a && b) ≡ true → (a ≡ true) × (b ≡ true)
-and_true true b e = (refl, e)
-and_true false b e = absurd cc
-
 two_sound : (c e : ℕ) (rest : List ℕ) (x : Step) (b l k : Bool) → is_blank c ≡ b → (c == 45 && e == 45) ≡ l → (c == 123 && e == 45) ≡ k → cond b (Some (None, e ∷ rest)) (cond l (Some (None, drop (run is_of_line rest) rest)) (cond k (comment_at rest) (word_at c (c ∷ e ∷ rest)))) ≡ some_of x → IsStep (c ∷ e ∷ rest) x
 two_sound c e rest x true l k hb hl hk is = space_sound c (e ∷ rest) x hb is
 two_sound c e rest x false true k hb hl hk is =
-    let tests = and_true (c == 45) (e == 45) hl in
+    let tests = both (c == 45) (e == 45) hl in
     subst (λ (a : ℕ). IsStep (a ∷ e ∷ rest) x) (sym (eqb-true c 45 tests.0)) (subst (λ (a : ℕ). IsStep (45 ∷ a ∷ rest) x) (sym (eqb-true e 45 tests.1)) (line_sound rest x is))
 two_sound c e rest x false false true hb hl hk is =
-    let tests = and_true (c == 123) (e == 45) hk in
+    let tests = both (c == 123) (e == 45) hk in
     subst (λ (a : ℕ). IsStep (a ∷ e ∷ rest) x) (sym (eqb-true c 123 tests.0)) (subst (λ (a : ℕ). IsStep (123 ∷ a ∷ rest) x) (sym (eqb-true e 45 tests.1)) (comment_sound rest x is))
 two_sound c e rest x false false false hb hl hk is = word_sound c (e ∷ rest) x (rw hl (rw hk refl)) is
 

@@ -9,15 +9,13 @@ use Rattle.syntax.specs.Grammar.{Syntax, Node, Syntaxes, NoSyntax, MoreSyntax}
 use Rattle.syntax.specs.Parsing.{syntaxes}
 use Rattle.syntax.specs.View.{shape, shapes}
 use Rattle.tokens.specs.declared.read_error.ReadError.{ReadError}
+use Rattle.tokens.proofs.Tables.{some_of}
 use Rattle.values.specs.Values.{◌>>=◌}
 use Rattle.values.specs.Worths.{Worth, truth, Known, worth, worths, one, formed, operated, is_comparison, computed, calculated, two_numbers, the_truth, truth_only, condition}
 use Rattle.values.specs.Lazy.{connective}
 use Rattle.values.specs.View.{Fails}
 use Rattle.syntax.proofs.Failing.{fails_on}
 use Rattle.values.proofs.Keeps.{chosen, if_is, and_is, or_is}
-
-abbrev some_of : {X : Type 0} → X → Option X
-some_of x = Some x
 
 bind_assoc : {X Y Z : Type 0} (o : Option X) (f : X → Option Y) (g : Y → Option Z) → (o >>= λ x. f x >>= g) ≡ ((o >>= f) >>= g)
 bind_assoc None f g = refl

@@ -6,9 +6,7 @@ use Rattle.values.specs.Values.{◌>>=◌, Name}
 use Rattle.values.specs.Worths.{Worth, truth, Known, worth, worths, formed, the_truth, truth_only}
 use Rattle.values.specs.Names.{Entry, Meaning, channel, datatype, constant_name, definition, parametric, meaning, worth_of, known_in, next_known, IsWithin, IsReached, Stands}
 use Rattle.values.proofs.Keeps.{bind_some, bind_is, chosen, if_is, and_is, or_is, Parted, by_if, by_and, by_or, by_all, parted, EachPhrase, by_parts, each_by_parts}
-
-abbrev some_of : {X : Type 0} → X → Option X
-some_of x = Some x
+use Rattle.tokens.proofs.Tables.{some_of}
 
 -- ---- more names known
 

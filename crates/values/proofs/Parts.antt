@@ -1,14 +1,12 @@
 -- What the parts of a form stand for.
 use Rattle.std.proofs.Common.{◌≡◌, ℕ, zero, suc, ◌+◌, ◌<◌, ◌≤◌, List, [], ◌∷◌, ◌++◌, false, map, length, drop, get_or, Option, Some, None, Vec, refl, sym, ap, ◌∙◌, arith, append_assoc, append-nil, drop-cons}
 use Rattle.std.proofs.lemmas.List.{map-append}
-use mathlib.Core.Former.{Count}
 use Rattle.tokens.specs.declared.position.Position.{Position}
-use Rattle.syntax.specs.declared.tree.Tree.{Tree, Node as TreeNode, Row_of-Tree, end_of-Tree, more_of-Tree, items-the_row-Tree, items_hidden-the_row-Tree-0}
-use Rattle.syntax.specs.declared.tree.Tree.TheVariants as trees
+use Rattle.syntax.specs.declared.tree.Tree.{Tree, Node as TreeNode}
 use Rattle.syntax.specs.declared.form.Form.{Form}
-use Rattle.syntax.specs.Grammar.{Syntax, Called, Node, MoreSyntax}
+use Rattle.syntax.specs.Grammar.{Syntax, Called, Node}
 use Rattle.syntax.specs.Parsing.{syntaxes}
-use Rattle.syntax.specs.View.{shape, shapes, row_shapes}
+use Rattle.syntax.specs.View.{shape, shapes}
 use Rattle.values.specs.declared.worth.Worth.{Worth}
 use Rattle.values.specs.Values.{◌>>=◌, Name}
 use Rattle.values.specs.Worths.{Worth as Plain, Known, formed, is_lazy, condition, the_truth}
@@ -16,21 +14,8 @@ use Rattle.values.specs.Worths.{worth as worth_in, worths as worths_in}
 use Rattle.tokens.specs.declared.read_error.ReadError.{ReadError}
 use Rattle.values.specs.View.{worth, Fails}
 use Rattle.syntax.proofs.Failing.{fails_on}
+use Rattle.syntax.proofs.Lists.{node_shape}
 use Rattle.values.proofs.Keeps.{strict_is}
-
-shapes_row : {A : Type 0} (n : _) (row : Row_of-Tree A n) → row_shapes row ≡ syntaxes (shapes (items-the_row-Tree A n row))
-shapes_row n end_of-Tree = refl
-shapes_row n (more_of-Tree t rest) = ap (MoreSyntax (shape t)) (shapes_row _ rest)
-
-abbrev row_of : {A : Type 0} → Tree A → (n : Count) × Row_of-Tree A n
-row_of (trees.Node' line form n row) = (_, row)
-row_of _ = (_, end_of-Tree)
-
--- a node that holds a list has the parts of the list
-pub node_shape : {A : Type 0} (line : Position) (form : Form) (v : Vec (Tree A) A) → shape (TreeNode line form v) ≡ Node form (syntaxes (shapes v.items))
-node_shape {A = A} line form v =
-    let row = row_of (TreeNode line form v) in
-    ap (Node form) (shapes_row row.0 row.1 ∙ ap (λ (ts : List (Tree A)). syntaxes (shapes ts)) (items_hidden-the_row-Tree-0 A v))
 
 -- a node has the form and the parts that it holds
 pub node_is : {A : Type 0} (tree : Tree A) (line : Position) (form : Form) (v : Vec (Tree A) A) (ts : List (Tree A)) → tree ≡ TreeNode line form v → ts ≡ v.items → shape tree ≡ Node form (syntaxes (shapes ts))

@@ -15,4 +15,4 @@ returns-in-Ok-end g c =
 pub returns-in-Err-end : goal.returns-in-Err-end
 returns-in-Err-end g c =
     let so : _ = of_err _ c.serve-end.result c.in-Err-end.unserved c.in-Err-end.is c.serve-end.ensures.unserved in
-    inl (c.tell_unserved.ensures (shut_for _ _ _ _ _ c.in-Err-end.unserved so))
+    inl (c.tell_unserved.ensures (shut_for _ _ c.in-Err-end.unserved so))

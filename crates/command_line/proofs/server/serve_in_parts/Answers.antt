@@ -4,7 +4,7 @@ use Rattle.std.proofs.Common.{inl, inr}
 use Rattle.command_line.proofs.Folders.{folder_row, folder_send}
 use Rattle.std.specs.Prelude.{is_some}
 use Rattle.term.specs.declared.names.Names.TheVariants.{Bodies}
-use Rattle.command_line.proofs.Told.{of_err, of_ok, served_for, shut_in_parts}
+use Rattle.command_line.proofs.Told.{of_err, of_ok, served_for, shut_for}
 use Rattle.command_line.proofs.server.serve_in_parts.Goals as goal
 
 pub serve_parts-end-requires-send-F : goal.serve_parts-end-requires-send-F
@@ -25,4 +25,4 @@ returns-in-Ok-end g c =
 pub returns-in-Err-end : goal.returns-in-Err-end
 returns-in-Err-end g c =
     let so : _ = of_err _ c.serve_parts-end.result c.in-Err-end.unserved c.in-Err-end.is c.serve_parts-end.ensures.unserved in
-    inl (c.tell_unserved.ensures (shut_in_parts _ _ _ _ _ c.in-Err-end.unserved so))
+    inl (c.tell_unserved.ensures (shut_for _ _ c.in-Err-end.unserved so))

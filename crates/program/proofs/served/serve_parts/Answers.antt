@@ -1,7 +1,8 @@
 use Rattle.std.proofs.Common.{◌∙◌, subst}
 use Rattle.program.specs.Servers.{AreInPlace, AreOpenedIn}
-use Rattle.program.proofs.Servers.{and_all, in_place, served_in, unserved_in}
+use Rattle.program.proofs.Servers.{given_back, in_place, served_in, unserved_by}
 use Rattle.shared.specs.Beginnings.{StartsWith}
+use Rattle.large_sessions.specs.Recorder.{in_folder}
 use Rattle.shared.proofs.Keeping.{if_ok}
 use Rattle.program.proofs.served.serve_parts.Goals as goal
 
@@ -11,38 +12,27 @@ returns-in-Ok-clause-served g c =
     let before = state c.args.folder in
     let script = c.args.script.now in
     let root = c.args.root.now in
-    let size = c.args.size in
     let opened = c.in-Ok.session in
     let o = c.in-Ok.ensures in
     let h = c.history-entries.ensures in
     let e = c.serve_opened.ensures in
-    let is : AreOpenedIn state size before script root opened = record { read = o.read; begun = o.begun; kept = o.kept; held = o.held; continues = o.continues } in
-    and_all _ _ _ _ _ c.serve_opened.result
-    (λ r session lasts judged by. (
+    given_back (in_folder state) opened _ _ c.serve_opened.result h.judged h.reports h.names e.session e.lasts e.judged e.served
+    (λ r back by. (
       opened.spec,
       opened.history,
-      served_in state size before script root opened r.session (record {
-        opened_in = is;
-        size_is = o.size;
+      served_in state c.args.size before script root opened r.session (record {
+        opened_in = record { read = o.read; begun = o.begun; kept = o.kept; held = o.held; continues = o.continues };
+        size_is = o.size_is;
         any_moment = o.any_moment;
-        judged_first = h.judged;
-        reports_first = h.reports;
-        names_first = h.names;
-        begins = session.1;
-        legal = session.2;
-        lasts = lasts;
-        judged = judged.0;
-        reports = judged.1;
-        names_are = judged.2;
+        back = back;
       }),
       by,
     ))
-    e.session e.lasts e.judged e.served
 
 pub returns-in-Ok-clause-unserved : goal.returns-in-Ok-clause-unserved
 returns-in-Ok-clause-unserved g c =
     let o = c.in-Ok.ensures in
-    unserved_in g.F.Folder.state c.args.size (g.F.Folder.state c.args.folder) c.args.script.now c.args.root.now _ c.in-Ok.session
+    unserved_by _ (AreOpenedIn g.F.Folder.state c.args.size (g.F.Folder.state c.args.folder) c.args.script.now c.args.root.now) _ c.in-Ok.session
     (record { read = o.read; begun = o.begun; kept = o.kept; held = o.held; continues = o.continues }) c.serve_opened.result c.serve_opened.ensures.unserved
 
 pub returns-in-Ok-clause-only : goal.returns-in-Ok-clause-only
@@ -59,6 +49,9 @@ pub returns-in-Err-clause-unserved : goal.returns-in-Err-clause-unserved
 returns-in-Err-clause-unserved g c =
     let o = c.in-Err.ensures in
     record { why = o.fault; untouched = o.untouched; continues = o.continues; cause = o.cause }
+
+pub returns-in-Err-clause-only : goal.returns-in-Err-clause-only
+returns-in-Err-clause-only g c = c.in-Err.ensures.only
 
 pub returns-in-Err-clause-other : goal.returns-in-Err-clause-other
 returns-in-Err-clause-other g c = c.in-Err.ensures.other
