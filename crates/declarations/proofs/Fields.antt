@@ -42,7 +42,7 @@ field_end fs (v ∷ vs) whole inv h = absurd (omega (arith, h))
 
 -- ---- a set is in order
 
-below : (v w : FieldValue) → value_cmp v w ≡ Less → is_below v w ≡ true
+pub below : (v w : FieldValue) → value_cmp v w ≡ Less → is_below v w ≡ true
 below (number y) (number z) h = by (int_lt y z) (int_lt z y) h
   where
     by : (b c : Bool) → cond b Less (cond c Greater Equal) ≡ Less → b ≡ true

@@ -13,6 +13,7 @@ use Rattle.syntax.specs.Grammar.{Syntax, Called, Numeral, Node, Syntaxes, NoSynt
 use Rattle.syntax.specs.Parsing.{syntaxes}
 use Rattle.syntax.specs.View.{shape, shapes}
 use Rattle.tokens.specs.declared.read_error.ReadError.{ReadError}
+use Rattle.tokens.proofs.Marks.{not_true}
 use Rattle.values.specs.Values.{◌>>=◌, Name}
 use Rattle.values.specs.Worths.{Worth, Known, worth, the_set}
 use Rattle.values.specs.Names.{Meaning, channel, Entry, same_name, is_constant, meaning, are_distinct, names_of, listed_names, declared_by, declared_by_all}
@@ -35,10 +36,6 @@ all_imply : {X : Type 0} (q r : X → Bool) → ((x : X) → q x ≡ true → r 
 all_imply q r h [] k = refl
 all_imply q r h (x ∷ xs) k = both (r x) (list_all r xs) (h x (left (q x) (list_all q xs) k)) (all_imply q r h xs (right (q x) (list_all q xs) k))
 
-not_false : (b : Bool) → not b ≡ true → b ≡ false
-not_false true h = absurd cc
-not_false false h = refl
-
 is_not : (b : Bool) → b ≡ false → not b ≡ true
 is_not b h = ap not h
 
@@ -49,7 +46,7 @@ module _ (p : Name → Bool) where
   undeclared (c ∷ cs) n h k = by (pointwise nat_eq n c.name) refl (undeclared cs n (right (not (p c.name)) (list_all (λ c. not (p c.name)) cs) h) k)
     where
       by : (b : Bool) → pointwise nat_eq n c.name ≡ b → is_declared cs n ≡ false → (b || is_declared cs n) ≡ false
-      by true e ih = absurd (let x : true ≡ false = sym k ∙ ap p ((bytes_decides n c.name).0 e) ∙ not_false (p c.name) (left (not (p c.name)) (list_all (λ c. not (p c.name)) cs) h) in cc)
+      by true e ih = absurd (let x : true ≡ false = sym k ∙ ap p ((bytes_decides n c.name).0 e) ∙ not_true (p c.name) (left (not (p c.name)) (list_all (λ c. not (p c.name)) cs) h) in cc)
       by false e ih = ih
 
   apart_value : (cs : List Channel) → list_all (λ c. not (p c.name)) cs ≡ true → (v : FieldValue) → passes p v ≡ true → is_apart_from cs v ≡ true
@@ -108,7 +105,7 @@ no_earlier (g ∷ gs) rest e f h k = elim k [
 ]
   where
     by : (b : Bool) → same_name g.0 e.0 ≡ b → not (list_any (λ x. same_name g.0 x.0) (gs ++ e ∷ rest)) ≡ true → b ≡ false
-    by true q l = absurd (let x : true ≡ false = sym (any_of g.0 e (gs ++ e ∷ rest) (in_back e gs (e ∷ rest) (inl refl)) q) ∙ not_false (list_any (λ x. same_name g.0 x.0) (gs ++ e ∷ rest)) l in cc)
+    by true q l = absurd (let x : true ≡ false = sym (any_of g.0 e (gs ++ e ∷ rest) (in_back e gs (e ∷ rest) (inl refl)) q) ∙ not_true (list_any (λ x. same_name g.0 x.0) (gs ++ e ∷ rest)) l in cc)
     by false q l = refl
 
 -- What the alphabet asks of a new channel.

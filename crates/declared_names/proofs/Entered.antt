@@ -9,9 +9,7 @@ use Rattle.values.specs.Values.{◌>>=◌, Name}
 use Rattle.values.specs.Names.{Meaning, channel, datatype, constant_name, definition, parametric, Entry, same_name, names_of, listed_names, field_sets, entries_of, declared_by, declared_by_all, are_distinct}
 use Rattle.declared_names.specs.Steps.{steps, only_of, two_of, three_of}
 use Rattle.declared_names.specs.Entering.{has_name, put, put_name, add_name, list_parts, put_channels, put_fielded, put_datatype, put_typed, put_defined, put_parametric, put_form, put_declaration}
-
-abbrev some_of : {X : Type 0} → X → Option X
-some_of x = Some x
+use Rattle.tokens.proofs.Tables.{some_of}
 
 -- one after the other
 unfoldable pub put_all : List Entry → List Entry → Option (List Entry)

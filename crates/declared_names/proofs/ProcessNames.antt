@@ -9,8 +9,8 @@ use Rattle.syntax.specs.Parsing.{syntaxes}
 use Rattle.syntax.specs.View.{shape, shapes}
 use Rattle.values.specs.Values.{Name}
 use Rattle.values.specs.Names.{Entry, meaning, is_process_by, is_process_form, is_process_in, is_process_meaning, is_process}
+use Rattle.values.proofs.Parts.{node_is}
 use Rattle.declared_names.specs.Processes.{Follows}
-use Rattle.declared_names.proofs.Shapes.{node_part}
 
 -- ---- an event phrase
 
@@ -48,7 +48,7 @@ not_one name (u ∷ v ∷ us) n = by (shape u)
 -- a phrase in brackets
 pub inside : {A : Type 0} (name : Name → Bool) (tree : Tree A) (line : Position) (v : Vec (Tree A) A) (ts : List (Tree A)) (t : Tree A) (b : Bool) → tree ≡ TreeNode line forms.Brackets v → ts ≡ v.items → length ts ≡ 1 → t ≡ get_or ts 0 t → is_process_by name (shape t) ≡ b → is_process_by name (shape tree) ≡ b
 unfolding is_process_by
-inside {A = A} name tree line v ts t b h is one at e = ap (is_process_by name) (node_part tree line forms.Brackets v ts h is) ∙ by ts one at
+inside {A = A} name tree line v ts t b h is one at e = ap (is_process_by name) (node_is tree line forms.Brackets v ts h is) ∙ by ts one at
   where
     by : (us : List (Tree A)) → length us ≡ 1 → t ≡ get_or us 0 t → is_process_by name (Node forms.Brackets (syntaxes (shapes us))) ≡ b
     by [] n k = absurd (omega (arith, n))
@@ -57,7 +57,7 @@ inside {A = A} name tree line v ts t b h is one at e = ap (is_process_by name) (
 
 pub not_inside : {A : Type 0} (name : Name → Bool) (tree : Tree A) (line : Position) (v : Vec (Tree A) A) (ts : List (Tree A)) → tree ≡ TreeNode line forms.Brackets v → ts ≡ v.items → (length ts ≢ 1) → is_process_by name (shape tree) ≡ false
 unfolding is_process_by is_process_form
-not_inside {A = A} name tree line v ts h is n = ap (is_process_by name) (node_part tree line forms.Brackets v ts h is) ∙ by ts n
+not_inside {A = A} name tree line v ts h is n = ap (is_process_by name) (node_is tree line forms.Brackets v ts h is) ∙ by ts n
   where
     by : (us : List (Tree A)) → (length us ≢ 1) → is_process_by name (Node forms.Brackets (syntaxes (shapes us))) ≡ false
     by [] n = refl
@@ -65,7 +65,7 @@ not_inside {A = A} name tree line v ts h is n = ap (is_process_by name) (node_pa
     by (u ∷ w ∷ us) n = refl
 
 pub by_event : {A : Type 0} (name : Name → Bool) (tree : Tree A) (line : Position) (v : Vec (Tree A) A) (ts : List (Tree A)) (b : Bool) → tree ≡ TreeNode line forms.Event v → ts ≡ v.items → is_process_by name (Node forms.Event (syntaxes (shapes ts))) ≡ b → is_process_by name (shape tree) ≡ b
-by_event name tree line v ts b h is e = ap (is_process_by name) (node_part tree line forms.Event v ts h is) ∙ e
+by_event name tree line v ts b h is e = ap (is_process_by name) (node_is tree line forms.Event v ts h is) ∙ e
 
 -- what a form says, where it isn't one of those above
 form_says : (name : Name → Bool) (f : Form) (us : Syntaxes) → (f ≡ forms.Brackets → ⊥) → (f ≡ forms.Event → ⊥) → is_process_by name (Node f us) ≡ is_process_form f
@@ -75,7 +75,7 @@ form_says name forms.Event us n m = absurd (m refl)
 form_says name f us n m = refl
 
 pub by_form : {A : Type 0} (name : Name → Bool) (tree : Tree A) (line : Position) (form : Form) (v : Vec (Tree A) A) (b : Bool) → tree ≡ TreeNode line form v → (form ≡ forms.Brackets → ⊥) → (form ≡ forms.Event → ⊥) → b ≡ is_process_form form → is_process_by name (shape tree) ≡ b
-by_form name tree line form v b h n m e = ap (is_process_by name) (node_part tree line form v v.items h refl) ∙ form_says name form (syntaxes (shapes v.items)) n m ∙ sym e
+by_form name tree line form v b h n m e = ap (is_process_by name) (node_is tree line form v v.items h refl) ∙ form_says name form (syntaxes (shapes v.items)) n m ∙ sym e
 
 -- ---- names that lead to names
 

@@ -1,19 +1,13 @@
 -- A tree and one level of it.
-use Rattle.std.proofs.Common.{◌≡◌, ◌≢◌, ℕ, List, [], ◌∷◌, map, length, drop, get_or, Some, None, Vec, refl, sym, ap, ◌∙◌, arith}
-use Rattle.tokens.specs.declared.position.Position.{Position}
-use Rattle.syntax.specs.declared.form.Form.{Form}
-use Rattle.syntax.specs.declared.tree.Tree.{Tree, Node as TreeNode}
-use Rattle.syntax.specs.Grammar.{Syntax, Node, NoSyntax, MoreSyntax}
+use Rattle.std.proofs.Common.{◌≡◌, ◌≢◌, ℕ, List, [], ◌∷◌, map, length, drop, get_or, Some, None, refl, sym, ap, ◌∙◌, arith}
+use Rattle.syntax.specs.declared.tree.Tree.{Tree}
+use Rattle.syntax.specs.Grammar.{Syntax, NoSyntax, MoreSyntax}
 use Rattle.syntax.specs.Parsing.{syntaxes}
 use Rattle.syntax.specs.View.{shape, shapes}
-use Rattle.syntax.proofs.Lists.{node_shape}
 use Rattle.values.specs.declared.input.Input.{Input}
 use Rattle.values.specs.Worths.{Known, worth}
 use Rattle.values.specs.Tables.{input, behind}
 use Rattle.declared_names.specs.Steps.{only_of, two_of, three_of}
-
-pub node_part : {A : Type 0} (tree : Tree A) (line : Position) (form : Form) (v : Vec (Tree A) A) (ts : List (Tree A)) → tree ≡ TreeNode line form v → ts ≡ v.items → shape tree ≡ Node form (syntaxes (shapes ts))
-node_part tree line form v ts h is = ap shape h ∙ node_shape line form v ∙ ap (λ xs. Node form (syntaxes (shapes xs))) (sym is)
 
 -- ---- lists of parts
 

@@ -7,7 +7,7 @@ use Rattle.syntax.specs.declared.tree.Tree.{Tree}
 use Rattle.tokens.specs.declared.read_error.ReadError.{ReadError}
 use Rattle.values.specs.Values.{◌>>=◌, Name}
 use Rattle.values.specs.Worths.{Known, worth, the_value}
-use Rattle.values.specs.Names.{Meaning, channel, datatype, constant_name, definition, parametric, meaning}
+use Rattle.values.specs.Names.{Meaning, parametric, meaning}
 use Rattle.values.specs.Tables.{names_value}
 use Rattle.values.specs.View.{Fails, value}
 use Rattle.values.specs.declared.value.Value.{Value}
@@ -106,11 +106,8 @@ not_for_all (x ∷ xs) (t ∷ ts) h = not_for_all xs ts (λ e. h (ap suc e))
 takes_none : (m : Option Meaning) (ts : List Syntax) → ((xs : List Name) (t : Syntax) → m ≡ Some (parametric xs t) → ⊥) → takes m ts ≡ false
 unfolding takes
 takes_none None ts h = refl
-takes_none (Some (channel us)) ts h = refl
-takes_none (Some (datatype ns)) ts h = refl
-takes_none (Some constant_name) ts h = refl
-takes_none (Some (definition t)) ts h = refl
 takes_none (Some (parametric xs t)) ts h = absurd (h xs t refl)
+takes_none (Some m) ts h = refl
 
 takes_by : (m : Option Meaning) (xs : List Name) (t : Syntax) (ts : List Syntax) → m ≡ Some (parametric xs t) → takes m ts ≡ is_for_all xs ts
 unfolding takes

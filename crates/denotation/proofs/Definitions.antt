@@ -4,7 +4,7 @@ use Rattle.std.proofs.lemmas.Bool.{true≢false}
 use Rattle.alphabet.specs.Channels.{FieldValue, Values}
 use Rattle.syntax.specs.Grammar.{Syntax}
 use Rattle.values.specs.Values.{◌>>=◌, Name}
-use Rattle.values.specs.Names.{Meaning, channel, datatype, constant_name, definition, parametric, meaning, is_process}
+use Rattle.values.specs.Names.{Meaning, definition, parametric, meaning, is_process}
 use Rattle.values.specs.declared.value.Value.{Value}
 use Rattle.event_phrases.specs.Scopes.{Scope, within}
 use Rattle.event_phrases.specs.View.{listed}
@@ -15,11 +15,8 @@ use Rattle.denotation.specs.Phrases.{phrase_of, denoted}
 none_by : (s : Scope) (m : Option Meaning) → ((t : Syntax) → m ≡ Some (definition t) → ⊥) → body_by s m ≡ None
 unfolding body_by
 none_by s None h = refl
-none_by s (Some (channel ts)) h = refl
-none_by s (Some (datatype ns)) h = refl
-none_by s (Some constant_name) h = refl
 none_by s (Some (definition t)) h = absurd (h t refl)
-none_by s (Some (parametric xs t)) h = refl
+none_by s (Some m) h = refl
 
 module _ (s : Scope) (n : Name) where
   pub no_process : is_process s.entries n ≡ false → body_of s (n, []) ≡ None
@@ -43,11 +40,8 @@ module _ (s : Scope) (n : Name) where
 pub no_call : (s : Scope) (m : Option Meaning) (vs : Values) → ((xs : List Name) (t : Syntax) → m ≡ Some (parametric xs t) → ⊥) → called_by s m vs ≡ None
 unfolding called_by
 no_call s None vs h = refl
-no_call s (Some (channel ts)) vs h = refl
-no_call s (Some (datatype ns)) vs h = refl
-no_call s (Some constant_name) vs h = refl
-no_call s (Some (definition t)) vs h = refl
 no_call s (Some (parametric xs t)) vs h = absurd (h xs t refl)
+no_call s (Some m) vs h = refl
 
 module _ (s : Scope) (m : Option Meaning) (vs : Values) (xs : List Name) (t : Syntax) (d : m ≡ Some (parametric xs t)) where
   abbrev behind_parameters : Option (List (Name × FieldValue)) → Option Body

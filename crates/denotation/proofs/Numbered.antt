@@ -50,19 +50,13 @@ then_more b ks ls more h =
 pub joint_names : (k : Joint) (p q : Body) → names (joint_of k p q) ≡ names p ++ names q
 unfolding joint_of join_of names
 joint_names (joints.Join joins.Sequence) p q = refl
-joint_names (joints.Join joins.Interrupt) p q = refl
-joint_names (joints.Join joins.External) p q = refl
-joint_names (joints.Join joins.Internal) p q = refl
-joint_names (joints.Join joins.Interleaving) p q = refl
+joint_names (joints.Join m) p q = refl
 joint_names (joints.Sharing A) p q = refl
 
 pub joint_depth : (k : Joint) (p q : Body) → depth (joint_of k p q) ≡ suc (max (depth p) (depth q))
 unfolding joint_of join_of depth
 joint_depth (joints.Join joins.Sequence) p q = refl
-joint_depth (joints.Join joins.Interrupt) p q = refl
-joint_depth (joints.Join joins.External) p q = refl
-joint_depth (joints.Join joins.Internal) p q = refl
-joint_depth (joints.Join joins.Interleaving) p q = refl
+joint_depth (joints.Join m) p q = refl
 joint_depth (joints.Sharing A) p q = refl
 
 -- ---- sizes and depths

@@ -7,7 +7,7 @@ use Rattle.term.specs.Proc.{Proc}
 use Rattle.term.specs.Proc as procs
 use Rattle.term.specs.Sizes as terms
 use Rattle.values.specs.Values.{◌>>=◌}
-use Rattle.denotation.specs.Bodies.{Key, Body, stop, skip, prefix, ext, int, seq, par, hide, ren, intr, name, names, numbered, size, sizes, depth}
+use Rattle.denotation.specs.Bodies.{Key, Body, stop, names, numbered, size, sizes, depth}
 use Rattle.denotation.specs.Denotes.{place, with_keys, met, nodes, Reached, Gathered}
 use Rattle.denotation.specs.Rooms.{fit, fits, shallow, within_limits}
 use Rattle.denotation.proofs.Keys.{keys_append}
@@ -59,16 +59,7 @@ complete room o b e h d =
 size_some : (b : Body) → 1 ≤ size b
 unfolding size
 size_some stop = omega arith
-size_some skip = omega arith
-size_some (prefix a p) = omega arith
-size_some (ext p q) = omega arith
-size_some (int p q) = omega arith
-size_some (seq p q) = omega arith
-size_some (par A p q) = omega arith
-size_some (hide A p) = omega arith
-size_some (ren R p) = omega arith
-size_some (intr p q) = omega arith
-size_some (name k) = omega arith
+size_some b = omega arith
 
 pub body_less : (room : ℕ) (o : Option Body) (x : Body × ℕ) → (fits room o >>= shallow) ≡ Some x → x.1 < room
 body_less room o x h = let (d, r, l) = sound room o x h in omega (arith, r, size_some x.0)

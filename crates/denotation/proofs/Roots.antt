@@ -37,15 +37,7 @@ pub no_name : {A : Type 0} (p : Held A) → ((n : _) → p ≢ phrases.Called n)
 unfolding name_called
 no_name (phrases.Called n) h = absurd (h n refl)
 no_name phrases.Stop h = refl
-no_name phrases.Skip h = refl
-no_name (phrases.Inside t) h = refl
-no_name (phrases.Prefix e t) h = refl
-no_name (phrases.Joined m t u) h = refl
-no_name (phrases.Hiding t a) h = refl
-no_name (phrases.Renaming t ts) h = refl
-no_name (phrases.Conditional c t u) h = refl
-no_name (phrases.Calling n ts) h = refl
-no_name (phrases.Replicated j gs t) h = refl
+no_name p h = refl
 
 pub name_root : (n : Name) → root_of (Node forms.Event (MoreSyntax (Called n) NoSyntax)) ≡ named n
 unfolding root_by name_called read_by parts_by form_phrase one_of name_of if_none

@@ -67,15 +67,15 @@ same_both Less h = absurd (cc)
 same_both Equal h = refl
 same_both Greater h = absurd (cc)
 
-value_same : (v : FieldValue) → is_same v v ≡ true
+pub value_same : (v : FieldValue) → is_same v v ≡ true
 unfolding is_same
 value_same v = same_both (value_cmp v v) (value_total.antisymm v v)
 
-values_same : (vs : Values) → pointwise is_same vs vs ≡ true
+pub values_same : (vs : Values) → pointwise is_same vs vs ≡ true
 values_same [] = refl
 values_same (v ∷ vs) = ap₂ (λ a b. a && b) (value_same v) (values_same vs)
 
-name_same : (n : Name) → same_name n n ≡ true
+pub name_same : (n : Name) → same_name n n ≡ true
 name_same [] = refl
 name_same (b ∷ bs) = ap₂ (λ x y. x && y) (nat_eq_equiv.refl b) (name_same bs)
 

@@ -13,13 +13,10 @@ use Rattle.event_phrases.specs.Forms.{FieldPhrase, given, input, input_from, no_
 use Rattle.event_phrases.specs.Prefixes.{scopes_after, all_pass, fields_pass}
 use Rattle.event_phrases.specs.Scopes.{Scope, with_input}
 use Rattle.event_phrases.specs.Uses.{mentions, mention, is_within, is_used}
+use Rattle.tokens.proofs.Comments.{or_false}
 
 abbrev Checked : Type 0
 Checked = Option (Unit {0})
-
-neither : (a b : Bool) → (a || b) ≡ false → (a ≡ false) × (b ≡ false)
-neither true b h = absurd cc
-neither false b h = (refl, h)
 
 -- ---- phrases
 
@@ -43,23 +40,23 @@ module _ (x : Name) (k l : Known) (h : Agree x k l) where
   unfolding worths mention
   parts_same NoSyntax p e = refl
   parts_same (MoreSyntax t ts) p e =
-      let q = neither (mentions x t) (mention x ts) e in
+      let q = or_false (mentions x t) (mention x ts) e in
       ap₂ (λ o r. o >>= λ w. r >>= λ ws. Some (w ∷ ws)) (p.0 q.0) (parts_same ts p.1 q.1)
 
   form_same : (f : Form) (ts : Syntaxes) → Parted f ts → EachPhrase Same ts → mention x ts ≡ false → worth k (Node f ts) ≡ worth l (Node f ts)
   unfolding mention
   form_same _ _ (by_if c t u) p e =
-      let q = neither (mentions x c) (mentions x t || (mentions x u || false)) e in
-      let r = neither (mentions x t) (mentions x u || false) q.1 in
-      let z = neither (mentions x u) false r.1 in
+      let q = or_false (mentions x c) (mentions x t || (mentions x u || false)) e in
+      let r = or_false (mentions x t) (mentions x u || false) q.1 in
+      let z = or_false (mentions x u) false r.1 in
       if_is k c t u ∙ ap (λ o. chosen o (worth k t) (worth k u)) (p.0 q.0) ∙ ap₂ (chosen (worth l c)) (p.1.0 r.0) (p.1.1.0 z.0) ∙ sym (if_is l c t u)
   form_same _ _ (by_and t u) p e =
-      let q = neither (mentions x t) (mentions x u || false) e in
-      let z = neither (mentions x u) false q.1 in
+      let q = or_false (mentions x t) (mentions x u || false) e in
+      let z = or_false (mentions x u) false q.1 in
       and_is k t u ∙ ap₂ (λ o r. chosen o (truth_only r) (Some (truth false))) (p.0 q.0) (p.1.0 z.0) ∙ sym (and_is l t u)
   form_same _ _ (by_or t u) p e =
-      let q = neither (mentions x t) (mentions x u || false) e in
-      let z = neither (mentions x u) false q.1 in
+      let q = or_false (mentions x t) (mentions x u || false) e in
+      let z = or_false (mentions x u) false q.1 in
       or_is k t u ∙ ap₂ (λ o r. chosen o (Some (truth true)) (truth_only r)) (p.0 q.0) (p.1.0 z.0) ∙ sym (or_is l t u)
   form_same _ _ (by_all f ts is) p e = is k ∙ ap (λ o. o >>= λ ws. formed f ws) (parts_same ts p e) ∙ sym (is l)
 
@@ -142,7 +139,7 @@ fields_same x [] sets s k l h e = refl
 fields_same x (f ∷ fs) [] s k l h e = refl
 fields_same x (f ∷ fs) ([] ∷ sets) s k l h e = empty_same x (fields_pass fs sets) s k l h f e
 fields_same x (f ∷ fs) ((u ∷ us) ∷ sets) s k l h e =
-    let q = neither (is_within x f) (is_used x fs sets) e in
+    let q = or_false (is_within x f) (is_used x fs sets) e in
     field_same x (fields_pass fs sets) s k l h (λ m n g. fields_same x fs sets s m n g q.1) f (u ∷ us) q.0
 
 -- an input that the fields don't use

@@ -33,13 +33,7 @@ module _ (cs : List Channel) (primes : ℕ) where
   unbracketed skip h = refl
   unbracketed (name k) h = refl
   unbracketed (prefix a P) h = absurd cc
-  unbracketed (ext P Q) h = absurd cc
-  unbracketed (int P Q) h = absurd cc
-  unbracketed (seq P Q) h = absurd cc
-  unbracketed (par A P Q) h = absurd cc
-  unbracketed (hide A P) h = absurd cc
-  unbracketed (ren R P) h = absurd cc
-  unbracketed (intr P Q) h = absurd cc
+  unbracketed P h = absurd cc
 
   -- a text that grows by a bracket, by what stands in the brackets and by a bracket
   pub enclosed : (P : Proc) (start opened filled whole : List ℕ) → has_brackets P ≡ true → opened ≡ start ++ codes "(" → filled ≡ opened ++ inside cs primes P → whole ≡ filled ++ codes ")" → whole ≡ start ++ process_text cs primes P

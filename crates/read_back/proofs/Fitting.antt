@@ -113,16 +113,7 @@ event_nested p = fields_nested p.values
 
 depth_some : (P : Proc) → 1 ≤ depth P
 depth_some procs.stop = omega arith
-depth_some procs.skip = omega arith
-depth_some (procs.prefix a P) = omega arith
-depth_some (procs.ext P Q) = omega arith
-depth_some (procs.int P Q) = omega arith
-depth_some (procs.seq P Q) = omega arith
-depth_some (procs.par A P Q) = omega arith
-depth_some (procs.hide A P) = omega arith
-depth_some (procs.ren R P) = omega arith
-depth_some (procs.intr P Q) = omega arith
-depth_some (procs.name k) = omega arith
+depth_some P = omega arith
 
 module _ (cs : List Channel) where
   abbrev tree : Event → Syntax
@@ -228,30 +219,12 @@ module _ (cs : List Channel) where
     pub process_level : (P : Proc) → level_in (process P) ≡ 0
     unfolding level_in form_level process_tree
     process_level procs.stop = refl
-    process_level procs.skip = refl
-    process_level (procs.prefix a P) = refl
-    process_level (procs.ext P Q) = refl
-    process_level (procs.int P Q) = refl
-    process_level (procs.seq P Q) = refl
-    process_level (procs.par A P Q) = refl
-    process_level (procs.hide A P) = refl
-    process_level (procs.ren R P) = refl
-    process_level (procs.intr P Q) = refl
-    process_level (procs.name k) = refl
+    process_level P = refl
 
     process_open : (P : Proc) → is_open (process P) ≡ false
     unfolding is_open last_open ending process_tree
     process_open procs.stop = refl
-    process_open procs.skip = refl
-    process_open (procs.prefix a P) = refl
-    process_open (procs.ext P Q) = refl
-    process_open (procs.int P Q) = refl
-    process_open (procs.seq P Q) = refl
-    process_open (procs.par A P Q) = refl
-    process_open (procs.hide A P) = refl
-    process_open (procs.ren R P) = refl
-    process_open (procs.intr P Q) = refl
-    process_open (procs.name k) = refl
+    process_open P = refl
 
     -- a process on the left of an operator
     on_left : (P : Proc) (l : ℕ) → (nat_le (level_in (process P)) l && (true && not (is_open (process P)))) ≡ true

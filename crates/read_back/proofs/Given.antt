@@ -1,73 +1,27 @@
 -- What the texts of values give, and which values are the same.
-use Rattle.std.proofs.Common.{◌≡◌, ℕ, suc, ◌-◌, ◌<◌, ◌≤◌, ℤ, pos, negsuc, ◌-ℤ◌, List, [], ◌∷◌, map, Bool, true, false, cond, ◌&&◌, ◌||◌, Option, Some, None, refl, sym, ap, ap₂, ◌∙◌, subst, arith}
-use Rattle.std.proofs.lemmas.Bool.{le-leb, lt-ltb, false≢true}
-use Rattle.std.proofs.lemmas.Map.Lookups.{exact_signed, exact_bytes}
+use Rattle.std.proofs.Common.{◌≡◌, ℕ, suc, ◌-◌, ◌<◌, ◌≤◌, ℤ, pos, negsuc, ◌-ℤ◌, List, [], ◌∷◌, map, Bool, true, false, cond, ◌&&◌, ◌||◌, Option, Some, None, refl, sym, ap, ◌∙◌, subst, arith}
+use Rattle.std.proofs.lemmas.Bool.{le-leb, lt-ltb}
 use Rattle.std.specs.List.{list_any}
-use Rattle.std.specs.Cmp.Lexicographic.{pointwise, bytes_decides}
-use Rattle.std.specs.Ordering.{is_eq, ordering_reverse}
-use Rattle.std.specs.declared.cmp.Ordering.{Ordering}
-use Rattle.std.specs.declared.cmp.Ordering.TheVariants.{Less, Equal, Greater}
 use Rattle.alphabet.specs.Channels.{FieldValue, number, constant, Values, Parts, choices}
 use Rattle.alphabet.specs.Elements.{In, here, there}
-use Rattle.alphabet.proofs.Lists.{In-map, In-flat_map, and-left, and-right}
+use Rattle.alphabet.proofs.Lists.{In-map, In-flat_map}
 use Rattle.syntax.specs.declared.form.Form.TheVariants as forms
 use Rattle.syntax.specs.Grammar.{Syntax}
-use Rattle.values.specs.Values.{◌>>=◌, Name, value_cmp, is_same, is_among, limited}
+use Rattle.values.specs.Values.{◌>>=◌, is_same, is_among, limited}
 use Rattle.values.specs.Worths.{Worth, one, worth, worths, formed, negated, the_only, the_number, the_value}
-use Rattle.values.specs.Order.{value_total}
-use Rattle.values.specs.Names.{same_name}
 use Rattle.event_phrases.specs.Events.{field_value, value_within, field_values}
 use Rattle.event_phrases.specs.Forms.{part_list, node_of, name_of, if_none, first_of, one_of, read_by, parts_by, FieldPhrase, given, field_form, field_of, EventPhrase, event, no_event, event_form, event_of}
 use Rattle.event_phrases.specs.Scopes.{Scope}
 use Rattle.read_back.proofs.Trees.{value_tree, dotted_trees, event_tree}
 use Rattle.read_back.proofs.Readable.{IsGiven}
+use Rattle.denotation.specs.CallLaws.{value_same}
 
 -- ---- values that are the same
-
-equal_only : (o : Ordering) → is_eq o ≡ true → o ≡ Equal
-equal_only Less h = absurd (false≢true h)
-equal_only Equal h = refl
-equal_only Greater h = absurd (false≢true h)
-
-compared : (v w : FieldValue) → value_cmp v w ≡ Equal → v ≡ w
-compared (number y) (number z) h = ap number (exact_signed y z h)
-compared (number y) (constant n) h = absurd (cc)
-compared (constant m) (number z) h = absurd (cc)
-compared (constant m) (constant n) h = ap constant (exact_bytes m n h)
-
-same_is : (v w : FieldValue) → is_same v w ≡ true → v ≡ w
-unfolding is_same
-same_is v w h = compared v w (equal_only (value_cmp v w) h)
-
-same_itself : (v : FieldValue) → is_same v v ≡ true
-unfolding is_same
-same_itself v = by_total (value_cmp v v) (value_total.antisymm v v)
-  where
-    by_total : (o : Ordering) → o ≡ ordering_reverse o → is_eq o ≡ true
-    by_total Less h = absurd (cc)
-    by_total Equal h = refl
-    by_total Greater h = absurd (cc)
-
-pub all_same : (vs ws : Values) → pointwise is_same vs ws ≡ true → vs ≡ ws
-all_same [] [] h = refl
-all_same [] (w ∷ ws) h = absurd (false≢true h)
-all_same (v ∷ vs) [] h = absurd (false≢true h)
-all_same (v ∷ vs) (w ∷ ws) h =
-    let a = same_is v w (and-left (is_same v w) (pointwise is_same vs ws) h) in
-    let b = all_same vs ws (and-right (is_same v w) (pointwise is_same vs ws) h) in
-    ap₂ (λ x xs. x ∷ xs) a b
-
-pub all_themselves : (vs : Values) → pointwise is_same vs vs ≡ true
-all_themselves [] = refl
-all_themselves (v ∷ vs) = ap₂ (λ a b. a && b) (same_itself v) (all_themselves vs)
-
-pub name_itself : (n : Name) → same_name n n ≡ true
-name_itself n = (bytes_decides n n).1 refl
 
 pub among-In : (v : FieldValue) (vs : Values) → In v vs → is_among v vs ≡ true
 unfolding is_among
 among-In v [] i = elim i [ ]
-among-In v (w ∷ vs) here = ap (λ b. b || list_any (is_same v) vs) (same_itself v)
+among-In v (w ∷ vs) here = ap (λ b. b || list_any (is_same v) vs) (value_same v)
 among-In v (w ∷ vs) (there i) = ap (λ b. is_same v w || b) (among-In v vs i) ∙ either (is_same v w)
   where
     either : (b : Bool) → (b || true) ≡ true

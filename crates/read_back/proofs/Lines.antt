@@ -17,11 +17,11 @@ use Rattle.syntax.specs.Grammar.{Syntax, Called, flat, spell, spell_part, spell_
 use Rattle.syntax.specs.Rules.{rule}
 use Rattle.printing.specs.Names.{Name, constants, primed, datatype_name, datatype_primes}
 use Rattle.printing.specs.Printed.{joined, gap, field_text, fields_text, channel_line, datatype_line, reference, process_text, body_line, body_lines, printed}
-use Rattle.read_back.proofs.Trees.{node, phrases, member_tree, braced, values_tree, channel_tree_of, channel_tree, called_trees, datatype_trees, process_tree, body_tree, body_trees, printed_primes, script_tree}
+use Rattle.read_back.proofs.Trees.{node, phrases, member_tree, values_tree, channel_tree_of, channel_tree, called_trees, datatype_trees, process_tree, body_tree, body_trees, printed_primes, script_tree}
 use Rattle.read_back.proofs.Readable.{IsWritten}
 use Rattle.read_back.proofs.Scanned.{nothing_read, token_read, blank_read, other_byte, letter_high, digit_low, first_digit, Ends, IsProper, AllProper, name_read, proper_read, close_brace_at, colon_at, definition_at, bar_at, dot_brace_at, brace_at}
 use Rattle.read_back.proofs.Texts.{Reads, Any, same_read, both_read, IsShown, AllShown, value_read, EachRead, behind_tokens, joined_read}
-use Rattle.read_back.proofs.Processes.{spaced, comma_read, all_primes, proper_reference, IsShownAlphabet, process_read}
+use Rattle.read_back.proofs.Processes.{spaced, empty_read, comma_read, all_primes, proper_reference, IsShownAlphabet, process_read}
 
 -- ---- sets of values
 
@@ -69,12 +69,6 @@ others_flat (v ∷ vs) = ap (λ ws. Sign symbols.Comma ∷ (value_tokens v ++ ws
 set_flat : (v : FieldValue) (vs : Values) → flat (values_tree (v ∷ vs)) ≡ Sign symbols.OpenBrace ∷ ((value_tokens v ++ behind_values vs) ++ (Sign symbols.CloseBrace ∷ []))
 unfolding flat spell spell_part rule
 set_flat v vs = ap (λ ws. Sign symbols.OpenBrace ∷ (value_tokens v ++ ws)) (others_flat vs) ∙ ap (λ ws. Sign symbols.OpenBrace ∷ ws) (sym (append_assoc (value_tokens v) (behind_values vs) (Sign symbols.CloseBrace ∷ [])))
-
-empty_read : Reads Any (codes "{}") (flat (braced []))
-unfolding flat spell spell_signs rule
-empty_read rest ws u r =
-    token_read (123 ∷ 125 ∷ rest) (125 ∷ rest) (Sign symbols.OpenBrace) (Sign symbols.CloseBrace ∷ ws) (brace_at rest 125 refl refl)
-    (token_read (125 ∷ rest) rest (Sign symbols.CloseBrace) ws (close_brace_at rest) r)
 
 field_read : (vs : Values) → AllShown vs → Reads Any (field_text vs) (flat (values_tree vs))
 field_read [] h rest ws u r = empty_read rest ws u r

@@ -1,17 +1,15 @@
 -- What a script with a tree declares: an alphabet whose channels, constants and numbers have texts of one form.
-use Rattle.std.proofs.Common.{◌≡◌, ℕ, zero, suc, ◌≤◌, ◌^◌, pos, negsuc, List, [], ◌∷◌, map, nat_eq, Bool, true, false, not, ◌||◌, cond, Some, inl, inr, refl, sym, ap, subst, ◌∙◌, arith}
-use Rattle.std.specs.Prelude.{int_lt}
+use Rattle.std.proofs.Common.{◌≡◌, ℕ, zero, suc, ◌≤◌, ◌^◌, pos, negsuc, List, [], ◌∷◌, map, nat_eq, Bool, true, false, not, ◌||◌, Some, inl, inr, refl, sym, ap, subst, ◌∙◌, arith}
 use Rattle.std.proofs.lemmas.Bool.{false≢true, lt-ltb}
 use Rattle.std.proofs.lemmas.Int.{ints}
 use Rattle.std.specs.List.{list_all, list_any}
-use Rattle.std.specs.Ordering.{is_lt}
 use Rattle.std.specs.Cmp.Lexicographic.{pointwise, bytes_decides}
-use Rattle.std.specs.declared.cmp.Ordering.TheVariants.{Less, Equal, Greater}
 use Rattle.alphabet.specs.Channels.{FieldValue, number, constant, Values, Channel, IsAlphabet, event_count, is_value, is_below, is_rising, is_field, is_declared, is_apart_from, is_in_range}
 use Rattle.alphabet.specs.Channels as alphabets
 use Rattle.alphabet.specs.Names.{is_name}
 use Rattle.alphabet.specs.Elements.{In, here, there}
 use Rattle.alphabet.proofs.Lists.{none-from_In}
+use Rattle.tokens.proofs.Marks.{not_true}
 use Rattle.syntax.specs.Grammar.{Syntaxes, NoSyntax, MoreSyntax}
 use Rattle.values.specs.Values.{◌>>=◌, Name, value_cmp}
 use Rattle.values.specs.Worths.{Worth, one, many, truth, Known, worth, the_set}
@@ -19,6 +17,7 @@ use Rattle.values.specs.Order.{value_total}
 use Rattle.values.specs.Names.{Entry, Meaning, channel, datatype, constant_name, definition, parametric, same_name, meaning, declared_by_all, are_distinct, worth_of, known_in, Stands}
 use Rattle.values.specs.Channels.{fields_of, with_channel, channels_of}
 use Rattle.declared_names.proofs.Chains.{bind_some, some_same, left, right, both}
+use Rattle.declarations.proofs.Fields.{below}
 use Rattle.declarations.proofs.Meanings as meanings
 use Rattle.declarations.proofs.Meanings.{AreNamed, AllIn, in_named, means, meant, closed}
 use Rattle.read_back.proofs.Ordered.{Above, Rises}
@@ -146,17 +145,6 @@ module _ (ts : Syntaxes) (es : List Entry) (known : Known) (all : declared_by_al
   all_in p [] h = refl
   all_in p (x ∷ xs) h = both (p x) (list_all p xs) (h x here) (all_in p xs (λ y i. h y (there i)))
 
-  below : (v w : FieldValue) → value_cmp v w ≡ Less → is_below v w ≡ true
-  below (number y) (number z) h = by (int_lt y z) (int_lt z y) h
-    where
-      by : (b c : Bool) → cond b Less (cond c Greater Equal) ≡ Less → b ≡ true
-      by true c h = refl
-      by false true h = absurd cc
-      by false false h = absurd cc
-  below (number y) (constant n) h = refl
-  below (constant m) (number z) h = absurd cc
-  below (constant m) (constant n) h = ap is_lt h
-
   all_below : (v : FieldValue) (vs : Values) → Above value_cmp value_total v vs → list_all (λ w. is_below v w) vs ≡ true
   all_below v [] h = refl
   all_below v (w ∷ vs) h = both (is_below v w) (list_all (λ w. is_below v w) vs) (below v w h.0) (all_below v vs h.1)
@@ -192,15 +180,11 @@ module _ (ts : Syntaxes) (es : List Entry) (known : Known) (all : declared_by_al
   not_declared : (n : Name) (ds : List Channel) → ((d : Channel) → In d ds → n ≡ d.name → ⊥) → is_declared ds n ≡ false
   not_declared n ds h = none-from_In (λ d. pointwise nat_eq n d.name) ds (λ d i. other_name n d.name (h d i) (pointwise nat_eq n d.name) refl)
 
-  false_of : (b : Bool) → not b ≡ true → b ≡ false
-  false_of true h = absurd (false≢true h)
-  false_of false h = refl
-
   distinct_one : (f : Entry) (fs : List Entry) (ds cs : List Channel) → EachOf fs ds → are_distinct (f ∷ fs) ≡ true → alphabets.are_distinct ds ≡ true → (m : Meaning) → with_channel known f.0 m ds ≡ Some cs → alphabets.are_distinct cs ≡ true
   unfolding are_distinct with_channel
   distinct_one f fs ds cs h o d (channel sets) e =
       let (fields, a, b) = bind_some (fields_of known sets) (λ fields. Some (record { name = f.0; fields = fields } ∷ ds)) cs e in
-      let free = false_of (list_any (λ g. same_name f.0 g.0) fs) (left (not (list_any (λ g. same_name f.0 g.0) fs)) (are_distinct fs) o) in
+      let free = not_true (list_any (λ g. same_name f.0 g.0) fs) (left (not (list_any (λ g. same_name f.0 g.0) fs)) (are_distinct fs) o) in
       let no : is_declared ds f.0 ≡ false = not_declared f.0 ds (λ c i p. let of = of_in fs ds c h i in false≢true (sym (none_named fs f.0 (c.name, channel of.0.0) free of.0.1) ∙ (bytes_decides f.0 c.name).1 p)) in
       ap alphabets.are_distinct (sym (some_same b)) ∙ both (not (is_declared ds f.0)) (alphabets.are_distinct ds) (ap not no) d
   distinct_one f fs ds cs h o d (datatype ns) e = ap alphabets.are_distinct (sym (some_same e)) ∙ d

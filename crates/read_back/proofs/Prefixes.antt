@@ -19,9 +19,10 @@ use Rattle.event_phrases.specs.Forms.{FieldPhrase, event_of}
 use Rattle.event_phrases.specs.Prefixes.{fields_pass, has_event, at_no_fault, prefix_parts}
 use Rattle.event_phrases.specs.Scopes.{Scope}
 use Rattle.denotation.specs.Phrases.{branch_on, branches, prefixed_by}
+use Rattle.denotation.specs.CallLaws.{values_are, values_same, name_same}
 use Rattle.read_back.proofs.Trees.{tree_of_event, no_parts}
 use Rattle.read_back.proofs.Readable.{IsGiven, IsPrintedScope}
-use Rattle.read_back.proofs.Given.{all_same, all_themselves, name_itself, among-In, AreChosen, chosen, AllGiven, field_given, given_fields, event_read}
+use Rattle.read_back.proofs.Given.{among-In, AreChosen, chosen, AllGiven, field_given, given_fields, event_read}
 
 -- ---- the events of an alphabet
 
@@ -44,7 +45,7 @@ names_apart n m h false e = e
 fields_are : (cs : List Channel) (c : Channel) → are_distinct cs ≡ true → In c cs → fields_named cs c.name ≡ Some c.fields
 unfolding fields_named
 fields_are [] c d i = elim i [ ]
-fields_are (e ∷ cs) c d here = ap (λ b. cond b (Some c.fields) (fields_named cs c.name)) (name_itself c.name)
+fields_are (e ∷ cs) c d here = ap (λ b. cond b (Some c.fields) (fields_named cs c.name)) (name_same c.name)
 fields_are (e ∷ cs) c d (there i) =
     let no : is_declared cs e.name ≡ false = not-true (is_declared cs e.name) (and-left (not (is_declared cs e.name)) (are_distinct cs) d) in
     let other : same_name c.name e.name ≡ false = names_apart c.name e.name (none-In (λ x. pointwise nat_eq e.name x.name) cs no i) (same_name c.name e.name) refl in
@@ -66,11 +67,11 @@ is_row c ws p = same_name c p.channel && pointwise is_same ws p.values
 row_is : (c : Name) (ws : Values) (p : Parts) → is_row c ws p ≡ true → p ≡ record { channel = c; values = ws }
 row_is c ws p h =
     let n = (bytes_decides c p.channel).0 (and-left (same_name c p.channel) (pointwise is_same ws p.values) h) in
-    let v = all_same ws p.values (and-right (same_name c p.channel) (pointwise is_same ws p.values) h) in
+    let v = values_are ws p.values (and-right (same_name c p.channel) (pointwise is_same ws p.values) h) in
     ap₂ (λ d vs. record { channel = d; values = vs }) (sym n) (sym v)
 
 pub row_itself : (p : Parts) → is_row p.channel p.values p ≡ true
-row_itself p = ap₂ (λ a b. a && b) (name_itself p.channel) (all_themselves p.values)
+row_itself p = ap₂ (λ a b. a && b) (name_same p.channel) (values_same p.values)
 
 pub other_row : (cs : List Channel) (p q : Parts) (i j : ℕ) → IsAlphabet cs → slice_get (events cs) i ≡ Some p → slice_get (events cs) j ≡ Some q → j ≢ i → is_row p.channel p.values q ≡ false
 other_row cs p q i j a e f ne = by_test (is_row p.channel p.values q) refl
@@ -218,8 +219,8 @@ module _ (s : Scope) (primes m : ℕ) (h : IsPrintedScope s primes m) (a : ℕ) 
   its_branches next =
       let z : 0 + a ≡ a = omega arith in
       one_taken next s parts.channel (given_fields parts.values) its_channel.fields (events s.channels) 0 a parts at
-      (takes next s parts.channel (given_fields parts.values) its_channel.fields parts (name_itself parts.channel)
-      (fits_so parts stands (name_itself parts.channel) ∙ ap (λ b. Some (cond b (Some s) None)) (all_themselves parts.values)))
+      (takes next s parts.channel (given_fields parts.values) its_channel.fields parts (name_same parts.channel)
+      (fits_so parts stands (name_same parts.channel) ∙ ap (λ b. Some (cond b (Some s) None)) (values_same parts.values)))
       (λ j q e ne. skips next s parts.channel (given_fields parts.values) its_channel.fields q (same_name parts.channel q.channel) refl
       (λ t. fits_so q (In-at (events s.channels) j e) t ∙ ap (λ b. Some (cond b (Some s) None)) (missed q t (other_row s.channels parts q a j h.sound at e ne))))
       ∙ ap (λ n. next s >>= λ q. Some (prefix n q ∷ [])) z

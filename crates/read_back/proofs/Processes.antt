@@ -94,6 +94,12 @@ all_shown [] (v ∷ vs) g h = absurd h
 all_shown (set ∷ sets) [] g h = absurd h
 all_shown (set ∷ sets) (v ∷ vs) g h = (g set v here h.0, all_shown sets vs (λ t u i j. g t u (there i) j) h.1)
 
+pub empty_read : Reads Any (codes "{}") (flat (braced []))
+unfolding flat spell spell_signs rule
+empty_read rest ws u r =
+    token_read (123 ∷ 125 ∷ rest) (125 ∷ rest) (Sign symbols.OpenBrace) (Sign symbols.CloseBrace ∷ ws) (brace_at rest 125 refl refl)
+    (token_read (125 ∷ rest) rest (Sign symbols.CloseBrace) ws (close_brace_at rest) r)
+
 module _ (cs : List Channel) (shown : IsShownAlphabet cs) where
   abbrev part : ℕ → Parts
   part a = get_or (events cs) a no_parts
@@ -144,12 +150,6 @@ module _ (cs : List Channel) (shown : IsShownAlphabet cs) where
 
   abbrev braces : List ℕ → List ℕ
   braces text = (123 ∷ text) ++ (125 ∷ [])
-
-  empty_read : Reads Any (codes "{}") (flat (braced []))
-  unfolding flat spell spell_signs rule
-  empty_read rest ws u r =
-      token_read (123 ∷ 125 ∷ rest) (125 ∷ rest) (Sign symbols.OpenBrace) (Sign symbols.CloseBrace ∷ ws) (brace_at rest 125 refl refl)
-      (token_read (125 ∷ rest) rest (Sign symbols.CloseBrace) ws (close_brace_at rest) r)
 
   braced_read : (text : List ℕ) (tokens : List Lexeme) (c : ℕ) (others : List ℕ) → text ≡ c ∷ others → is_ascii_alphabetic c ≡ true → Reads Ends text tokens → Reads Any (braces text) (Sign symbols.OpenBrace ∷ (tokens ++ (Sign symbols.CloseBrace ∷ [])))
   braced_read text tokens c others e letter h rest ws u r =

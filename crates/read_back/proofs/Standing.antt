@@ -66,32 +66,16 @@ no_events (Some (truth b)) = refl
 module _ (cs : List Channel) (primes n m : ℕ) (known : Known) (sets : KnownEvents) (free : (k : ℕ) → k < m → sets (reference primes k) ≡ None) where
   no_set : (P : Proc) → IsWritten n m P → event_set cs known sets (set_phrase_of (process_tree cs primes P)) ≡ None
   unfolding process_tree event_set read_by parts_by set_form one_of if_none name_of
-  no_set procs.stop w = refl
-  no_set procs.skip w = refl
-  no_set (procs.prefix a P) w = refl
-  no_set (procs.ext P Q) w = refl
-  no_set (procs.int P Q) w = refl
-  no_set (procs.seq P Q) w = refl
-  no_set (procs.par A P Q) w = refl
-  no_set (procs.hide A P) w = refl
-  no_set (procs.ren R P) w = refl
-  no_set (procs.intr P Q) w = refl
   no_set (procs.name k) w = ap (λ o. unless_value (known (reference primes k)) o) (free k w) ∙ no_events (known (reference primes k))
+  no_set procs.stop w = refl
+  no_set P w = refl
 
 module _ (cs : List Channel) (primes n m : ℕ) (test : Name → Bool) (all : (k : ℕ) → k < m → test (reference primes k) ≡ true) where
   a_process : (P : Proc) → IsWritten n m P → is_process_by test (process_tree cs primes P) ≡ true
   unfolding process_tree is_process_by is_process_form is_process_operator
-  a_process procs.stop w = refl
-  a_process procs.skip w = refl
-  a_process (procs.prefix a P) w = refl
-  a_process (procs.ext P Q) w = refl
-  a_process (procs.int P Q) w = refl
-  a_process (procs.seq P Q) w = refl
-  a_process (procs.par A P Q) w = refl
-  a_process (procs.hide A P) w = refl
-  a_process (procs.ren R P) w = refl
-  a_process (procs.intr P Q) w = refl
   a_process (procs.name k) w = all k w
+  a_process procs.stop w = refl
+  a_process P w = refl
 
 -- ---- the names of a printed script
 

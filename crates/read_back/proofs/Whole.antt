@@ -34,16 +34,7 @@ use Rattle.read_back.proofs.Reaching.{reached_many, printed_key, printed_keys, p
 
 size_some : (P : Proc) → 1 ≤ size P
 size_some procs.stop = omega arith
-size_some procs.skip = omega arith
-size_some (procs.prefix a P) = omega arith
-size_some (procs.ext P Q) = omega arith
-size_some (procs.int P Q) = omega arith
-size_some (procs.seq P Q) = omega arith
-size_some (procs.par A P Q) = omega arith
-size_some (procs.hide A P) = omega arith
-size_some (procs.ren R P) = omega arith
-size_some (procs.intr P Q) = omega arith
-size_some (procs.name k) = omega arith
+size_some P = omega arith
 
 some_nodes : (Ps : List Proc) → length Ps ≤ nodes Ps
 unfolding nodes

@@ -15,7 +15,7 @@ use Rattle.term.specs.Specs.{SetInSigma}
 use Rattle.syntax.specs.Grammar.{Syntax, Syntaxes, NoSyntax, MoreSyntax}
 use Rattle.values.specs.Values.{◌>>=◌, Name, is_among, is_same}
 use Rattle.values.specs.Worths.{Worth, one, many, truth, Known, condition}
-use Rattle.values.specs.Names.{Meaning, channel, datatype, constant_name, definition, parametric, is_constant, meaning, same_name, is_process}
+use Rattle.values.specs.Names.{Meaning, channel, definition, parametric, is_constant, meaning, same_name, is_process}
 use Rattle.event_phrases.specs.Events.{Events, Beginning, unless_value, beginning, begins_so, number_in, pairs_from, pair_of, pairs_of, set_below, set_of, masked, two_masked, both, outside}
 use Rattle.event_phrases.specs.Forms.{FieldPhrase, given, input, input_from, no_field, event_of, sides_of}
 use Rattle.denotation.specs.Bodies.{Key, Body, stop, skip, prefix, ext, int, seq, par, hide, ren, intr, name, names, numbered, half, halved_in, halved, choice_of}
@@ -389,11 +389,8 @@ module _ (cs : List Channel) where
 by_lies : (cs : List Channel) (s : Scope) (m : Option Meaning) (b : Body) → s.channels ≡ cs → body_by s m ≡ Some b → Lies (event_count cs) b
 unfolding body_by
 by_lies cs s None b same e = absurd cc
-by_lies cs s (Some (channel ts)) b same e = absurd cc
-by_lies cs s (Some (datatype ns)) b same e = absurd cc
-by_lies cs s (Some constant_name) b same e = absurd cc
 by_lies cs s (Some (definition t)) b same e = lies cs (phrase_of t) s b same e
-by_lies cs s (Some (parametric xs t)) b same e = absurd cc
+by_lies cs s (Some m) b same e = absurd cc
 
 called_lies : (cs : List Channel) (s : Scope) (m : Option Meaning) (vs : Values) (b : Body) → s.channels ≡ cs → called_by s m vs ≡ Some b → Lies (event_count cs) b
 unfolding called_by

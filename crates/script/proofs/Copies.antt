@@ -13,13 +13,11 @@ use Rattle.event_phrases.specs.declared.row.Row.{Row}
 use Rattle.event_phrases.specs.View.{listed, row}
 use Rattle.values.specs.Values.{Name}
 use Rattle.values.specs.Names.{same_name}
+use Rattle.values.proofs.Keeps.{some_same}
 use Rattle.event_phrases.specs.Events.{fields_named}
 use Rattle.script.specs.declared.table.Table.{Table}
 use Rattle.script.specs.Tables.{said}
 use Rattle.alphabet.proofs.ChannelPlaces.{event_count-is}
-
-pub some_same : {X : Type 0} {x y : X} → Some x ≡ Some y → x ≡ y
-some_same h = cc
 
 module _ {X Y Z : Type 0} (f : X → Z) (g : Y → Z) where
   pub map_more : (ys : List Y) (i : ℕ) (y : Y) (xs new : List X) (x : X) → map f xs ≡ map g (take i ys) → i < length ys → y ≡ get_or ys i y → f x ≡ g y → new ≡ xs ++ x ∷ [] → map f new ≡ map g (take (i + 1) ys)

@@ -5,7 +5,8 @@ use Rattle.alphabet.specs.Channels.{Channel}
 use Rattle.alphabet.specs.EventSets.{Set, has}
 use Rattle.values.specs.Values.{◌>>=◌, Name}
 use Rattle.values.specs.Worths.{Known}
-use Rattle.values.specs.Names.{Entry, Meaning, channel, datatype, constant_name, definition, parametric, same_name, meaning}
+use Rattle.values.specs.Names.{Entry, Meaning, definition, same_name, meaning}
+use Rattle.values.proofs.Keeps.{some_same}
 use Rattle.syntax.specs.Grammar.{Syntax}
 use Rattle.event_phrases.specs.Events.{Events, event_set, events_of, events_in, EventsStand, set_of, masked}
 use Rattle.event_phrases.specs.Forms.{set_phrase_of}
@@ -13,7 +14,6 @@ use Rattle.event_phrases.proofs.EventSetLaws.{masked_none}
 use Rattle.declared_names.specs.Standing.{SettlesFirst}
 use Rattle.declared_names.proofs.Searching.{place_of, with_value}
 use Rattle.script.specs.Standing.{KnownSets, events_by, next_events, AreReached, IsSettled}
-use Rattle.script.proofs.Copies.{some_same}
 use Rattle.script.proofs.NamedSets.{sound_sets, sound_next, one_set, events_stand}
 
 abbrev some_set : Set → Option Set
@@ -91,8 +91,5 @@ module _ (cs : List Channel) (known : Known) (es : List Entry) where
     where
       by : (o : Option Meaning) → meaning es n ≡ o → masked cs (o >>= events_of cs known (events_by f)) ≡ None
       by None e = refl
-      by (Some (channel ts)) e = refl
-      by (Some (datatype ns)) e = refl
-      by (Some constant_name) e = refl
-      by (Some (parametric xs t)) e = refl
       by (Some (definition t)) e = absurd (h t e)
+      by (Some m) e = refl

@@ -7,6 +7,7 @@ use Rattle.alphabet.proofs.ChannelPlaces.{event_count-is}
 use Rattle.values.specs.Values.{◌>>=◌, Name}
 use Rattle.values.specs.Worths.{Worth, one, many, truth, Known, condition}
 use Rattle.values.specs.Names.{Entry, Meaning, channel, datatype, constant_name, definition, parametric, meaning}
+use Rattle.values.proofs.Keeps.{bind_some, some_same}
 use Rattle.event_phrases.specs.declared.forms.Combination.{Combination}
 use Rattle.event_phrases.specs.declared.forms.Combination.TheVariants as combinations
 use Rattle.event_phrases.specs.declared.forms.Extent.{Extent}
@@ -15,14 +16,9 @@ use Rattle.event_phrases.specs.Forms.{EventPhrase, SetPhrase, set_inside, set_ca
 use Rattle.event_phrases.specs.Events.{Events, KnownEvents, Beginning, unless_value, begins_so, at_number, beginning, beginning_so, whole_event, either, is_in_both, combine, gives, together, event_set, events_of, events_in, EventsStand, set_of}
 use Rattle.event_phrases.proofs.SetsBelow.{below_same, inside_is, has_is, ge_is}
 use Rattle.script.specs.Standing.{KnownSets, events_by, next_events, AreReached, IsSettled}
-use Rattle.script.proofs.Copies.{some_same}
 
 abbrev some_events : Events → Option Events
 some_events A = Some A
-
-bind_some : {X Y : Type 0} (o : Option X) (f : X → Option Y) (y : Y) → (o >>= f) ≡ Some y → (x : X) × (o ≡ Some x) × (f x ≡ Some y)
-bind_some None f y h = absurd cc
-bind_some (Some x) f y h = (x, refl, h)
 
 -- two sets of which one is made
 record Two (o p : Option Events) (c : Events → Events → Events) (R : Events) : Type 0 where
