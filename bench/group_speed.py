@@ -1,12 +1,12 @@
 #!/usr/bin/env python3
 """Lines a second through `cspwatch serve` where reports share syncs, against a plain server that shares them too.
 
-    group_speed.py PEER [--program FILE] [--other FILE] [--turns 5] [--sync NANOSECONDS ..] [--disk DIR] [--latency]
+    group_speed.py PEER [--program FILE] [--other FILE] [--turns 5] [--times 1] [--sync NANOSECONDS ..] [--disk DIR] [--latency]
 
 PEER is called as `PEER JOURNAL CONNECTIONS`, serves two states over the same protocol and settles many reports by two syncs; OTHER
 is one more `cspwatch`, as an older one. All run by turns, the first one another with each turn. The journal is a file in memory, in which a
 sync takes so many nanoseconds (slow_sync.c; 0 and 1,000,000 unless said), or in DIR, where syncs take what they take. A load is so many
-connections of so many lines, sent ahead or in turns. Each ratio is that of the medians; above 1 the program is faster. What isn't
+connections of so many lines, sent ahead or in turns, with --times so many times as many lines. Each ratio is that of the medians; above 1 the program is faster. What isn't
 fast by design gets fewer lines: with slow syncs a program that doesn't share them answers 500 lines a second. With --latency it is measured
 alone how long replies take with 64 connections in turns and syncs of 1 ms.
 """
@@ -52,12 +52,12 @@ def speed(words, load_program, folder, load, around):
 
 def measure(options, folder, made, loads, around, what, few):
     for connections, lines, how in loads:
-        load = connections, lines, how
+        load = connections, lines * options.times, how
         serve = ["serve", "p.csp", "P", "j", "--listen", "127.0.0.1:0", "--connections", str(connections)]
         run = functools.partial(speed, load_program=made["serve_load"], folder=folder, load=load, around=around)
         runs = {"program": functools.partial(run, [options.program, *serve]), "peer": functools.partial(run, [options.peer, "j", str(connections)])}
         if options.other:
-            shorter = (connections, FEW[connections, how], how) if few else load
+            shorter = (connections, FEW[connections, how] * options.times, how) if few else load
             runs["other"] = functools.partial(run, [options.other, *serve], load=shorter)
         found = medians(options.turns, runs)
         ratios = ", ".join("%s %9.0f (%.2f)" % (name, found[name], found["program"] / found[name]) for name in runs if name != "program")
@@ -87,6 +87,7 @@ def main():
     parser.add_argument("--program", type=os.path.abspath, default=serve_speed.PROGRAM)
     parser.add_argument("--other", type=os.path.abspath)
     parser.add_argument("--turns", type=int, default=5)
+    parser.add_argument("--times", type=int, default=1)
     parser.add_argument("--sync", type=int, nargs="*", default=[0, 1_000_000])
     parser.add_argument("--disk")
     parser.add_argument("--latency", action="store_true")
