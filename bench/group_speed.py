@@ -6,9 +6,9 @@
 PEER is called as `PEER JOURNAL CONNECTIONS`, serves two states over the same protocol and settles many reports by two syncs; OTHER
 is one more `cspwatch`, as an older one. All run by turns, the first one another with each turn. The journal is a file in memory, in which a
 sync takes so many nanoseconds (slow_sync.c; 0 and 1,000,000 unless said), or in DIR, where syncs take what they take. A load is so many
-connections of so many lines, sent ahead or in turns, with --times so many times as many lines. Each ratio is that of the medians; above 1 the program is faster. What isn't
-fast by design gets fewer lines: with slow syncs a program that doesn't share them answers 500 lines a second. With --latency it is measured
-alone how long replies take with 64 connections in turns and syncs of 1 ms.
+connections of so many lines, sent ahead or in turns, with --times so many times as many. Each ratio is that of the medians; above 1 the
+program is faster. What isn't fast by design gets fewer lines: with slow syncs a program that doesn't share them answers 500 lines a second.
+With --latency it is measured alone how long replies take with 64 connections in turns and syncs of 1 ms.
 """
 import argparse
 import functools

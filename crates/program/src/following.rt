@@ -1,15 +1,15 @@
 //! The history of a journal, shown further: what came to it since it was shown.
 
-ghost use Rattle.std.specs.Prelude.{◌≡◌, ◌++◌, Ok, IfOk, IfSome, OnOk};
+ghost use Rattle.std.specs.Prelude.{◌≡◌, ◌≢◌, ◌++◌, IfOk, IfErr, OnOk};
 ghost use Rattle.shared.specs.Records.{names_of as names_kept};
 ghost use Rattle.shared.specs.Scripts.{IsReadAs};
 ghost use Rattle.shown.specs.Shows.{Shows};
-ghost use Rattle.program.specs.Followings.{Follows, WritesOn};
+ghost use Rattle.program.specs.Followings.{Follows, IsNotFollowed, IsUnwritten, WritesOn};
 
 use crate::replaying::{Replayed, replay};
 use crate::showing::{lines_of, put_out};
 use disk::Disk;
-use journal::Header;
+use journal::{Header, after};
 use shared::{Session, SessionError};
 use shown::Options;
 use std::alloc::{AllocError, Allocator};
@@ -65,22 +65,13 @@ fn text_of<D: Disk, A: Allocator + Copy>(
     }
 }
 
-// What the text has after its beginning, if it begins so.
-fn rest_of<'a>(text: &'a [u8], before: &[u8]) -> Option<&'a [u8]>
-    ensures { IfSome result (λ rest. text.now ≡ before.now ++ rest.now) }
-{
-    if text.len() < before.len() {
-        return None;
-    }
-    let (front, rest) = text.split_at(before.len());
-    if front == before { Some(rest) } else { None }
-}
-
 // Writes what the text has more than what was shown before.
 fn write_rest<W: Write>(text: &[u8], before: &[u8], output: &mut W) -> Result<(), FollowError>
-    ensures { OnOk result (WritesOn before.now text.now (W.contents output.old) (W.contents output.new)) }
+    ensures written { OnOk result (WritesOn before.now text.now (W.contents output.old) (W.contents output.new)) }
+    ensures fault { IfErr result (IsUnwritten before.now text.now) }
+    ensures silent { IfErr result (λ error. error ≢ FollowError.Output → output.new ≡ output.old) }
 {
-    let Some(rest) = rest_of(text, before) else {
+    let Some(rest) = after(text, before) else {
         return Err(FollowError::Changed);
     };
     match put_out(rest, output) {
@@ -100,7 +91,11 @@ pub fn follow<D: Disk + Drop, A: Allocator + Copy, W: Write>(
     before: Vec<u8, A>,
     output: &mut W,
 ) -> Result<Vec<u8, A>, FollowError>
-    ensures { IfOk result (λ text. Follows (D.state disk) options before.items text.items (W.contents output.old) (W.contents output.new)) }
+    ensures follows { IfOk result (λ text. Follows (D.state disk) options before.items text.items (W.contents output.old) (W.contents output.new)) }
+
+    // Or nothing further is shown, for this reason; and nothing is written, unless the output fails.
+    ensures fault { IfErr result (IsNotFollowed (D.state disk) options before.items) }
+    ensures silent { IfErr result (λ error. error ≢ FollowError.Output → output.new ≡ output.old) }
 {
     let Replayed {
         session,
@@ -118,21 +113,25 @@ pub fn follow<D: Disk + Drop, A: Allocator + Copy, W: Write>(
     let text = text_of(alloc, &session, &header, options);
     drop(session);
     drop(header);
-    show_on(text, before, output)
+    match text {
+        Ok(text) => show_on(text, before, output),
+        Err(AllocError) => {
+            drop(before);
+            Err(FollowError::Session(SessionError::Memory))
+        }
+    }
 }
 
-// Writes what the text has more than what was shown before, where there was memory for the text, and gives it back.
+// Writes what the text has more than what was shown before, and gives it back.
 pub(crate) fn show_on<A: Allocator, W: Write>(
-    text: Result<Vec<u8, A>, AllocError>,
+    text: Vec<u8, A>,
     before: Vec<u8, A>,
     output: &mut W,
 ) -> Result<Vec<u8, A>, FollowError>
-    ensures { IfOk result (λ whole. (text ≡ Ok whole) × WritesOn before.items whole.items (W.contents output.old) (W.contents output.new)) }
+    ensures written { IfOk result (λ whole. (whole ≡ text) × WritesOn before.items text.items (W.contents output.old) (W.contents output.new)) }
+    ensures fault { IfErr result (IsUnwritten before.items text.items) }
+    ensures silent { IfErr result (λ error. error ≢ FollowError.Output → output.new ≡ output.old) }
 {
-    let Ok(text) = text else {
-        drop(before);
-        return Err(FollowError::Session(SessionError::Memory));
-    };
     let written = write_rest(&text, &before, output);
     drop(before);
     match written {

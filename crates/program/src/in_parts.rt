@@ -1,6 +1,6 @@
 //! Journals in parts, replayed and shown, one part after the other.
 
-ghost use Rattle.std.specs.Prelude.{◌≡◌, ◌⊎◌, ◌≤◌, ◌<◌, ◌^◌, ◌++◌, Ok, length, ℕ, List, [], false, IsTrue, IfOk, IfErr, OnOk, MatchResult};
+ghost use Rattle.std.specs.Prelude.{◌≡◌, ◌≢◌, ◌⊎◌, ◌≤◌, ◌<◌, ◌^◌, ◌++◌, Ok, length, ℕ, List, [], false, IsTrue, IfOk, IfErr, OnOk, MatchResult};
 ghost use Rattle.std.specs.Io.KnownBytes.{Appends};
 ghost use Rattle.disk.specs.Calls.{Continues};
 ghost use Rattle.term.specs.Specs.{Specified};
@@ -12,9 +12,9 @@ ghost use Rattle.attending.specs.Courses.{status_of};
 ghost use Rattle.large_sessions.specs.Opening.{IsDone};
 ghost use Rattle.large_sessions.specs.Parts.{IsAlike};
 ghost use Rattle.large_sessions.specs.Sessions.{AreReplayOf, HaveNoSession, IsStartOf};
-ghost use Rattle.shown.specs.Shows.{Sends, Shows, Writes};
+ghost use Rattle.shown.specs.Shows.{Sends, Writes};
 ghost use Rattle.program.specs.Exits.{replay_exit};
-ghost use Rattle.program.specs.Parts.{AreFollowed, HaveNoDisplay};
+ghost use Rattle.program.specs.Parts.{AreFollowed, AreNotFollowed, AreTextOf, HaveNoDisplay};
 ghost use Rattle.program.specs.Showings.{IsBeyond, WritesAll};
 
 use crate::following::{FollowError, joined, show_on};
@@ -292,8 +292,8 @@ fn text_of_parts<F: Folder + Drop, A: Allocator + Copy>(
     options: Options,
 ) -> Result<Vec<u8, A>, DisplayError>
     requires { 1 ≤ size }
-    ensures { IfOk result (λ text. (script : List ℕ) × (root : List ℕ) × (spec : Specified) × (h : List Entry) × Shows options spec h text.items
-        × (IsTrue (F.state folder).claims_bytes → AreReplayOf size (F.state folder).bytes script root spec h)) }
+    ensures text { IfOk result (λ text. AreTextOf size (F.state folder) options text.items) }
+    ensures fault { IfErr result (λ error. IsTrue (F.state folder).claims_bytes → HaveNoDisplay size (F.state folder).bytes error) }
 {
     let mut text = Vec::new(alloc);
     match lines_of_parts(alloc, folder, size, options, &mut text) {
@@ -321,10 +321,12 @@ pub fn follow_parts<F: Folder + Drop, A: Allocator + Copy, W: Write>(
     output: &mut W,
 ) -> Result<Vec<u8, A>, FollowError>
     requires { 1 ≤ size }
-    ensures { IfOk result (λ text. AreFollowed size (F.state folder) options before.items text.items (W.contents output.old) (W.contents output.new)) }
+    ensures followed { IfOk result (λ text. AreFollowed size (F.state folder) options before.items text.items (W.contents output.old) (W.contents output.new)) }
+    ensures fault { IfErr result (AreNotFollowed size (F.state folder) options before.items) }
+    ensures silent { IfErr result (λ error. error ≢ FollowError.Output → output.new ≡ output.old) }
 {
     match text_of_parts(alloc, folder, size, options) {
-        Ok(text) => show_on(Ok(text), before, output),
+        Ok(text) => show_on(text, before, output),
         Err(error) => {
             drop(before);
             match error {

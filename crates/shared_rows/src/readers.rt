@@ -27,8 +27,10 @@ fn admit<J: Recorder, N: Sharing<J>>(
     out: &mut Output,
 ) {
     match locked.admit() {
-        Ok((number, _, board_reader)) => {
-            out.put_shown(&number.get());
+        Ok((number, counts, board_reader)) => {
+            drop(counts);
+            let number = number.get();
+            out.put_shown(&number);
             if kept.push(board_reader).is_err() {
                 out.is_cut = true;
             }

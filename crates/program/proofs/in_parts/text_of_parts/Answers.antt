@@ -2,16 +2,17 @@ use Rattle.std.proofs.Common.{◌≡◌, ◌++◌, List, ℕ, sym, ap, subst, �
 use Rattle.shown.specs.Shows.{Shows}
 use Rattle.program.proofs.in_parts.text_of_parts.Goals as goal
 
-pub returns-in-Ok-joined : goal.returns-in-Ok-joined
-returns-in-Ok-joined g c =
+pub returns-in-Ok-joined-clause-text : goal.returns-in-Ok-joined-clause-text
+returns-in-Ok-joined-clause-text g c =
     let r = c.in-Ok.replaying in
     let e = c.in-Ok.ensures in
     let written = e.text in
-    let all : c.lines_of_parts.new.output.items ≡ written.0 = written.2 ∙ ap (λ (l : List ℕ). l ++ written.0) c.new-text.ensures.items in (
-      r.opened.held.script,
-      r.opened.held.root,
-      r.taken.spec,
-      r.taken.entries,
-      subst (λ (t : List ℕ). Shows c.args.options r.taken.spec r.taken.entries t) (sym (c.in-Ok-joined.ensures ∙ ap (λ (t : List ℕ). t ++ c.in-Ok.left.items) all)) written.1,
-      e.replayed,
-    )
+    let all : c.lines_of_parts.new.output.items ≡ written.0 = written.2 ∙ ap (λ (l : List ℕ). l ++ written.0) c.new-text.ensures.items in
+    record {
+      script = r.opened.held.script;
+      root = r.opened.held.root;
+      spec = r.taken.spec;
+      history = r.taken.entries;
+      replayed = e.replayed;
+      shows = subst (λ (t : List ℕ). Shows c.args.options r.taken.spec r.taken.entries t) (sym (c.in-Ok-joined.ensures ∙ ap (λ (t : List ℕ). t ++ c.in-Ok.left.items) all)) written.1;
+    }

@@ -34,6 +34,6 @@ returns-in-Err g c =
       other = λ claims a small. inr (inl refl);
       untouched = λ inside claims. look.bytes claims;
       continues = look.continues;
-      cause = λ device. look.cause refl;
+      cause = λ device. c.in-Err.ensures.cause refl;
       any_moment = λ claims files there. weaker old (g.F.Folder.state c.is_new.new.folder) old.leaves _ (look.any_moment files) (λ c left. inl left);
     }
