@@ -4,8 +4,8 @@
     tests/rows.py                looks whether `stdin` and `stdout` of each crate are what the files of rows make
     tests/rows.py --write        writes them
 
-The crates `part_scenarios`, `scenarios` and `shared_rows` are programs that play rows of text: a row is a line of
-`stdin`, and the line of `stdout` at the same place is the answer that is wanted. Both files are made from
+The crates `part_scenarios`, `scenarios`, `server_rows` and `shared_rows` are programs that play rows of text: a row is
+a line of `stdin`, and the line of `stdout` at the same place is the answer that is wanted. Both files are made from
 `crates/NAME/rows/*.rows`, in the order of the names of these files. They are committed, since the gate reads them.
 
 A line of a file of rows is one of these:
@@ -26,7 +26,7 @@ import sys
 from typing import NamedTuple
 
 TOP = os.path.dirname(os.path.dirname(os.path.abspath(__file__)))
-CRATES = ["part_scenarios", "scenarios", "shared_rows"]
+CRATES = ["part_scenarios", "scenarios", "server_rows", "shared_rows"]
 GROUP, ROW, ANSWER, MORE, COMMENT = "[", "> ", "< ", "  ", "#"
 
 

@@ -1,0 +1,2 @@
+-- Steps of the program.
+pub mod Crossings
