@@ -6,9 +6,9 @@
 PEER is called as `PEER JOURNAL CONNECTIONS`, serves two states over the same protocol and settles many reports by two syncs; OTHER
 is one more `cspwatch`, as an older one. All run by turns, the first one another with each turn. The journal is a file in memory, in which a
 sync takes so many nanoseconds (slow_sync.c; 0 and 1,000,000 unless said), or in DIR, where syncs take what they take. A load is so many
-connections of so many lines, sent ahead or in turns, with --times so many times as many. Each ratio is that of the medians; above 1 the
-program is faster. What isn't fast by design gets fewer lines: with slow syncs a program that doesn't share them answers 500 lines a second.
-With --latency it is measured alone how long replies take with 64 connections in turns and syncs of 1 ms.
+connections of so many lines, sent ahead or in turns, with --times so many times as many, as far as a history holds them. Each ratio is that
+of the medians; above 1 the program is faster. What isn't fast by design gets fewer lines: with slow syncs a program that doesn't share them
+answers 500 lines a second. With --latency it is measured alone how long replies take with 64 connections in turns and syncs of 1 ms.
 """
 import argparse
 import functools
@@ -27,6 +27,9 @@ SLOW_LOADS = [(1, 100_000, "ahead"), (64, 15_000, "ahead"), (1, 300, "turns"), (
 
 FEW = {(1, "ahead"): 300, (64, "ahead"): 5, (1, "turns"): 300, (64, "turns"): 5}
 """How many lines a connection gets of a program that doesn't share syncs, where these are slow."""
+
+MOST = 1_000_000
+"""How many reports a history holds."""
 
 LONG = 100_000
 """From how many nanoseconds on a sync takes long."""
@@ -52,12 +55,12 @@ def speed(words, load_program, folder, load, around):
 
 def measure(options, folder, made, loads, around, what, few):
     for connections, lines, how in loads:
-        load = connections, lines * options.times, how
+        load = connections, min(lines * options.times, MOST // connections), how
         serve = ["serve", "p.csp", "P", "j", "--listen", "127.0.0.1:0", "--connections", str(connections)]
         run = functools.partial(speed, load_program=made["serve_load"], folder=folder, load=load, around=around)
         runs = {"program": functools.partial(run, [options.program, *serve]), "peer": functools.partial(run, [options.peer, "j", str(connections)])}
         if options.other:
-            shorter = (connections, FEW[connections, how] * options.times, how) if few else load
+            shorter = (connections, min(FEW[connections, how] * options.times, MOST // connections), how) if few else load
             runs["other"] = functools.partial(run, [options.other, *serve], load=shorter)
         found = medians(options.turns, runs)
         ratios = ", ".join("%s %9.0f (%.2f)" % (name, found[name], found["program"] / found[name]) for name in runs if name != "program")
