@@ -106,9 +106,9 @@ of_err {A} {B} P r b is so = subst (λ (x : Result A B). IfErr x P) is so
 
 -- a session that was served
 pub served_for : (names : Names) (script root process : List ℕ) (spec : Specified) (opening history : List Entry) (line : Line) (closed : Bool) (totals : Totals) (accept_failed : Bool)
-    (old new : Option (List ℕ)) (exit status : Exit) → root ≡ process → status ≡ exit → IsRead script root spec → spec.names ≡ names → StartsWith history opening
-    → Legal (bodies_of spec.bodies) history → IsTold line (summary_of history) closed totals accept_failed old new exit → IsServedFor names process new status
-served_for names script root process spec opening history line closed totals accept_failed old new exit status same is read names_are begins legal told = record {
+    (old new : Option (List ℕ)) (failed : Type 0) (exit status : Exit) → root ≡ process → status ≡ exit → IsRead script root spec → spec.names ≡ names → StartsWith history opening
+    → Legal (bodies_of spec.bodies) history → IsTold line (summary_of history) closed totals accept_failed old new failed exit → IsServedFor names process new failed status
+served_for names script root process spec opening history line closed totals accept_failed old new failed exit status same is read names_are begins legal told = record {
   script = script;
   spec = spec;
   read = subst (λ (p : List ℕ). IsRead script p spec) same read;
@@ -122,5 +122,5 @@ served_for names script root process spec opening history line closed totals acc
   totals = totals;
   accept_failed = accept_failed;
   old = old;
-  told = subst (λ (e : Exit). IsTold line (summary_of history) closed totals accept_failed old new e) (sym is) told;
+  told = subst (λ (e : Exit). IsTold line (summary_of history) closed totals accept_failed old new failed e) (sym is) told;
 }

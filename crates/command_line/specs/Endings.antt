@@ -32,8 +32,8 @@ IsShutFor Memory = Unit {0}
 
 -- A session of what some script denotes for the process, with names kept so, was served. It has a legal history, which begins with the one that it
 -- was opened with. What was written last is the line with the counts of that history, if it could be made and written, and the exit status goes
--- with it.
-pub record IsServedFor (names : Names) (process : List ℕ) (new : Option (List ℕ)) (exit : Exit) : Type 0 where
+-- with it; it wasn't written only where the output has failed, or memory ran out.
+pub record IsServedFor (names : Names) (process : List ℕ) (new : Option (List ℕ)) (failed : Type 0) (exit : Exit) : Type 0 where
   pub script : List ℕ
   pub spec : Specified
   pub read : IsRead script process spec
@@ -47,4 +47,4 @@ pub record IsServedFor (names : Names) (process : List ℕ) (new : Option (List 
   pub totals : Totals
   pub accept_failed : Bool
   pub old : Option (List ℕ)
-  pub told : IsTold line (summary_of history) closed totals accept_failed old new exit
+  pub told : IsTold line (summary_of history) closed totals accept_failed old new failed exit

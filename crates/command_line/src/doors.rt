@@ -1,6 +1,6 @@
 //! Where the connections of a server are taken.
 
-ghost use Rattle.std.specs.Prelude.{◌≡◌, IfErr, OnErr};
+ghost use Rattle.std.specs.Prelude.{◌≡◌, IfErr, OnOk, OnErr};
 ghost use Rattle.answers.specs.declared.exit.Exit.TheVariants.{FileFailed};
 ghost use Rattle.command_line.specs.Endings.{IsUnserved};
 
@@ -10,6 +10,7 @@ use crate::sockets::listener_at;
 use crate::telling::tell_fault;
 use program::Exit;
 use serving::{TcpAccept, UnixAccept};
+use std::alloc::Global;
 use std::fmt::Display;
 use std::fs::{File, remove_file};
 use std::io;
@@ -17,6 +18,7 @@ use std::io::Write;
 use std::net::{Net, SocketAddr, SocketAddrV4, TcpListener, TcpStream};
 use std::rt::Files;
 use std::time::Duration;
+use wire::{Sink, SinkFault, send};
 use words::{Service, Until};
 
 /// For how many milliseconds a service waits for a connection before it looks which are over.
@@ -36,12 +38,13 @@ pub(crate) trait Door {
 
     /// Puts the journal's name on the device, listens, and says where. The answer has the address that clients can connect to, where that
     /// isn't the word that was asked for.
-    fn open<O: Write, E: Write>(
+    fn open<O: Sink, E: Write>(
         &mut self,
         output: &mut O,
         errors: &mut E,
     ) -> Result<(Self::Accept, Option<SocketAddr>), Shut>
-        ensures { IfErr result (λ shut. IsUnserved shut.exit) };
+        ensures shut { IfErr result (λ shut. IsUnserved shut.exit) }
+        ensures steady { OnOk result (O.failures output.new ≡ O.failures output.old) };
 
     /// Takes away what an open door left in the file system, once all connections are over, and answers whether standard error is free.
     fn close(&mut self) -> bool;
@@ -115,26 +118,35 @@ fn unix_accept<R: Files + Net>(rt: &R, file: &str, until: Until) -> io::Result<U
 }
 
 // Says where clients can connect.
-fn tell_listening<T: Display, O: Write, E: Write>(
+#[tactic(auto, using(crate::proofs::Told::file_failed))]
+fn tell_listening<T: Display, O: Sink, E: Write>(
+    alloc: Global,
+    name: &str,
     address: &T,
     output: &mut O,
     errors: &mut E,
 ) -> Result<(), Shut>
-    ensures { IfErr result (λ shut. shut.exit ≡ FileFailed) }
+    ensures shut { IfErr result (λ shut. IsUnserved shut.exit) }
+    ensures steady { OnOk result (O.failures output.new ≡ O.failures output.old) }
 {
-    if writeln!(output, "listening {address}").is_ok() && output.flush().is_ok() {
-        Ok(())
-    } else {
-        Err(shut_by(errors, "-", "cannot write"))
+    let Ok(line) = format!(in alloc; "listening {address}\n") else {
+        return Err(Shut {
+            exit: tell_fault(errors, name, "40 memory", Exit::Limit),
+            was_open: false,
+        });
+    };
+    match send(output, line.as_bytes()) {
+        Ok(()) => Ok(()),
+        Err(SinkFault) => Err(shut_by(errors, "-", "cannot write")),
     }
 }
 
-impl<R: Files<File = File> + Net<Stream = TcpStream, Listener = TcpListener>> Door
+impl<R: Files<File = File> + Net<Stream = TcpStream, Listener = TcpListener> + AllocGlobal> Door
     for AtTcp<'_, '_, R> {
     type Accept = TcpAccept;
 
     #[tactic(auto, using(crate::proofs::Told::file_failed))]
-    fn open<O: Write, E: Write>(
+    fn open<O: Sink, E: Write>(
         &mut self,
         output: &mut O,
         errors: &mut E,
@@ -143,7 +155,7 @@ impl<R: Files<File = File> + Net<Stream = TcpStream, Listener = TcpListener>> Do
         let Ok((accept, address)) = tcp_accept(self.rt, self.address, self.service.until) else {
             return Err(shut_by(errors, self.service.listen, "cannot listen"));
         };
-        match tell_listening(&address, output, errors) {
+        match tell_listening(self.rt.alloc(), self.service.spec, &address, output, errors) {
             Ok(()) => Ok((accept, Some(address))),
             Err(shut) => {
                 drop(accept);
@@ -157,12 +169,12 @@ impl<R: Files<File = File> + Net<Stream = TcpStream, Listener = TcpListener>> Do
     }
 }
 
-impl<R: Files<File = File> + Net<Stream = TcpStream, Listener = TcpListener>> Door
+impl<R: Files<File = File> + Net<Stream = TcpStream, Listener = TcpListener> + AllocGlobal> Door
     for AtUnix<'_, '_, R> {
     type Accept = UnixAccept;
 
     #[tactic(auto, using(crate::proofs::Told::file_failed))]
-    fn open<O: Write, E: Write>(
+    fn open<O: Sink, E: Write>(
         &mut self,
         output: &mut O,
         errors: &mut E,
@@ -171,7 +183,13 @@ impl<R: Files<File = File> + Net<Stream = TcpStream, Listener = TcpListener>> Do
         let Ok(accept) = unix_accept(self.rt, self.file, self.service.until) else {
             return Err(shut_by(errors, self.service.listen, "cannot listen"));
         };
-        match tell_listening(&self.service.listen, output, errors) {
+        match tell_listening(
+            self.rt.alloc(),
+            self.service.spec,
+            &self.service.listen,
+            output,
+            errors,
+        ) {
             Ok(()) => Ok((accept, None)),
             Err(shut) => {
                 drop(accept);

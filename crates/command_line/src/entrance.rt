@@ -9,6 +9,7 @@ use crate::telling::{tell_fault, tell_unjudged};
 use program::{Doors, Exit, Line};
 use serving::Totals;
 use std::io::{IsTerminal, Write};
+use wire::Sink;
 use words::Service;
 
 /// A door, and where its faults are reported.
@@ -71,7 +72,7 @@ impl<D: Door, E: Write + IsTerminal> Doors for Entrance<'_, '_, '_, D, E> {
 
     ghost closes = { λ _ _ _ _. Unit {0} };
 
-    fn open<O: Write>(&mut self, output: &mut O) -> Result<D::Accept, Exit> {
+    fn open<O: Sink>(&mut self, output: &mut O) -> Result<D::Accept, Exit> {
         match self.door.open(output, self.errors) {
             Ok((accept, _)) => {
                 self.is_open = true;

@@ -17,6 +17,7 @@ use std::rt::Files;
 use std::sync::Wait;
 use std::thread::sleep;
 use std::time::{Clock, Duration, Instant};
+use wire::Sink;
 
 /// How many milliseconds there are between two looks at the file at least.
 const PAUSE: u64 = 500;
@@ -41,7 +42,7 @@ fn tell_follow<R: Files<File = File>, E: Write + IsTerminal>(
 }
 
 // `look`, at the files of a large journal.
-fn look_at_parts<R: Files<File = File> + FileSystem + AllocGlobal, O: Write, E: Write + IsTerminal>(
+fn look_at_parts<R: Files<File = File> + FileSystem + AllocGlobal, O: Sink, E: Write + IsTerminal>(
     rt: &R,
     name: &str,
     options: Options,
@@ -64,7 +65,7 @@ fn look_at_parts<R: Files<File = File> + FileSystem + AllocGlobal, O: Write, E: 
 
 // Looks at the file as it stands in this moment, and writes what is shown of it beyond what was shown before. The answer is all of it, or
 // the status of the fault that was reported.
-fn look<R: Files<File = File> + FileSystem + AllocGlobal, O: Write, E: Write + IsTerminal>(
+fn look<R: Files<File = File> + FileSystem + AllocGlobal, O: Sink, E: Write + IsTerminal>(
     rt: &R,
     name: &str,
     options: Options,
@@ -122,7 +123,7 @@ fn pause<R: Clock>(rt: &R, began: Option<Instant>) -> Duration
 /// look before, and once more after that: a server opens the gate of a record some time after it wrote its line.
 pub(crate) fn follow<
     R: Files<File = File> + FileSystem + AllocGlobal + Clock + Wait,
-    O: Write,
+    O: Sink,
     E: Write + IsTerminal,
 >(rt: &R, name: &str, options: Options, output: &mut O, errors: &mut E) -> Exit {
     let mut text = Vec::new(rt.alloc());

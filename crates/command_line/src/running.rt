@@ -14,7 +14,7 @@ use crate::server::serve;
 use crate::showing::show;
 use crate::telling::tell_use;
 use file_disk::FileSystem;
-use program::{Exit, Manner};
+use program::{Exit, Manner, Options};
 use std::convert::AsStr;
 use std::fs::File;
 use std::io::{IsTerminal, Read, Write};
@@ -35,7 +35,7 @@ fn fulfil_check<R: Files + AllocGlobal + Wait, I: Read, O: Write, E: Write + IsT
     errors: &mut E,
 ) -> Exit {
     let mut reader = Plain::new(Patient::new(&mut *input));
-    let mut writer = Plain::new(&mut *output);
+    let mut writer = sink_of(output);
     let names = names_by(wished.large);
     let manner = Manner {
         explain: wished.explain,
@@ -63,6 +63,31 @@ fn fulfil_check<R: Files + AllocGlobal + Wait, I: Read, O: Write, E: Write + IsT
         &mut writer,
         errors,
     )
+}
+
+// The output, as what counts its failures.
+fn sink_of<O: Write>(output: &mut O) -> Plain<Patient<&mut O>> {
+    Plain::new(Patient::new(output))
+}
+
+// Shows a journal, and then what comes to it, where it is followed; answers the exit status.
+fn fulfil_show<
+    R: Files<File = File> + FileSystem + AllocGlobal + Wait + Clock,
+    O: Write,
+    E: Write + IsTerminal,
+>(
+    rt: &R,
+    journal: &str,
+    options: Options,
+    is_followed: bool,
+    output: &mut O,
+    errors: &mut E,
+) -> Exit {
+    let mut output = sink_of(output);
+    if is_followed {
+        return follow(rt, journal, options, &mut output, errors);
+    }
+    show(rt, journal, options, &mut output, errors)
 }
 
 // Does what is wished for, and answers the exit status.
@@ -97,14 +122,9 @@ fn fulfil<
         Wish::Show {
             journal,
             options,
-            follow: false,
-        } => show(rt, journal, *options, output, errors),
-        Wish::Show {
-            journal,
-            options,
-            follow: true,
-        } => follow(rt, journal, *options, output, errors),
-        Wish::Serve(service) => serve(rt, service, output, errors),
+            follow,
+        } => fulfil_show(rt, journal, *options, *follow, output, errors),
+        Wish::Serve(service) => serve(rt, service, &mut sink_of(output), errors),
     }
 }
 

@@ -1,5 +1,5 @@
 //! `cspwatch serve`: the reports of connections, judged by one session with a journal.
-ghost use Rattle.std.specs.Prelude.{◌≡◌, ◌⊎◌, cond, IfErr};
+ghost use Rattle.std.specs.Prelude.{◌≡◌, ◌<◌, ◌⊎◌, cond, IfErr};
 ghost use Rattle.std.specs.Thread.{IsSend};
 ghost use Rattle.term.specs.declared.names.Names.TheVariants.{Bodies, Steps};
 ghost use Rattle.command_line.specs.Crossings.{DiskCrosses};
@@ -24,6 +24,7 @@ use std::sync::Wait;
 use std::thread::Threads;
 use std::time::Clock;
 use term::Names;
+use wire::Sink;
 use words::{Address, Service, Until};
 
 /// How many accepts in a row may fail, with a tenth of a second between two, before a service ends.
@@ -62,10 +63,10 @@ pub(crate) fn serve<
         + Send
         + Sync
         + 'static,
-    O: Write,
+    O: Sink,
     E: Write + IsTerminal,
 >(rt: &R, service: &Service<'_>, output: &mut O, errors: &mut E) -> Exit
-    ensures { IsUnserved result ⊎ IsServedFor (cond service.now.large Bodies Steps) service.now.process.now (O.contents output.new) result }
+    ensures { IsUnserved result ⊎ IsServedFor (cond service.now.large Bodies Steps) service.now.process.now (O.contents output.new) (O.failures output.old < O.failures output.new) result }
 {
     let held = hold_streams(rt);
     let exit = serve_held(rt, service, output, errors);
@@ -88,10 +89,10 @@ fn serve_held<
         + Send
         + Sync
         + 'static,
-    O: Write,
+    O: Sink,
     E: Write + IsTerminal,
 >(rt: &'a R, service: &'a Service<'_>, output: &mut O, errors: &mut E) -> Exit
-    ensures { IsUnserved result ⊎ IsServedFor (cond service.now.large Bodies Steps) service.now.process.now (O.contents output.new) result }
+    ensures { IsUnserved result ⊎ IsServedFor (cond service.now.large Bodies Steps) service.now.process.now (O.contents output.new) (O.failures output.old < O.failures output.new) result }
 {
     let script = match script_of(rt, service, errors) {
         Ok(script) => script,
@@ -181,10 +182,10 @@ fn serve_in_file<
         + Send
         + Sync
         + 'static,
-    O: Write,
+    O: Sink,
     E: Write + IsTerminal,
 >(rt: &R, service: &Service<'_>, script: &[u8], door: D, output: &mut O, errors: &mut E) -> Exit
-    ensures { IsUnserved result ⊎ IsServedFor Steps service.now.process.now (O.contents output.new) result }
+    ensures { IsUnserved result ⊎ IsServedFor Steps service.now.process.now (O.contents output.new) (O.failures output.old < O.failures output.new) result }
 {
     disk_crosses();
     let (file, is_made) = match journal_at(rt, service.journal, errors) {
@@ -229,7 +230,7 @@ fn serve_in_parts<
         + Send
         + Sync
         + 'static,
-    O: Write,
+    O: Sink,
     E: Write + IsTerminal,
 >(
     rt: &R,
@@ -240,7 +241,7 @@ fn serve_in_parts<
     output: &mut O,
     errors: &mut E,
 ) -> Exit
-    ensures { IsUnserved result ⊎ IsServedFor Bodies service.now.process.now (O.contents output.new) result }
+    ensures { IsUnserved result ⊎ IsServedFor Bodies service.now.process.now (O.contents output.new) (O.failures output.old < O.failures output.new) result }
 {
     let (file, is_made) = match journal_at(rt, service.journal, errors) {
         Ok(opened) => opened,
@@ -288,10 +289,10 @@ fn serve_at<
         + Send
         + Sync
         + 'static,
-    O: Write,
+    O: Sink,
     E: Write + IsTerminal,
 >(rt: &R, service: &Service<'_>, script: &[u8], door: D, output: &mut O, errors: &mut E) -> Exit
-    ensures { IsUnserved result ⊎ IsServedFor (cond service.now.large Bodies Steps) service.now.process.now (O.contents output.new) result }
+    ensures { IsUnserved result ⊎ IsServedFor (cond service.now.large Bodies Steps) service.now.process.now (O.contents output.new) (O.failures output.old < O.failures output.new) result }
 {
     if service.large {
         serve_in_parts(rt, rt, service, script, door, output, errors)
@@ -316,7 +317,7 @@ fn serve_through<
         + Send
         + Sync
         + 'static,
-    O: Write,
+    O: Sink,
     E: Write + IsTerminal,
 >(
     rt: &'a R,
@@ -326,7 +327,7 @@ fn serve_through<
     output: &mut O,
     errors: &mut E,
 ) -> Exit
-    ensures { IsUnserved result ⊎ IsServedFor (cond service.now.large Bodies Steps) service.now.process.now (O.contents output.new) result }
+    ensures { IsUnserved result ⊎ IsServedFor (cond service.now.large Bodies Steps) service.now.process.now (O.contents output.new) (O.failures output.old < O.failures output.new) result }
 {
     match service.log {
         Some(name) => match Logged::new(rt, service, name, door) {

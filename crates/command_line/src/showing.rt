@@ -15,9 +15,10 @@ use std::alloc::Global;
 use std::fs::File;
 use std::io::{IsTerminal, Write};
 use std::rt::Files;
+use wire::Sink;
 
 // Writes what is shown of the history that the disk holds, judged again. The answer is the exit status that it asks for, and the disk.
-fn display<D: Disk + Drop, O: Write>(
+fn display<D: Disk + Drop, O: Sink>(
     alloc: Global,
     disk: D,
     options: Options,
@@ -35,7 +36,7 @@ fn display<D: Disk + Drop, O: Write>(
 }
 
 // The same of a journal in parts, with the number of bytes that come after its last record.
-fn display_parts<F: Folder + Drop, O: Write>(
+fn display_parts<F: Folder + Drop, O: Sink>(
     alloc: Global,
     folder: F,
     options: Options,
@@ -67,7 +68,7 @@ fn tell_display<R: Files<File = File>, E: Write + IsTerminal>(
 }
 
 // `show`, of a large journal.
-fn show_large<R: Files<File = File> + FileSystem + AllocGlobal, O: Write, E: Write + IsTerminal>(
+fn show_large<R: Files<File = File> + FileSystem + AllocGlobal, O: Sink, E: Write + IsTerminal>(
     rt: &R,
     name: &str,
     options: Options,
@@ -92,7 +93,7 @@ fn show_large<R: Files<File = File> + FileSystem + AllocGlobal, O: Write, E: Wri
 /// Judges the records of the journal in the file again, writes what is asked for of them, and answers the exit status. The file is only
 /// read, as it stands in this moment: another run may have it open. What stands past the first closed gate is reported. A large
 /// journal may have further files.
-pub fn show<R: Files<File = File> + FileSystem + AllocGlobal, O: Write, E: Write + IsTerminal>(
+pub fn show<R: Files<File = File> + FileSystem + AllocGlobal, O: Sink, E: Write + IsTerminal>(
     rt: &R,
     name: &str,
     options: Options,

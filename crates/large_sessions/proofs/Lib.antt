@@ -4,5 +4,6 @@ pub mod Going
 pub mod Stepping
 pub mod Went
 pub mod Finishing
+pub mod Refusing
 -- Of the layers below, for those above.
 pub use Rattle.parts.proofs.Firsts

@@ -1,5 +1,5 @@
 -- What is shown of a journal in parts.
-use Rattle.std.proofs.Common.{◌≡◌, ◌<◌, ◌^◌, ℕ, IsTrue, List, [], ◌∷◌, ◌++◌, Option, Result, Ok, Err, IfErr, IsErrAnd, MatchResult, OnOk, length, drop, inl, refl, sym, ◌∙◌, ap, subst}
+use Rattle.std.proofs.Common.{◌≡◌, ◌<◌, ◌^◌, ℕ, IsTrue, List, [], ◌∷◌, ◌++◌, Option, None, Result, Ok, Err, IfErr, IsErrAnd, MatchResult, OnOk, length, drop, inl, refl, sym, ◌∙◌, ap, subst}
 use Rattle.disk.specs.State.{FolderState}
 use Rattle.disk.specs.Calls.{Continues}
 use Rattle.disk.proofs.Moments.{continues_on}
@@ -8,7 +8,10 @@ use Rattle.shared.specs.Beginnings.{StartsWith}
 use Rattle.shared.specs.Entry.{Entry}
 use Rattle.shared.specs.Legal.{IsJudged}
 use Rattle.shared.specs.SessionError.{SessionError}
+use Rattle.large_sessions.specs.Faults.{HaveFault}
+use Rattle.large_sessions.specs.PartsError.{PartsError}
 use Rattle.large_sessions.specs.Sessions.{AreReplayOf, HaveNoSession, IsStartOf, Replayed}
+use Rattle.large_sessions.proofs.Refusing.{refused_for}
 use Rattle.large_sessions.proofs.Went.{Went}
 use Rattle.std.specs.Io.KnownBytes.{Appends}
 use Rattle.shared.specs.Entries.{summary_of}
@@ -19,7 +22,7 @@ use Rattle.shown.specs.Shows.{Sends, Writes}
 use Rattle.shown.specs.Showings.{Begun}
 use Rattle.program.specs.declared.showing.DisplayError.{DisplayError}
 use Rattle.program.specs.declared.showing.DisplayError.TheVariants.{Session, Output}
-use Rattle.program.specs.Parts.{HaveNoDisplay}
+use Rattle.program.specs.Parts.{HaveNoDisplay, HaveNoDisplayFor}
 use Rattle.program.specs.Showings.{IsBeyond, WritesAll, summary_text}
 
 -- the replay is of the folder that was in this state, whose files it left as they were
@@ -53,6 +56,11 @@ module _ {F : Type 0} (state : F → FolderState) (s : FolderState) (size : ℕ)
   display_from e why claims =
       subst (λ (n : ℕ). HaveNoDisplay n s.bytes e) f.size_is (subst (λ (l : List (List ℕ)). HaveNoDisplay r.opened.held.size l e) (f.bytes claims) (why (claims_at claims)))
 
+  -- files that have no fault had none
+  pub no_fault_from : (IsTrue (state r.opened.held.folder).claims_bytes → (fault : PartsError) → HaveFault r.opened.held.size (state r.opened.held.folder).bytes fault → ⊥) → IsTrue s.claims_bytes → (fault : PartsError) → HaveFault size s.bytes fault → ⊥
+  no_fault_from none claims fault has =
+      none (claims_at claims) fault (subst (λ (n : ℕ). HaveFault n (state r.opened.held.folder).bytes fault) (sym f.size_is) (subst (λ (l : List (List ℕ)). HaveFault size l fault) (sym (f.bytes claims)) has))
+
   -- more was read
   pub from_on : (new : Replayed F) → Went state r new → IsFrom state s size new
   from_on new w = record {
@@ -72,6 +80,11 @@ ends_at state s size r f all claims script root spec h is start =
 pub no_display : (size : ℕ) (files : List (List ℕ)) (e : DisplayError) → IsBeyond e → HaveNoDisplay size files e
 no_display size files (Session error) beyond = inl beyond
 no_display size files Output beyond = tt
+
+-- so files with a fault aren't, for it
+pub refused_display : (size : ℕ) (files : List (List ℕ)) (fault : PartsError) (e : DisplayError) → HaveFault size files fault → HaveNoDisplay size files e → HaveNoDisplayFor size files fault e
+refused_display size files fault (Session error) has why = refused_for size files fault error has why
+refused_display size files fault Output has why = tt
 
 -- what holds of each value, of a result that is one
 pub of_ok : {T E : Type 0} (result : Result T E) (P : Type 0) → ((e : E) → result ≡ Err e → ⊥) → OnOk result P → P
@@ -104,14 +117,16 @@ pub let_go_of : {F : Type 0} (old new : Replayed F) → new.taken ≡ record old
     → (new.taken.spec ≡ old.taken.spec) × (new.taken.entries ≡ old.taken.entries) × (new.taken.gone ≡ length old.taken.entries)
 let_go_of old new taken = (λ i. (taken i).spec, λ i. (taken i).entries, λ i. (taken i).gone)
 
--- what was read so far is shown, and its text was written but for an end
-pub record AreShown {F : Type 0} (state : F → FolderState) (first now : Replayed F) (begun showing : Begun) (old new : Option (List ℕ)) : Type 0 where
+-- what was read so far is shown, and its text was written but for an end; the output hasn't failed
+pub record AreShown {F : Type 0} (state : F → FolderState) (first now : Replayed F) (begun showing : Begun) (old new : Option (List ℕ)) (before failures : ℕ) : Type 0 where
   pub went : Went state first now
   pub spec_is : showing.spec ≡ now.taken.spec
   pub same : showing.spec ≡ begun.spec
   pub options_are : showing.options ≡ begun.options
   pub history_is : showing.history ≡ now.taken.entries
   pub sends : Sends old new [] showing.written
+  pub sound : showing.fault ≡ None
+  pub steady : failures ≡ before
 
 -- the lines but for their end, and then that and the counts
 pub written_all : (spec : Specified) (h : List Entry) (options : Options) (old mid new : Option (List ℕ)) (left : List ℕ) (counts : Summary) → counts ≡ summary_of h → Writes options spec h old mid left

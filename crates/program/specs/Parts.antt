@@ -3,7 +3,8 @@ use Rattle.std.specs.Prelude.{ℕ, List, Option, IsTrue}
 use Rattle.disk.specs.State.{FolderState}
 use Rattle.term.specs.Specs.{Specified}
 use Rattle.shared.specs.Entry.{Entry}
-use Rattle.large_sessions.specs.Sessions.{AreReplayOf, HaveNoSession}
+use Rattle.large_sessions.specs.PartsError.{PartsError}
+use Rattle.large_sessions.specs.Sessions.{AreRefusedFor, AreReplayOf, HaveNoSession}
 use Rattle.shown.specs.declared.options.Options.{Options}
 use Rattle.shown.specs.Shows.{Shows}
 use Rattle.program.specs.declared.showing.DisplayError.{DisplayError}
@@ -16,6 +17,11 @@ use Rattle.program.specs.Followings.{IsAnother, WritesOn}
 abbrev pub HaveNoDisplay : ℕ → List (List ℕ) → DisplayError → Type 0
 HaveNoDisplay size files (Session error) = HaveNoSession size files error
 HaveNoDisplay size files Output = Unit {0}
+
+-- why a journal in files that have this fault isn't displayed: for that, or the output failed
+abbrev pub HaveNoDisplayFor : ℕ → List (List ℕ) → PartsError → DisplayError → Type 0
+HaveNoDisplayFor size files fault (Session error) = AreRefusedFor size files fault error
+HaveNoDisplayFor size files fault Output = Unit {0}
 
 -- The text is that of the history that the folder's files hold, as asked for.
 pub record AreTextOf (size : ℕ) (s : FolderState) (options : Options) (text : List ℕ) : Type 0 where

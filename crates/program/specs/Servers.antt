@@ -20,6 +20,7 @@ use Rattle.shared.specs.Scripts.{IsReadAs, IsReplayOf}
 use Rattle.shared.specs.SessionView.{SessionView, IsBegun, IsFor, IsOn, IsRecorded}
 use Rattle.shared.specs.Summary.{Summary}
 use Rattle.large_sessions.specs.Parts as parts
+use Rattle.large_sessions.specs.PartsError.{PartsError}
 use Rattle.large_sessions.specs.Recorder.{in_folder}
 use Rattle.large_sessions.specs.Sessions.{AreReplayOf}
 use Rattle.attending.specs.Courses.{status_by}
@@ -29,7 +30,7 @@ use Rattle.serving.specs.declared.opening.OpenError.{OpenError}
 use Rattle.serving.specs.Held as one
 use Rattle.serving.specs.Held.{Holds, IsDevice, IsLeft, IsOutside, IsUnheld}
 use Rattle.serving.specs.HeldInParts as several
-use Rattle.serving.specs.HeldInParts.{AreNew, AreUnheld, HoldAlike, HoldSession}
+use Rattle.serving.specs.HeldInParts.{AreNew, AreUnheld, AreUnheldFor, HoldAlike, HoldSession}
 use Rattle.serving.specs.Plans.{WentBy}
 use Rattle.program.specs.declared.served.Demand.{Demand}
 use Rattle.program.specs.declared.served.Line.{Line}
@@ -39,11 +40,11 @@ use Rattle.program.specs.declared.served.Unserved.TheVariants.{Unopened, Shut, M
 
 -- ---- the end
 
--- what was written where this became of the line with these counts, of a session that is closed or not
-abbrev pub IsWritten : Line → Summary → Bool → Option (List ℕ) → Option (List ℕ) → Type 0
-IsWritten Written summary closed old new = Appends old new (status_text (status_by summary closed))
-IsWritten Unwritten summary closed old new = Unit {0}
-IsWritten Unmade summary closed old new = new ≡ old
+-- what was written where this became of the line with these counts, of a session that is closed or not; it is left out where the output failed or memory ran out alone
+abbrev pub IsWritten : Line → Summary → Bool → Option (List ℕ) → Option (List ℕ) → Type 0 → Type 0
+IsWritten Written summary closed old new failed = Appends old new (status_text (status_by summary closed))
+IsWritten Unwritten summary closed old new failed = failed
+IsWritten Unmade summary closed old new failed = new ≡ old
 
 -- The exit status is that of a run with these totals, and with an accept that failed or not. Where the line couldn't be written, it is as if
 -- an accept had failed; where there was no memory for it, as if a limit had been met.
@@ -53,8 +54,8 @@ IsEnd Unwritten closed totals accept_failed exit = exit ≡ (service_status clos
 IsEnd Unmade closed totals accept_failed exit = exit ≡ (service_status closed accept_failed (record totals { limit = true }))
 
 -- both
-abbrev pub IsTold : Line → Summary → Bool → Totals → Bool → Option (List ℕ) → Option (List ℕ) → Exit → Type 0
-IsTold line summary closed totals accept_failed old new exit = IsWritten line summary closed old new × IsEnd line closed totals accept_failed exit
+abbrev pub IsTold : Line → Summary → Bool → Totals → Bool → Option (List ℕ) → Option (List ℕ) → Type 0 → Exit → Type 0
+IsTold line summary closed totals accept_failed old new failed exit = IsWritten line summary closed old new failed × IsEnd line closed totals accept_failed exit
 
 -- ---- the connections
 
@@ -64,8 +65,8 @@ module _ {S L R W : Type 0} (opens : S → Option (List ℕ) → Option (List �
     (takes : L → R → W → L → Type 0) (fails waits : L → L → Type 0) (left : R → Option (List ℕ)) (closed : R → Type 0) (contents : W → Option (List ℕ)) (tells : W → Fault → Type 0) where
   -- A session of this specification that began with the first history, and ended with the second, closed by its device or not, was served as was
   -- asked: the doors were opened, this came of the connections that were taken, the doors were closed after that, and the line of the counts was
-  -- written last, or not, with the status that goes with it.
-  pub record IsServedBy (demand : Demand) (spec : Specified) (opening history : List Entry) (is_closed : Bool) (doors doors_then : S) (old new : Option (List ℕ)) (line : Line) (exit : Exit) : Type 0 where
+  -- written last, or not, since the output failed or there was no memory for it, with the status that goes with it.
+  pub record IsServedBy (demand : Demand) (spec : Specified) (opening history : List Entry) (is_closed : Bool) (doors doors_then : S) (old new : Option (List ℕ)) (failed : Type 0) (line : Line) (exit : Exit) : Type 0 where
     pub accept : L
     pub open_doors : S
     pub told : Option (List ℕ)
@@ -74,7 +75,7 @@ module _ {S L R W : Type 0} (opens : S → Option (List ℕ) → Option (List �
     pub opened : opens doors old told accept open_doors
     pub went : WentBy takes fails waits left closed contents tells accept demand.plan demand.retries demand.counts spec opening history totals accept_failed
     pub shut : closes open_doors totals accept_failed doors_then
-    pub ended : IsTold line (summary_of history) is_closed totals accept_failed told new exit
+    pub ended : IsTold line (summary_of history) is_closed totals accept_failed told new failed exit
 
 -- ---- a journal that is one file
 
@@ -184,6 +185,12 @@ abbrev pub IsUnopenedFor : {D J : Type 0} → OpenError → Unserved D J → Typ
 IsUnopenedFor why (Unopened error disk) = (error ≡ why) ⊎ IsOutside error
 IsUnopenedFor why (Shut exit session) = ⊥
 IsUnopenedFor why Memory = ⊥
+
+-- it is for this fault of the files that there is no session
+abbrev pub AreUnopenedFor : {D J : Type 0} → ℕ → List (List ℕ) → PartsError → Unserved D J → Type 0
+AreUnopenedFor size files fault (Unopened error folder) = AreUnheldFor size files fault error
+AreUnopenedFor size files fault (Shut exit session) = ⊥
+AreUnopenedFor size files fault Memory = ⊥
 
 -- Where there is no session the doors stay as they were, and nothing is written; where memory ran out after that, they were opened.
 abbrev pub IsBefore : {D J S L : Type 0} → (S → Option (List ℕ) → Option (List ℕ) → L → S → Type 0) → S → S → Option (List ℕ) → Option (List ℕ) → Unserved D J → Type 0

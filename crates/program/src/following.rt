@@ -1,19 +1,19 @@
 //! The history of a journal, shown further: what came to it since it was shown.
 
-ghost use Rattle.std.specs.Prelude.{◌≡◌, ◌≢◌, ◌++◌, IfOk, IfErr, OnOk};
+ghost use Rattle.std.specs.Prelude.{◌≡◌, ◌≢◌, ◌<◌, ◌++◌, IfOk, IfErr, OnOk, IsErrOf};
 ghost use Rattle.shared.specs.Records.{names_of as names_kept};
 ghost use Rattle.shared.specs.Scripts.{IsReadAs};
 ghost use Rattle.shown.specs.Shows.{Shows};
 ghost use Rattle.program.specs.Followings.{Follows, IsNotFollowed, IsUnwritten, WritesOn};
 
 use crate::replaying::{Replayed, replay};
-use crate::showing::{lines_of, put_out};
+use crate::showing::lines_of;
 use disk::Disk;
 use journal::{Header, after};
 use shared::{Session, SessionError};
 use shown::Options;
 use std::alloc::{AllocError, Allocator};
-use std::io::Write;
+use wire::{Plain, Sink, SinkFault, send};
 
 /// Why nothing further is shown of a journal.
 #[derive(Clone, Copy, Debug, PartialEq, Eq)]
@@ -55,9 +55,9 @@ fn text_of<D: Disk, A: Allocator + Copy>(
     requires { IsReadAs (names_kept header.now.version) header.now.script.items header.now.root.items session.now.spec }
     ensures { IfOk result (λ text. Shows options session.now.spec session.now.history text.items) }
 {
-    let mut text = Vec::new(alloc);
+    let mut text = Plain::new(Vec::new(alloc));
     match lines_of(alloc, session, header, options, &mut text) {
-        Ok(left) => joined(text, left),
+        Ok(left) => joined(text.into_inner(), left),
         Err(_) => {
             drop(text);
             Err(AllocError)
@@ -66,17 +66,18 @@ fn text_of<D: Disk, A: Allocator + Copy>(
 }
 
 // Writes what the text has more than what was shown before.
-fn write_rest<W: Write>(text: &[u8], before: &[u8], output: &mut W) -> Result<(), FollowError>
+fn write_rest<W: Sink>(text: &[u8], before: &[u8], output: &mut W) -> Result<(), FollowError>
     ensures written { OnOk result (WritesOn before.now text.now (W.contents output.old) (W.contents output.new)) }
     ensures fault { IfErr result (IsUnwritten before.now text.now) }
     ensures silent { IfErr result (λ error. error ≢ FollowError.Output → output.new ≡ output.old) }
+    ensures output_failed { IsErrOf result FollowError.Output → W.failures output.old < W.failures output.new }
 {
     let Some(rest) = after(text, before) else {
         return Err(FollowError::Changed);
     };
-    match put_out(rest, output) {
+    match send(output, rest) {
         Ok(()) => Ok(()),
-        Err(_) => Err(FollowError::Output),
+        Err(SinkFault) => Err(FollowError::Output),
     }
 }
 
@@ -84,7 +85,7 @@ fn write_rest<W: Write>(text: &[u8], before: &[u8], output: &mut W) -> Result<()
 /// shown of it before; so what is written in all is what `show` would write of the journal as it is now, but for the counts. The
 /// answer is that text, for the next call. The errors are those of `replay`, that of the output, and that the journal isn't the one
 /// that was shown. Each call judges the whole history, and holds its text.
-pub fn follow<D: Disk + Drop, A: Allocator + Copy, W: Write>(
+pub fn follow<D: Disk + Drop, A: Allocator + Copy, W: Sink>(
     alloc: A,
     disk: D,
     options: Options,
@@ -96,6 +97,7 @@ pub fn follow<D: Disk + Drop, A: Allocator + Copy, W: Write>(
     // Or nothing further is shown, for this reason; and nothing is written, unless the output fails.
     ensures fault { IfErr result (IsNotFollowed (D.state disk) options before.items) }
     ensures silent { IfErr result (λ error. error ≢ FollowError.Output → output.new ≡ output.old) }
+    ensures output_failed { IsErrOf result FollowError.Output → W.failures output.old < W.failures output.new }
 {
     let Replayed {
         session,
@@ -123,7 +125,7 @@ pub fn follow<D: Disk + Drop, A: Allocator + Copy, W: Write>(
 }
 
 // Writes what the text has more than what was shown before, and gives it back.
-pub(crate) fn show_on<A: Allocator, W: Write>(
+pub(crate) fn show_on<A: Allocator, W: Sink>(
     text: Vec<u8, A>,
     before: Vec<u8, A>,
     output: &mut W,
@@ -131,6 +133,7 @@ pub(crate) fn show_on<A: Allocator, W: Write>(
     ensures written { IfOk result (λ whole. (whole ≡ text) × WritesOn before.items text.items (W.contents output.old) (W.contents output.new)) }
     ensures fault { IfErr result (IsUnwritten before.items text.items) }
     ensures silent { IfErr result (λ error. error ≢ FollowError.Output → output.new ≡ output.old) }
+    ensures output_failed { IsErrOf result FollowError.Output → W.failures output.old < W.failures output.new }
 {
     let written = write_rest(&text, &before, output);
     drop(before);

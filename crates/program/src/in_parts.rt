@@ -1,6 +1,6 @@
 //! Journals in parts, replayed and shown, one part after the other.
 
-ghost use Rattle.std.specs.Prelude.{◌≡◌, ◌≢◌, ◌⊎◌, ◌≤◌, ◌<◌, ◌^◌, ◌++◌, Ok, length, ℕ, List, [], false, IsTrue, IfOk, IfErr, OnOk, MatchResult};
+ghost use Rattle.std.specs.Prelude.{◌≡◌, ◌≢◌, ◌⊎◌, ◌≤◌, ◌<◌, ◌^◌, ◌++◌, Ok, length, ℕ, List, [], false, IsTrue, IfOk, IfErr, OnOk, MatchResult, IsErrOf, None};
 ghost use Rattle.std.specs.Io.KnownBytes.{Appends};
 ghost use Rattle.disk.specs.Calls.{Continues};
 ghost use Rattle.term.specs.Specs.{Specified};
@@ -9,12 +9,14 @@ ghost use Rattle.shared.specs.Scripts.{IsOutside, IsReadAs};
 ghost use Rattle.shared.specs.Records.{names_of as names_kept};
 ghost use Rattle.wire.specs.Replies.{status_text};
 ghost use Rattle.attending.specs.Courses.{status_of};
+ghost use Rattle.large_sessions.specs.Faults.{HaveFault};
 ghost use Rattle.large_sessions.specs.Opening.{IsDone};
 ghost use Rattle.large_sessions.specs.Parts.{IsAlike};
-ghost use Rattle.large_sessions.specs.Sessions.{AreReplayOf, HaveNoSession, IsStartOf};
+ghost use Rattle.large_sessions.specs.PartsError.{PartsError};
+ghost use Rattle.large_sessions.specs.Sessions.{AreRefusedFor, AreReplayOf, HaveNoSession, IsStartOf};
 ghost use Rattle.shown.specs.Shows.{Sends, Writes};
 ghost use Rattle.program.specs.Exits.{replay_exit};
-ghost use Rattle.program.specs.Parts.{AreFollowed, AreNotFollowed, AreTextOf, HaveNoDisplay};
+ghost use Rattle.program.specs.Parts.{AreFollowed, AreNotFollowed, AreTextOf, HaveNoDisplay, HaveNoDisplayFor};
 ghost use Rattle.program.specs.Showings.{IsBeyond, WritesAll};
 
 use crate::following::{FollowError, joined, show_on};
@@ -27,7 +29,7 @@ use large_sessions::Replaying;
 use shared::{SessionError, names_of, read_as};
 use shown::{Options, Showing};
 use std::alloc::{AllocError, Allocator};
-use std::io::Write;
+use wire::{Plain, Sink};
 
 /// What a replay of a journal in parts comes to.
 #[derive(Drop)]
@@ -50,6 +52,7 @@ fn whole_of<F: Folder + Drop, A: Allocator + Copy>(
     ensures done { IfOk result (λ r. IsDone r.opened) }
     ensures replayed { IfOk result (λ r. IsTrue (F.state folder).claims_bytes
         → AreReplayOf size (F.state folder).bytes r.opened.held.script r.opened.held.root r.taken.spec r.taken.entries) }
+    ensures no_fault { OnOk result (IsTrue (F.state folder).claims_bytes → (fault : PartsError) → HaveFault size (F.state folder).bytes fault → ⊥) }
     ensures fault { IfErr result (λ error. IsTrue (F.state folder).claims_bytes → HaveNoSession size (F.state folder).bytes error) }
     ensures only { IsTrue (F.state folder).claims_bytes → (script root : List ℕ) (spec : Specified) (h : List Entry)
         → AreReplayOf size (F.state folder).bytes script root spec h → length h < 2 ^ 62
@@ -94,10 +97,12 @@ pub fn replay_parts<F: Folder + Drop, A: Allocator + Copy>(
     // Or the files have no session for this reason.
     ensures fault { IfErr result (λ error. IsTrue (F.state folder).claims_bytes → HaveNoSession size (F.state folder).bytes error) }
 
-    // Files that hold a history give it, with what its script denotes, device and memory apart.
+    // Files that hold a history give it, with what its script denotes, and files that have a fault are refused for it, device and memory apart.
     ensures only { IsTrue (F.state folder).claims_bytes → (script root : List ℕ) (spec : Specified) (h : List Entry)
         → AreReplayOf size (F.state folder).bytes script root spec h → length h < 2 ^ 62
         → MatchResult result (λ r. (r.replaying.taken.spec ≡ spec) × (r.replaying.taken.entries ≡ h)) IsOutside }
+    ensures refuses { IsTrue (F.state folder).claims_bytes → (fault : PartsError) → HaveFault size (F.state folder).bytes fault
+        → MatchResult result (λ _. ⊥) (AreRefusedFor size (F.state folder).bytes fault) }
 {
     let replaying = whole_of(alloc, folder, size)?;
     let summary = replaying.summary();
@@ -123,6 +128,8 @@ fn begin_both<F: Folder + Drop, A: Allocator + Copy>(
 ) -> Result<(Replaying<F, A>, Showing<A>), DisplayError>
     requires { 1 ≤ size }
     ensures showing { IfOk result (λ p. (p.1.spec ≡ p.0.taken.spec) × (p.1.options ≡ options) × (p.1.history ≡ []) × (p.1.written ≡ [])) }
+    ensures sound { IfOk result (λ p. p.1.fault ≡ None) }
+    ensures inside { IsErrOf result DisplayError.Output → ⊥ }
     ensures gone { IfOk result (λ p. p.0.taken.gone ≡ 0) }
     ensures size { IfOk result (λ p. p.0.opened.held.size ≡ size) }
     ensures folder { IfOk result (λ p. Continues (F.state folder) (F.state p.0.opened.held.folder)) }
@@ -155,7 +162,7 @@ fn begin_both<F: Folder + Drop, A: Allocator + Copy>(
 }
 
 // Shows what the parts hold, one after the other. The entries of a part are let go before the next one is read.
-fn show_each<F: Folder + Drop, A: Allocator + Copy, W: Write>(
+fn show_each<F: Folder + Drop, A: Allocator + Copy, W: Sink>(
     alloc: A,
     replaying: Replaying<F, A>,
     showing: &mut Showing<A>,
@@ -163,13 +170,19 @@ fn show_each<F: Folder + Drop, A: Allocator + Copy, W: Write>(
 ) -> Result<Replaying<F, A>, DisplayError>
     requires spec { showing.old.spec ≡ replaying.taken.spec }
     requires none { (showing.old.history ≡ []) × (showing.old.written ≡ []) × (replaying.taken.gone ≡ 0) }
+    requires sound { showing.old.fault ≡ None }
     ensures done { IfOk result (λ r. IsDone r.opened) }
     ensures alike { IfOk result (λ r. IsAlike replaying.opened.held r.opened.held × (r.taken.spec ≡ replaying.taken.spec)) }
     ensures options { (showing.new.options ≡ showing.old.options) × (showing.new.spec ≡ showing.old.spec) }
     ensures history { IfOk result (λ r. showing.new.history ≡ r.taken.entries) }
     ensures sends { OnOk result (Sends (W.contents output.old) (W.contents output.new) [] showing.new.written) }
+    ensures sound { OnOk result (showing.new.fault ≡ None) }
+    ensures steady { OnOk result (W.failures output.new ≡ W.failures output.old) }
+    ensures output_failed { IsErrOf result DisplayError.Output → W.failures output.old < W.failures output.new }
     ensures held { IfOk result (λ r. IsTrue (F.state replaying.opened.held.folder).claims_bytes
         → AreReplayOf replaying.opened.held.size (F.state replaying.opened.held.folder).bytes r.opened.held.script r.opened.held.root r.taken.spec r.taken.entries) }
+    ensures no_fault { OnOk result (IsTrue (F.state replaying.opened.held.folder).claims_bytes → (fault : PartsError)
+        → HaveFault replaying.opened.held.size (F.state replaying.opened.held.folder).bytes fault → ⊥) }
     ensures fault { IfErr result (λ error. IsTrue (F.state replaying.opened.held.folder).claims_bytes
         → HaveNoDisplay replaying.opened.held.size (F.state replaying.opened.held.folder).bytes error) }
     ensures only { IsTrue (F.state replaying.opened.held.folder).claims_bytes → (script root : List ℕ) (spec : Specified) (h : List Entry)
@@ -199,7 +212,7 @@ fn show_each<F: Folder + Drop, A: Allocator + Copy, W: Write>(
 }
 
 // Writes the lines of what the parts hold, but for their end, which is answered.
-fn lines_of_parts<F: Folder + Drop, A: Allocator + Copy, W: Write>(
+fn lines_of_parts<F: Folder + Drop, A: Allocator + Copy, W: Sink>(
     alloc: A,
     folder: F,
     size: usize,
@@ -208,9 +221,12 @@ fn lines_of_parts<F: Folder + Drop, A: Allocator + Copy, W: Write>(
 ) -> Result<(Replaying<F, A>, Vec<u8, A>), DisplayError>
     requires { 1 ≤ size }
     ensures done { IfOk result (λ r. IsDone r.0.opened) }
+    ensures no_fault { OnOk result (IsTrue (F.state folder).claims_bytes → (fault : PartsError) → HaveFault size (F.state folder).bytes fault → ⊥) }
     ensures replayed { IfOk result (λ r. IsTrue (F.state folder).claims_bytes
         → AreReplayOf size (F.state folder).bytes r.0.opened.held.script r.0.opened.held.root r.0.taken.spec r.0.taken.entries) }
     ensures text { IfOk result (λ r. Writes options r.0.taken.spec r.0.taken.entries (W.contents output.old) (W.contents output.new) r.1.items) }
+    ensures steady { OnOk result (W.failures output.new ≡ W.failures output.old) }
+    ensures output_failed { IsErrOf result DisplayError.Output → W.failures output.old < W.failures output.new }
     ensures fault { IfErr result (λ error. IsTrue (F.state folder).claims_bytes → HaveNoDisplay size (F.state folder).bytes error) }
     ensures only { IsTrue (F.state folder).claims_bytes → (script root : List ℕ) (spec : Specified) (h : List Entry)
         → AreReplayOf size (F.state folder).bytes script root spec h → length h < 2 ^ 62
@@ -243,8 +259,9 @@ pub struct DisplayedParts<F: Folder, A: Allocator> {
 
 /// Judges the records of a journal in parts again, one part after the other, and writes what is asked for of its history: the lines, and then
 /// the counts. Nothing is written to the files. The errors are those of `replay_parts`, and that of the output; a part of the text may have
-/// been written then, of 64 KiB or more. Takes memory for one part.
-pub fn show_parts<F: Folder + Drop, A: Allocator + Copy, W: Write>(
+/// been written then, of 64 KiB or more. The lines of a part are written before the next part is read: so of files with a fault those of the
+/// parts before it may have been. Takes memory for one part.
+pub fn show_parts<F: Folder + Drop, A: Allocator + Copy, W: Sink>(
     alloc: A,
     folder: F,
     size: usize,
@@ -260,8 +277,11 @@ pub fn show_parts<F: Folder + Drop, A: Allocator + Copy, W: Write>(
     ensures text { IfOk result (λ r. WritesAll r.replaying.taken.spec r.replaying.taken.entries options (W.contents output.old) (W.contents output.new)) }
     ensures exit { IfOk result (λ r. r.exit ≡ replay_exit r.replaying.taken.entries) }
 
-    // Or the files have no session for this reason, or the output failed.
+    // Or the files have no session for this reason, or the output failed. Files that have a fault are refused for it.
     ensures fault { IfErr result (λ error. IsTrue (F.state folder).claims_bytes → HaveNoDisplay size (F.state folder).bytes error) }
+    ensures output_failed { IsErrOf result DisplayError.Output → W.failures output.old < W.failures output.new }
+    ensures refuses { IsTrue (F.state folder).claims_bytes → (fault : PartsError) → HaveFault size (F.state folder).bytes fault
+        → MatchResult result (λ _. ⊥) (HaveNoDisplayFor size (F.state folder).bytes fault) }
 
     // Of files that hold a history exactly what `Displays` has of it is written. Devices and memory apart.
     ensures only { IsTrue (F.state folder).claims_bytes → (script root : List ℕ) (spec : Specified) (h : List Entry)
@@ -295,11 +315,11 @@ fn text_of_parts<F: Folder + Drop, A: Allocator + Copy>(
     ensures text { IfOk result (λ text. AreTextOf size (F.state folder) options text.items) }
     ensures fault { IfErr result (λ error. IsTrue (F.state folder).claims_bytes → HaveNoDisplay size (F.state folder).bytes error) }
 {
-    let mut text = Vec::new(alloc);
+    let mut text = Plain::new(Vec::new(alloc));
     match lines_of_parts(alloc, folder, size, options, &mut text) {
         Ok((replaying, left)) => {
             drop(replaying);
-            match joined(text, left) {
+            match joined(text.into_inner(), left) {
                 Ok(text) => Ok(text),
                 Err(AllocError) => Err(DisplayError::Session(SessionError::Memory)),
             }
@@ -312,7 +332,7 @@ fn text_of_parts<F: Folder + Drop, A: Allocator + Copy>(
 }
 
 /// `follow`, of a journal in parts.
-pub fn follow_parts<F: Folder + Drop, A: Allocator + Copy, W: Write>(
+pub fn follow_parts<F: Folder + Drop, A: Allocator + Copy, W: Sink>(
     alloc: A,
     folder: F,
     size: usize,
@@ -324,6 +344,7 @@ pub fn follow_parts<F: Folder + Drop, A: Allocator + Copy, W: Write>(
     ensures followed { IfOk result (λ text. AreFollowed size (F.state folder) options before.items text.items (W.contents output.old) (W.contents output.new)) }
     ensures fault { IfErr result (AreNotFollowed size (F.state folder) options before.items) }
     ensures silent { IfErr result (λ error. error ≢ FollowError.Output → output.new ≡ output.old) }
+    ensures output_failed { IsErrOf result FollowError.Output → W.failures output.old < W.failures output.new }
 {
     match text_of_parts(alloc, folder, size, options) {
         Ok(text) => show_on(text, before, output),

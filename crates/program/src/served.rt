@@ -1,7 +1,7 @@
 //! The whole of a server: a session of a script on a journal that may be there already, the connections that are served at it, the line
 //! with its counts, and the exit status.
 
-ghost use Rattle.std.specs.Prelude.{◌≡◌, ◌≢◌, ◌≤◌, ◌<◌, ◌^◌, [], ℕ, Bool, List, Option, is_some, length, IsTrue, IfOk, IfErr, MatchResult};
+ghost use Rattle.std.specs.Prelude.{◌≡◌, ◌≢◌, ◌≤◌, ◌<◌, ◌^◌, [], ℕ, Bool, List, Option, is_some, length, IsTrue, IfOk, IfErr, OnOk, MatchResult};
 ghost use Rattle.term.specs.Proc.{bodies_of};
 ghost use Rattle.term.specs.Specs.{Specified};
 ghost use Rattle.answers.specs.declared.exit.Exit.{Exit};
@@ -17,10 +17,11 @@ ghost use Rattle.shared.specs.Records.{AreReports, names_of as names_kept};
 ghost use Rattle.connections.specs.declared.totals.Totals.{Totals};
 ghost use Rattle.connections.specs.Outcomes.{WasTold};
 ghost use Rattle.serving.specs.Held.{Holds, IsOfAnother};
-ghost use Rattle.serving.specs.HeldInParts.{AreOfAnother, HoldSession};
-ghost use Rattle.program.specs.Servers.{AreInPlace, AreOpenedIn, AreServedIn, AreUnopenedIn, IsBefore, IsEnd, IsInPlace, IsOpenedOn, IsServedBy, IsServedOn, IsShutOn, IsTold, IsUnopenedFor, IsUnopenedOn, IsUnserved, IsWritten};
+ghost use Rattle.large_sessions.specs.Faults.{HaveFault};
+ghost use Rattle.large_sessions.specs.PartsError.{PartsError};
+ghost use Rattle.serving.specs.HeldInParts.{AreNew, AreOfAnother, HoldSession};
+ghost use Rattle.program.specs.Servers.{AreInPlace, AreOpenedIn, AreServedIn, AreUnopenedFor, AreUnopenedIn, IsBefore, IsEnd, IsInPlace, IsOpenedOn, IsServedBy, IsServedOn, IsShutOn, IsTold, IsUnopenedFor, IsUnopenedOn, IsUnserved, IsWritten};
 
-use crate::showing::put_out;
 use crate::summaries::summary_line;
 use answers::Exit;
 use connections::{Listen, Totals};
@@ -29,11 +30,11 @@ use journal::Journal;
 use serving::{OpenError, Parts, Plan, Run, exit_of, open, open_parts};
 use shared::{Recorder, SessionOn};
 use std::alloc::{AllocError, Global};
-use std::io::Write;
 use std::sync::Wait;
 use std::thread::Threads;
 use std::time::Clock;
 use term::Names;
+use wire::{Sink, SinkFault, send};
 
 /// Where the connections of a server come from, once its session is there. They say by relations of their own what opening and closing them
 /// comes to.
@@ -52,8 +53,9 @@ pub trait Doors {
     ghost closes: { Self → Totals → Bool → Self → Type 0 };
 
     /// From now on clients may connect, as the output says. The error is the status of a fault that was reported.
-    fn open<O: Write>(&mut self, output: &mut O) -> Result<Self::Accept, Exit>
+    fn open<O: Sink>(&mut self, output: &mut O) -> Result<Self::Accept, Exit>
         ensures opened { IfOk result (λ accept. opens self.old (O.contents output.old) (O.contents output.new) accept self.new) }
+        ensures steady { OnOk result (O.failures output.new ≡ O.failures output.old) }
         ensures refused { IfErr result (λ exit. refuses self.old exit) };
 
     /// All connections are over: reports what came of them together, other than the line of the counts.
@@ -106,17 +108,17 @@ pub enum Unserved<D, J: Recorder> {
 }
 
 // Writes the line with the counts of the session.
-fn put_line<J: Recorder, O: Write>(
+fn put_line<J: Recorder, O: Sink>(
     alloc: Global,
     session: &SessionOn<J, Global>,
     output: &mut O,
 ) -> Line
-    ensures { IsWritten result (summary_of session.now.history) (is_some session.now.failed) (O.contents output.old) (O.contents output.new) }
+    ensures { IsWritten result (summary_of session.now.history) (is_some session.now.failed) (O.contents output.old) (O.contents output.new) (O.failures output.old < O.failures output.new) }
 {
     match summary_line(alloc, session.summary(), session.is_closed()) {
-        Ok(line) => match put_out(&line, output) {
+        Ok(line) => match send(output, &line) {
             Ok(()) => Line::Written,
-            Err(_) => Line::Unwritten,
+            Err(SinkFault) => Line::Unwritten,
         },
         Err(AllocError) => Line::Unmade,
     }
@@ -140,9 +142,9 @@ fn exit_by<J: Recorder>(run: &Run<J>, line: Line) -> Exit
 }
 
 // Ends a run: writes the line of the counts, and answers the status.
-fn end<J: Recorder, O: Write>(alloc: Global, run: Run<J>, output: &mut O) -> Served<J>
+fn end<J: Recorder, O: Sink>(alloc: Global, run: Run<J>, output: &mut O) -> Served<J>
     ensures session { result.session ≡ run.session }
-    ensures told { IsTold result.line (summary_of run.session.history) (is_some run.session.failed) run.totals run.accept_failed (O.contents output.old) (O.contents output.new) result.exit }
+    ensures told { IsTold result.line (summary_of run.session.history) (is_some run.session.failed) run.totals run.accept_failed (O.contents output.old) (O.contents output.new) (O.failures output.old < O.failures output.new) result.exit }
     ensures judged { IsJudged run.session.spec run.session.history }
     ensures reports { AreReports run.session.spec.alphabet run.session.history }
     ensures names { run.session.spec.names ≡ names_kept (J.recording.version run.session.journal) }
@@ -160,7 +162,7 @@ fn end<J: Recorder, O: Write>(alloc: Global, run: Run<J>, output: &mut O) -> Ser
 }
 
 // Serves a session that was opened, once its doors are.
-fn serve_opened<D, J: Recorder + Drop + Send, R: Threads + Wait + Clock + Sync, S: Doors, O: Write>(
+fn serve_opened<D, J: Recorder + Drop + Send, R: Threads + Wait + Clock + Sync, S: Doors, O: Sink>(
     rt: &R,
     alloc: Global,
     session: SessionOn<J, Global>,
@@ -175,7 +177,7 @@ fn serve_opened<D, J: Recorder + Drop + Send, R: Threads + Wait + Clock + Sync, 
         × (r.session.spec.names ≡ names_kept (J.recording.version r.session.journal))) }
     ensures served { IfOk result (λ r. IsServedBy S.opens S.closes S.Accept.takes S.Accept.fails S.Accept.waits S.Accept.Reader.left S.Accept.Reader.is_closed S.Accept.Writer.contents
         (WasTold S.Accept.Writer.contents S.Accept.Writer.has_handed_on S.Accept.Writer.failures)
-        demand session.spec session.history r.session.history (is_some r.session.failed) doors.old doors.new (O.contents output.old) (O.contents output.new) r.line r.exit) }
+        demand session.spec session.history r.session.history (is_some r.session.failed) doors.old doors.new (O.contents output.old) (O.contents output.new) (O.failures output.old < O.failures output.new) r.line r.exit) }
     ensures unserved { IfErr result (IsShutOn (S.refuses doors.old) session) }
     ensures doors { IfErr result (IsBefore S.opens doors.old doors.new (O.contents output.old) (O.contents output.new)) }
 {
@@ -208,7 +210,7 @@ fn serve_opened<D, J: Recorder + Drop + Send, R: Threads + Wait + Clock + Sync, 
 /// opened; then the doors; once all connections are over the doors are closed, and the line with the counts is written. It gives the session
 /// back, with the exit status: where the line can't be written, that of an accept that failed, and where there is no memory for it, that
 /// of a limit.
-pub fn serve<D: Disk + Drop + Send, R: Threads + Wait + Clock + Sync, S: Doors, O: Write>(
+pub fn serve<D: Disk + Drop + Send, R: Threads + Wait + Clock + Sync, S: Doors, O: Sink>(
     rt: &R,
     alloc: Global,
     disk: D,
@@ -225,7 +227,7 @@ pub fn serve<D: Disk + Drop + Send, R: Threads + Wait + Clock + Sync, S: Doors, 
         × IsServedOn D.state names (D.state disk) script.now root.now spec opening r.session
         × IsServedBy S.opens S.closes S.Accept.takes S.Accept.fails S.Accept.waits S.Accept.Reader.left S.Accept.Reader.is_closed S.Accept.Writer.contents
         (WasTold S.Accept.Writer.contents S.Accept.Writer.has_handed_on S.Accept.Writer.failures)
-        demand spec opening r.session.history (is_some r.session.failed) doors.old doors.new (O.contents output.old) (O.contents output.new) r.line r.exit) }
+        demand spec opening r.session.history (is_some r.session.failed) doors.old doors.new (O.contents output.old) (O.contents output.new) (O.failures output.old < O.failures output.new) r.line r.exit) }
 
     // Or nothing was served, for this reason.
     ensures unserved { IfErr result (IsUnserved (IsUnopenedOn D.state names (D.state disk) script.now root.now)
@@ -252,7 +254,7 @@ pub fn serve<D: Disk + Drop + Send, R: Threads + Wait + Clock + Sync, S: Doors, 
 }
 
 /// The same with names kept as their bodies, on a journal whose parts take so many records, in a folder.
-pub fn serve_parts<F: Folder + Drop + Send, R: Threads + Wait + Clock + Sync, S: Doors, O: Write>(
+pub fn serve_parts<F: Folder + Drop + Send, R: Threads + Wait + Clock + Sync, S: Doors, O: Sink>(
     rt: &R,
     alloc: Global,
     folder: F,
@@ -268,7 +270,7 @@ pub fn serve_parts<F: Folder + Drop + Send, R: Threads + Wait + Clock + Sync, S:
         × AreServedIn F.state size (F.state folder) script.now root.now spec opening r.session
         × IsServedBy S.opens S.closes S.Accept.takes S.Accept.fails S.Accept.waits S.Accept.Reader.left S.Accept.Reader.is_closed S.Accept.Writer.contents
         (WasTold S.Accept.Writer.contents S.Accept.Writer.has_handed_on S.Accept.Writer.failures)
-        demand spec opening r.session.history (is_some r.session.failed) doors.old doors.new (O.contents output.old) (O.contents output.new) r.line r.exit) }
+        demand spec opening r.session.history (is_some r.session.failed) doors.old doors.new (O.contents output.old) (O.contents output.new) (O.failures output.old < O.failures output.new) r.line r.exit) }
     ensures unserved { IfErr result (IsUnserved (AreUnopenedIn F.state size (F.state folder) script.now root.now)
         (AreOpenedIn F.state size (F.state folder) script.now root.now) (S.refuses doors.old)) }
     ensures doors { IfErr result (IsBefore S.opens doors.old doors.new (O.contents output.old) (O.contents output.new)) }
@@ -277,6 +279,8 @@ pub fn serve_parts<F: Folder + Drop + Send, R: Threads + Wait + Clock + Sync, S:
         → MatchResult result (λ r. (r.session.spec ≡ spec) × StartsWith r.session.history h) (AreInPlace (F.state folder).bytes spec h) }
     ensures other { IsTrue (F.state folder).claims_bytes → (a : AreOfAnother size (F.state folder).bytes script.now root.now) → length a.history < 2 ^ 62
         → MatchResult result (λ _. ⊥) (IsUnopenedFor OpenError.OtherSpecification) }
+    ensures refuses { IsTrue (F.state folder).claims_bytes → (AreNew (F.state folder).bytes → ⊥) → (fault : PartsError) → HaveFault size (F.state folder).bytes fault
+        → MatchResult result (λ _. ⊥) (AreUnopenedFor size (F.state folder).bytes fault) }
 {
     match open_parts(alloc, folder, script, root, size) {
         Ok(session) => {

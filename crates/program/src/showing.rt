@@ -1,6 +1,6 @@
 //! The history that a journal holds, judged again: a line for each report, why it was rejected, and how often each event came.
 
-ghost use Rattle.std.specs.Prelude.{◌≡◌, ◌⊎◌, ◌++◌, ℕ, List, IsTrue, IfOk, IfErr, OnOk, MatchResult};
+ghost use Rattle.std.specs.Prelude.{◌≡◌, ◌<◌, ◌⊎◌, ◌++◌, ℕ, List, IsTrue, IfOk, IfErr, OnOk, IsErrOf, MatchResult};
 ghost use Rattle.std.specs.Io.KnownBytes.{Appends};
 ghost use Rattle.term.specs.Specs.{Specified};
 ghost use Rattle.journal.specs.Faults.{HasFault};
@@ -22,7 +22,7 @@ use journal::Header;
 use shared::{Session, SessionError, Summary, names_of, read_as};
 use shown::{Format, Options, ShowError};
 use std::alloc::{AllocError, Allocator};
-use std::io::Write;
+use wire::{Sink, SinkFault, send};
 
 /// What was displayed of a journal.
 #[derive(Drop)]
@@ -45,7 +45,10 @@ pub enum DisplayError {
 }
 
 impl From<ShowError> for DisplayError {
-    ghost from_gives = { λ _ error. IsBeyond error };
+    ghost use Rattle.program.specs.declared.showing.DisplayError.{DisplayError};
+    ghost use Rattle.shown.specs.declared.error.ShowError.{ShowError};
+
+    ghost from_gives = { λ from error. IsBeyond error × (error ≡ DisplayError.Output → from ≡ ShowError.Output) };
 
     fn from(error: ShowError) -> DisplayError {
         match error {
@@ -69,20 +72,9 @@ fn add_summary<A: Allocator>(
     }
 }
 
-/// Writes the text, and lets the output flush.
-pub(crate) fn put_out<W: Write>(text: &[u8], output: &mut W) -> Result<(), ShowError>
-    ensures { OnOk result (Appends (W.contents output.old) (W.contents output.new) text.now) }
-{
-    if output.write_all(text).is_ok() && output.flush().is_ok() {
-        Ok(())
-    } else {
-        Err(ShowError::Output)
-    }
-}
-
 // Writes the lines of the session's history, but for their end, for which the script is read again: the session keeps its own
 // specification.
-pub(crate) fn lines_of<D: Disk, A: Allocator + Copy, W: Write>(
+pub(crate) fn lines_of<D: Disk, A: Allocator + Copy, W: Sink>(
     alloc: A,
     session: &Session<D, A>,
     header: &Header<A>,
@@ -90,7 +82,9 @@ pub(crate) fn lines_of<D: Disk, A: Allocator + Copy, W: Write>(
     output: &mut W,
 ) -> Result<Vec<u8, A>, ShowError>
     requires { IsReadAs (names_kept header.now.version) header.now.script.items header.now.root.items session.now.spec }
-    ensures { IfOk result (λ left. Writes options session.now.spec session.now.history (W.contents output.old) (W.contents output.new) left.items) }
+    ensures text { IfOk result (λ left. Writes options session.now.spec session.now.history (W.contents output.old) (W.contents output.new) left.items) }
+    ensures steady { OnOk result (W.failures output.new ≡ W.failures output.old) }
+    ensures output_failed { IsErrOf result ShowError.Output → W.failures output.old < W.failures output.new }
 {
     // Entries that were let go can't be shown.
     let gone = session.gone();
@@ -109,20 +103,24 @@ pub(crate) fn lines_of<D: Disk, A: Allocator + Copy, W: Write>(
 }
 
 // Writes the end of the lines, and the counts after it.
-pub(crate) fn write_end<A: Allocator, W: Write>(
+pub(crate) fn write_end<A: Allocator, W: Sink>(
     left: &mut Vec<u8, A>,
     format: Format,
     summary: Summary,
     output: &mut W,
 ) -> Result<(), ShowError>
-    ensures { OnOk result (Appends (W.contents output.old) (W.contents output.new) (left.old.items ++ summary_text format summary)) }
+    ensures text { OnOk result (Appends (W.contents output.old) (W.contents output.new) (left.old.items ++ summary_text format summary)) }
+    ensures output_failed { IsErrOf result ShowError.Output → W.failures output.old < W.failures output.new }
 {
     add_summary(left, format, summary)?;
-    put_out(left, output)
+    match send(output, left) {
+        Ok(()) => Ok(()),
+        Err(SinkFault) => Err(ShowError::Output),
+    }
 }
 
 // Writes what is shown of the session's history.
-fn write_all<D: Disk, A: Allocator + Copy, W: Write>(
+fn write_all<D: Disk, A: Allocator + Copy, W: Sink>(
     alloc: A,
     session: &Session<D, A>,
     header: &Header<A>,
@@ -130,7 +128,8 @@ fn write_all<D: Disk, A: Allocator + Copy, W: Write>(
     output: &mut W,
 ) -> Result<(), ShowError>
     requires { IsReadAs (names_kept header.now.version) header.now.script.items header.now.root.items session.now.spec }
-    ensures { OnOk result (WritesAll session.now.spec session.now.history options (W.contents output.old) (W.contents output.new)) }
+    ensures text { OnOk result (WritesAll session.now.spec session.now.history options (W.contents output.old) (W.contents output.new)) }
+    ensures output_failed { IsErrOf result ShowError.Output → W.failures output.old < W.failures output.new }
 {
     let mut left = lines_of(alloc, session, header, options, output)?;
     let written = write_end(&mut left, options.format, session.summary(), output);
@@ -141,7 +140,7 @@ fn write_all<D: Disk, A: Allocator + Copy, W: Write>(
 /// Judges the records of the journal on the disk again, as `replay` does, and writes what is asked for of its history: the lines, and
 /// then the counts. The errors are those of `replay`, and that of the output. Where the output fails, a part may have been
 /// written; where memory is refused, a part of a text of 64 KiB or more.
-pub fn show<D: Disk + Drop, A: Allocator + Copy, W: Write>(
+pub fn show<D: Disk + Drop, A: Allocator + Copy, W: Sink>(
     alloc: A,
     disk: D,
     options: Options,
@@ -157,6 +156,7 @@ pub fn show<D: Disk + Drop, A: Allocator + Copy, W: Write>(
 
     // Or the file has no session for this reason, or the output failed.
     ensures fault { IfErr result (λ error. IsTrue (D.state disk).claims_bytes → HasNoDisplay (D.state disk).bytes error) }
+    ensures output_failed { IsErrOf result DisplayError.Output → W.failures output.old < W.failures output.new }
 
     // Of a file that holds a history exactly what `Displays` has of it is written, which is one text (`shown::one_text`); one
     // that has a fault is refused for it, and nothing is written. Devices and memory apart.

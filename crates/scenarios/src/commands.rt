@@ -88,8 +88,9 @@ fn put_displayed<D: Disk + Drop, A: Allocator + Copy + Drop>(
         coverage: true,
         format,
     };
-    let mut written = out.copy_of(b"");
+    let mut written = Plain::new(out.copy_of(b""));
     let came = show(alloc, disk, options, &mut written);
+    let written = written.into_inner();
     out.put_bytes(&written);
     drop(written);
     match came {

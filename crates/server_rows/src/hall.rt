@@ -4,10 +4,10 @@ ghost use Rattle.std.specs.Prelude.{◌≡◌};
 
 use crate::clients::Comers;
 use connections::Totals;
+use disk::Count;
 use program::{Doors, Exit};
 use std::alloc::Global;
-use std::io;
-use std::io::Write;
+use wire::{Sink, SinkFault, send};
 
 /// Doors that open once, and write `open` then; or that don't open, with a status.
 #[derive(Drop)]
@@ -41,11 +41,11 @@ impl Doors for Hall {
 
     ghost closes = { λ _ totals accept_failed new. new.over ≡ Some (totals, accept_failed) };
 
-    fn open<O: Write>(&mut self, output: &mut O) -> Result<Comers, Exit> {
+    fn open<O: Sink>(&mut self, output: &mut O) -> Result<Comers, Exit> {
         if let Some(exit) = self.shut {
             return Err(exit);
         }
-        if output.write_all(b"open\n").is_err() {
+        if send(output, b"open\n").is_err() {
             return Err(Exit::FileFailed);
         }
         match self.comers.take() {
@@ -64,6 +64,7 @@ impl Doors for Hall {
 pub(crate) struct Told {
     pub(crate) taken: Vec<u8, Global>,
     pub(crate) room: usize,
+    failures: Count,
 }
 
 impl Told {
@@ -71,25 +72,29 @@ impl Told {
         Told {
             taken: Vec::new(alloc),
             room: usize::MAX,
+            failures: Count::new(),
         }
     }
 }
 
-impl Write for Told {
+impl Sink for Told {
     ghost use Rattle.std.specs.Prelude.{Some};
 
     ghost contents = { λ told. Some told.taken.items };
 
-    fn write(&mut self, buf: &[u8]) -> io::Result<usize> {
-        let count = buf.len().min(self.room);
-        if self.taken.extend_from_slice(&buf[..count]).is_err() {
-            return Ok(0);
+    ghost failures = { λ told. told.failures.n };
+
+    fn write(&mut self, bytes: &[u8]) -> Result<usize, SinkFault> {
+        let count = bytes.len().min(self.room);
+        if count == 0 || self.taken.extend_from_slice(&bytes[..count]).is_err() {
+            self.failures = Count::after(&self.failures);
+            return Err(SinkFault);
         }
         self.room -= count;
         Ok(count)
     }
 
-    fn flush(&mut self) -> io::Result<()> {
+    fn flush(&mut self) -> Result<(), SinkFault> {
         Ok(())
     }
 }

@@ -13,14 +13,16 @@ use Rattle.shared.specs.Scripts.{IsReadAs}
 use Rattle.shared.specs.SessionView.{IsOn, SessionView}
 use Rattle.shared.proofs.Keeping.{if_ok}
 use Rattle.shared.proofs.ScriptLemmas.{if_err}
+use Rattle.large_sessions.specs.Faults.{HaveFault}
 use Rattle.large_sessions.specs.Parts.{Held, IsAlike, IsOf}
+use Rattle.large_sessions.specs.PartsError.{PartsError}
 use Rattle.large_sessions.specs.Sessions.{AreReplayOf, HaveNoSession, IsStartOf, Replayed}
 use Rattle.large_sessions.proofs.Firsts.{hold_first}
 use Rattle.large_sessions.proofs.Going.{leaves_on}
 use Rattle.serving.specs.declared.opening.OpenError.{OpenError}
 use Rattle.serving.specs.declared.opening.OpenError.TheVariants.{Begin, Replay, OtherSpecification}
 use Rattle.serving.specs.Held.{IsDevice, IsOutside}
-use Rattle.serving.specs.HeldInParts.{AreNew, AreOfAnother, AreUnheld, HoldAlike, HoldSession, IsInPlace}
+use Rattle.serving.specs.HeldInParts.{AreNew, AreOfAnother, AreUnheld, AreUnheldFor, HoldAlike, HoldSession, IsInPlace}
 use Rattle.serving.specs.Openings.{OpensParts}
 use Rattle.serving.proofs.Openings.{match_map, no_journal}
 
@@ -91,6 +93,10 @@ module _ {F : Type 0} (state : F → FolderState) (old : FolderState) (size : �
   -- and what is said of the files is said of those there
   pub files_last : (P : ℕ → List (List ℕ) → Type 0) → IsTrue old.claims_bytes → P size old.bytes → P r.opened.held.size (state r.opened.held.folder).bytes
   files_last P claims = at_files P size r.opened.held.size old.bytes (state r.opened.held.folder).bytes (sym (alike.size ∙ of.size_is)) (sym (bytes_last claims))
+
+  -- files that have no fault at the end had none
+  pub no_fault_last : (IsTrue (state r.opened.held.folder).claims_bytes → (fault : PartsError) → HaveFault r.opened.held.size (state r.opened.held.folder).bytes fault → ⊥) → IsTrue old.claims_bytes → (fault : PartsError) → HaveFault size old.bytes fault → ⊥
+  no_fault_last none claims fault has = none (claims_last claims) fault (files_last (λ (n : ℕ) (files : List (List ℕ)). HaveFault n files fault) claims has)
 
   -- a session that the files hold begins with what was taken over
   pub start_of : (a b : List ℕ) (spec : Specified) (h : List Entry) → IsTrue old.claims_bytes → AreReplayOf size old.bytes a b spec h
@@ -184,6 +190,11 @@ module _ (old mid : FolderState) (steady : Continues old mid) (bytes : IsTrue ol
     other_before other claims =
         subst (λ (files : List (List ℕ)). (a : AreOfAnother size files script root) → length a.history < 2 ^ 62 → MatchResult o (λ _. ⊥) (λ e. (e.0 ≡ OtherSpecification) ⊎ IsOutside e.0)) (bytes claims) (other (claims_on claims))
 
+    pub refuses_before : (IsTrue mid.claims_bytes → (AreNew mid.bytes → ⊥) → (fault : PartsError) → HaveFault size mid.bytes fault → MatchResult o (λ _. ⊥) (λ e. AreUnheldFor size mid.bytes fault e.0))
+        → IsTrue old.claims_bytes → (AreNew old.bytes → ⊥) → (fault : PartsError) → HaveFault size old.bytes fault → MatchResult o (λ _. ⊥) (λ e. AreUnheldFor size old.bytes fault e.0)
+    refuses_before refuses claims =
+        subst (λ (files : List (List ℕ)). (AreNew files → ⊥) → (fault : PartsError) → HaveFault size files fault → MatchResult o (λ _. ⊥) (λ e. AreUnheldFor size files fault e.0)) (bytes claims) (refuses (claims_on claims))
+
     pub untouched_before : IfErr o (λ e. (IsOutside e.0 → ⊥) → IsTrue mid.claims_bytes → (state e.1).bytes ≡ mid.bytes) → IfErr o (λ e. (IsOutside e.0 → ⊥) → IsTrue old.claims_bytes → (state e.1).bytes ≡ old.bytes)
     untouched_before =
         if_err (λ e. (IsOutside e.0 → ⊥) → IsTrue mid.claims_bytes → (state e.1).bytes ≡ mid.bytes) (λ e. (IsOutside e.0 → ⊥) → IsTrue old.claims_bytes → (state e.1).bytes ≡ old.bytes) o
@@ -218,6 +229,7 @@ module _ (old mid : FolderState) (steady : Continues old mid) (bytes : IsTrue ol
       fault = fault_before it.fault;
       only = only_before it.only;
       other = other_before it.other;
+      refuses = refuses_before it.refuses;
       untouched = untouched_before it.untouched;
       continues = continues_before it.continues;
       cause = cause_before it.cause;

@@ -8,7 +8,8 @@ use Rattle.shared.specs.SessionError.TheVariants.{Device}
 use Rattle.shared.specs.SessionFaults.{IsMemory}
 use Rattle.shared.specs.Replays.{IsUnopened}
 use Rattle.shared.specs.Scripts.{IsReadAs, IsUnbegun}
-use Rattle.large_sessions.specs.Sessions.{AreReplayOf, HaveNoSession}
+use Rattle.large_sessions.specs.PartsError.{PartsError}
+use Rattle.large_sessions.specs.Sessions.{AreRefusedFor, AreReplayOf, HaveNoSession}
 use Rattle.serving.specs.declared.opening.OpenError.{OpenError}
 use Rattle.serving.specs.declared.opening.OpenError.TheVariants.{Begin, Replay, OtherSpecification}
 use Rattle.serving.specs.Held.{IsOutside}
@@ -37,6 +38,12 @@ abbrev pub AreUnheld : ℕ → FolderState → List ℕ → List ℕ → OpenErr
 AreUnheld size s script root (Begin error) = IsUnbegun Bodies script root error × (IsTrue s.claims_bytes → AreNew s.bytes)
 AreUnheld size s script root (Replay error) = IsTrue s.claims_bytes → HaveNoSession size s.bytes error × ((AreNew s.bytes → ⊥) ⊎ (error ≡ Device))
 AreUnheld size s script root OtherSpecification = IsTrue s.claims_bytes → AreOfAnother size s.bytes script root
+
+-- files that aren't new, and have this fault, give no session for it
+abbrev pub AreUnheldFor : ℕ → List (List ℕ) → PartsError → OpenError → Type 0
+AreUnheldFor size files fault (Begin error) = ⊥
+AreUnheldFor size files fault (Replay error) = AreRefusedFor size files fault error
+AreUnheldFor size files fault OtherSpecification = ⊥
 
 -- what may come in place of the session of this specification that the files hold: the device failed, or memory ran out; or the files are
 -- new, and the opening of the specification meets this limit

@@ -13,13 +13,15 @@ use Rattle.shared.specs.Entry.{Entry}
 use Rattle.shared.specs.Scripts.{IsReadAs}
 use Rattle.shared.specs.SessionFaults.{journal_error}
 use Rattle.shared.specs.SessionView.{SessionView, IsBegun, IsFor, IsOn, IsRecorded}
+use Rattle.large_sessions.specs.Faults.{HaveFault}
 use Rattle.large_sessions.specs.Parts as parts
+use Rattle.large_sessions.specs.PartsError.{PartsError}
 use Rattle.large_sessions.specs.Recorder.{in_folder}
 use Rattle.serving.specs.declared.opening.OpenError.{OpenError}
 use Rattle.serving.specs.declared.opening.OpenError.TheVariants.{Replay, OtherSpecification}
 use Rattle.serving.specs.Held.{Holds, IsDevice, IsInPlace, IsLeft, IsOfAnother, IsOutside, IsUnheld}
 use Rattle.serving.specs.HeldInParts as several
-use Rattle.serving.specs.HeldInParts.{AreNew, AreOfAnother, AreUnheld, HoldAlike, HoldSession}
+use Rattle.serving.specs.HeldInParts.{AreNew, AreOfAnother, AreUnheld, AreUnheldFor, HoldAlike, HoldSession}
 
 -- From a disk, where names are kept so, to the session on it, or to an error and the disk.
 --
@@ -60,6 +62,8 @@ pub record OpensParts {F : Type 0} (state : F → FolderState) (size : ℕ) (bef
       → MatchResult result (λ s. (s.spec ≡ spec) × (s.history ≡ h)) (λ e. several.IsInPlace before.bytes spec e.0)
   pub other : IsTrue before.claims_bytes → (a : AreOfAnother size before.bytes script root) → length a.history < 2 ^ 62
       → MatchResult result (λ _. ⊥) (λ e. (e.0 ≡ OtherSpecification) ⊎ IsOutside e.0)
+  pub refuses : IsTrue before.claims_bytes → (AreNew before.bytes → ⊥) → (fault : PartsError) → HaveFault size before.bytes fault
+      → MatchResult result (λ _. ⊥) (λ e. AreUnheldFor size before.bytes fault e.0)
   pub untouched : IfErr result (λ e. (IsOutside e.0 → ⊥) → IsTrue before.claims_bytes → (state e.1).bytes ≡ before.bytes)
   pub continues : MatchResult result (λ s. Continues before (state s.journal.folder)) (λ e. Continues before (state e.1))
   pub cause : IfErr result (λ e. IsDevice e.0 → before.failures < (state e.1).failures)

@@ -1,6 +1,6 @@
 //! How far a showing has come.
 
-ghost use Rattle.std.specs.Prelude.{◌≡◌, ◌<◌, ◌^◌, ◌++◌, ◌↔◌, [], ◌∷◌, IsTrue, IfOk, OnOk, length};
+ghost use Rattle.std.specs.Prelude.{◌≡◌, ◌<◌, ◌^◌, ◌++◌, ◌↔◌, [], ◌∷◌, IsTrue, IfOk, OnOk, OnErr, IsErrOf, length};
 ghost use Rattle.monitor.specs.Limits.{OpeningMeetsNone};
 ghost use Rattle.monitor.specs.Monitors.{MeetsNone};
 ghost use Rattle.term.specs.Proc.{bodies_of};
@@ -20,8 +20,8 @@ use history::Entry;
 use monitor::Monitor;
 use past::Past;
 use std::alloc::{AllocError, Allocator};
-use std::io::Write;
 use term::Spec;
+use wire::{Sink, SinkFault, send};
 
 /// How many bytes come together before they are written.
 const ENOUGH: usize = 65_536;
@@ -44,24 +44,26 @@ pub(crate) struct Progress<A: Allocator> {
 }
 
 /// Writes what has come together, and takes it away, where it is enough.
-fn send_enough<A: Allocator, W: Write>(
+fn send_enough<A: Allocator, W: Sink>(
     text: &mut Vec<u8, A>,
     sent: &mut Past<Vec<u8, A>>,
     output: &mut W,
 ) -> Result<(), ShowError>
     ensures sends { OnOk result (Sends (W.contents output.old) (W.contents output.new) (joined sent.old.items) (joined sent.new.items)) }
     ensures same { OnOk result (joined sent.new.items ++ text.new.items ≡ joined sent.old.items ++ text.old.items) }
+    ensures steady { OnOk result (W.failures output.new ≡ W.failures output.old) }
+    ensures output_failed { OnErr result (W.failures output.old < W.failures output.new) }
 {
     if text.len() < ENOUGH {
         return Ok(());
     }
-    match output.write_all(text) {
+    match send(output, text) {
         Ok(()) => {
             *sent = sent.and(text);
             text.clear();
             Ok(())
         }
-        Err(_) => Err(ShowError::Output),
+        Err(SinkFault) => Err(ShowError::Output),
     }
 }
 
@@ -132,7 +134,7 @@ impl<A: Allocator + Copy> Progress<A> {
     }
 
     /// Appends what is shown of each of these entries, which are the next ones, and counts all. What comes together is written now and then.
-    pub(crate) fn show_all<W: Write>(
+    pub(crate) fn show_all<W: Sink>(
         &mut self,
         alloc: A,
         entries: &[Entry],
@@ -145,6 +147,8 @@ impl<A: Allocator + Copy> Progress<A> {
         ensures at { OnOk result (IsAt options self.old.monitor.spec self.new) }
         ensures history { OnOk result (self.new.history.items ≡ self.old.history.items ++ entries.now) }
         ensures sends { OnOk result (Sends (W.contents output.old) (W.contents output.new) (written self.old) (written self.new)) }
+        ensures steady { OnOk result (W.failures output.new ≡ W.failures output.old) }
+        ensures output_failed { IsErrOf result ShowError.Output → W.failures output.old < W.failures output.new }
     {
         for index in 0..entries.len() {
             let entry = entries[index];

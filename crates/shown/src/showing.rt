@@ -1,6 +1,6 @@
 //! Showings, by which a history is shown part by part.
 
-ghost use Rattle.std.specs.Prelude.{◌≡◌, ◌++◌, [], None, Some, Err, IfOk, IfErr, OnOk};
+ghost use Rattle.std.specs.Prelude.{◌≡◌, ◌<◌, ◌++◌, [], None, Some, Err, IfOk, IfErr, OnOk, IsErrOf};
 ghost use Rattle.monitor.specs.Limits.{OpeningMeetsNone};
 ghost use Rattle.history.specs.Legal.{IsJudged};
 ghost use Rattle.shown.specs.declared.error.ShowError.{ShowError as error_type};
@@ -11,9 +11,9 @@ use crate::options::Options;
 use crate::progress::Progress;
 use history::Entry;
 use std::alloc::Allocator;
-use std::io::Write;
 use std::marker::Model;
 use term::Spec;
+use wire::Sink;
 
 /// A showing that has been begun: it takes a judged history part by part, and has written its text so far but for an end. It keeps no
 /// entries, so what it takes doesn't grow with them.
@@ -55,6 +55,7 @@ impl<A: Allocator + Copy> Showing<A> {
         ensures history { IfOk result (λ showing. showing.history ≡ []) }
         ensures written { IfOk result (λ showing. showing.written ≡ []) }
         ensures fault { IfOk result (λ showing. showing.fault ≡ None) }
+        ensures memory { IfErr result (λ error. error ≡ ShowError.Memory) }
     {
         let progress = Progress::new(alloc, spec)?;
         Ok(Showing {
@@ -70,7 +71,7 @@ impl<A: Allocator + Copy> Showing<A> {
     /// Costs what judging the entries costs; with coverage, a step more for each binary digit that an entry changes of the counts of what could
     /// come, for all events together; and for each rejected refusal its acceptances. It keeps 64 KiB of the text and a line; beside that, what
     /// was said of rejected reports, as long as that is less than 16 MiB.
-    pub fn take<W: Write>(
+    pub fn take<W: Sink>(
         &mut self,
         alloc: A,
         entries: &[Entry],
@@ -81,6 +82,10 @@ impl<A: Allocator + Copy> Showing<A> {
         ensures options { self.new.options ≡ self.old.options }
         ensures history { OnOk result (self.new.history ≡ self.old.history ++ entries.now) }
         ensures sends { OnOk result (Sends (W.contents output.old) (W.contents output.new) self.old.written self.new.written) }
+
+        // It is for the output alone only where that fails.
+        ensures steady { OnOk result (W.failures output.new ≡ W.failures output.old) }
+        ensures output_failed { self.old.fault ≡ None → IsErrOf result ShowError.Output → W.failures output.old < W.failures output.new }
 
         // Once it has failed, it goes on failing.
         ensures fault { IfErr result (λ error. self.new.fault ≡ Some error) }
@@ -103,6 +108,7 @@ impl<A: Allocator + Copy> Showing<A> {
     pub fn end(self) -> Result<Vec<u8, A>, ShowError>
         // With what was written it is the text of the whole history.
         ensures text { IfOk result (λ left. Shows self.options self.spec self.history (self.written ++ left.items)) }
+        ensures memory { self.fault ≡ None → IfErr result (λ error. error ≡ ShowError.Memory) }
         ensures failed { (error : error_type) → self.fault ≡ Some error → result ≡ Err error }
     {
         let Showing {

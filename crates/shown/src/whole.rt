@@ -1,6 +1,6 @@
 //! The text of a judged history.
 
-ghost use Rattle.std.specs.Prelude.{IfOk};
+ghost use Rattle.std.specs.Prelude.{◌≡◌, ◌<◌, IfOk, OnOk, IsErrOf};
 ghost use Rattle.history.specs.Legal.{IsJudged};
 ghost use Rattle.shown.specs.Shows.{Writes};
 
@@ -9,14 +9,14 @@ use crate::options::Options;
 use crate::showing::Showing;
 use history::Entry;
 use std::alloc::Allocator;
-use std::io::Write;
 use term::Spec;
+use wire::Sink;
 
 /// Writes the text of a history that was judged for the specification, but for its end, which is answered: the lines of its entries,
 /// and then those of coverage, as far as they are wanted. Nothing but refused memory and a failing output makes it fail; a part of
 /// the text may have been written then, but nothing of a text below 64 KiB. It costs and keeps what a showing does that takes the history
 /// in one part, and at its end the coverage.
-pub fn show<A: Allocator + Copy, W: Write>(
+pub fn show<A: Allocator + Copy, W: Sink>(
     alloc: A,
     spec: Spec<A>,
     history: &[Entry],
@@ -24,7 +24,9 @@ pub fn show<A: Allocator + Copy, W: Write>(
     output: &mut W,
 ) -> Result<Vec<u8, A>, ShowError>
     requires { IsJudged spec history.now }
-    ensures { IfOk result (λ left. Writes options spec history.now (W.contents output.old) (W.contents output.new) left.items) }
+    ensures text { IfOk result (λ left. Writes options spec history.now (W.contents output.old) (W.contents output.new) left.items) }
+    ensures steady { OnOk result (W.failures output.new ≡ W.failures output.old) }
+    ensures output_failed { IsErrOf result ShowError.Output → W.failures output.old < W.failures output.new }
 {
     let mut showing = Showing::begin(alloc, spec, options)?;
     match showing.take(alloc, history, output) {

@@ -1,6 +1,6 @@
 use mir.Syntax.{named}
 use denote.Param.Send.{param_send}
-use Rattle.std.proofs.Common.{inl, inr}
+use Rattle.std.proofs.Common.{◌<◌, inl, inr}
 use Rattle.command_line.proofs.Folders.{folder_row, folder_send}
 use Rattle.std.specs.Prelude.{is_some}
 use Rattle.term.specs.declared.names.Names.TheVariants.{Bodies}
@@ -19,7 +19,7 @@ returns-in-Ok-end g c =
     let so : _ = of_ok _ c.serve_parts-end.result c.in-Ok-end.served c.in-Ok-end.is c.serve_parts-end.ensures.served in
     let session : _ = c.in-Ok-end.served.session in
     inr (served_for Bodies c.args.script.now c.as_bytes-root.result.now c.args.service.now.process.now so.0 so.1 session.history c.in-Ok-end.served.line (is_some session.failed) so.3.totals
-    so.3.accept_failed so.3.told (g.O.Write.contents c.serve_parts-end.new.output) c.in-Ok-end.served.exit c.tell_served.result c.as_bytes-root.ensures.value c.tell_served.ensures so.2.read.read so.2.read.names_are
+    so.3.accept_failed so.3.told (g.O.Sink.contents c.serve_parts-end.new.output) (g.O.Sink.failures c.args.output.now < g.O.Sink.failures c.serve_parts-end.new.output) c.in-Ok-end.served.exit c.tell_served.result c.as_bytes-root.ensures.value c.tell_served.ensures so.2.read.read so.2.read.names_are
     so.2.begins so.2.legal so.3.ended)
 
 pub returns-in-Err-end : goal.returns-in-Err-end

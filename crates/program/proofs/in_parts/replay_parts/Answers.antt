@@ -1,6 +1,7 @@
 use Rattle.std.proofs.Common.{◌≡◌, IsTrue, sym, subst}
 use Rattle.shared.specs.Scripts.{IsOutside}
-use Rattle.large_sessions.specs.Sessions.{HaveNoSession}
+use Rattle.large_sessions.specs.Sessions.{AreRefusedFor, HaveNoSession}
+use Rattle.large_sessions.proofs.Refusing.{refused_for}
 use Rattle.program.proofs.InParts.{err_and, err_match}
 use Rattle.program.proofs.in_parts.replay_parts.Goals as goal
 
@@ -18,3 +19,16 @@ pub returns-in_err-replaying-clause-only : goal.returns-in_err-replaying-clause-
 returns-in_err-replaying-clause-only g c claims script root spec h is small =
     let failed = c.in_err-replaying.field-0.0 in
     err_match c.from_residual.result (λ e. e ≡ failed) _ IsOutside c.from_residual.ensures.1 (λ e same. subst IsOutside (sym same) (c.in_err-replaying.ensures.only claims script root spec h is small))
+
+pub returns-in_err-replaying-clause-refuses : goal.returns-in_err-replaying-clause-refuses
+returns-in_err-replaying-clause-refuses g c claims fault has =
+    let files = (g.F.Folder.state c.args.folder).bytes in
+    let failed = c.in_err-replaying.field-0.0 in
+    err_match c.from_residual.result (λ e. e ≡ failed) _ (AreRefusedFor c.args.size files fault) c.from_residual.ensures.1
+    (λ e same. subst (AreRefusedFor c.args.size files fault) (sym same) (refused_for c.args.size files fault failed has (c.in_err-replaying.ensures.fault claims)))
+
+pub returns-in-Ok-clause-refuses : goal.returns-in-Ok-clause-refuses
+returns-in-Ok-clause-refuses g c claims fault has = absurd (c.in_ok-replaying.ensures.no_fault claims fault has)
+
+pub returns-in-Err-clause-refuses : goal.returns-in-Err-clause-refuses
+returns-in-Err-clause-refuses g c claims fault has = absurd (c.in_ok-replaying.ensures.no_fault claims fault has)

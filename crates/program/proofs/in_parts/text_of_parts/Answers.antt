@@ -7,7 +7,8 @@ returns-in-Ok-joined-clause-text g c =
     let r = c.in-Ok.replaying in
     let e = c.in-Ok.ensures in
     let written = e.text in
-    let all : c.lines_of_parts.new.output.items ≡ written.0 = written.2 ∙ ap (λ (l : List ℕ). l ++ written.0) c.new-text.ensures.items in
+    let all : c.into_inner.result.items ≡ written.0 =
+    ap (λ v. v.items) c.into_inner.ensures ∙ written.2 ∙ ap (λ (l : List ℕ). l ++ written.0) (ap (λ v. v.items) c.new-text.ensures.inner ∙ c.new.ensures.items) in
     record {
       script = r.opened.held.script;
       root = r.opened.held.root;

@@ -1,5 +1,5 @@
 use Rattle.large_sessions.proofs.Went.{Went}
-use Rattle.program.proofs.InParts.{IsFrom, claims_at, ends_at, fault_from, from_on, replay_at, replay_from}
+use Rattle.program.proofs.InParts.{IsFrom, claims_at, ends_at, fault_from, from_on, no_fault_from, replay_at, replay_from}
 use Rattle.program.proofs.in_parts.whole_of.Goals as goal
 
 pub returns-in-Ok-whole-clause-replayed : goal.returns-in-Ok-whole-clause-replayed
@@ -46,3 +46,15 @@ returns-in-Err-whole-clause-only g c claims script root spec h is small =
     let e = c.in-Ok.ensures in
     let first : IsFrom state s c.args.size begun = record { size_is = e.is.size_is; goes = e.continues; bytes = e.untouched } in
     c.in-Err-whole.ensures.only (claims_at state s c.args.size begun first claims) script root spec h (replay_at state s c.args.size begun first script root spec h claims is) small (e.only claims script root spec h is small)
+
+pub returns-in-Ok-whole-clause-no_fault : goal.returns-in-Ok-whole-clause-no_fault
+returns-in-Ok-whole-clause-no_fault g c =
+    let state = g.F.Folder.state in
+    let s = state c.args.folder in
+    let begun = c.in-Ok.begun.0 in
+    let r = c.in-Ok-whole.replaying in
+    let e = c.in-Ok.ensures in
+    let w = c.in-Ok-whole.ensures in
+    let first : IsFrom state s c.args.size begun = record { size_is = e.is.size_is; goes = e.continues; bytes = e.untouched } in
+    let went : Went state begun r = record { alike = w.alike; spec_is = w.spec; longer = w.longer; goes = w.continues; bytes = w.untouched; moment = w.any_moment; only = w.only } in
+    no_fault_from state s c.args.size r (from_on state s c.args.size begun first r went) (c.is_done-is_done.ensures.no_fault (c.is_done-is_done.ensures.done.1 w.done))

@@ -1,4 +1,4 @@
-use Rattle.std.proofs.Common.{◌≡◌, sym, subst}
+use Rattle.std.proofs.Common.{◌≡◌, ◌<◌, ℕ, sym, subst}
 use Rattle.std.specs.Prelude.{is_some}
 use Rattle.term.specs.Proc.{bodies_of}
 use Rattle.shared.specs.Beginnings.{StartsWith}
@@ -34,8 +34,9 @@ returns-in-Ok-serve-clause-served g c =
     let run = c.in-Ok-serve.run' in
     let end = c.end.result in
     let back = sym c.end.ensures.session in
-    let said = g.O.Write.contents c.open.new.output in
-    let written = g.O.Write.contents c.end.new.output in
+    let said = g.O.Sink.contents c.open.new.output in
+    let written = g.O.Sink.contents c.end.new.output in
+    let failures = g.O.Sink.failures c.end.new.output in
     record {
       accept = c.in-Ok.accept;
       open_doors = c.open.new.self;
@@ -45,7 +46,8 @@ returns-in-Ok-serve-clause-served g c =
       opened = c.in-Ok.ensures.opened;
       went = subst (λ s. WentBy takes fails waits left is_closed contents told c.in-Ok.accept d.plan d.retries d.counts opened.spec opened.history s.history run.totals run.accept_failed) back c.in-Ok-serve.ensures.went;
       shut = c.close.ensures;
-      ended = subst (λ s. IsTold end.line (summary_of s.history) (is_some s.failed) run.totals run.accept_failed said written end.exit) back c.end.ensures.told;
+      ended = subst (λ (n : ℕ). IsTold end.line (summary_of end.session.history) (is_some end.session.failed) run.totals run.accept_failed said written (n < failures) end.exit) c.in-Ok.ensures.steady
+          (subst (λ s. IsTold end.line (summary_of s.history) (is_some s.failed) run.totals run.accept_failed said written (g.O.Sink.failures c.open.new.output < failures) end.exit) back c.end.ensures.told);
     }
 
 pub returns-in-Err-serve-clause-doors : goal.returns-in-Err-serve-clause-doors

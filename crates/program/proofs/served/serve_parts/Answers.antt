@@ -55,3 +55,9 @@ returns-in-Err-clause-only g c = c.in-Err.ensures.only
 
 pub returns-in-Err-clause-other : goal.returns-in-Err-clause-other
 returns-in-Err-clause-other g c = c.in-Err.ensures.other
+
+pub returns-in-Ok-clause-refuses : goal.returns-in-Ok-clause-refuses
+returns-in-Ok-clause-refuses g c claims there fault has = absurd (c.in-Ok.ensures.refuses claims there fault has)
+
+pub returns-in-Err-clause-refuses : goal.returns-in-Err-clause-refuses
+returns-in-Err-clause-refuses g c = c.in-Err.ensures.refuses

@@ -17,6 +17,7 @@ returns-in-Ok-clause-opens g c =
       fault = tt;
       only = λ claims spec h holds small. let new = new_of c.args.size files script root spec h (c.requires.new claims) holds in (o.only spec new.0, o.begun.history_is ∙ sym new.1);
       other = λ claims a small. absurd (none_of_another c.args.size files script root (c.requires.new claims) a);
+      refuses = λ claims there fault has. absurd (there (c.requires.new claims));
       untouched = tt;
       continues = o.continues;
       cause = tt;
@@ -38,6 +39,7 @@ returns-in-Err-clause-opens g c =
       fault = (o.fault, c.requires.new);
       only = λ claims spec h holds small. let new = new_of c.args.size files script root spec h (c.requires.new claims) holds in (c.requires.new claims, o.only spec new.0);
       other = λ claims a small. absurd (none_of_another c.args.size files script root (c.requires.new claims) a);
+      refuses = λ claims there fault has. absurd (there (c.requires.new claims));
       untouched = λ inside claims. ap (λ d. (g.F.Folder.state d).bytes) (o.untouched (λ device. inside (inl device)));
       continues = o.continues;
       cause = o.cause;

@@ -1,5 +1,7 @@
 use Rattle.std.proofs.Common.{inl, inr, refl}
 use Rattle.disk.proofs.Moments.{weaker}
+use Rattle.shared.specs.SessionError.TheVariants.{Device}
+use Rattle.large_sessions.proofs.Refusing.{outside_for}
 use Rattle.serving.proofs.OpeningsInParts.{opens_parts_before}
 use Rattle.serving.proofs.opening_parts.open_parts.Goals as goal
 
@@ -32,6 +34,7 @@ returns-in-Err g c =
       fault = λ claims. (inl (inl refl), inr refl);
       only = λ claims spec h holds small. inl refl;
       other = λ claims a small. inr (inl refl);
+      refuses = λ claims there fault has. outside_for c.args.size old.bytes fault Device (inl refl);
       untouched = λ inside claims. look.bytes claims;
       continues = look.continues;
       cause = λ device. c.in-Err.ensures.cause refl;

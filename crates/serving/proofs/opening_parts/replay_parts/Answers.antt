@@ -10,9 +10,10 @@ use Rattle.shared.specs.SessionView.{IsRecorded}
 use Rattle.large_sessions.specs.Recorder.{in_folder}
 use Rattle.large_sessions.specs.Sessions.{AreReplayOf, HaveNoSession, IsStartOf}
 use Rattle.large_sessions.proofs.Going.{leaves_on}
+use Rattle.large_sessions.proofs.Refusing.{outside_for, refused_for}
 use Rattle.serving.specs.HeldInParts.{HoldAlike}
 use Rattle.serving.proofs.Openings.{read_here}
-use Rattle.serving.proofs.OpeningsInParts.{at_files, bytes_last, claims_last, claims_there, files_last, header_of_start, held_last, kept_last, kept_there, leaves_alike, leaves_last, on_itself, replay_at, start_of, there_of}
+use Rattle.serving.proofs.OpeningsInParts.{at_files, bytes_last, claims_last, claims_there, files_last, header_of_start, held_last, kept_last, kept_there, leaves_alike, leaves_last, no_fault_last, on_itself, replay_at, start_of, there_of}
 use Rattle.serving.proofs.opening_parts.replay_parts.Goals as goal
 
 -- ---- the first part gives none
@@ -33,6 +34,7 @@ returns-in-Err g c =
       fault = λ claims. (o.fault claims, inl (c.requires.there claims));
       only = λ claims spec h holds small. o.only claims script root spec h (there_of c.args.size old.bytes script root spec h (c.requires.there claims) holds).0 small;
       other = λ claims a small. inr (o.only claims a.script_there a.root_there a.spec a.history a.hold small);
+      refuses = λ claims there fault has. refused_for c.args.size old.bytes fault c.in-Err.error has (o.fault claims);
       untouched = λ inside claims. o.untouched claims;
       continues = o.continues;
       cause = o.cause;
@@ -72,6 +74,9 @@ returns-in-Err-whole g c =
           o.only (here claims) script root spec h (same script root spec h claims it.0) small (first.only claims script root spec h it.0 small);
       other = λ claims a small.
           inr (o.only (here claims) a.script_there a.root_there a.spec a.history (same a.script_there a.root_there a.spec a.history claims a.hold) small (first.only claims a.script_there a.root_there a.spec a.history a.hold small));
+      refuses = λ claims there fault has.
+          refused_for c.args.size old.bytes fault e has
+          (at_files (λ (n : ℕ) (files : List (List ℕ)). HaveNoSession n files e) p.0.opened.held.size c.args.size mid.bytes old.bytes first.is.size_is (first.untouched claims) (o.fault (here claims)));
       untouched = λ inside claims. o.untouched (here claims) ∙ first.untouched claims;
       continues = continues_on old mid new first.continues o.continues;
       cause = λ device. let risen = o.cause device in let counted = first.continues.counted in omega (arith, risen, counted);
@@ -119,6 +124,7 @@ returns-then-not-is_of g c =
           let same = header_of_start state old c.args.size p.0 r p.1.version p.1.script.items p.1.root.items first.is whole.alike first.continues first.untouched whole.continues whole.untouched script root spec h s in
           absurd (c.is_of.ensures.other no (same.0, same.1, sym first.read.names_are ∙ ap (λ (x : Specified). x.names) (sym whole.spec ∙ s.spec_is) ∙ it.1));
       other = λ claims a small. inl refl;
+      refuses = λ claims there fault has. absurd (no_fault_last state old c.args.size p.0 r p.1.version p.1.script.items p.1.root.items first.is whole.alike first.continues first.untouched whole.continues whole.untouched (c.is_done-is_done.ensures.no_fault done) claims fault has);
       untouched = λ inside claims. ap (λ d. (state d).bytes) c.into_folder.ensures ∙ bytes_last state old c.args.size p.0 r p.1.version p.1.script.items p.1.root.items first.is whole.alike first.continues first.untouched whole.continues whole.untouched claims;
       continues = subst (λ d. Continues old (state d)) back (continues_on old (state p.0.opened.held.folder) (state r.opened.held.folder) first.continues whole.continues);
       cause = λ device. absurd device;
@@ -170,6 +176,7 @@ returns-in-Ok-finish g c =
           let t = begins a.script_there a.root_there a.spec a.history claims a.hold small in
           let same = header_of_start state old c.args.size p.0 r p.1.version p.1.script.items p.1.root.items first.is whole.alike first.continues first.untouched whole.continues whole.untouched a.script_there a.root_there a.spec a.history t in
           a.other (sym same.0 ∙ is.0, sym same.1 ∙ is.1, ap (λ (x : Specified). x.names) (sym t.spec_is ∙ whole.spec) ∙ first.read.names_are ∙ is.2);
+      refuses = λ claims there fault has. no_fault_last state old c.args.size p.0 r p.1.version p.1.script.items p.1.root.items first.is whole.alike first.continues first.untouched whole.continues whole.untouched (c.is_done-is_done.ensures.no_fault done) claims fault has;
       untouched = tt;
       continues = continues_on old (state r.opened.held.folder) (state s.journal.folder) (continues_on old (state p.0.opened.held.folder) (state r.opened.held.folder) first.continues whole.continues) o.continues;
       cause = tt;
@@ -200,6 +207,7 @@ returns g c =
       fault = λ claims. (inl o.outside, inl (c.requires.there claims));
       only = λ claims spec h holds small. o.outside;
       other = λ claims a small. inr o.outside;
+      refuses = λ claims there fault has. outside_for c.args.size old.bytes fault c.in-Err-finish.error o.outside;
       untouched = λ inside claims. absurd (inside o.outside);
       continues = continues_on old (state r.opened.held.folder) (state c.in-Err-finish.folder) go o.continues;
       cause = λ device. let risen = o.cause device in let counted = go.counted in omega (arith, risen, counted);

@@ -16,12 +16,12 @@ take-requires g c =
     subst (λ (s : Specified). IsJudged s (showing.history ++ c.args.history.now)) (sym c.in_ok-showing.ensures.spec)
     (subst (λ (h : List Entry). IsJudged c.args.spec (h ++ c.args.history.now)) (sym c.in_ok-showing.ensures.history) c.requires)
 
-pub returns-in-Ok : goal.returns-in-Ok
-returns-in-Ok g c =
+pub returns-in-Ok-clause-text : goal.returns-in-Ok-clause-text
+returns-in-Ok-clause-text g c =
     let begun = c.in_ok-showing.showing in
     let later = c.take.new.self in
-    let old = g.W.Write.contents c.args.output.now in
-    let new = g.W.Write.contents c.take.new.output in
+    let old = g.W.Sink.contents c.args.output.now in
+    let new = g.W.Sink.contents c.take.new.output in
     IfOk-weaker c.end.result (λ left. Shows later.options later.spec later.history (later.written ++ left.items))
     (λ left. Writes c.args.options c.args.spec c.args.history.now old new left.items)
     (λ left shows. writes_whole c.args.options later.options c.args.spec later.spec c.args.history.now later.history old new begun.written later.written left.items

@@ -52,7 +52,8 @@ loop-index-preserved g c =
       };
       history = longer start.monitor.spec start.history.items c.args.entries.now was.index c.index-entries-index.result c.loop-index-test.true c.index-entries-index.is
           was.self.history.items p.history.items was.invariant.history c.in_ok-show.ensures.history;
-      sends = sends_more (g.W.Write.contents c.args.output.now) (g.W.Write.contents was.output) (g.W.Write.contents sent.output)
+      sends = sends_more (g.W.Sink.contents c.args.output.now) (g.W.Sink.contents was.output) (g.W.Sink.contents sent.output)
           (written start) (written was.self) (joined sent.sent.items) was.invariant.sends
-          (subst (λ s. Sends (g.W.Write.contents was.output) (g.W.Write.contents sent.output) (joined s.items) (joined sent.sent.items)) c.show.ensures.sent c.in_ok-send_enough.ensures.sends);
+          (subst (λ s. Sends (g.W.Sink.contents was.output) (g.W.Sink.contents sent.output) (joined s.items) (joined sent.sent.items)) c.show.ensures.sent c.in_ok-send_enough.ensures.sends);
+      steady = c.in_ok-send_enough.ensures.steady ∙ was.invariant.steady;
     }

@@ -8,5 +8,6 @@ invariant-loop-index g l = record {
   spec : l.self.monitor.spec ≡ l.fn.self.monitor.spec;
   at : IsAt l.options l.fn.self.monitor.spec l.self;
   history : l.self.history.items ≡ l.fn.self.history.items ++ take l.index l.entries;
-  sends : Sends (g.W.Write.contents l.fn.output) (g.W.Write.contents l.output) (written l.fn.self) (written l.self);
+  sends : Sends (g.W.Sink.contents l.fn.output) (g.W.Sink.contents l.output) (written l.fn.self) (written l.self);
+  steady : g.W.Sink.failures l.output ≡ g.W.Sink.failures l.fn.output;
 }
