@@ -4,13 +4,15 @@
     tests/edits.py
 
 The edits are those of crates/*/wrong, crates/*/must-fail and tests/planted. Each names a file, a text that stands there exactly once, and what
-comes in its place; a further change applies to what the earlier ones made. An edit that doesn't fit shows nothing, and only a kit would
-say so. This needs none. The last line is `N passed, M failed`.
+comes in its place; a further change applies to what the earlier ones made. The function that it names, if any, has to be one of the crate's. An
+edit that doesn't fit shows nothing, and only a kit would say so. This needs none. The last line is `N passed, M failed`.
 """
 from __future__ import annotations
 
+import functools
 import glob
 import os
+import re
 import sys
 
 TOP = os.path.dirname(os.path.dirname(os.path.abspath(__file__)))
@@ -36,8 +38,52 @@ def changes_of(path: str) -> list[Change]:
     return changes
 
 
+METHODS = r"^(?:unsafe )?impl(?:<[^{]*?>)?\s(?:(?P<trait>\w+)[^{;]*?\sfor )?(?:&\S* )?(?P<type>\w+)|^pub trait (?P<own>\w+)"
+FUNCTION = r"^(?P<within> *)(?:pub(?:\(\w+\))? )?(?:const |unsafe )*fn (?P<name>\w+)"
+EITHER = re.compile(f"{METHODS}|{FUNCTION}", re.MULTILINE)
+"""Where the methods of a type or a trait begin, or a function."""
+
+
+@functools.cache
+def functions_of(crate: str) -> list[tuple[str, str | None, str]]:
+    """The functions of the crate in this folder: of a method the type that it is one of, and the trait, if any."""
+    found: list[tuple[str, str | None, str]] = []
+    for path in sorted(glob.glob(os.path.join(crate, "src", "**", "*.rt"), recursive=True)):
+        of: tuple[str, str | None] = "", None
+        with open(path, encoding="utf-8") as file:
+            for one in EITHER.finditer(file.read()):
+                if one["name"] is None:
+                    of = one["own"] or one["type"], one["trait"]
+                else:
+                    found.append((*(of if one["within"] else ("", None)), one["name"]))
+    return found
+
+
+def lacks_function(path: str) -> str | None:
+    """The function that the edit names, where its crate doesn't have it.
+
+    The methods of `impl Absorb<Summary> for Board` are those of `BoardAbsorbSummary`, and those of `impl<D, A> Session<D, A>` may be
+    those of `Session+D+A`.
+    """
+    with open(path, encoding="utf-8") as file:
+        named = re.search(r"^function: *(\S+)$", file.read(), re.MULTILINE)
+    if named is None:
+        return None
+    holder, _, name = named[1].rpartition("::")
+    holder = holder.rpartition("::")[2].partition("+")[0]
+    if not holder[:1].isupper():
+        holder = ""
+    for of, trait, function in functions_of(os.path.dirname(os.path.dirname(path))):
+        if function == name and (holder == of if trait is None else holder.startswith(of + trait)):
+            return None
+    return named[1]
+
+
 def fault_of(path: str) -> str | None:
-    """Why the edit can't be made."""
+    """Why the edit can't be made, or tried."""
+    function = lacks_function(path)
+    if function is not None:
+        return f"its crate has no function '{function}'"
     texts: dict[str, str] = {}
     changes = changes_of(path)
     for at, old, new in changes:
