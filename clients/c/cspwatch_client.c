@@ -13,6 +13,7 @@
 #include <string.h>
 #include <sys/socket.h>
 #include <sys/time.h>
+#include <sys/un.h>
 #include <time.h>
 #include <unistd.h>
 
@@ -48,12 +49,12 @@ static void drop(cspwatch_client *client) {
     client->socket = -1;
 }
 
-static int set_options(int link, unsigned timeout) {
+static int set_options(int link, int family, unsigned timeout) {
     struct timeval wait;
     int on = 1;
     wait.tv_sec = (time_t)(timeout / 1000);
     wait.tv_usec = (suseconds_t)(timeout % 1000 * 1000);
-    if (setsockopt(link, IPPROTO_TCP, TCP_NODELAY, &on, sizeof on) != 0)
+    if (family != AF_UNIX && setsockopt(link, IPPROTO_TCP, TCP_NODELAY, &on, sizeof on) != 0)
         return -1;
     if (timeout == 0)
         return 0;
@@ -68,7 +69,7 @@ static int connected(const struct addrinfo *address, unsigned timeout) {
     int link = socket(address->ai_family, address->ai_socktype, address->ai_protocol);
     if (link < 0)
         return -1;
-    if (set_options(link, timeout) == 0 && connect(link, address->ai_addr, address->ai_addrlen) == 0)
+    if (set_options(link, address->ai_family, timeout) == 0 && connect(link, address->ai_addr, address->ai_addrlen) == 0)
         return link;
     cause = errno;
     close(link);
@@ -76,9 +77,28 @@ static int connected(const struct addrinfo *address, unsigned timeout) {
     return -1;
 }
 
+/* The same of the socket at this path of the file system. */
+static int connected_to_path(const char *path, unsigned timeout) {
+    struct sockaddr_un place;
+    struct addrinfo address;
+    if (strlen(path) >= sizeof place.sun_path)
+        return -1;
+    memset(&place, 0, sizeof place);
+    place.sun_family = AF_UNIX;
+    strcpy(place.sun_path, path);
+    memset(&address, 0, sizeof address);
+    address.ai_family = AF_UNIX;
+    address.ai_socktype = SOCK_STREAM;
+    address.ai_addr = (struct sockaddr *)&place;
+    address.ai_addrlen = sizeof place;
+    return connected(&address, timeout);
+}
+
 static int connected_to_any(const char *host, const char *port, unsigned timeout) {
     struct addrinfo hints, *list, *address;
     int link = -1;
+    if (strncmp(host, CSPWATCH_UNIX, strlen(CSPWATCH_UNIX)) == 0)
+        return connected_to_path(host + strlen(CSPWATCH_UNIX), timeout);
     memset(&hints, 0, sizeof hints);
     hints.ai_family = AF_UNSPEC;
     hints.ai_socktype = SOCK_STREAM;

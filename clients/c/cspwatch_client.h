@@ -103,7 +103,11 @@ struct cspwatch_fault {
 
 typedef struct cspwatch_client cspwatch_client;
 
-/* Connects to the server at the host and the port, and fills in the client.
+/* What the host is called of a server that listens at a socket in the file system; its path comes after it. */
+#define CSPWATCH_UNIX "unix:"
+
+/* Connects to the server at the host and the port, and fills in the client. With the host "unix:PATH" that is the socket
+ * at this path of the file system, and the port, which may be empty, isn't looked at.
  *
  * timeout -- how many milliseconds each write and each read may take; 0 for ever.
  *

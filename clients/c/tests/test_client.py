@@ -331,6 +331,16 @@ class WithTheProgram(Plays):
         self.session(server.address)
         self.assertEqual(server.wait(SECONDS).summary, Status(5, 2, 1, 2, closed=False))
 
+    @unittest.skipUnless(SERVES, "the program has no command `serve`")
+    def test_a_socket_in_the_file_system(self):
+        place = "unix:" + os.path.join(FOLDER.name, "socket")
+        server = Server(self.spec, "P", os.path.join(FOLDER.name, "journal at a socket"), program=PROGRAM, listen=place)
+        lines, errors, status = told([PLAYER, place, "", "20000"], ["event a", "event a", "status"])
+        self.assertEqual((lines, errors, status), (["accepted 1", "rejected 2", "2 1 0 1 open"], "", 0))
+        self.assertEqual(server.wait(SECONDS).summary, Status(2, 1, 0, 1, closed=False))
+        for elsewhere in (place, "unix:", "unix:" + "x" * 108):
+            self.assertEqual(told([PLAYER, elsewhere, "", "0"]), (["not connected"], "", 0))
+
     @unittest.skipUnless(IS_SERVICE, "the program is no service")
     def test_a_component_that_comes_back(self):
         server = Server(self.spec, "P", os.path.join(FOLDER.name, "journal of a service"), connections=None, program=PROGRAM)

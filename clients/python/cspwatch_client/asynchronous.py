@@ -7,7 +7,7 @@ from collections import deque
 from types import TracebackType
 from typing import Any, Callable, Deque, Generic, Iterable, Optional, Set, Tuple, Type, TypeVar
 
-from .client import Address, check_seat, line_of_event, line_of_refusal, split_address
+from .client import Address, check_seat, line_of_event, line_of_refusal, place_of
 from .reconnecting import FIRST_PAUSE, LONGEST_PAUSE, PASSING
 from .replies import Fault, NoReply, OtherReports, Status, Verdict, VerdictLost, judged_of, next_of, raise_fault, status_of, verdict_of
 
@@ -64,7 +64,7 @@ class AsyncClient:
     ) -> AsyncClient:
         """A client that is connected to the server at this address.
 
-        address -- `"HOST:PORT"`, or a pair of host and port.
+        address -- `"HOST:PORT"`, or a pair of host and port; or `"unix:PATH"`, a socket in the file system.
         timeout -- how many seconds the connection, and then each reply after the one before it, may take; None for ever.
         seat -- the seat that the client is, from 1 to 1000, of a server that gives seats by number.
         patience -- for how many seconds a client with a seat tries to get it, and to come back; 0 for never.
@@ -277,9 +277,13 @@ class Call(Generic[Answer]):
 
 async def opened(address: Address, timeout: Optional[float], seat: Optional[int]) -> Streams:
     """A connection to the server, as the seat where there is one."""
-    host, port = split_address(address)
+    place = place_of(address)
+    if isinstance(place, str):
+        opening = asyncio.open_unix_connection(place, limit=REPLY_LIMIT)
+    else:
+        opening = asyncio.open_connection(*place, limit=REPLY_LIMIT)
     try:
-        reader, writer = await asyncio.wait_for(asyncio.open_connection(host, port, limit=REPLY_LIMIT), timeout)
+        reader, writer = await asyncio.wait_for(opening, timeout)
     except asyncio.TimeoutError:
         raise TimeoutError("timed out") from None
     try:

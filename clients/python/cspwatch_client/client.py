@@ -13,6 +13,9 @@ LINE_LIMIT = 4096
 SEATS = 1000
 """The greatest number of a seat that a client may be."""
 
+UNIX = "unix:"
+"""What the address of a socket in the file system begins with; its path comes after it."""
+
 Address = Union[str, Tuple[str, int]]
 Answer = TypeVar("Answer")
 
@@ -33,7 +36,7 @@ class Client:
     def __init__(self, address: Address, timeout: Optional[float] = None, seat: Optional[int] = None) -> None:
         """Connects to the server.
 
-        address -- `"HOST:PORT"`, or a pair of host and port.
+        address -- `"HOST:PORT"`, or a pair of host and port; or `"unix:PATH"`, a socket in the file system.
         timeout -- how many seconds the connection, and then each write and each read, may take; None for ever.
         seat -- the seat that the client is, from 1 to 1000, of a server that gives seats by number. `judged` then
             counts the seat's earlier reports too.
@@ -48,8 +51,7 @@ class Client:
         self._connect(address, timeout, seat)
 
     def _connect(self, address: Address, timeout: Optional[float], seat: Optional[int]) -> None:
-        connection = socket.create_connection(split_address(address), timeout=timeout)
-        connection.setsockopt(socket.IPPROTO_TCP, socket.TCP_NODELAY, 1)
+        connection = connected(address, timeout)
         self._begin(connection.makefile("rb"), connection.makefile("wb"), connection)
         if seat is not None:
             self._identify(seat)
@@ -181,14 +183,33 @@ class Client:
                 pass
 
 
-def split_address(address: Address) -> Tuple[str, int]:
-    """The host and the port of an address such as `"127.0.0.1:4050"`, or of a pair of them."""
+def place_of(address: Address) -> Union[str, Tuple[str, int]]:
+    """The path of an address such as `"unix:/run/cspwatch"`; the host and the port of any other one."""
     if not isinstance(address, str):
         return address
+    if address.startswith(UNIX) and len(address) > len(UNIX):
+        return address[len(UNIX) :]
     host, _, port = address.rpartition(":")
     if not (host and port.isascii() and port.isdigit()):
-        raise ValueError("an address is HOST:PORT, not %r" % address)
+        raise ValueError("an address is HOST:PORT or unix:PATH, not %r" % address)
     return host, int(port)
+
+
+def connected(address: Address, timeout: Optional[float]) -> socket.socket:
+    """A socket that is connected to the address; what is done with it may take so many seconds."""
+    place = place_of(address)
+    if not isinstance(place, str):
+        connection = socket.create_connection(place, timeout=timeout)
+        connection.setsockopt(socket.IPPROTO_TCP, socket.TCP_NODELAY, 1)
+        return connection
+    connection = socket.socket(socket.AF_UNIX, socket.SOCK_STREAM)
+    try:
+        connection.settimeout(timeout)
+        connection.connect(place)
+    except BaseException:
+        connection.close()
+        raise
+    return connection
 
 
 def check_seat(seat: int) -> None:

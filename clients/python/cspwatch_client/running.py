@@ -13,7 +13,7 @@ from .replies import BadReply, CspwatchError, NoReply, Status, status_of
 
 File = Union[str, "os.PathLike[str]"]
 
-LISTENING = re.compile(r"listening ([0-9.]+:[0-9]+)\n")
+LISTENING = re.compile(r"listening ([0-9.]+:[0-9]+|unix:.+)\n")
 """What a server prints first."""
 
 END_SECONDS = 60
@@ -60,6 +60,7 @@ class Server:
         connections: Optional[int] = 1,
         program: File = "cspwatch",
         listen: str = "127.0.0.1:0",
+        large: bool = False,
     ) -> None:
         """Starts the server and waits until it listens. Where it ends before that, `StartFailed` is raised.
 
@@ -68,20 +69,22 @@ class Server:
         journal -- the file of the journal; the server creates it where there is none.
         connections -- how many connections the server takes, 1 to 64; None for a service.
         program -- the program `cspwatch`.
-        listen -- the address to listen on; port 0 is any free port.
+        listen -- the address to listen on; port 0 is any free port, and `unix:PATH` a socket in the file system.
+        large -- whether it has the limits for large systems, and a history without an end.
         """
         self.connections = connections
         self._made = 0
         extent = ["--until-idle"] if connections is None else ["--connections", str(connections)]
+        extent += ["--large"] if large else []
         self._process = started(
             [os.fspath(program), "serve", os.fspath(spec), process, os.fspath(journal), "--listen", listen] + extent
         )
-        first = stream(self._process.stdout).readline().decode("ascii", "replace")
+        first = os.fsdecode(stream(self._process.stdout).readline())
         found = LISTENING.fullmatch(first)
         if found is None:
             raise StartFailed(outcome_of(self._process))
         self.address: str = found[1]
-        """Where the server listens, such as `127.0.0.1:40513`."""
+        """Where the server listens, such as `127.0.0.1:40513` or `unix:socket`."""
 
     def client(self, timeout: Optional[float] = None, seat: Optional[int] = None) -> Client:
         """A client of this server, on a connection of its own; of a service as the seat with a number, where one is given."""
@@ -127,9 +130,10 @@ class Checker:
     There are no timeouts: each call waits for the program.
     """
 
-    def __init__(self, spec: File, process: str, program: File = "cspwatch") -> None:
-        """Starts the program. Where it ends before it has answered anything, `StartFailed` is raised."""
-        self._process = started([os.fspath(program), "check", os.fspath(spec), process])
+    def __init__(self, spec: File, process: str, program: File = "cspwatch", large: bool = False) -> None:
+        """Starts the program, with the limits for large systems or without. Where it ends before it has answered anything,
+        `StartFailed` is raised."""
+        self._process = started([os.fspath(program), "check", os.fspath(spec), process] + (["--large"] if large else []))
         reader, writer = stream(self._process.stdout), stream(self._process.stdin)
         self.client = Client.over(cast(BinaryIO, reader), cast(BinaryIO, writer))
         """The client."""

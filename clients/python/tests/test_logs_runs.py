@@ -256,8 +256,12 @@ class OverAServer(InFolder):
         self.assertEqual((found[0], found[1]), (5, [counts(3, 3, 1, 0)]))
         self.assertRegex(found[2][0], r"^127\.0\.0\.1:\d+: the connection has ended \(2 reports were not answered\)$")
         found = self.logs("--server", server.address, "s.toml")
-        self.assertEqual((found[0], found[2]), (5, ["cspwatch-logs: Connection refused"]))
-        self.assertEqual(self.logs("--server", "here", "s.toml")[0], 2)
+        self.assertEqual((found[0], found[2]), (5, ["%s: Connection refused" % server.address]))
+        found = self.logs("--server", "unix:none", "s.toml")
+        self.assertEqual((found[0], found[2]), (5, ["unix:none: No such file or directory"]))
+        for address in ("here", "unix:"):
+            found = self.logs("--server", address, "s.toml")
+            self.assertEqual((found[0], found[2]), (2, ["cspwatch-logs: an address is HOST:PORT or unix:PATH, not '%s'" % address]))
 
     def test_a_seat_goes_on_after_its_last_report(self):
         given = b"open 0\nopen 1\nopen 7\nclose 0\nbad\n"

@@ -126,6 +126,18 @@ class Serves(WithScript):
             self.session(client)
         self.assertEqual(server.wait(SECONDS).summary, Status(5, 2, 1, 2, closed=False))
 
+    def test_a_socket_in_the_file_system(self):
+        for kind in (Client, Blocking):
+            self.journal = os.path.join(self.folder, kind.__name__)
+            place = "unix:" + os.path.join(self.folder, "a socket")
+            server = Server(self.spec, "P", self.journal, program=PROGRAM, listen=place)
+            self.assertEqual(server.address, place)
+            with kind(server.address, SECONDS) as client:
+                self.session(client)
+            self.assertEqual(server.wait(SECONDS).summary, Status(5, 2, 1, 2, closed=False))
+            with self.assertRaises(OSError):
+                kind(place, SECONDS)
+
     def test_reports_that_are_sent_ahead(self):
         async def report(address):
             async with await AsyncClient.connect(address, SECONDS) as client:
@@ -219,6 +231,16 @@ class Services(WithScript):
             self.assertEqual(guard.status(), Status(3, 3, 0, 0, closed=False))
         outcome = server.wait(SECONDS)
         self.assertEqual((outcome.exit_status, outcome.errors), (0, ""))
+
+    def test_many_components_at_rest(self):
+        spec = self.file("many.csp", "channel rest : {1..14}\nP = ||| i:{1..14} @ rest.i -> STOP\n")
+        with Server(spec, "P", self.journal, connections=None, program=PROGRAM, large=True) as server:
+            with ReconnectingClient(server.address, seat=1000, timeout=SECONDS) as client:
+                self.assertEqual([client.event("rest.%d" % number) for number in range(1, 15)], [Verdict(True, place) for place in range(1, 15)])
+        with open(self.journal, "rb") as journal:
+            self.assertEqual(journal.readline(), b"cspwatch large journal 1\n")
+        with Checker(spec, "P", PROGRAM, large=True) as client:
+            self.assertEqual(client.event("rest.14"), Verdict(True, 1))
 
     def again(self, server):
         """The server killed, and started again at the same address."""

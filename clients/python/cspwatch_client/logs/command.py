@@ -9,7 +9,7 @@ import signal
 import sys
 from typing import Callable, List, Optional, Sequence, TextIO
 
-from ..client import split_address
+from ..client import place_of
 
 if sys.version_info < (3, 11):
     print("cspwatch-logs needs Python 3.11 or later, this is %d.%d" % sys.version_info[:2], file=sys.stderr)
@@ -49,7 +49,7 @@ def parser() -> argparse.ArgumentParser:
     found.add_argument("map", metavar="MAP", help="the map, a file of TOML")
     found.add_argument("logs", metavar="LOG", nargs="*", help="the logs, one after the other; standard input where there is none")
     found.add_argument("--follow", action="store_true", help="wait for more lines, also after a log was rotated or cut")
-    found.add_argument("--server", metavar="ADDR", help="report to the server at HOST:PORT, in place of a check of its own")
+    found.add_argument("--server", metavar="ADDR", help="report to the server at HOST:PORT or unix:PATH, in place of a check of its own")
     found.add_argument("--seat", metavar="N", type=seat, help="be seat N of the server, and go on after its last report (1 to 1000)")
     found.add_argument("--strict", action="store_true", help="a line that no rule takes is a fault")
     found.add_argument("--quiet", action="store_true", help="print the rejected reports alone, without their lines and the counts")
@@ -154,7 +154,7 @@ def check_use(options: argparse.Namespace, found: Map) -> None:
         if found.sessions is not None:
             raise BadUse("a map with [sessions] starts a check for each; it can't go with --server, which has one history")
         try:
-            split_address(options.server)
+            place_of(options.server)
         except ValueError as error:
             raise BadUse(str(error)) from None
     if found.specification is None:

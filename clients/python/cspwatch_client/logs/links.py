@@ -10,7 +10,7 @@ import time
 from collections import deque
 from typing import Deque, Dict, List, Optional, Sequence, Set
 
-from ..client import split_address
+from ..client import connected
 from ..replies import FAULT, FaultCode
 from .mapping import Report
 from .reading import Line
@@ -275,8 +275,11 @@ class Connection(Link):
 
     def __init__(self, address: str, seat: Optional[int]) -> None:
         """Connects, and asks for the seat. `OSError` where there is no connection, `Lost` where the seat isn't given."""
-        self.socket = socket.create_connection(split_address(address), SECONDS)
-        self.socket.setsockopt(socket.IPPROTO_TCP, socket.TCP_NODELAY, 1)
+        try:
+            self.socket = connected(address, SECONDS)
+        except OSError as error:
+            error.filename = address
+            raise
         self.reported = 0
         """How many reports of the seat stood in the history."""
         if seat is not None:
