@@ -40,41 +40,52 @@ def changes_of(path: str) -> list[Change]:
 
 METHODS = r"^(?:unsafe )?impl(?:<[^{]*?>)?\s(?:(?P<trait>\w+)[^{;]*?\sfor )?(?:&\S* )?(?P<type>\w+)|^pub trait (?P<own>\w+)"
 FUNCTION = r"^(?P<within> *)(?:pub(?:\(\w+\))? )?(?:const |unsafe )*fn (?P<name>\w+)"
-EITHER = re.compile(f"{METHODS}|{FUNCTION}", re.MULTILINE)
-"""Where the methods of a type or a trait begin, or a function."""
+TYPE = r"^(?:pub(?:\(\w+\))? )?(?:struct|enum) (?P<declared>\w+)"
+ANY = re.compile(f"{METHODS}|{FUNCTION}|{TYPE}", re.MULTILINE)
+"""Where the methods of a type or a trait begin, a function, or the declaration of a type."""
 
 
 @functools.cache
-def functions_of(crate: str) -> list[tuple[str, str | None, str]]:
-    """The functions of the crate in this folder: of a method the type that it is one of, and the trait, if any."""
-    found: list[tuple[str, str | None, str]] = []
-    for path in sorted(glob.glob(os.path.join(crate, "src", "**", "*.rt"), recursive=True)):
+def names_in(crate: str) -> tuple[list[tuple[str, str, str | None, str]], set[tuple[str, str]]]:
+    """The functions of the crate in this folder, each with its module, and of a method the type that it is one of, and the trait, if any;
+    and the types with their modules."""
+    functions: list[tuple[str, str, str | None, str]] = []
+    types: set[tuple[str, str]] = set()
+    sources = os.path.join(crate, "src")
+    for path in sorted(glob.glob(os.path.join(sources, "**", "*.rt"), recursive=True)):
+        module = os.path.relpath(path, sources)[: -len(".rt")].replace(os.sep, "::")
+        module = "" if module == "lib" else module
         of: tuple[str, str | None] = "", None
         with open(path, encoding="utf-8") as file:
-            for one in EITHER.finditer(file.read()):
-                if one["name"] is None:
+            for one in ANY.finditer(file.read()):
+                if one["declared"] is not None:
+                    types.add((module, one["declared"]))
+                elif one["name"] is None:
                     of = one["own"] or one["type"], one["trait"]
                 else:
-                    found.append((*(of if one["within"] else ("", None)), one["name"]))
-    return found
+                    functions.append((module, *(of if one["within"] else ("", None)), one["name"]))
+    return functions, types
 
 
 def lacks_function(path: str) -> str | None:
     """The function that the edit names, where its crate doesn't have it.
 
-    The methods of `impl Absorb<Summary> for Board` are those of `BoardAbsorbSummary`, and those of `impl<D, A> Session<D, A>` may be
-    those of `Session+D+A`.
+    A method is named by the module where it stands, or where its type does. The methods of `impl Absorb<Summary> for Board` are those of
+    `BoardAbsorbSummary`, and those of `impl<D, A> Session<D, A>` may be those of `Session+D+A`.
     """
     with open(path, encoding="utf-8") as file:
         named = re.search(r"^function: *(\S+)$", file.read(), re.MULTILINE)
     if named is None:
         return None
-    holder, _, name = named[1].rpartition("::")
-    holder = holder.rpartition("::")[2].partition("+")[0]
+    where, _, name = named[1].rpartition("::")
+    within, _, holder = where.rpartition("::")
     if not holder[:1].isupper():
-        holder = ""
-    for of, trait, function in functions_of(os.path.dirname(os.path.dirname(path))):
-        if function == name and (holder == of if trait is None else holder.startswith(of + trait)):
+        within, holder = where, ""
+    holder = holder.partition("+")[0]
+    functions, types = names_in(os.path.dirname(os.path.dirname(path)))
+    for module, of, trait, function in functions:
+        is_place = within == module or (within, of) in types
+        if function == name and is_place and (holder == of if trait is None else holder.startswith(of + trait)):
             return None
     return named[1]
 
