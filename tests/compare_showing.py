@@ -12,7 +12,6 @@ from __future__ import annotations
 
 import argparse
 import functools
-import os
 import random
 import sys
 
@@ -32,8 +31,6 @@ SECONDS = 10.0
 """What the program may take for a journal."""
 
 SEATS = 3
-RELEASED = os.path.realpath(os.path.join(os.path.dirname(os.path.dirname(os.path.abspath(__file__))), "dist", "cspwatch"))
-"""The program of the last release, whose `show` cuts the bytes after the last record and says nothing."""
 
 WAYS = [(rejected, coverage, as_json) for rejected in (False, True) for coverage in (False, True) for as_json in (False, True)]
 """With `--rejected`, with `--coverage`, as JSON."""
@@ -72,8 +69,8 @@ def words_of(rejected: bool, coverage: bool, as_json: bool) -> tuple[str, ...]:
     return tuple(words + ["j"])
 
 
-def wanted_of(file: bytes, tells: bool) -> list[Answer]:
-    """What the reference answers: to `replay`, and to `show` in all ways, which tells of bytes after the last record or doesn't."""
+def wanted_of(file: bytes) -> list[Answer]:
+    """What the reference answers: to `replay`, and to `show` in all ways, which tells of bytes after the last record."""
     sessions: list[Session] = []
 
     def summary(session: Session) -> str:
@@ -83,7 +80,7 @@ def wanted_of(file: bytes, tells: bool) -> list[Answer]:
     replayed = reference.with_journal(file, "j", summary)
     if not sessions:
         return [replayed] * (1 + len(WAYS))
-    errors = reference.after_last_record(file) if tells else b""
+    errors = reference.after_last_record(file)
     return [replayed] + [Answer(shown(sessions[0], *way).encode(), errors, replayed.status) for way in WAYS]
 
 
@@ -94,7 +91,7 @@ def attempt(rng: random.Random, given: argparse.Namespace) -> Outcome:
     if made is None:
         return Outcome("passed over")
     file = damaged(rng, made) if rng.random() < 0.1 else made
-    wanted = opinions.of_reference(lambda: wanted_of(file, os.path.realpath(given.program) != RELEASED), given.seconds)
+    wanted = opinions.of_reference(lambda: wanted_of(file), given.seconds)
     if wanted is None:
         return Outcome("passed over")
     words = [("replay", "j")] + [words_of(rejected, coverage, as_json) for rejected, coverage, as_json in WAYS]

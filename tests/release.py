@@ -89,6 +89,7 @@ def refused(copy, version):
         copy.change(name, "^" + re.escape(line).replace("%s", ".*") + "$", line % "9.9.9")
         copy.make("another version of a client", "and %s has 9.9.9" % name, 1)
         copy.change(name, "^" + re.escape(line).replace("%s", ".*") + "$", line % version)
+    copy.change("README.md", r"\A", "Changed.\n")
     copy.make("what isn't committed", "these files are not committed", 1)
     copy.commit()
 
