@@ -12,16 +12,12 @@ import re
 import shutil
 import subprocess
 
-import large
 import pytest
 
 ROOT = os.path.dirname(os.path.dirname(os.path.abspath(__file__)))
 PAGE = os.path.join(ROOT, "man", "cspwatch.1")
 COMPLETIONS = os.path.join(ROOT, "completions")
 SECONDS = 60
-
-UNRELEASED = {"--large", "--read-only", "--explain", "--quiet", "--first", "--follow", "--until-idle", "--log"}
-"""Options that came after the last release."""
 
 SCRIPT = "channel a\nP = a -> Q'\nQ' = STOP\n"
 """The file p.csp of the lines that are tried."""
@@ -111,17 +107,13 @@ def has_word(text, word):
 
 @pytest.fixture(scope="session")
 def helped(program):
-    """The commands, options and operands of all help texts, with the options that came after the last release where that program is tried."""
+    """The commands, options and operands of all help texts."""
     commands, options, operands = shown(program)
-    if not large.is_known(program):
-        options |= UNRELEASED
     assert commands and options and operands
     return commands, options, operands
 
 
 def test_page_is_of_this_version(program):
-    if not large.is_known(program):
-        pytest.skip("the page is of what comes after this release")
     assert has_word(page_text(PAGE).splitlines()[0], version_of(program))
 
 
