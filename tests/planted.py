@@ -3,11 +3,13 @@
 
     tests/planted.py [NAME ..]
 
-Each file of tests/planted names what it would hide (`shows`), the crate whose rows show it (`rows`), and its changes: a file, what
-stands there once, and what comes in its place. It is made in a copy of the repository, and the rows are run there without proofs (`rt try`).
-As they stand, the rows have to pass. It needs the kit's `rt`. The last line is `N passed, M failed`.
+Each file of tests/planted names what it would hide (`shows`), the crate whose rows show it (`rows`) or the case (`case`, a file of
+tests/cases and a name), and its changes: a file, what stands there once, and what comes in its place. It is made in a copy of the
+repository, and the rows or the case are run there without proofs (`rt try`). As they stand, they have to pass. It needs the kit's `rt`.
+The last line is `N passed, M failed`.
 """
 import glob
+import json
 import os
 import subprocess
 import sys
@@ -23,17 +25,17 @@ SECONDS = 600
 
 
 class Plant:
-    """A wrong body: what it hides, the crate whose rows show it, and its changes."""
+    """A wrong body: what it hides, the crate whose rows show it or the case, and its changes."""
 
     def __init__(self, path):
         self.name = os.path.basename(path)[: -len(".edit")]
-        self.rows = self.shows = ""
+        self.rows = self.case = self.shows = ""
         self.changes = []
         at = old = None
         with open(path, encoding="utf-8") as file:
             for line in file.read().split("\n"):
                 word, _, rest = line.partition(":")
-                if word in ("rows", "shows"):
+                if word in ("rows", "case", "shows"):
                     setattr(self, word, rest.strip())
                 at = rest.strip() if word == "file" else at
                 old = rest[1:] if word == "old" else old
@@ -68,13 +70,34 @@ def played(folder, crate):
     return ": error" not in said, passes, said[-600:]
 
 
-def why_not(plant, crate):
-    """Why the rows of the crate don't do with the plant, or without one, what they have to."""
+def played_case(folder, named):
+    """The same of a case of the program: whether its lines on standard output come, and its files are left as it says. `rt try` runs the
+    program in a folder of its own, so the files are named by their whole paths."""
+    name, _, title = named.partition(": ")
+    with open(os.path.join(HERE, "cases", name), encoding="utf-8") as file:
+        (case,) = [one for one in json.load(file) if one["name"] == title]
+    places = {path: os.path.join(folder, path) for path in case["files"]}
+    for path, text in case["files"].items():
+        with open(places[path], "w", encoding="latin-1", newline="") as file:
+            file.write(text)
+    words = ["rt", "try", "--seconds", str(SECONDS), "--"] + [places.get(word, word) for word in case["args"]]
+    at = os.path.join(folder, "crates", "cspwatch")
+    ran = subprocess.run(words, cwd=at, stdin=subprocess.DEVNULL, capture_output=True, check=False)
+    passes = ran.stdout.decode().splitlines() == case["stdout"]
+    for path, text in case["files_after"].items():
+        with open(places[path], encoding="latin-1", newline="") as file:
+            passes = passes and file.read() == text
+    said = (ran.stdout + ran.stderr).decode(errors="replace")
+    return ": error" not in said, passes, said[-600:]
+
+
+def why_not(plant, rows, case):
+    """Why the rows of the crate, or the case, don't do with the plant, or without one, what they have to."""
     with tempfile.TemporaryDirectory(prefix="planted-") as folder:
         copied(folder)
         if plant and (why := plant.put(folder)):
             return why
-        was_run, passes, said = played(folder, crate)
+        was_run, passes, said = played(folder, rows) if rows else played_case(folder, case)
     if not was_run:
         return "they aren't built: " + said
     if passes and plant:
@@ -85,12 +108,14 @@ def why_not(plant, crate):
 def main():
     plants = [Plant(path) for path in sorted(glob.glob(os.path.join(HERE, "planted", "*.edit")))]
     plants = [plant for plant in plants if plant.name in sys.argv[1:] or len(sys.argv) == 1]
-    checks = [(None, crate) for crate in sorted({plant.rows for plant in plants})] + [(plant, plant.rows) for plant in plants]
+    checks = [(None, *shown) for shown in sorted({(plant.rows, plant.case) for plant in plants})]
+    checks += [(plant, plant.rows, plant.case) for plant in plants]
     failed = 0
-    for plant, crate in checks:
-        why = why_not(plant, crate)
+    for plant, rows, case in checks:
+        why = why_not(plant, rows, case)
         failed += why is not None
-        what = "%s (%s), by the rows of %s" % (plant.name, plant.shows, crate) if plant else "the rows of %s, without a plant" % crate
+        by = "the rows of %s" % rows if rows else "the case `%s`" % case
+        what = "%s (%s), by %s" % (plant.name, plant.shows, by) if plant else "%s, without a plant" % by
         print("%s: %s" % (what, why or ("seen" if plant else "pass")), flush=True)
     print("%d passed, %d failed" % (len(checks) - failed, failed))
     return 1 if failed else 0
