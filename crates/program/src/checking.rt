@@ -17,7 +17,7 @@ ghost use Rattle.program.specs.Conversations.{Conversed, no_answers};
 ghost use Rattle.program.specs.Exits.{exit_of};
 
 use crate::exit::exit_after;
-use alphabet::{Alphabet, copy_of};
+use alphabet::Alphabet;
 use answers::Exit;
 use disk::Disk;
 use journal::Journal;
@@ -187,7 +187,7 @@ fn judge_by<R: Wait, D: Disk + Drop, A: Allocator + Copy + Drop, T: Source, W: S
     ensures reader_failed { IfOk result (λ c. IsErrOf c.end WireError.Read → T.failures reader.old < T.failures reader.new) }
     ensures writer_failed { IfOk result (λ c. IsErrOf c.end WireError.Write → W.failures writer.old < W.failures writer.new) }
 {
-    let Ok(alphabet) = copy_of(alloc, session.spec().alphabet()) else {
+    let Ok(alphabet) = session.spec().shared_alphabet(alloc) else {
         drop(session);
         return Err(SessionError::Memory);
     };

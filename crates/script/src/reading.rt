@@ -24,7 +24,7 @@ use crate::standing::named_sets;
 use declarations::declare;
 use declared_names::trees_have_names;
 use denotation::{Root, gathered};
-use std::alloc::Allocator;
+use std::alloc::{AllocError, Allocator};
 use syntax::{Tree, parse, parse_phrase};
 use term::{Spec, Term};
 use tokens::{ReadError, ScriptError};
@@ -99,7 +99,13 @@ fn specified<A: Allocator + Copy>(
         → MatchResult result (λ s. s ≡ spec) (λ e. e ≡ read_error.Memory) }
 {
     match bodies_of(alloc, &names, root) {
-        Ok(bodies) => Ok(Spec::new(names.into_alphabet(), bodies)),
+        Ok(bodies) => {
+            let spec = Spec::new(names.into_alphabet(), bodies);
+            match spec.with_shared_alphabet(alloc) {
+                Ok(spec) => Ok(spec),
+                Err(AllocError) => Err(ReadError::Memory),
+            }
+        }
         Err(error) => Err(error),
     }
 }

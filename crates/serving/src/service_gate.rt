@@ -23,8 +23,8 @@ where
 }
 
 impl<'a, J: Recorder, N: Sharing<J>> ServiceGate<'a, J, N> {
-    /// The gate to this service. The alphabet is that of its specification; it may be a copy (`alphabet::copy_of`), which all threads read
-    /// without the session's lock. By it `connections::serve_on` serves the session, with the places that `Shared::service` made.
+    /// The gate to this service. The alphabet is that of its specification, which all threads read without the session's lock
+    /// (`Spec::shared_alphabet`). By it `connections::serve_on` serves the session, with the places that `Shared::service` made.
     /// Constant cost; takes no memory.
     pub fn new(
         shared: &'a Shared<J, Global, N>,

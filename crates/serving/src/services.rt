@@ -16,7 +16,7 @@ ghost use Rattle.serving.specs.Services.{IsServedAt, Ran};
 
 use crate::service_gate::ServiceGate;
 use crate::sessions::give_up;
-use alphabet::{Alphabet, EventSet, copy_of};
+use alphabet::{Alphabet, EventSet};
 use connections::{Closed, Listen, Terms, Totals, serve_on};
 use journal::Prepared;
 use shared::{
@@ -248,7 +248,7 @@ pub fn serve_service<J: Recorder + Drop + Send, T: Threads + Wait + Clock + Sync
     ensures ran { IfOk result (λ c. Ran L.takes L.fails L.waits L.Reader.left L.Reader.is_closed L.Writer.contents (WasTold L.Writer.contents L.Writer.has_handed_on L.Writer.failures) accept (record { threads = 64; until_idle = until_idle; retries = retries }) 64 session.spec session.history c.session.history c.totals c.accept_failed c.answered) }
     ensures memory { IfErr result (λ error. error.1 ≡ accept) }
 {
-    match copy_of(alloc, session.spec().alphabet()) {
+    match session.spec().shared_alphabet(alloc) {
         Ok(alphabet) => {
             let opened = Opened::new();
             // The ledger has a part for each place, one for what lies under the lock, and one for what was answered to seats that left.

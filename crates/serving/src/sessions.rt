@@ -1,6 +1,7 @@
 //! A session, served from its first connection to its last.
 
 ghost use Rattle.std.specs.Prelude.{◌≡◌, ◌≤◌, ◌+◌, [], ℕ, List, Ok, Err, IfOk, IfErr, IfSome, IsErr, length, map, vec_capacity};
+ghost use Rattle.std.specs.Arc.{arc_value};
 ghost use Rattle.term.specs.Proc.{bodies_of};
 ghost use Rattle.shared.specs.Lasting.{Lasts};
 ghost use Rattle.shared.specs.Legal.{Legal};
@@ -11,7 +12,7 @@ ghost use Rattle.connections.specs.Outcomes.{WasTold, ending_of, places_of};
 ghost use Rattle.serving.specs.Runs.{CameTo, Went};
 
 use crate::shared_gate::SharedGate;
-use alphabet::{Alphabet, EventSet, copy_of};
+use alphabet::{Alphabet, EventSet};
 use connections::{Accept, Connections, Ending, part, serve_all};
 use journal::Prepared;
 use shared::{
@@ -21,7 +22,7 @@ use shared::{
 use std::alloc::{AllocError, Global};
 use std::marker::Brand;
 use std::sync::ledger::Blank;
-use std::sync::{Wait, ledger};
+use std::sync::{Arc, Wait, ledger};
 use std::thread::Threads;
 
 /// A session whose connections are over.
@@ -40,7 +41,7 @@ pub struct Closing<J: Recorder> {
 // What a run needs memory for before its first connection.
 #[derive(Drop)]
 struct Room {
-    alphabet: Alphabet<Global>,
+    alphabet: Arc<Alphabet<Global>>,
     endings: Vec<Ending, Global>,
 }
 
@@ -49,10 +50,10 @@ fn room_for<J: Recorder>(
     session: &SessionOn<J, Global>,
     count: u8,
 ) -> Result<Room, AllocError>
-    ensures alphabet { IfOk result (λ room. room.alphabet ≡ session.now.spec.alphabet) }
+    ensures alphabet { IfOk result (λ room. arc_value room.alphabet ≡ session.now.spec.alphabet) }
     ensures endings { IfOk result (λ room. (room.endings.items ≡ []) × (count ≤ vec_capacity room.endings)) }
 {
-    let alphabet = copy_of(alloc, session.spec().alphabet())?;
+    let alphabet = session.spec().shared_alphabet(alloc)?;
     let endings = Vec::with_capacity(alloc, usize::from(count))?;
     Ok(Room { alphabet, endings })
 }
@@ -195,7 +196,7 @@ fn over_seats<
     requires before { IfSome N.before (λ before. before ≡ session) }
     requires book { opened.seen.book ≡ N.book }
     requires ledger { (blank.name ≡ N.name) × (blank.parts ≡ N.parts) × (N.all ≡ N.parts) × (N.all ≡ count + 1) }
-    requires alphabet { room.alphabet ≡ N.spec.alphabet }
+    requires alphabet { arc_value room.alphabet ≡ N.spec.alphabet }
     requires endings { (room.endings.items ≡ []) × (count ≤ vec_capacity room.endings) }
     ensures session { IfOk result (λ c. (c.session.spec ≡ N.spec) × StartsWith c.session.history N.opening × Legal (bodies_of N.spec.bodies) c.session.history) }
     ensures lasts { IfOk result (λ c. IfSome N.before (λ before. Lasts J.recording before c.session)) }

@@ -24,8 +24,7 @@ where
 
 impl<'a, J: Recorder, N: Sharing<J>> SharedGate<'a, J, N> {
     /// The gate to this session. The alphabet is that of its specification. By it `connections::serve_all` serves the session, each
-    /// connection at a seat of its own. The alphabet may be a copy (`alphabet::copy_of`): all threads read it, without the session's
-    /// lock. No seat is given yet: `place` gives one for each connection, or answers 22, 26 or 31.
+    /// connection at a seat of its own. All threads read the alphabet without the session's lock (`Spec::shared_alphabet`). No seat is given yet: `place` gives one for each connection, or answers 22, 26 or 31.
     /// Constant cost; takes no memory.
     pub fn new(
         shared: &'a Shared<J, Global, N>,

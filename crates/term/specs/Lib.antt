@@ -7,6 +7,7 @@ pub mod Steps
 pub mod Verdict
 pub mod Sizes
 pub mod Limits
+pub mod Alphabets
 pub mod Specs
 pub mod Examples
 -- Steps of the program.

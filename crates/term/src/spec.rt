@@ -1,21 +1,33 @@
 //! Specifications.
 
-ghost use Rattle.std.specs.Prelude.{◌≡◌, ◌<◌, length, map};
+ghost use Rattle.std.specs.Prelude.{◌≡◌, ◌<◌, IfOk, length, map};
+ghost use Rattle.std.specs.Arc.{arc_value};
+ghost use Rattle.term.specs.Alphabets.{alphabet_of};
 ghost use Rattle.term.specs.Proc.{bodies_of, proc};
 ghost use Rattle.term.specs.Specs.{IsClosed, IsProcessOf};
 ghost use Rattle.term.specs.declared.names.Names.TheVariants.{Steps};
 
 use crate::names::Names;
 use crate::terms::Term;
-use alphabet::Alphabet;
-use std::alloc::Allocator;
+use alphabet::{Alphabet, copy_of};
+use std::alloc::{AllocError, Allocator};
 use std::marker::Model;
+use std::sync::Arc;
+
+/// Where an alphabet is.
+#[derive(Drop)]
+enum Held<A: Allocator> {
+    /// In the specification.
+    Own(Alphabet<A>),
+    /// Where others read it, too.
+    Shared(Arc<Alphabet<A>, A>),
+}
 
 /// A specification: an alphabet, bodies by number, and how sets of states keep names. The root is the name of body 0. Every name
 /// in a body has a body, and every event, set and pair lies in Sigma.
 #[derive(Drop)]
 pub struct Spec<A: Allocator> {
-    alphabet: Alphabet<A>,
+    alphabet: Held<A>,
     bodies: Vec<Term<A>, A>,
     names: Names,
 }
@@ -29,11 +41,28 @@ impl<A: Allocator> Model for Spec<A> {
 
     ghost use Rattle.std.specs.Prelude.{length, map};
     ghost use Rattle.term.specs.Proc.{proc};
+    ghost use Rattle.term.specs.Alphabets.{alphabet_of};
     ghost use Rattle.term.specs.Specs.{IsClosed};
 
-    ghost view = { λ s. record { alphabet = s.alphabet; bodies = map proc s.bodies.items; names = s.names } };
+    ghost view = { λ s. record { alphabet = alphabet_of s.alphabet; bodies = map proc s.bodies.items; names = s.names } };
 
-    ghost invariant = { λ s. IsClosed (record { alphabet = s.alphabet; bodies = map proc s.bodies.items; names = s.names }) };
+    ghost invariant = { λ s. IsClosed (record { alphabet = alphabet_of s.alphabet; bodies = map proc s.bodies.items; names = s.names }) };
+}
+
+// An alphabet, where others read it, too.
+fn share<A: Allocator>(alloc: A, held: Held<A>) -> Result<Arc<Alphabet<A>, A>, AllocError>
+    ensures { IfOk result (λ shared. arc_value shared ≡ alphabet_of held) }
+{
+    match held {
+        Held::Own(alphabet) => match Arc::new(alloc, alphabet) {
+            Ok(shared) => Ok(shared),
+            Err(refused) => {
+                drop(refused);
+                Err(AllocError)
+            }
+        },
+        Held::Shared(shared) => Ok(shared),
+    }
 }
 
 impl<A: Allocator> Spec<A> {
@@ -46,7 +75,7 @@ impl<A: Allocator> Spec<A> {
         ensures names { result.names ≡ Steps }
     {
         Spec {
-            alphabet,
+            alphabet: Held::Own(alphabet),
             bodies,
             names: Names::Steps,
         }
@@ -76,7 +105,33 @@ impl<A: Allocator> Spec<A> {
     pub fn alphabet(&self) -> &Alphabet<A>
         ensures { result.now ≡ self.now.alphabet }
     {
-        &self.alphabet
+        match &self.alphabet {
+            Held::Own(alphabet) => alphabet,
+            Held::Shared(alphabet) => alphabet,
+        }
+    }
+
+    /// The same specification, whose alphabet others may read, too: `shared_alphabet` copies it no more. The error is that there is no
+    /// memory for that.
+    pub fn with_shared_alphabet(self, alloc: A) -> Result<Spec<A>, AllocError>
+        ensures same { IfOk result (λ s. s ≡ self) }
+    {
+        let Spec {
+            alphabet,
+            bodies,
+            names,
+        } = self;
+        match share(alloc, alphabet) {
+            Ok(alphabet) => Ok(Spec {
+                alphabet: Held::Shared(alphabet),
+                bodies,
+                names,
+            }),
+            Err(AllocError) => {
+                drop(bodies);
+                Err(AllocError)
+            }
+        }
     }
 
     /// The number of bodies. It is at least 1, since the root is the name of body 0; the bodies have the numbers below
@@ -102,5 +157,18 @@ impl<A: Allocator> Spec<A> {
         ensures lies { IsProcessOf self.now (proc result.now) }
     {
         &self.bodies[number]
+    }
+}
+
+impl<A: Allocator + Copy> Spec<A> {
+    /// The alphabet, for a reader who may be in another thread and may outlive the specification: the alphabet itself after
+    /// `with_shared_alphabet`, else a copy. The error is that there is no memory for a copy, or that there are 2^63 readers.
+    pub fn shared_alphabet(&self, alloc: A) -> Result<Arc<Alphabet<A>, A>, AllocError>
+        ensures { IfOk result (λ shared. arc_value shared ≡ self.now.alphabet) }
+    {
+        match &self.alphabet {
+            Held::Own(alphabet) => share(alloc, Held::Own(copy_of(alloc, alphabet)?)),
+            Held::Shared(shared) => Arc::try_clone(shared),
+        }
     }
 }

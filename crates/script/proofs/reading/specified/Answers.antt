@@ -15,18 +15,21 @@ use Rattle.script.proofs.reading.specified.Goals as goal
 pub returns-in-Err-clause-only : goal.returns-in-Err-clause-only
 returns-in-Err-clause-only g c = λ spec _ _ a. only_memory c.in-Err.error spec.bodies (c.in-Err.ensures.only spec.bodies a)
 
-pub new-requires : goal.new-requires
-new-requires g c =
+pub new-spec-requires : goal.new-spec-requires
+new-spec-requires g c =
     let n = c.args.names in
     subst (λ (a : List Channel). IsClosed (record { alphabet = a; bodies = map proc c.in-Ok.bodies.items; names = Steps })) (sym c.into_alphabet.ensures) (bodies_closed n.sigma.alphabet (table n.known) (entries n.entries) (root_view c.args.root.now) (map proc c.in-Ok.bodies.items) c.in-Ok.ensures.found)
 
-pub returns-in-Ok-clause-found : goal.returns-in-Ok-clause-found
-returns-in-Ok-clause-found g c =
+pub returns-in-Ok-with_shared_alphabet-clause-found : goal.returns-in-Ok-with_shared_alphabet-clause-found
+returns-in-Ok-with_shared_alphabet-clause-found g c =
     let n = c.args.names in
-    (c.new.ensures.alphabet ∙ c.into_alphabet.ensures, c.new.ensures.names, subst (λ (ps : List Proc). AreBodies n.sigma.alphabet (table n.known) (entries n.entries) (root_view c.args.root.now) ps) (sym c.new.ensures.bodies) c.in-Ok.ensures.found)
+    let made = c.new-spec.ensures in
+    subst (λ (s : Specified). (s.alphabet ≡ n.sigma.alphabet) × (s.names ≡ Steps) × AreBodies n.sigma.alphabet (table n.known) (entries n.entries) (root_view c.args.root.now) s.bodies) (sym c.in-Ok-with_shared_alphabet.ensures.same)
+    (made.alphabet ∙ c.into_alphabet.ensures, made.names, subst (λ (ps : List Proc). AreBodies n.sigma.alphabet (table n.known) (entries n.entries) (root_view c.args.root.now) ps) (sym made.bodies) c.in-Ok.ensures.found)
 
-pub returns-in-Ok-clause-only : goal.returns-in-Ok-clause-only
-returns-in-Ok-clause-only g c = λ spec same steps a.
-    let alphabets : c.new.result.alphabet ≡ spec.alphabet = c.new.ensures.alphabet ∙ c.into_alphabet.ensures ∙ sym same in
-    let bodies : c.new.result.bodies ≡ spec.bodies = c.new.ensures.bodies ∙ sym (same_Some spec.bodies (map proc c.in-Ok.bodies.items) (c.in-Ok.ensures.only spec.bodies a)) in
-    λ i. record { alphabet = alphabets i; bodies = bodies i; names = (c.new.ensures.names ∙ sym steps) i }
+pub returns-in-Ok-with_shared_alphabet-clause-only : goal.returns-in-Ok-with_shared_alphabet-clause-only
+returns-in-Ok-with_shared_alphabet-clause-only g c = λ spec same steps a.
+    let made = c.new-spec.ensures in
+    let alphabets : c.new-spec.result.alphabet ≡ spec.alphabet = made.alphabet ∙ c.into_alphabet.ensures ∙ sym same in
+    let bodies : c.new-spec.result.bodies ≡ spec.bodies = made.bodies ∙ sym (same_Some spec.bodies (map proc c.in-Ok.bodies.items) (c.in-Ok.ensures.only spec.bodies a)) in
+    c.in-Ok-with_shared_alphabet.ensures.same ∙ (λ i. record { alphabet = alphabets i; bodies = bodies i; names = (made.names ∙ sym steps) i })

@@ -2,9 +2,11 @@ use Rattle.std.proofs.Common.{◌≡◌, ◌<◌, ◌↔◌, List, ℕ, length, 
 use Rattle.std.proofs.lemmas.List.{length-map}
 use Rattle.std.specs.declared.vec.Vec.{Vec}
 use Rattle.term.specs.Proc.{Proc}
+use Rattle.term.specs.Specs.{Specified}
 use Rattle.term.specs.Traces.{In}
 use Rattle.tau_closures.specs.Looks.{look, AllBelow}
 use Rattle.tau_closures.specs.Closing.{AllShallow}
+use Rattle.tau_closures.specs.Unfolding.{unfolding_depth}
 use Rattle.spaces.specs.declared.facts.SetFacts.{SetFacts}
 use Rattle.spaces.specs.Found.{Found, shown}
 use Rattle.spaces.specs.Known.{found, lists_of}
@@ -56,3 +58,10 @@ returns-clause-same g c =
     let ms = c.sort_unstable.new.self.items in
     let ps = c.put_from.new.self.all.table.processes in
     λ Q. subst (λ (l : List Proc). In Q (look ps ms) ↔ In Q l) (c.in_ok-list.ensures.same ∙ listed g a) (look-permuted ns ms c.sort_unstable.ensures.permutation ps Q)
+
+pub returns-clause-begun : goal.returns-clause-begun
+returns-clause-begun g c =
+    let spec : c.self.inside.spec ≡ c.args.self.now.spec = ap (λ (f : Found). f.spec) c.self.view_is in (
+      c.put_from.ensures.kept.all.bodies ∙ ap (λ k. k.all.bodies) c.replace.ensures.after ∙ c.in_ok-bodies.ensures.bodies ∙ ap (λ (s : Specified). s.bodies) spec,
+      c.put_from.ensures.kept.deep ∙ ap (λ k. k.deep) c.replace.ensures.after ∙ c.in_ok-bodies.ensures.deep ∙ ap unfolding_depth spec,
+    )
