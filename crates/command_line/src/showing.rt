@@ -27,12 +27,16 @@ fn display<D: Disk + Drop, O: Sink>(
     ensures { IfOk result (λ r. Shown options (O.contents output.old) (O.contents output.new) r.0) }
 {
     let Displayed {
-        session,
+        journal,
         header,
+        history,
+        monitor,
         exit,
     } = program::show(alloc, disk, options, output)?;
     drop(header);
-    Ok((exit, session.into_disk()))
+    drop(history);
+    drop(monitor);
+    Ok((exit, journal.into_disk()))
 }
 
 // The same of a journal in parts, with the number of bytes that come after its last record.

@@ -1,16 +1,15 @@
 //! The history of a journal, shown further: what came to it since it was shown.
 
 ghost use Rattle.std.specs.Prelude.{◌≡◌, ◌≢◌, ◌<◌, ◌++◌, IfOk, IfErr, OnOk, IsErrOf};
-ghost use Rattle.shared.specs.Records.{names_of as names_kept};
-ghost use Rattle.shared.specs.Scripts.{IsReadAs};
+ghost use Rattle.shared.specs.Legal.{IsJudged};
 ghost use Rattle.shown.specs.Shows.{Shows};
 ghost use Rattle.program.specs.Followings.{Follows, IsNotFollowed, IsUnwritten, WritesOn};
 
 use crate::replaying::{Replayed, replay};
 use crate::showing::lines_of;
 use disk::Disk;
-use journal::{Header, after};
-use shared::{Session, SessionError};
+use journal::after;
+use shared::{History, Monitor, SessionError};
 use shown::Options;
 use std::alloc::{AllocError, Allocator};
 use wire::{Plain, Sink, SinkFault, send};
@@ -45,19 +44,22 @@ pub(crate) fn joined<A: Allocator>(
     }
 }
 
-// The lines of the session's history.
-fn text_of<D: Disk, A: Allocator + Copy>(
+// The lines of a history, by the monitor that has judged it.
+fn text_of<A: Allocator + Copy>(
     alloc: A,
-    session: &Session<D, A>,
-    header: &Header<A>,
+    monitor: Monitor<A>,
+    history: &History<A>,
     options: Options,
 ) -> Result<Vec<u8, A>, AllocError>
-    requires { IsReadAs (names_kept header.now.version) header.now.script.items header.now.root.items session.now.spec }
-    ensures { IfOk result (λ text. Shows options session.now.spec session.now.history text.items) }
+    requires { IsJudged monitor.spec history.now.entries }
+    ensures { IfOk result (λ text. Shows options monitor.spec history.now.entries text.items) }
 {
     let mut text = Plain::new(Vec::new(alloc));
-    match lines_of(alloc, session, header, options, &mut text) {
-        Ok(left) => joined(text.into_inner(), left),
+    match lines_of(alloc, monitor, history, options, &mut text) {
+        Ok((left, monitor)) => {
+            drop(monitor);
+            joined(text.into_inner(), left)
+        }
         Err(_) => {
             drop(text);
             Err(AllocError)
@@ -112,9 +114,11 @@ pub fn follow<D: Disk + Drop, A: Allocator + Copy, W: Sink>(
         }
     };
     drop(line);
-    let text = text_of(alloc, &session, &header, options);
-    drop(session);
     drop(header);
+    let (monitor, history, journal) = session.into_parts();
+    drop(journal);
+    let text = text_of(alloc, monitor, &history, options);
+    drop(history);
     match text {
         Ok(text) => show_on(text, before, output),
         Err(AllocError) => {

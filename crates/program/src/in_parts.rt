@@ -26,7 +26,7 @@ use crate::summaries::summary_line;
 use answers::Exit;
 use disk::Folder;
 use large_sessions::Replaying;
-use shared::{SessionError, names_of, read_as};
+use shared::{Monitor, SessionError, names_of, read_as};
 use shown::{Options, Showing};
 use std::alloc::{AllocError, Allocator};
 use wire::{Plain, Sink};
@@ -152,7 +152,11 @@ fn begin_both<F: Folder + Drop, A: Allocator + Copy>(
         drop(replaying);
         return Err(DisplayError::Session(SessionError::Memory));
     };
-    match Showing::begin(alloc, spec, options) {
+    let Ok(monitor) = Monitor::new(alloc, spec) else {
+        drop(replaying);
+        return Err(DisplayError::Session(SessionError::Memory));
+    };
+    match Showing::begin(alloc, monitor, options) {
         Ok(showing) => Ok((replaying, showing)),
         Err(error) => {
             drop(replaying);
@@ -235,7 +239,10 @@ fn lines_of_parts<F: Folder + Drop, A: Allocator + Copy, W: Sink>(
     let (replaying, mut showing) = begin_both(alloc, folder, size, options)?;
     match show_each(alloc, replaying, &mut showing, output) {
         Ok(replaying) => match showing.end() {
-            Ok(left) => Ok((replaying, left)),
+            Ok((left, monitor)) => {
+                drop(monitor);
+                Ok((replaying, left))
+            }
             Err(error) => {
                 drop(replaying);
                 Err(error.into())

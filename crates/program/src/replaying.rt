@@ -1,6 +1,6 @@
 //! The history that a journal holds, judged again.
 
-ghost use Rattle.std.specs.Prelude.{◌≡◌, ◌⊎◌, ℕ, List, false, IsTrue, IfOk, IfErr, MatchResult};
+ghost use Rattle.std.specs.Prelude.{◌≡◌, ◌⊎◌, [], ℕ, List, false, IsTrue, IfOk, IfErr, MatchResult};
 ghost use Rattle.term.specs.Specs.{Specified};
 ghost use Rattle.journal.specs.Faults.{HasFault};
 ghost use Rattle.journal.specs.declared.error.JournalError.{JournalError};
@@ -53,6 +53,7 @@ pub fn replay<D: Disk + Drop, A: Allocator + Copy>(
     ensures replayed { IfOk result (λ r. IsTrue (D.state disk).claims_bytes
         → IsReplayOf (D.state disk).bytes r.header.script.items r.header.root.items r.session.spec r.session.history) }
     ensures read { IfOk result (λ r. IsReadAs (names_of r.header.version) r.header.script.items r.header.root.items r.session.spec) }
+    ensures none_offered { IfOk result (λ r. r.session.offered ≡ []) }
     ensures line { IfOk result (λ r. r.line.items ≡ status_text (status_of r.session.history false)) }
     ensures exit { IfOk result (λ r. r.exit ≡ replay_exit r.session.history) }
 

@@ -7,8 +7,8 @@ ghost use Rattle.journal.specs.Faults.{HasFault};
 ghost use Rattle.journal.specs.declared.error.JournalError.{JournalError};
 ghost use Rattle.shared.specs.Entry.{Entry};
 ghost use Rattle.shared.specs.SessionFaults.{journal_error};
-ghost use Rattle.shared.specs.Records.{names_of as names_kept};
-ghost use Rattle.shared.specs.Scripts.{IsReadAs, IsReplayOf};
+ghost use Rattle.shared.specs.Legal.{IsJudged};
+ghost use Rattle.shared.specs.Scripts.{IsReplayOf};
 ghost use Rattle.shown.specs.Shows.{Writes};
 ghost use Rattle.program.specs.Exits.{replay_exit};
 ghost use Rattle.program.specs.Showings.{HasNoDisplay, IsBeyond, WritesAll, summary_text};
@@ -18,8 +18,8 @@ use crate::replaying::{Replayed, replay};
 use crate::summaries::{add_json, add_line};
 use answers::Exit;
 use disk::Disk;
-use journal::Header;
-use shared::{Session, SessionError, Summary, names_of, read_as};
+use journal::{Header, Journal};
+use shared::{History, Monitor, SessionError, Summary};
 use shown::{Format, Options, ShowError};
 use std::alloc::{AllocError, Allocator};
 use wire::{Sink, SinkFault, send};
@@ -27,10 +27,14 @@ use wire::{Sink, SinkFault, send};
 /// What was displayed of a journal.
 #[derive(Drop)]
 pub struct Displayed<D: Disk, A: Allocator> {
-    /// The session that goes on from the journal.
-    pub session: Session<D, A>,
+    /// The journal.
+    pub journal: Journal<D>,
     /// The script and the root of the journal.
     pub header: Header<A>,
+    /// The history that it holds.
+    pub history: History<A>,
+    /// The monitor that judged the history, after all of its events.
+    pub monitor: Monitor<A>,
     /// `Rejected` where the history has a rejected report, else `Done`.
     pub exit: Exit,
 }
@@ -72,34 +76,27 @@ fn add_summary<A: Allocator>(
     }
 }
 
-// Writes the lines of the session's history, but for their end, for which the script is read again: the session keeps its own
-// specification.
-pub(crate) fn lines_of<D: Disk, A: Allocator + Copy, W: Sink>(
+// Writes the lines of a history, but for their end. The monitor is the one that has judged it: it begins again, and is given back.
+pub(crate) fn lines_of<A: Allocator + Copy, W: Sink>(
     alloc: A,
-    session: &Session<D, A>,
-    header: &Header<A>,
+    monitor: Monitor<A>,
+    history: &History<A>,
     options: Options,
     output: &mut W,
-) -> Result<Vec<u8, A>, ShowError>
-    requires { IsReadAs (names_kept header.now.version) header.now.script.items header.now.root.items session.now.spec }
-    ensures text { IfOk result (λ left. Writes options session.now.spec session.now.history (W.contents output.old) (W.contents output.new) left.items) }
+) -> Result<(Vec<u8, A>, Monitor<A>), ShowError>
+    requires { IsJudged monitor.spec history.now.entries }
+    ensures text { IfOk result (λ left. Writes options monitor.spec history.now.entries (W.contents output.old) (W.contents output.new) left.0.items) }
+    ensures spec { IfOk result (λ left. left.1.spec ≡ monitor.spec) }
     ensures steady { OnOk result (W.failures output.new ≡ W.failures output.old) }
     ensures output_failed { IsErrOf result ShowError.Output → W.failures output.old < W.failures output.new }
 {
     // Entries that were let go can't be shown.
-    let gone = session.gone();
+    let gone = history.gone();
     if gone > 0 {
+        drop(monitor);
         return Err(ShowError::Memory);
     }
-    match read_as(
-        alloc,
-        &header.script,
-        &header.root,
-        names_of(header.version),
-    ) {
-        Ok(spec) => shown::show(alloc, spec, session.history(), options, output),
-        Err(_) => Err(ShowError::Memory),
-    }
+    shown::show(alloc, monitor, history.entries(), options, output)
 }
 
 // Writes the end of the lines, and the counts after it.
@@ -119,22 +116,29 @@ pub(crate) fn write_end<A: Allocator, W: Sink>(
     }
 }
 
-// Writes what is shown of the session's history.
-fn write_all<D: Disk, A: Allocator + Copy, W: Sink>(
+// Writes what is shown of a history. The monitor is the one that has judged it, and is given back.
+fn write_all<A: Allocator + Copy, W: Sink>(
     alloc: A,
-    session: &Session<D, A>,
-    header: &Header<A>,
+    monitor: Monitor<A>,
+    history: &History<A>,
     options: Options,
     output: &mut W,
-) -> Result<(), ShowError>
-    requires { IsReadAs (names_kept header.now.version) header.now.script.items header.now.root.items session.now.spec }
-    ensures text { OnOk result (WritesAll session.now.spec session.now.history options (W.contents output.old) (W.contents output.new)) }
+) -> Result<Monitor<A>, ShowError>
+    requires { IsJudged monitor.spec history.now.entries }
+    ensures text { OnOk result (WritesAll monitor.spec history.now.entries options (W.contents output.old) (W.contents output.new)) }
+    ensures spec { IfOk result (λ again. again.spec ≡ monitor.spec) }
     ensures output_failed { IsErrOf result ShowError.Output → W.failures output.old < W.failures output.new }
 {
-    let mut left = lines_of(alloc, session, header, options, output)?;
-    let written = write_end(&mut left, options.format, session.summary(), output);
+    let (mut left, monitor) = lines_of(alloc, monitor, history, options, output)?;
+    let written = write_end(&mut left, options.format, history.summary(), output);
     drop(left);
-    written
+    match written {
+        Ok(()) => Ok(monitor),
+        Err(error) => {
+            drop(monitor);
+            Err(error)
+        }
+    }
 }
 
 /// Judges the records of the journal on the disk again, as `replay` does, and writes what is asked for of its history: the lines, and
@@ -148,11 +152,11 @@ pub fn show<D: Disk + Drop, A: Allocator + Copy, W: Sink>(
 ) -> Result<Displayed<D, A>, DisplayError>
     // The file holds the session's history, of which each verdict is that of what its script denotes.
     ensures replayed { IfOk result (λ r. IsTrue (D.state disk).claims_bytes
-        → IsReplayOf (D.state disk).bytes r.header.script.items r.header.root.items r.session.spec r.session.history) }
+        → IsReplayOf (D.state disk).bytes r.header.script.items r.header.root.items r.monitor.spec r.history.entries) }
 
     // What was written is that history, as asked for, with exactly the events and the acceptances of what the script denotes.
-    ensures text { IfOk result (λ r. WritesAll r.session.spec r.session.history options (W.contents output.old) (W.contents output.new)) }
-    ensures exit { IfOk result (λ r. r.exit ≡ replay_exit r.session.history) }
+    ensures text { IfOk result (λ r. WritesAll r.monitor.spec r.history.entries options (W.contents output.old) (W.contents output.new)) }
+    ensures exit { IfOk result (λ r. r.exit ≡ replay_exit r.history.entries) }
 
     // Or the file has no session for this reason, or the output failed.
     ensures fault { IfErr result (λ error. IsTrue (D.state disk).claims_bytes → HasNoDisplay (D.state disk).bytes error) }
@@ -162,7 +166,7 @@ pub fn show<D: Disk + Drop, A: Allocator + Copy, W: Sink>(
     // that has a fault is refused for it, and nothing is written. Devices and memory apart.
     ensures only { IsTrue (D.state disk).claims_bytes → (script root : List ℕ) (spec : Specified) (h : List Entry)
         → IsReplayOf (D.state disk).bytes script root spec h
-        → MatchResult result (λ r. (r.session.history ≡ h) × WritesAll spec h options (W.contents output.old) (W.contents output.new) × (r.exit ≡ replay_exit h)) IsBeyond }
+        → MatchResult result (λ r. (r.history.entries ≡ h) × WritesAll spec h options (W.contents output.old) (W.contents output.new) × (r.exit ≡ replay_exit h)) IsBeyond }
     ensures refuses { IsTrue (D.state disk).claims_bytes → (error : JournalError) → HasFault (D.state disk).bytes error
         → MatchResult result (λ _. ⊥) (λ e. (e ≡ of_session (journal_error error)) ⊎ IsBeyond e) }
     ensures silent { IsTrue (D.state disk).claims_bytes → (error : JournalError) → HasFault (D.state disk).bytes error → output.new ≡ output.old }
@@ -177,14 +181,18 @@ pub fn show<D: Disk + Drop, A: Allocator + Copy, W: Sink>(
         Err(error) => return Err(DisplayError::Session(error)),
     };
     drop(line);
-    match write_all(alloc, &session, &header, options, output) {
-        Ok(()) => Ok(Displayed {
-            session,
+    let (monitor, history, journal) = session.into_parts();
+    match write_all(alloc, monitor, &history, options, output) {
+        Ok(monitor) => Ok(Displayed {
+            journal,
             header,
+            history,
+            monitor,
             exit,
         }),
         Err(error) => {
-            drop(session);
+            drop(journal);
+            drop(history);
             drop(header);
             Err(error.into())
         }

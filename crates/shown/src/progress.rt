@@ -20,7 +20,6 @@ use history::Entry;
 use monitor::Monitor;
 use past::Past;
 use std::alloc::{AllocError, Allocator};
-use term::Spec;
 use wire::{Sink, SinkFault, send};
 
 /// How many bytes come together before they are written.
@@ -67,27 +66,31 @@ fn send_enough<A: Allocator, W: Sink>(
     }
 }
 
-/// A monitor of the specification, before any event. That meets no limit, since it met none when the history was judged.
-fn begin<A: Allocator + Copy>(alloc: A, spec: Spec<A>) -> Result<Monitor<A>, AllocError>
-    requires { OpeningMeetsNone spec }
-    ensures spec { IfOk result (λ monitor. monitor.spec ≡ spec) }
-    ensures trace { IfOk result (λ monitor. monitor.trace ≡ []) }
+/// The monitor, begun again before any event. That meets no limit, since it met none when the history was judged.
+fn begin<A: Allocator + Copy>(monitor: Monitor<A>) -> Result<Monitor<A>, AllocError>
+    requires { OpeningMeetsNone monitor.spec }
+    ensures spec { IfOk result (λ begun. begun.spec ≡ monitor.spec) }
+    ensures trace { IfOk result (λ begun. begun.trace ≡ []) }
 {
-    match Monitor::new(alloc, spec) {
-        Ok(monitor) => Ok(monitor),
-        Err(fault) => Err(refused(fault)),
+    let mut monitor = monitor;
+    match monitor.begin_again() {
+        Ok(()) => Ok(monitor),
+        Err(fault) => {
+            drop(monitor);
+            Err(refused(fault))
+        }
     }
 }
 
 impl<A: Allocator + Copy> Progress<A> {
     /// No entry was shown yet.
-    pub(crate) fn new(alloc: A, spec: Spec<A>) -> Result<Progress<A>, AllocError>
-        requires { OpeningMeetsNone spec }
-        ensures at { (options : options_type) → IfOk result (IsAt options spec) }
+    pub(crate) fn new(alloc: A, monitor: Monitor<A>) -> Result<Progress<A>, AllocError>
+        requires { OpeningMeetsNone monitor.spec }
+        ensures at { (options : options_type) → IfOk result (IsAt options monitor.spec) }
         ensures history { IfOk result (λ progress. progress.history.items ≡ []) }
         ensures written { IfOk result (λ progress. written progress ≡ []) }
     {
-        let monitor = begin(alloc, spec)?;
+        let monitor = begin(monitor)?;
         match Counts::new(alloc, monitor.spec().alphabet().len()) {
             Ok(counts) => Ok(Progress {
                 monitor,
@@ -161,7 +164,8 @@ impl<A: Allocator + Copy> Progress<A> {
     /// Appends the coverage, where it is wanted.
     fn put_end(&mut self, options: Options) -> Result<(), AllocError>
         requires { IsAt options self.old.monitor.spec self.old }
-        ensures { OnOk result (Shows options self.old.monitor.spec self.old.history.items (written self.old ++ self.new.text.items)) }
+        ensures text { OnOk result (Shows options self.old.monitor.spec self.old.history.items (written self.old ++ self.new.text.items)) }
+        ensures monitor { self.new.monitor ≡ self.old.monitor }
     {
         if options.coverage {
             let alphabet = self.monitor.spec().alphabet();
@@ -170,22 +174,23 @@ impl<A: Allocator + Copy> Progress<A> {
         Ok(())
     }
 
-    /// What wasn't written yet of the text.
-    fn into_text(self) -> Vec<u8, A>
-        ensures { result ≡ self.text }
+    /// What wasn't written yet of the text, and the monitor.
+    fn into_parts(self) -> (Vec<u8, A>, Monitor<A>)
+        ensures { (result.0 ≡ self.text) × (result.1 ≡ self.monitor) }
     {
-        let Progress { text, .. } = self;
-        text
+        let Progress { text, monitor, .. } = self;
+        (text, monitor)
     }
 
-    /// What wasn't written yet of the text of the entries, with the coverage at its end where it is wanted.
-    pub(crate) fn end(self, options: Options) -> Result<Vec<u8, A>, AllocError>
+    /// What wasn't written yet of the text of the entries, with the coverage at its end where it is wanted; and the monitor.
+    pub(crate) fn end(self, options: Options) -> Result<(Vec<u8, A>, Monitor<A>), AllocError>
         requires { IsAt options self.monitor.spec self }
-        ensures { IfOk result (λ left. Shows options self.monitor.spec self.history.items (written self ++ left.items)) }
+        ensures text { IfOk result (λ left. Shows options self.monitor.spec self.history.items (written self ++ left.0.items)) }
+        ensures spec { IfOk result (λ left. left.1.spec ≡ self.monitor.spec) }
     {
         let mut progress = self;
         match progress.put_end(options) {
-            Ok(()) => Ok(progress.into_text()),
+            Ok(()) => Ok(progress.into_parts()),
             Err(error) => {
                 drop(progress);
                 Err(error)

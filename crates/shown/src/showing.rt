@@ -10,9 +10,9 @@ use crate::error::ShowError;
 use crate::options::Options;
 use crate::progress::Progress;
 use history::Entry;
+use monitor::Monitor;
 use std::alloc::Allocator;
 use std::marker::Model;
-use term::Spec;
 use wire::Sink;
 
 /// A showing that has been begun: it takes a judged history part by part, and has written its text so far but for an end. It keeps no
@@ -47,17 +47,18 @@ impl<A: Allocator> Model for Showing<A> {
 }
 
 impl<A: Allocator + Copy> Showing<A> {
-    /// A showing of this specification's history, of which no entry was shown yet. `Memory` alone makes it fail.
-    pub fn begin(alloc: A, spec: Spec<A>, options: Options) -> Result<Showing<A>, ShowError>
-        requires { OpeningMeetsNone spec }
-        ensures spec { IfOk result (λ showing. showing.spec ≡ spec) }
+    /// A showing of a history of the monitor's specification, of which no entry was shown yet. The monitor begins again for that: where it has
+    /// judged the history, what it remembers is of use. `Memory` alone makes it fail.
+    pub fn begin(alloc: A, monitor: Monitor<A>, options: Options) -> Result<Showing<A>, ShowError>
+        requires { OpeningMeetsNone monitor.spec }
+        ensures spec { IfOk result (λ showing. showing.spec ≡ monitor.spec) }
         ensures options { IfOk result (λ showing. showing.options ≡ options) }
         ensures history { IfOk result (λ showing. showing.history ≡ []) }
         ensures written { IfOk result (λ showing. showing.written ≡ []) }
         ensures fault { IfOk result (λ showing. showing.fault ≡ None) }
         ensures memory { IfErr result (λ error. error ≡ ShowError.Memory) }
     {
-        let progress = Progress::new(alloc, spec)?;
+        let progress = Progress::new(alloc, monitor)?;
         Ok(Showing {
             progress,
             options,
@@ -104,10 +105,11 @@ impl<A: Allocator + Copy> Showing<A> {
         }
     }
 
-    /// What isn't written yet of the text of the entries that were shown, with the coverage at its end where it is wanted.
-    pub fn end(self) -> Result<Vec<u8, A>, ShowError>
+    /// What isn't written yet of the text of the entries that were shown, with the coverage at its end where it is wanted; and the monitor.
+    pub fn end(self) -> Result<(Vec<u8, A>, Monitor<A>), ShowError>
         // With what was written it is the text of the whole history.
-        ensures text { IfOk result (λ left. Shows self.options self.spec self.history (self.written ++ left.items)) }
+        ensures text { IfOk result (λ left. Shows self.options self.spec self.history (self.written ++ left.0.items)) }
+        ensures spec { IfOk result (λ left. left.1.spec ≡ self.spec) }
         ensures memory { self.fault ≡ None → IfErr result (λ error. error ≡ ShowError.Memory) }
         ensures failed { (error : error_type) → self.fault ≡ Some error → result ≡ Err error }
     {

@@ -9,5 +9,5 @@ returns-in-Ok g c =
     let all : c.into_inner.result.items ≡ written.0 =
     ap (λ v. v.items) c.into_inner.ensures ∙ written.2 ∙ ap (λ l. l ++ written.0) (ap (λ v. v.items) c.new-text.ensures.inner ∙ c.new.ensures.items) in
     IfOk-weaker c.joined.result _ _
-    (λ whole h. subst (λ t. Shows c.args.options c.args.session.now.spec c.args.session.now.history t) (sym (h ∙ ap (λ t. t ++ c.in-Ok.left.items) all)) written.1)
+    (λ whole h. subst (λ t. Shows c.args.options c.args.monitor.spec c.args.history.now.entries t) (sym (h ∙ ap (λ t. t ++ c.in-Ok.left.items) all)) written.1)
     c.joined.ensures

@@ -6,7 +6,7 @@ use Rattle.shown.proofs.progress.Progress.new.Goals as goal
 
 pub returns-in-Ok-clause-at : goal.returns-in-Ok-clause-at
 returns-in-Ok-clause-at g c options =
-    let spec = c.args.spec in
+    let spec = c.args.monitor.spec in
     let m = c.in_ok-monitor.monitor in
     let counts = c.in-Ok.counts in
     record {

@@ -9,8 +9,8 @@ use Rattle.shown.proofs.Further.{shown_alone}
 use Rattle.shown.proofs.Sending.{covered_but_end}
 use Rattle.shown.proofs.progress.Progress.put_end.Goals as goal
 
-pub returns-then-options : goal.returns-then-options
-returns-then-options g c =
+pub returns-then-options-clause-text : goal.returns-then-options-clause-text
+returns-then-options-clause-text g c =
     let p = c.args.self.now in
     let spec = p.monitor.spec in
     let h = p.history.items in
@@ -24,8 +24,8 @@ returns-then-options g c =
     (c.put_coverage.ensures h shown.nexts
     (subst (λ (cs : List Channel). CountAll (event_count cs) h shown.nexts p.counts.accepted.items p.counts.rejected.items p.counts.possible) same (shown.counts_are c.if-options.true)))
 
-pub returns : goal.returns
-returns g c =
+pub returns-clause-text : goal.returns-clause-text
+returns-clause-text g c =
     let p = c.args.self.now in
     shown_alone c.args.options p.monitor.spec p.history.items (written p ++ p.text.items) p.monitor.trace
     p.counts.accepted.items p.counts.rejected.items p.counts.possible c.requires.shown c.if-options.false
