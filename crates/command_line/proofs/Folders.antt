@@ -1,5 +1,6 @@
 -- A folder of a file system may go to another thread, where several threads may use the file system.
 use Prim.{search}
+use Rattle.std.specs.Prelude.{ℕ}
 use denote.Ref.{NamedLft}
 use denote.RattleType.{RattleType}
 use denote.Param.{param}
@@ -17,9 +18,9 @@ use Rattle.disk.specs.declared.folder.Folder as Folder
 use Rattle.parts.specs.contracts.parts.Parts as Parts
 use Rattle.parts.proofs.parts.Parts.TheSendSync as parts
 
-module _ (κ : NamedLft) (S : RattleType) (system : FileSystem.Ghosts S.Denot) where
+module _ (κ : NamedLft) (n : ℕ) (S : RattleType) (system : FileSystem.Ghosts S.Denot) where
   abbrev pub folder_row : RattleType
-  folder_row = FileFolder.the_row κ (param 0 S) Global.the_row
+  folder_row = FileFolder.the_row κ (param n S) Global.the_row
 
   pub folder_send : IsSync S → IsSend folder_row
   folder_send s = search (crosses, sendable) depth 60 fits 20000

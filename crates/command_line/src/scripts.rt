@@ -1,12 +1,9 @@
 //! The script of the command line.
-ghost use Rattle.std.specs.Prelude.{IfOk, IfErr};
-ghost use Rattle.script.specs.Reading.{IsRead};
-ghost use Rattle.term.specs.Specs.{Specified};
+ghost use Rattle.std.specs.Prelude.{◌≡◌, IfOk, IfErr};
 ghost use Rattle.command_line.specs.Commands.{IsRefusal};
 
 use crate::telling::{tell_fault, tell_script};
-use program::Exit;
-use script::read;
+use program::{Exit, ReadScript};
 use std::alloc::Global;
 use std::fs::OpenOptions;
 use std::io::{self, ErrorKind, IsTerminal, Read, Write};
@@ -73,20 +70,21 @@ pub(crate) fn text_of<R: Files + AllocGlobal, E: Write + IsTerminal>(
     }
 }
 
-/// That the script denotes a specification for this process, or the status of the fault that was reported.
+/// The script, read for this process, or the status of the fault that was reported.
 #[tactic(auto, using(crate::proofs::Told::script_refused))]
-pub(crate) fn tell_read<E: Write + IsTerminal>(
+pub(crate) fn tell_read<'a, E: Write + IsTerminal>(
     alloc: Global,
     name: &str,
-    script: &[u8],
-    process: &[u8],
+    script: &'a [u8],
+    process: &'a [u8],
     errors: &mut E,
-) -> Result<(), Exit>
-    ensures read { IfOk result (λ _. (spec : Specified) × IsRead script.now process.now spec) }
+) -> Result<ReadScript<'a, Global>, Exit>
+    ensures text { IfOk result (λ read. read.text ≡ script.now) }
+    ensures root { IfOk result (λ read. read.root ≡ process.now) }
     ensures unread { IfErr result IsRefusal }
 {
-    match read(alloc, script, process) {
-        Ok(_) => Ok(()),
+    match ReadScript::read(alloc, script, process) {
+        Ok(read) => Ok(read),
         Err(fault) => {
             let script = Script {
                 name,

@@ -1,5 +1,5 @@
 //! `cspwatch serve`: the reports of connections, judged by one session with a journal.
-ghost use Rattle.std.specs.Prelude.{◌≡◌, ◌<◌, ◌⊎◌, cond, IfErr};
+ghost use Rattle.std.specs.Prelude.{◌≡◌, ◌<◌, ◌⊎◌, cond, IfOk, IfErr};
 ghost use Rattle.std.specs.Thread.{IsSend};
 ghost use Rattle.term.specs.declared.names.Names.TheVariants.{Bodies, Steps};
 ghost use Rattle.command_line.specs.Crossings.{DiskCrosses};
@@ -13,9 +13,9 @@ use crate::logging::Logged;
 use crate::scripts::{Script, tell_read, text_of};
 use crate::telling::{tell_fault, tell_journal, tell_open};
 use file_disk::{FileDisk, FileFolder, FileSystem};
-use program::{Demand, Exit, Served, SessionError, Unserved};
+use program::{Demand, Exit, ReadScript, Served, SessionError, Unserved};
 use serving::{OpenError, Plan, Recorder};
-use std::alloc::AllocError;
+use std::alloc::{AllocError, Global};
 use std::fs::File;
 use std::io::{IsTerminal, Write};
 use std::net::{Net, TcpListener, TcpStream};
@@ -94,7 +94,11 @@ fn serve_held<
 >(rt: &'a R, service: &'a Service<'_>, output: &mut O, errors: &mut E) -> Exit
     ensures { IsUnserved result ⊎ IsServedFor (cond service.now.large Bodies Steps) service.now.process.now (O.contents output.new) (O.failures output.old < O.failures output.new) result }
 {
-    let script = match script_of(rt, service, errors) {
+    let text = match script_text(rt, service, errors) {
+        Ok(text) => text,
+        Err(exit) => return exit,
+    };
+    let script = match script_of(rt, service, &text, errors) {
         Ok(script) => script,
         Err(exit) => return exit,
     };
@@ -105,11 +109,11 @@ fn serve_held<
                 service,
                 address,
             };
-            serve_through(rt, service, &script, door, output, errors)
+            serve_through(rt, service, script, door, output, errors)
         }
         Address::Unix(file) => {
             let door = AtUnix { rt, service, file };
-            serve_through(rt, service, &script, door, output, errors)
+            serve_through(rt, service, script, door, output, errors)
         }
     }
 }
@@ -184,10 +188,19 @@ fn serve_in_file<
         + 'static,
     O: Sink,
     E: Write + IsTerminal,
->(rt: &R, service: &Service<'_>, script: &[u8], door: D, output: &mut O, errors: &mut E) -> Exit
+>(
+    rt: &R,
+    service: &Service<'_>,
+    script: ReadScript<'_, Global>,
+    door: D,
+    output: &mut O,
+    errors: &mut E,
+) -> Exit
+    requires { script.root ≡ service.now.process.now }
     ensures { IsUnserved result ⊎ IsServedFor Steps service.now.process.now (O.contents output.new) (O.failures output.old < O.failures output.new) result }
 {
     disk_crosses();
+    let text = script.text();
     let (file, is_made) = match journal_at(rt, service.journal, errors) {
         Ok(opened) => opened,
         Err(exit) => return exit,
@@ -199,7 +212,6 @@ fn serve_in_file<
             rt.alloc(),
             FileDisk::new(file),
             script,
-            service.process.as_bytes(),
             Names::Steps,
             demand_of(service),
             &mut entrance,
@@ -210,7 +222,7 @@ fn serve_in_file<
     };
     match end {
         Ok(served) => tell_served(service, served, past, errors),
-        Err(unserved) => tell_unserved(rt, service, script, is_made, unserved, past, errors),
+        Err(unserved) => tell_unserved(rt, service, text, is_made, unserved, past, errors),
     }
 }
 
@@ -236,11 +248,12 @@ fn serve_in_parts<
     rt: &R,
     system: &'a S,
     service: &'a Service<'_>,
-    script: &[u8],
+    script: ReadScript<'_, Global>,
     door: D,
     output: &mut O,
     errors: &mut E,
 ) -> Exit
+    requires { script.root ≡ service.now.process.now }
     ensures { IsUnserved result ⊎ IsServedFor Bodies service.now.process.now (O.contents output.new) (O.failures output.old < O.failures output.new) result }
 {
     let (file, is_made) = match journal_at(rt, service.journal, errors) {
@@ -251,7 +264,7 @@ fn serve_in_parts<
         take_away(rt, service.journal, is_made);
         return tell_journal(rt, errors, service.journal, SessionError::Device);
     };
-    let root = service.process.as_bytes();
+    let text = script.text();
     let (end, past) = {
         let mut entrance = Entrance::new(service, door, &mut *errors);
         let end = program::serve_parts(
@@ -259,7 +272,6 @@ fn serve_in_parts<
             rt.alloc(),
             folder,
             script,
-            root,
             PART_SIZE,
             demand_of(service),
             &mut entrance,
@@ -270,7 +282,7 @@ fn serve_in_parts<
     };
     match end {
         Ok(served) => tell_served(service, served, past, errors),
-        Err(unserved) => tell_unserved(rt, service, script, is_made, unserved, past, errors),
+        Err(unserved) => tell_unserved(rt, service, text, is_made, unserved, past, errors),
     }
 }
 
@@ -291,7 +303,15 @@ fn serve_at<
         + 'static,
     O: Sink,
     E: Write + IsTerminal,
->(rt: &R, service: &Service<'_>, script: &[u8], door: D, output: &mut O, errors: &mut E) -> Exit
+>(
+    rt: &R,
+    service: &Service<'_>,
+    script: ReadScript<'_, Global>,
+    door: D,
+    output: &mut O,
+    errors: &mut E,
+) -> Exit
+    requires { script.root ≡ service.now.process.now }
     ensures { IsUnserved result ⊎ IsServedFor (cond service.now.large Bodies Steps) service.now.process.now (O.contents output.new) (O.failures output.old < O.failures output.new) result }
 {
     if service.large {
@@ -322,11 +342,12 @@ fn serve_through<
 >(
     rt: &'a R,
     service: &'a Service<'_>,
-    script: &[u8],
+    script: ReadScript<'_, Global>,
     door: D,
     output: &mut O,
     errors: &mut E,
 ) -> Exit
+    requires { script.root ≡ service.now.process.now }
     ensures { IsUnserved result ⊎ IsServedFor (cond service.now.large Bodies Steps) service.now.process.now (O.contents output.new) (O.failures output.old < O.failures output.new) result }
 {
     match service.log {
@@ -370,22 +391,34 @@ fn disk_crosses()
     crosses::<FileDisk<File>>();
 }
 
-// The text of a script that denotes a specification for the process, or the status of the fault that was reported.
+// The text of the script, or the status of the fault that was reported.
 #[tactic(auto, using(crate::proofs::Told::refused_unserved))]
-fn script_of<R: Files + AllocGlobal, E: Write + IsTerminal>(
+fn script_text<R: Files + AllocGlobal, E: Write + IsTerminal>(
     rt: &R,
     service: &Service<'_>,
     errors: &mut E,
 ) -> Result<Vec<u8>, Exit>
     ensures { IfErr result IsUnserved }
 {
-    let script = text_of(rt, service.spec, errors)?;
+    text_of(rt, service.spec, errors)
+}
+
+// The script with this text, read for the process, or the status of the fault that was reported.
+#[tactic(auto, using(crate::proofs::Told::refused_unserved))]
+fn script_of<'a, R: AllocGlobal, E: Write + IsTerminal>(
+    rt: &R,
+    service: &'a Service<'_>,
+    text: &'a [u8],
+    errors: &mut E,
+) -> Result<ReadScript<'a, Global>, Exit>
+    ensures root { IfOk result (λ script. script.root ≡ service.now.process.now) }
+    ensures unserved { IfErr result IsUnserved }
+{
     tell_read(
         rt.alloc(),
         service.spec,
-        &script,
+        text,
         service.process.as_bytes(),
         errors,
-    )?;
-    Ok(script)
+    )
 }

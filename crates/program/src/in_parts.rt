@@ -58,7 +58,7 @@ fn whole_of<F: Folder + Drop, A: Allocator + Copy>(
         → AreReplayOf size (F.state folder).bytes script root spec h → length h < 2 ^ 62
         → MatchResult result (λ r. (r.taken.spec ≡ spec) × (r.taken.entries ≡ h)) IsOutside }
 {
-    let (replaying, header) = match Replaying::begin(alloc, folder, size) {
+    let (replaying, header) = match Replaying::begin(alloc, folder, size, None) {
         Ok(begun) => begun,
         Err((error, folder)) => {
             drop(folder);
@@ -138,7 +138,7 @@ fn begin_both<F: Folder + Drop, A: Allocator + Copy>(
         → AreReplayOf size (F.state folder).bytes script root spec h → length h < 2 ^ 62 → MatchResult result (λ p. IsStartOf p.0 script root spec h) IsBeyond }
     ensures fault { IfErr result (λ error. IsTrue (F.state folder).claims_bytes → HaveNoDisplay size (F.state folder).bytes error) }
 {
-    let (replaying, header) = match Replaying::begin(alloc, folder, size) {
+    let (replaying, header) = match Replaying::begin(alloc, folder, size, None) {
         Ok(begun) => begun,
         Err((error, folder)) => {
             drop(folder);

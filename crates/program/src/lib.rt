@@ -25,7 +25,7 @@ pub use in_parts::{DisplayedParts, ReplayedParts, follow_parts, replay_parts, sh
 pub use large_sessions::Replaying;
 pub use replaying::{Replayed, replay};
 pub use served::{Demand, Doors, Line, Served, Unserved, serve, serve_parts};
-pub use shared::{Session, SessionError, Summary};
+pub use shared::{ReadScript, Session, SessionError, Summary};
 pub use showing::{DisplayError, Displayed, show};
 pub use shown::{Format, Options, Selection};
 pub use summaries::summary_line;

@@ -28,7 +28,7 @@ use connections::{Listen, Totals};
 use disk::{Disk, Folder};
 use journal::Journal;
 use serving::{OpenError, Parts, Plan, Run, exit_of, open, open_parts};
-use shared::{Recorder, SessionOn};
+use shared::{ReadScript, Recorder, SessionOn};
 use std::alloc::{AllocError, Global};
 use std::sync::Wait;
 use std::thread::Threads;
@@ -205,7 +205,7 @@ fn serve_opened<D, J: Recorder + Drop + Send, R: Threads + Wait + Clock + Sync, 
     }
 }
 
-/// Serves, as was asked, the session of what the script denotes for the root, with names kept so, on the journal that the disk holds: a new
+/// Serves, as was asked, the session of what the script denotes for its root, with names kept so, on the journal that the disk holds: a new
 /// one where the file is empty, else the one that it gives, if that is of this script and root and keeps names so. First the session is
 /// opened; then the doors; once all connections are over the doors are closed, and the line with the counts is written. It gives the session
 /// back, with the exit status: where the line can't be written, that of an accept that failed, and where there is no memory for it, that
@@ -214,36 +214,35 @@ pub fn serve<D: Disk + Drop + Send, R: Threads + Wait + Clock + Sync, S: Doors, 
     rt: &R,
     alloc: Global,
     disk: D,
-    script: &[u8],
-    root: &[u8],
+    script: ReadScript<'_, Global>,
     names: Names,
     demand: Demand,
     doors: &mut S,
     output: &mut O,
 ) -> Result<Served<Journal<D>>, Unserved<D, Journal<D>>>
-    // What the script denotes for the root was served from the history that the file held. What was answered stands in the file, and a crash at
+    // What the script denotes for its root was served from the history that the file held. What was answered stands in the file, and a crash at
     // any moment left a file that is read as a history which begins with the opening.
     ensures served { IfOk result (λ r. (spec : Specified) × (opening : List Entry)
-        × IsServedOn D.state names (D.state disk) script.now root.now spec opening r.session
+        × IsServedOn D.state names (D.state disk) script.entry.text script.entry.root spec opening r.session
         × IsServedBy S.opens S.closes S.Accept.takes S.Accept.fails S.Accept.waits S.Accept.Reader.left S.Accept.Reader.is_closed S.Accept.Writer.contents
         (WasTold S.Accept.Writer.contents S.Accept.Writer.has_handed_on S.Accept.Writer.failures)
         demand spec opening r.session.history (is_some r.session.failed) doors.old doors.new (O.contents output.old) (O.contents output.new) (O.failures output.old < O.failures output.new) r.line r.exit) }
 
     // Or nothing was served, for this reason.
-    ensures unserved { IfErr result (IsUnserved (IsUnopenedOn D.state names (D.state disk) script.now root.now)
-        (IsOpenedOn D.state names (D.state disk) script.now root.now) (S.refuses doors.old)) }
+    ensures unserved { IfErr result (IsUnserved (IsUnopenedOn D.state names (D.state disk) script.entry.text script.entry.root)
+        (IsOpenedOn D.state names (D.state disk) script.entry.text script.entry.root) (S.refuses doors.old)) }
     ensures doors { IfErr result (IsBefore S.opens doors.old doors.new (O.contents output.old) (O.contents output.new)) }
 
     // A file that holds a session gives it, if a door can be opened; a journal of another script, root or way of keeping names is refused as that,
     // and one that has a fault for it: device and memory apart.
-    ensures only { IsTrue (D.state disk).claims_bytes → (spec : Specified) (h : List Entry) → Holds names (D.state disk).bytes script.now root.now spec h
+    ensures only { IsTrue (D.state disk).claims_bytes → (spec : Specified) (h : List Entry) → Holds names (D.state disk).bytes script.entry.text script.entry.root spec h
         → MatchResult result (λ r. (r.session.spec ≡ spec) × StartsWith r.session.history h) (IsInPlace (D.state disk).bytes spec h) }
-    ensures other { IsTrue (D.state disk).claims_bytes → IsOfAnother names (D.state disk).bytes script.now root.now
+    ensures other { IsTrue (D.state disk).claims_bytes → IsOfAnother names (D.state disk).bytes script.entry.text script.entry.root
         → MatchResult result (λ _. ⊥) (IsUnopenedFor OpenError.OtherSpecification) }
     ensures refuses { IsTrue (D.state disk).claims_bytes → (D.state disk).bytes ≢ [] → (error : JournalError) → HasFault (D.state disk).bytes error
         → MatchResult result (λ _. ⊥) (IsUnopenedFor (OpenError.Replay (journal_error error))) }
 {
-    match open(alloc, disk, script, root, names) {
+    match open(alloc, disk, script, names) {
         Ok(session) => {
             // What a session keeps: its history is judged.
             let _entries = session.history();
@@ -258,8 +257,7 @@ pub fn serve_parts<F: Folder + Drop + Send, R: Threads + Wait + Clock + Sync, S:
     rt: &R,
     alloc: Global,
     folder: F,
-    script: &[u8],
-    root: &[u8],
+    script: ReadScript<'_, Global>,
     size: usize,
     demand: Demand,
     doors: &mut S,
@@ -267,22 +265,22 @@ pub fn serve_parts<F: Folder + Drop + Send, R: Threads + Wait + Clock + Sync, S:
 ) -> Result<Served<Parts<F, Global>>, Unserved<F, Parts<F, Global>>>
     requires size { 1 ≤ size }
     ensures served { IfOk result (λ r. (spec : Specified) × (opening : List Entry)
-        × AreServedIn F.state size (F.state folder) script.now root.now spec opening r.session
+        × AreServedIn F.state size (F.state folder) script.entry.text script.entry.root spec opening r.session
         × IsServedBy S.opens S.closes S.Accept.takes S.Accept.fails S.Accept.waits S.Accept.Reader.left S.Accept.Reader.is_closed S.Accept.Writer.contents
         (WasTold S.Accept.Writer.contents S.Accept.Writer.has_handed_on S.Accept.Writer.failures)
         demand spec opening r.session.history (is_some r.session.failed) doors.old doors.new (O.contents output.old) (O.contents output.new) (O.failures output.old < O.failures output.new) r.line r.exit) }
-    ensures unserved { IfErr result (IsUnserved (AreUnopenedIn F.state size (F.state folder) script.now root.now)
-        (AreOpenedIn F.state size (F.state folder) script.now root.now) (S.refuses doors.old)) }
+    ensures unserved { IfErr result (IsUnserved (AreUnopenedIn F.state size (F.state folder) script.entry.text script.entry.root)
+        (AreOpenedIn F.state size (F.state folder) script.entry.text script.entry.root) (S.refuses doors.old)) }
     ensures doors { IfErr result (IsBefore S.opens doors.old doors.new (O.contents output.old) (O.contents output.new)) }
     ensures only { IsTrue (F.state folder).claims_bytes → (spec : Specified) (h : List Entry)
-        → HoldSession size (F.state folder).bytes script.now root.now spec h → length h < 2 ^ 62
+        → HoldSession size (F.state folder).bytes script.entry.text script.entry.root spec h → length h < 2 ^ 62
         → MatchResult result (λ r. (r.session.spec ≡ spec) × StartsWith r.session.history h) (AreInPlace (F.state folder).bytes spec h) }
-    ensures other { IsTrue (F.state folder).claims_bytes → (a : AreOfAnother size (F.state folder).bytes script.now root.now) → length a.history < 2 ^ 62
+    ensures other { IsTrue (F.state folder).claims_bytes → (a : AreOfAnother size (F.state folder).bytes script.entry.text script.entry.root) → length a.history < 2 ^ 62
         → MatchResult result (λ _. ⊥) (IsUnopenedFor OpenError.OtherSpecification) }
     ensures refuses { IsTrue (F.state folder).claims_bytes → (AreNew (F.state folder).bytes → ⊥) → (fault : PartsError) → HaveFault size (F.state folder).bytes fault
         → MatchResult result (λ _. ⊥) (AreUnopenedFor size (F.state folder).bytes fault) }
 {
-    match open_parts(alloc, folder, script, root, size) {
+    match open_parts(alloc, folder, script, size) {
         Ok(session) => {
             // What a session keeps: its history is judged.
             let _entries = session.history();

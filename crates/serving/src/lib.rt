@@ -21,5 +21,5 @@ pub use runs::{Plan, Run, exit_of, serve};
 pub use service_gate::ServiceGate;
 pub use services::{ClosedService, serve_service};
 pub use sessions::{Closing, serve_session};
-pub use shared::{Recorder, SessionOn};
+pub use shared::{ReadScript, Recorder, SessionOn};
 pub use shared_gate::SharedGate;

@@ -9,17 +9,17 @@ use Rattle.command_line.proofs.server.serve_in_parts.Goals as goal
 
 pub serve_parts-end-requires-send-F : goal.serve_parts-end-requires-send-F
 serve_parts-end-requires-send-F g c κs within =
-    let κ : _ = record { mir = named 5; lft = κs.1.1.1.1.1.0 } in
-    let crosses : _ = folder_send κ g.row.S g.S.FileSystem (record { shared = c.type_bounds.sync-S.shared }) in
-    let sent : _ = param_send 0 (folder_row κ g.row.S g.S.FileSystem) crosses in
+    let κ : _ = record { mir = named 4; lft = κs.1.1.1.1.0 } in
+    let crosses : _ = folder_send κ 1 g.row.S g.S.FileSystem (record { shared = c.type_bounds.sync-S.shared }) in
+    let sent : _ = param_send 0 (folder_row κ 1 g.row.S g.S.FileSystem) crosses in
     record { owned = sent.owned; leaving = sent.leaving }
 
 pub returns-in-Ok-end : goal.returns-in-Ok-end
 returns-in-Ok-end g c =
     let so : _ = of_ok _ c.serve_parts-end.result c.in-Ok-end.served c.in-Ok-end.is c.serve_parts-end.ensures.served in
     let session : _ = c.in-Ok-end.served.session in
-    inr (served_for Bodies c.args.script.now c.as_bytes-root.result.now c.args.service.now.process.now so.0 so.1 session.history c.in-Ok-end.served.line (is_some session.failed) so.3.totals
-    so.3.accept_failed so.3.told (g.O.Sink.contents c.serve_parts-end.new.output) (g.O.Sink.failures c.args.output.now < g.O.Sink.failures c.serve_parts-end.new.output) c.in-Ok-end.served.exit c.tell_served.result c.as_bytes-root.ensures.value c.tell_served.ensures so.2.read.read so.2.read.names_are
+    inr (served_for Bodies c.args.script.text c.args.script.root c.args.service.now.process.now so.0 so.1 session.history c.in-Ok-end.served.line (is_some session.failed) so.3.totals
+    so.3.accept_failed so.3.told (g.O.Sink.contents c.serve_parts-end.new.output) (g.O.Sink.failures c.args.output.now < g.O.Sink.failures c.serve_parts-end.new.output) c.in-Ok-end.served.exit c.tell_served.result c.requires c.tell_served.ensures so.2.read.read so.2.read.names_are
     so.2.begins so.2.legal so.3.ended)
 
 pub returns-in-Err-end : goal.returns-in-Err-end

@@ -10,8 +10,8 @@ pub returns-in-Ok-clause-served : goal.returns-in-Ok-clause-served
 returns-in-Ok-clause-served g c =
     let state = g.F.Folder.state in
     let before = state c.args.folder in
-    let script = c.args.script.now in
-    let root = c.args.root.now in
+    let script = c.args.script.text in
+    let root = c.args.script.root in
     let opened = c.in-Ok.session in
     let o = c.in-Ok.ensures in
     let h = c.history-entries.ensures in
@@ -32,7 +32,7 @@ returns-in-Ok-clause-served g c =
 pub returns-in-Ok-clause-unserved : goal.returns-in-Ok-clause-unserved
 returns-in-Ok-clause-unserved g c =
     let o = c.in-Ok.ensures in
-    unserved_by _ (AreOpenedIn g.F.Folder.state c.args.size (g.F.Folder.state c.args.folder) c.args.script.now c.args.root.now) _ c.in-Ok.session
+    unserved_by _ (AreOpenedIn g.F.Folder.state c.args.size (g.F.Folder.state c.args.folder) c.args.script.text c.args.script.root) _ c.in-Ok.session
     (record { read = o.read; begun = o.begun; kept = o.kept; held = o.held; continues = o.continues }) c.serve_opened.result c.serve_opened.ensures.unserved
 
 pub returns-in-Ok-clause-only : goal.returns-in-Ok-clause-only

@@ -5,8 +5,8 @@ use Rattle.serving.proofs.opening_parts.begin_parts.Goals as goal
 pub returns-in-Ok-clause-opens : goal.returns-in-Ok-clause-opens
 returns-in-Ok-clause-opens g c =
     let files = (g.F.Folder.state c.args.folder).bytes in
-    let script = c.args.script.now in
-    let root = c.args.root.now in
+    let script = c.args.script.text in
+    let root = c.args.script.root in
     let o = c.in-Ok.ensures in
     record {
       read = o.read;
@@ -27,8 +27,8 @@ returns-in-Ok-clause-opens g c =
 pub returns-in-Err-clause-opens : goal.returns-in-Err-clause-opens
 returns-in-Err-clause-opens g c =
     let files = (g.F.Folder.state c.args.folder).bytes in
-    let script = c.args.script.now in
-    let root = c.args.root.now in
+    let script = c.args.script.text in
+    let root = c.args.script.root in
     let o = c.in-Err.ensures in
     record {
       read = tt;

@@ -10,14 +10,14 @@ use Rattle.serving.proofs.opening_parts.open_parts.Goals as goal
 pub returns-in-Ok-true : goal.returns-in-Ok-true
 returns-in-Ok-true g c =
     let look = c.is_new.ensures in
-    opens_parts_before (g.F.Folder.state c.args.folder) (g.F.Folder.state c.is_new.new.folder) look.continues look.bytes g.F.Folder.state c.args.size c.args.script.now c.args.root.now c.begin_parts.result look.any_moment c.begin_parts.ensures.opens
+    opens_parts_before (g.F.Folder.state c.args.folder) (g.F.Folder.state c.is_new.new.folder) look.continues look.bytes g.F.Folder.state c.args.size c.args.script.text c.args.script.root c.begin_parts.result look.any_moment c.begin_parts.ensures.opens
 
 -- ---- a journal that is there
 
 pub returns-in-Ok-false : goal.returns-in-Ok-false
 returns-in-Ok-false g c =
     let look = c.is_new.ensures in
-    opens_parts_before (g.F.Folder.state c.args.folder) (g.F.Folder.state c.is_new.new.folder) look.continues look.bytes g.F.Folder.state c.args.size c.args.script.now c.args.root.now c.replay_parts.result look.any_moment c.replay_parts.ensures
+    opens_parts_before (g.F.Folder.state c.args.folder) (g.F.Folder.state c.is_new.new.folder) look.continues look.bytes g.F.Folder.state c.args.size c.args.script.text c.args.script.root c.replay_parts.result look.any_moment c.replay_parts.ensures
 
 -- ---- a device that failed
 

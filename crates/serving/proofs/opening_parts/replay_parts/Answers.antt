@@ -21,8 +21,8 @@ use Rattle.serving.proofs.opening_parts.replay_parts.Goals as goal
 pub returns-in-Err : goal.returns-in-Err
 returns-in-Err g c =
     let old = g.F.Folder.state c.args.folder in
-    let script = c.args.script.now in
-    let root = c.args.root.now in
+    let script = c.args.script.text in
+    let root = c.args.script.root in
     let o = c.in-Err.ensures in
     let Left : List (List ℕ) → Type 0 = λ files. old.leaves files ⊎ HoldAlike c.args.size old.bytes files in
     record {
@@ -47,8 +47,8 @@ pub returns-in-Err-whole : goal.returns-in-Err-whole
 returns-in-Err-whole g c =
     let state = g.F.Folder.state in
     let old = state c.args.folder in
-    let script = c.args.script.now in
-    let root = c.args.root.now in
+    let script = c.args.script.text in
+    let root = c.args.script.root in
     let p = c.in-Ok.begun in
     let first = c.in-Ok.ensures in
     let o = c.in-Err-whole.ensures in
@@ -91,8 +91,8 @@ pub returns-then-not-is_of : goal.returns-then-not-is_of
 returns-then-not-is_of g c =
     let state = g.F.Folder.state in
     let old = state c.args.folder in
-    let script = c.args.script.now in
-    let root = c.args.root.now in
+    let script = c.args.script.text in
+    let root = c.args.script.root in
     let p = c.in-Ok.begun in
     let first = c.in-Ok.ensures in
     let r = c.in-Ok-whole.replaying in
@@ -116,13 +116,13 @@ returns-then-not-is_of g c =
         spec = r.taken.spec;
         history = r.taken.entries;
         hold = held_last state old c.args.size p.0 r p.1.version p.1.script.items p.1.root.items first.is whole.alike first.continues first.untouched whole.continues whole.untouched r.taken.entries claims (c.is_done-is_done.ensures.hold done (claims_last state old c.args.size p.0 r p.1.version p.1.script.items p.1.root.items first.is whole.alike first.continues first.untouched whole.continues whole.untouched claims));
-        other = λ same. c.is_of.ensures.other no (same.0, same.1, sym first.read.names_are ∙ ap (λ (x : Specified). x.names) (sym whole.spec) ∙ same.2);
+        other = λ same. c.is_of.ensures.other no (same.0 ∙ sym c.text-text.ensures, same.1 ∙ sym c.root-root.ensures, sym first.read.names_are ∙ ap (λ (x : Specified). x.names) (sym whole.spec) ∙ same.2);
       };
       only = λ claims spec h holds small.
           let it = there_of c.args.size old.bytes script root spec h (c.requires.there claims) holds in
           let s = begins script root spec h claims it.0 small in
           let same = header_of_start state old c.args.size p.0 r p.1.version p.1.script.items p.1.root.items first.is whole.alike first.continues first.untouched whole.continues whole.untouched script root spec h s in
-          absurd (c.is_of.ensures.other no (same.0, same.1, sym first.read.names_are ∙ ap (λ (x : Specified). x.names) (sym whole.spec ∙ s.spec_is) ∙ it.1));
+          absurd (c.is_of.ensures.other no (same.0 ∙ sym c.text-text.ensures, same.1 ∙ sym c.root-root.ensures, sym first.read.names_are ∙ ap (λ (x : Specified). x.names) (sym whole.spec ∙ s.spec_is) ∙ it.1));
       other = λ claims a small. inl refl;
       refuses = λ claims there fault has. absurd (no_fault_last state old c.args.size p.0 r p.1.version p.1.script.items p.1.root.items first.is whole.alike first.continues first.untouched whole.continues whole.untouched (c.is_done-is_done.ensures.no_fault done) claims fault has);
       untouched = λ inside claims. ap (λ d. (state d).bytes) c.into_folder.ensures ∙ bytes_last state old c.args.size p.0 r p.1.version p.1.script.items p.1.root.items first.is whole.alike first.continues first.untouched whole.continues whole.untouched claims;
@@ -139,8 +139,8 @@ pub returns-in-Ok-finish : goal.returns-in-Ok-finish
 returns-in-Ok-finish g c =
     let state = g.F.Folder.state in
     let old = state c.args.folder in
-    let script = c.args.script.now in
-    let root = c.args.root.now in
+    let script = c.args.script.text in
+    let root = c.args.script.root in
     let p = c.in-Ok.begun in
     let first = c.in-Ok.ensures in
     let r = c.in-Ok-whole.replaying in
@@ -148,22 +148,25 @@ returns-in-Ok-finish g c =
     let s = c.in-Ok-finish.session in
     let o = c.in-Ok-finish.ensures in
     let yes : c.is_of.result ≡ true = search rules in
-    let is = c.is_of.ensures.same yes in
+    let same_here = c.is_of.ensures.same yes in
+    let script_is = same_here.0 ∙ c.text-text.ensures in
+    let root_is = same_here.1 ∙ c.root-root.ensures in
+    let names_are = same_here.2 in
     let done = c.is_done-is_done.ensures.done.1 whole.done in
     let begins : (a b : List ℕ) (spec : Specified) (h : List Entry) → IsTrue old.claims_bytes → AreReplayOf c.args.size old.bytes a b spec h → length h < 2 ^ 62 → IsStartOf r a b spec h =
     λ a b spec h claims it small. start_of state old c.args.size p.0 r p.1.version p.1.script.items p.1.root.items first.is whole.alike first.continues first.untouched whole.continues whole.untouched a b spec h claims it
     (λ at. whole.only (claims_there state old c.args.size p.0 r p.1.version p.1.script.items p.1.root.items first.is whole.alike first.continues first.untouched whole.continues whole.untouched claims) a b spec h at small (first.only claims a b spec h it small)) in
     record {
-      read = read_here (names_of p.1.version) Bodies p.1.script.items script p.1.root.items root p.0.taken.spec s.spec is.2 is.0 is.1 (sym (o.begun.spec_is ∙ whole.spec)) first.read;
+      read = read_here (names_of p.1.version) Bodies p.1.script.items script p.1.root.items root p.0.taken.spec s.spec names_are script_is root_is (sym (o.begun.spec_is ∙ whole.spec)) first.read;
       begun = on_itself s _ _ _ o.begun;
-      kept = subst (λ (b : List ℕ). IsRecorded (in_folder state) script b s) (whole.alike.root ∙ first.is.root_is ∙ is.1)
-          (subst (λ (a : List ℕ). IsRecorded (in_folder state) a r.opened.held.root s) (whole.alike.script ∙ first.is.script_is ∙ is.0) o.kept);
+      kept = subst (λ (b : List ℕ). IsRecorded (in_folder state) script b s) (whole.alike.root ∙ first.is.root_is ∙ root_is)
+          (subst (λ (a : List ℕ). IsRecorded (in_folder state) a r.opened.held.root s) (whole.alike.script ∙ first.is.script_is ∙ script_is) o.kept);
       size_is = o.alike.size ∙ whole.alike.size ∙ first.is.size_is;
       held = λ claims.
           let stood = held_last state old c.args.size p.0 r p.1.version p.1.script.items p.1.root.items first.is whole.alike first.continues first.untouched whole.continues whole.untouched r.taken.entries claims (o.stood (claims_last state old c.args.size p.0 r p.1.version p.1.script.items p.1.root.items first.is whole.alike first.continues first.untouched whole.continues whole.untouched claims)) in
           inr (
-            replay_at c.args.size old.bytes p.1.script.items script p.1.root.items root r.taken.spec s.spec r.taken.entries s.history is.0 is.1 (sym o.begun.spec_is) (sym o.begun.history_is) stood,
-            ap (λ (x : Specified). x.names) (o.begun.spec_is ∙ whole.spec) ∙ first.read.names_are ∙ is.2,
+            replay_at c.args.size old.bytes p.1.script.items script p.1.root.items root r.taken.spec s.spec r.taken.entries s.history script_is root_is (sym o.begun.spec_is) (sym o.begun.history_is) stood,
+            ap (λ (x : Specified). x.names) (o.begun.spec_is ∙ whole.spec) ∙ first.read.names_are ∙ names_are,
           );
       fault = tt;
       only = λ claims spec h holds small.
@@ -175,7 +178,7 @@ returns-in-Ok-finish g c =
       other = λ claims a small.
           let t = begins a.script_there a.root_there a.spec a.history claims a.hold small in
           let same = header_of_start state old c.args.size p.0 r p.1.version p.1.script.items p.1.root.items first.is whole.alike first.continues first.untouched whole.continues whole.untouched a.script_there a.root_there a.spec a.history t in
-          a.other (sym same.0 ∙ is.0, sym same.1 ∙ is.1, ap (λ (x : Specified). x.names) (sym t.spec_is ∙ whole.spec) ∙ first.read.names_are ∙ is.2);
+          a.other (sym same.0 ∙ script_is, sym same.1 ∙ root_is, ap (λ (x : Specified). x.names) (sym t.spec_is ∙ whole.spec) ∙ first.read.names_are ∙ names_are);
       refuses = λ claims there fault has. no_fault_last state old c.args.size p.0 r p.1.version p.1.script.items p.1.root.items first.is whole.alike first.continues first.untouched whole.continues whole.untouched (c.is_done-is_done.ensures.no_fault done) claims fault has;
       untouched = tt;
       continues = continues_on old (state r.opened.held.folder) (state s.journal.folder) (continues_on old (state p.0.opened.held.folder) (state r.opened.held.folder) first.continues whole.continues) o.continues;
