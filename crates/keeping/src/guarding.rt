@@ -48,16 +48,21 @@ impl<A: Allocator + Copy> Guarding<A> {
         ensures count { IfOk result (λ names. length names.guards ≡ length spec.now.bodies) }
     {
         let bodies = spec.bodies();
-        let mut all = Transitions::new(alloc, spec)?;
-        let stands = put_names(&mut all, bodies, alloc)?;
         let guards = none_guarded(bodies, alloc)?;
         let waiting = none_waiting(bodies, alloc)?;
-        Ok(Guarding {
-            all,
-            stands,
-            guards,
-            waiting,
-        })
+        let mut all = Transitions::new(alloc, spec)?;
+        match put_names(&mut all, bodies, alloc) {
+            Ok(stands) => Ok(Guarding {
+                all,
+                stands,
+                guards,
+                waiting,
+            }),
+            Err(AllocError) => {
+                drop(all);
+                Err(AllocError)
+            }
+        }
     }
 
     /// The processes, and the numbers of what stands for the names.

@@ -107,7 +107,10 @@ impl<A: Allocator + Copy> Monitor<A> {
                 len: 0,
                 states,
             }),
-            Err(fault) => Err(fault),
+            Err(fault) => {
+                drop(space);
+                Err(fault)
+            }
         }
     }
 

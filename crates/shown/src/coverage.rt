@@ -81,8 +81,46 @@ pub(crate) fn count_entry<A: Allocator>(
     counts.possible.add(next);
 }
 
-/// Appends the line of an event with these counts.
+/// Appends the line of an event with these counts, as text.
 #[tactic(auto, unfolding(crate::specs::Coverage::count_text))]
+fn put_text_count<A: Allocator, B: Allocator>(
+    text: &mut Vec<u8, B>,
+    alphabet: &Alphabet<A>,
+    event: Event,
+    accepted: u64,
+    rejected: u64,
+    possible: u64,
+) -> Result<(), AllocError>
+    ensures { OnOk result (text.new.items ≡ text.old.items ++ count_text Format.Text alphabet.now event accepted rejected possible) }
+{
+    put_name(text, alphabet, event, Format::Text)?;
+    put_marked(text, b" accepted ", accepted)?;
+    put_marked(text, b" rejected ", rejected)?;
+    put_marked(text, b" possible ", possible)?;
+    text.extend_from_slice(b"\n")
+}
+
+/// The same as JSON.
+#[tactic(auto, unfolding(crate::specs::Coverage::count_text))]
+fn put_json_count<A: Allocator, B: Allocator>(
+    text: &mut Vec<u8, B>,
+    alphabet: &Alphabet<A>,
+    event: Event,
+    accepted: u64,
+    rejected: u64,
+    possible: u64,
+) -> Result<(), AllocError>
+    ensures { OnOk result (text.new.items ≡ text.old.items ++ count_text Format.Json alphabet.now event accepted rejected possible) }
+{
+    text.extend_from_slice(b"{\"event\":")?;
+    put_name(text, alphabet, event, Format::Json)?;
+    put_marked(text, b",\"accepted\":", accepted)?;
+    put_marked(text, b",\"rejected\":", rejected)?;
+    put_marked(text, b",\"possible\":", possible)?;
+    text.extend_from_slice(b"}\n")
+}
+
+/// Appends the line of an event with these counts.
 fn put_count<A: Allocator, B: Allocator>(
     text: &mut Vec<u8, B>,
     alphabet: &Alphabet<A>,
@@ -95,21 +133,8 @@ fn put_count<A: Allocator, B: Allocator>(
     ensures { OnOk result (text.new.items ≡ text.old.items ++ count_text format alphabet.now event accepted rejected possible) }
 {
     match format {
-        Format::Text => {
-            put_name(text, alphabet, event, Format::Text)?;
-            put_marked(text, b" accepted ", accepted)?;
-            put_marked(text, b" rejected ", rejected)?;
-            put_marked(text, b" possible ", possible)?;
-            text.extend_from_slice(b"\n")
-        }
-        Format::Json => {
-            text.extend_from_slice(b"{\"event\":")?;
-            put_name(text, alphabet, event, Format::Json)?;
-            put_marked(text, b",\"accepted\":", accepted)?;
-            put_marked(text, b",\"rejected\":", rejected)?;
-            put_marked(text, b",\"possible\":", possible)?;
-            text.extend_from_slice(b"}\n")
-        }
+        Format::Text => put_text_count(text, alphabet, event, accepted, rejected, possible),
+        Format::Json => put_json_count(text, alphabet, event, accepted, rejected, possible),
     }
 }
 
@@ -175,8 +200,41 @@ fn absent<B: Allocator>(counts: &Counts<B>, possible: bool, events: usize) -> Ev
     set
 }
 
-/// Appends the last line: what never came, and what could never come.
+/// Appends the last line as text: what never came, and what could never come.
 #[tactic(auto, unfolding(crate::specs::Coverage::absent_text))]
+fn put_text_absent<A: Allocator, B: Allocator>(
+    text: &mut Vec<u8, B>,
+    alphabet: &Alphabet<A>,
+    never: EventSet,
+    impossible: EventSet,
+) -> Result<(), AllocError>
+    ensures { OnOk result (text.new.items ≡ text.old.items ++ absent_text Format.Text alphabet.now never impossible) }
+{
+    text.extend_from_slice(b"never came:")?;
+    put_listed(text, alphabet, never)?;
+    text.extend_from_slice(b"; could never come:")?;
+    put_listed(text, alphabet, impossible)?;
+    text.extend_from_slice(b"\n")
+}
+
+/// The same as JSON.
+#[tactic(auto, unfolding(crate::specs::Coverage::absent_text))]
+fn put_json_absent<A: Allocator, B: Allocator>(
+    text: &mut Vec<u8, B>,
+    alphabet: &Alphabet<A>,
+    never: EventSet,
+    impossible: EventSet,
+) -> Result<(), AllocError>
+    ensures { OnOk result (text.new.items ≡ text.old.items ++ absent_text Format.Json alphabet.now never impossible) }
+{
+    text.extend_from_slice(b"{\"never_came\":")?;
+    put_set(text, alphabet, never, Format::Json)?;
+    text.extend_from_slice(b",\"could_never_come\":")?;
+    put_set(text, alphabet, impossible, Format::Json)?;
+    text.extend_from_slice(b"}\n")
+}
+
+/// Appends the last line: what never came, and what could never come.
 fn put_absent<A: Allocator, B: Allocator>(
     text: &mut Vec<u8, B>,
     alphabet: &Alphabet<A>,
@@ -187,20 +245,8 @@ fn put_absent<A: Allocator, B: Allocator>(
     ensures { OnOk result (text.new.items ≡ text.old.items ++ absent_text format alphabet.now never impossible) }
 {
     match format {
-        Format::Text => {
-            text.extend_from_slice(b"never came:")?;
-            put_listed(text, alphabet, never)?;
-            text.extend_from_slice(b"; could never come:")?;
-            put_listed(text, alphabet, impossible)?;
-            text.extend_from_slice(b"\n")
-        }
-        Format::Json => {
-            text.extend_from_slice(b"{\"never_came\":")?;
-            put_set(text, alphabet, never, Format::Json)?;
-            text.extend_from_slice(b",\"could_never_come\":")?;
-            put_set(text, alphabet, impossible, Format::Json)?;
-            text.extend_from_slice(b"}\n")
-        }
+        Format::Text => put_text_absent(text, alphabet, never, impossible),
+        Format::Json => put_json_absent(text, alphabet, never, impossible),
     }
 }
 
