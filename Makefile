@@ -17,7 +17,7 @@ lint: ## flake8, mypy and shellcheck
 test: ## all that needs no kit, in some five minutes
 	.ci/quick $(PROGRAM)
 
-rows: ## writes crates/*/stdin and stdout from the files of rows
+rows: ## writes stdin and stdout of crates/scenarios from the files of rows
 	$(PYTHON) tests/rows.py --write
 
 gate: rows ## proves everything and tests the built program

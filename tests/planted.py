@@ -4,7 +4,8 @@
     tests/planted.py [NAME ..]
 
 Each file of tests/planted names what it would hide (`shows`), the crate whose rows show it (`rows`) or the case (`case`, a file of
-tests/cases and a name), and its changes: a file, what stands there once, and what comes in its place. It is made in a copy of the
+tests/cases and a name), how long they may take where the wrong body waits without end (`seconds`), and its changes: a file, what
+stands there once, and what comes in its place. It is made in a copy of the
 repository, and the rows or the case are run there without proofs (`rt try`). As they stand, they have to pass. It needs the kit's `rt`.
 The last line is `N passed, M failed`.
 """
@@ -17,11 +18,11 @@ import tempfile
 
 sys.dont_write_bytecode = True
 
-from first_turns import copied  # noqa: E402
+from first_turns import copied, played  # noqa: E402
 
 HERE = os.path.dirname(os.path.abspath(__file__))
 SECONDS = 600
-"""How long the rows of a crate may take."""
+"""How long the rows of a crate, or a case, may take where a plant doesn't say it."""
 
 
 class Plant:
@@ -30,12 +31,13 @@ class Plant:
     def __init__(self, path):
         self.name = os.path.basename(path)[: -len(".edit")]
         self.rows = self.case = self.shows = ""
+        self.seconds = str(SECONDS)
         self.changes = []
         at = old = None
         with open(path, encoding="utf-8") as file:
             for line in file.read().split("\n"):
                 word, _, rest = line.partition(":")
-                if word in ("rows", "case", "shows"):
+                if word in ("rows", "case", "shows", "seconds"):
                     setattr(self, word, rest.strip())
                 at = rest.strip() if word == "file" else at
                 old = rest[1:] if word == "old" else old
@@ -55,22 +57,14 @@ class Plant:
         return None
 
 
-def played(folder, crate):
-    """What comes of the rows of this crate: whether they were run at all, whether they pass, and the end of what was said."""
-    at = os.path.join(folder, "crates", crate)
-    lines = os.path.join(at, "stdin")
-    words = ["rt", "try", "--seconds", str(SECONDS)] + ([] if os.path.exists(lines) else ["--test"])
-    with open(lines if os.path.exists(lines) else os.devnull, "rb") as given:
-        ran = subprocess.run(words, cwd=at, stdin=given, stdout=subprocess.PIPE, stderr=subprocess.PIPE, check=False)
+def played_rows(folder, crate, seconds):
+    """What comes of the rows of this crate, within so many seconds: whether they were run at all, whether they pass, and the end of what was said."""
+    ran, wanted = played(folder, crate, seconds)
     said = (ran.stdout + ran.stderr).decode(errors="replace")
-    passes = ran.returncode == 0
-    if os.path.exists(os.path.join(at, "stdout")):
-        with open(os.path.join(at, "stdout"), "rb") as file:
-            passes = passes and ran.stdout == file.read()
-    return ": error" not in said, passes, said[-600:]
+    return ": error" not in said, ran.returncode == 0 and ran.stdout == wanted, said[-600:]
 
 
-def played_case(folder, named):
+def played_case(folder, named, seconds):
     """The same of a case of the program: whether its lines on standard output come, and its files are left as it says. `rt try` runs the
     program in a folder of its own, so the files are named by their whole paths."""
     name, _, title = named.partition(": ")
@@ -80,7 +74,7 @@ def played_case(folder, named):
     for path, text in case["files"].items():
         with open(places[path], "w", encoding="latin-1", newline="") as file:
             file.write(text)
-    words = ["rt", "try", "--seconds", str(SECONDS), "--"] + [places.get(word, word) for word in case["args"]]
+    words = ["rt", "try", "--seconds", seconds, "--"] + [places.get(word, word) for word in case["args"]]
     at = os.path.join(folder, "crates", "cspwatch")
     ran = subprocess.run(words, cwd=at, stdin=subprocess.DEVNULL, capture_output=True, check=False)
     passes = ran.stdout.decode().splitlines() == case["stdout"]
@@ -97,7 +91,8 @@ def why_not(plant, rows, case):
         copied(folder)
         if plant and (why := plant.put(folder)):
             return why
-        was_run, passes, said = played(folder, rows) if rows else played_case(folder, case)
+        seconds = plant.seconds if plant else str(SECONDS)
+        was_run, passes, said = played_rows(folder, rows, seconds) if rows else played_case(folder, case, seconds)
     if not was_run:
         return "they aren't built: " + said
     if passes and plant:

@@ -5,7 +5,7 @@ import re
 
 from definition_graph import CRATES, ROOT, sources
 
-FOR_TESTS = ("rows", "serving_rows")
+FOR_TESTS = ("part_scenarios", "rows", "scenarios", "server_rows", "shared_rows")
 """Libraries that only tests use."""
 
 Call = collections.namedtuple("Call", "crate name comment signature clauses file_text public")

@@ -1,12 +1,12 @@
 #!/usr/bin/env python3
 """The rows over the libraries, from files in which a row and its answer are side by side.
 
-    tests/rows.py                looks whether `stdin` and `stdout` of each crate are what the files of rows make
+    tests/rows.py                looks whether `stdin` and `stdout` of `crates/scenarios` are what the files of rows make
     tests/rows.py --write        writes them
 
-The crates `part_scenarios`, `scenarios`, `server_rows` and `shared_rows` are programs that play rows of text: a row is
-a line of `stdin`, and the line of `stdout` at the same place is the answer that is wanted. Both files are made from
-`crates/NAME/rows/*.rows`, in the order of the names of these files. They are committed, since the gate reads them.
+The program `scenarios` plays rows of text: a row is a line of `stdin`, after the name of the crate that plays it, and the
+line of `stdout` at the same place is the answer that is wanted. Both files are made from `crates/NAME/rows/*.rows`, in the
+order of the names of these files. They are committed, since the gate reads them.
 
 A line of a file of rows is one of these:
 
@@ -27,6 +27,7 @@ from typing import NamedTuple
 
 TOP = os.path.dirname(os.path.dirname(os.path.abspath(__file__)))
 CRATES = ["part_scenarios", "scenarios", "server_rows", "shared_rows"]
+PLAYER = os.path.join(TOP, "crates", "scenarios")
 GROUP, ROW, ANSWER, MORE, COMMENT = "[", "> ", "< ", "  ", "#"
 
 
@@ -77,14 +78,19 @@ def add(line: str, groups: list[Group]) -> None:
         raise WrongFile("a row, its answer, and so on are wanted")
 
 
-def made(crate: str) -> dict[str, str]:
-    """The texts of `stdin` and `stdout` of a crate."""
+def groups_in(crate: str) -> list[Group]:
+    """The groups of a crate, each row after the crate's name."""
     folder = os.path.join(TOP, "crates", crate, "rows")
     groups: list[Group] = []
     for name in sorted(os.listdir(folder)):
         if name.endswith(".rows"):
             with open(os.path.join(folder, name), encoding="utf-8", newline="\n") as file:
                 groups += groups_of(file.read().split("\n"), f"crates/{crate}/rows/{name}")
+    return [Group(group.name, [f"{crate} {row}" for row in group.rows], group.answers) for group in groups]
+
+
+def made(groups: list[Group]) -> dict[str, str]:
+    """The texts of `stdin` and `stdout` for these groups."""
     return {"stdin": "\n".join(text_of(group.name, group.rows) for group in groups),
             "stdout": "\n".join(text_of(group.name, group.answers) for group in groups)}
 
@@ -103,23 +109,24 @@ def main() -> int:
     parser.add_argument("--write", action="store_true", help="write stdin and stdout")
     given = parser.parse_args()
     passed = failed = 0
+    groups: list[Group] = []
     for crate in CRATES:
         try:
-            texts = made(crate)
+            groups += groups_in(crate)
+            passed += 1
         except WrongFile as fault:
             print(fault)
             failed += 1
+    for name, text in made(groups).items():
+        path = os.path.join(PLAYER, name)
+        if given.write and not failed:
+            with open(path, "w", encoding="utf-8", newline="") as file:
+                file.write(text)
+        elif not is_as_made(path, text):
+            print(f"crates/scenarios/{name} isn't what the rows make: run tests/rows.py --write")
+            failed += 1
             continue
-        for name, text in texts.items():
-            path = os.path.join(TOP, "crates", crate, name)
-            if given.write:
-                with open(path, "w", encoding="utf-8", newline="") as file:
-                    file.write(text)
-            elif not is_as_made(path, text):
-                print(f"crates/{crate}/{name} isn't what crates/{crate}/rows make: run tests/rows.py --write")
-                failed += 1
-                continue
-            passed += 1
+        passed += 1
     print(f"{passed} passed, {failed} failed")
     return 1 if failed else 0
 

@@ -1,7 +1,10 @@
-//! Plays rows of text over the libraries: each line of standard input is a row, and for each a line is written that says what
-//! came of it. In both `$` is a line feed. A line that begins with `#` names the rows that follow; it is written as it is, and so is an
-//! empty one. After each row that tries points one after the other (a request that is refused, a call that fails, a place at which the
-//! disk stops, a length), standard error has the row, and how many there were.
+//! Plays rows of text over the libraries: each line of standard input is a row, and for each a line is written that says what came of it.
+//! The first word of a row is the crate that plays it: this one, or a library, whose `src/lib.rt` has what its rows play. A line that begins
+//! with `#` names the rows that follow; it is written as it is, and so is an empty one. After each row that tries points one after the other
+//! (a request that is refused, a call that fails, a place at which the disk stops, a length), standard error has the row, and how many there
+//! were.
+//!
+//! This crate's rows are of sessions, journals, disks and the calls of `program`. In a row and its answer `$` is a line feed.
 //!
 //! | Row | What is played |
 //! |---|---|
@@ -38,30 +41,47 @@ mod shortage;
 mod stops;
 
 use file_disk::PlacedFile;
-use playing::play;
-use rows::Output;
-use std::alloc::{AllocError, Global};
+use rows::{Output, first_word};
+use std::alloc::Global;
 use std::io;
 use std::rt::Files;
 use std::sync::Wait;
+use std::thread::Threads;
+use std::time::Clock;
 
-/// What comes of a row, in which `$` is a line feed.
-fn played<T: Wait + Files + AllocGlobal>(
-    rt: &T,
-    alloc: Global,
-    row: &str,
-) -> Result<Output, AllocError>
+/// Appends what comes of a row of this crate, in which `$` is a line feed; `out` is cut where there is no memory for it.
+fn play_here<T: Wait + Files + AllocGlobal>(rt: &T, alloc: Global, row: &str, out: &mut Output)
 where
     T::File: PlacedFile,
 {
-    let row = row.replace(alloc, '$', "\n")?;
-    let mut out = Output::new(alloc);
-    play(rt, alloc, &row, &mut out);
-    Ok(out)
+    match row.replace(alloc, '$', "\n") {
+        Ok(row) => playing::play(rt, alloc, &row, out),
+        Err(_) => out.is_cut = true,
+    }
+}
+
+/// Appends what comes of a row.
+fn play<T: Threads + Wait + Clock + Files + AllocGlobal + Sync>(
+    rt: &T,
+    alloc: Global,
+    row: &str,
+    out: &mut Output,
+)
+where
+    T::File: PlacedFile,
+{
+    let (library, rest) = first_word(row);
+    match library {
+        "part_scenarios" => part_scenarios::play(rt, alloc, rest, out),
+        "scenarios" => play_here(rt, alloc, rest, out),
+        "server_rows" => server_rows::play(rt, alloc, rest, out),
+        "shared_rows" => shared_rows::play(rt, alloc, rest, out),
+        _ => out.put(row),
+    }
 }
 
 /// Writes what comes of a row, and how many points it tried.
-fn tell<T: Print + Eprint + Wait + Files + AllocGlobal>(
+fn tell<T: Print + Eprint + Threads + Wait + Clock + Files + AllocGlobal + Sync>(
     rt: &T,
     alloc: Global,
     row: &str,
@@ -69,16 +89,16 @@ fn tell<T: Print + Eprint + Wait + Files + AllocGlobal>(
 where
     T::File: PlacedFile,
 {
-    match played(rt, alloc, row) {
-        Ok(out) if !out.is_cut => {
-            println!(rt; "{}", out.text())?;
-            if out.points > 0 {
-                eprintln!(rt; "{row}: {} points", out.points)?;
-            }
-            Ok(())
-        }
-        _ => println!(rt; "no memory for the row"),
+    let mut out = Output::new(alloc);
+    play(rt, alloc, row, &mut out);
+    if out.is_cut {
+        return println!(rt; "no memory for the row");
     }
+    println!(rt; "{}", out.text())?;
+    if out.points > 0 {
+        eprintln!(rt; "{row}: {} points", out.points)?;
+    }
+    Ok(())
 }
 
 fn main(rt: HostRuntime) -> io::Result<()> {

@@ -7,7 +7,7 @@ use std::alloc::Global;
 use std::rt::Files;
 use std::sync::Wait;
 
-/// Appends what comes of a row. A line that is empty or begins with `#` is written as it is.
+/// Appends what comes of a row.
 pub(crate) fn play<T: Wait + Files + AllocGlobal>(
     rt: &T,
     alloc: Global,
@@ -17,9 +17,7 @@ pub(crate) fn play<T: Wait + Files + AllocGlobal>(
 where
     T::File: PlacedFile,
 {
-    if row.is_empty() || row.starts_with('#') {
-        out.put(row);
-    } else if !scenes::play(alloc, row, out)
+    if !scenes::play(alloc, row, out)
         && !crashes::play(alloc, row, out)
         && !shortage::play(rt, alloc, row, out)
         && !journals::play(alloc, row, out)

@@ -73,7 +73,7 @@ fn begun<D: Disk + Drop, A: Allocator + Copy + Drop>(
 ) -> Result<Session<D, A>, (SessionError, D)> {
     match scene.new {
         Some((root, script)) => Session::create(alloc, disk, script.as_bytes(), root.as_bytes()),
-        None => match Session::replay(alloc, disk) {
+        None => match Session::replay(alloc, disk, None) {
             Ok((session, _header)) => Ok(session),
             Err(failed) => Err(failed),
         },

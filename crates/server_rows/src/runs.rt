@@ -7,7 +7,7 @@ use crate::hall::{Hall, Told};
 use crate::scene::Scene;
 use connections::Connections;
 use memory_disks::{Afterwards, FaultDisk};
-use program::{Demand, Exit, Served, Unserved, serve, serve_parts};
+use program::{Demand, Exit, ReadScript, Served, Unserved, serve, serve_parts};
 use rows::{Output, first_word, number_of, parts};
 use serving::{Plan, Recorder, SessionOn};
 use std::alloc::{AllocError, Global};
@@ -103,7 +103,7 @@ impl Run {
 
 /// A row that is played: the script and root, and what the files of the journal hold.
 #[derive(Drop)]
-struct Play<'a, T> {
+struct Playing<'a, T> {
     rt: &'a T,
     alloc: Global,
     /// How many records a part takes; 0 where the journal is one file.
@@ -113,17 +113,21 @@ struct Play<'a, T> {
     files: Vec<Vec<u8>>,
 }
 
-impl<'a, T: Threads + Wait + Clock + Sync> Play<'a, T> {
+impl<'a, T: Threads + Wait + Clock + Sync> Playing<'a, T> {
     // Serves on a disk, and keeps what its file holds then.
-    fn serve_on(&mut self, disk: FaultDisk<Global>, run: &mut Run) -> Result<(), AllocError> {
+    fn serve_on(
+        &mut self,
+        disk: FaultDisk<Global>,
+        script: ReadScript<'a, Global>,
+        run: &mut Run,
+    ) -> Result<(), AllocError> {
         disk_crosses();
         client_crosses();
         let end = serve(
             self.rt,
             self.alloc,
             disk,
-            self.script,
-            self.root,
+            script,
             Names::Steps,
             run.demand,
             &mut run.hall,
@@ -137,15 +141,19 @@ impl<'a, T: Threads + Wait + Clock + Sync> Play<'a, T> {
     }
 
     // Serves in a folder, and keeps its files.
-    fn serve_in(&mut self, folder: MemoryFolder, run: &mut Run) -> Result<(), AllocError> {
+    fn serve_in(
+        &mut self,
+        folder: MemoryFolder,
+        script: ReadScript<'a, Global>,
+        run: &mut Run,
+    ) -> Result<(), AllocError> {
         folder_crosses();
         client_crosses();
         let end = serve_parts(
             self.rt,
             self.alloc,
             folder,
-            self.script,
-            self.root,
+            script,
             self.size.max(1),
             run.demand,
             &mut run.hall,
@@ -166,14 +174,37 @@ impl<'a, T: Threads + Wait + Clock + Sync> Play<'a, T> {
     }
 
     // Serves on the files, in one of which a call fails. Those that are left then are the next ones.
-    fn serve(&mut self, run: &mut Run) -> Result<(), AllocError> {
+    fn serve_on_files(
+        &mut self,
+        script: ReadScript<'a, Global>,
+        run: &mut Run,
+    ) -> Result<(), AllocError> {
         let mut files = mem::replace(&mut self.files, Vec::new(self.alloc));
         if self.size > 0 {
-            return self.serve_in(MemoryFolder::new(files), run);
+            return self.serve_in(MemoryFolder::new(files), script, run);
         }
         let bytes = files.pop().unwrap_or(Vec::new(self.alloc));
         drop(files);
-        self.serve_on(FaultDisk::new(bytes, run.call, Afterwards::GoOn), run)
+        self.serve_on(
+            FaultDisk::new(bytes, run.call, Afterwards::GoOn),
+            script,
+            run,
+        )
+    }
+
+    // Reads the script, and serves. Where it is refused, the files stay as they are; a disk has an empty one at first.
+    fn serve(&mut self, run: &mut Run) -> Result<(), AllocError> {
+        match ReadScript::read(self.alloc, self.script, self.root) {
+            Ok(script) => self.serve_on_files(script, run),
+            Err(fault) => {
+                run.end.put("script ");
+                run.end.put_shown(&fault);
+                if self.size == 0 && self.files.is_empty() {
+                    self.keep(b"")?;
+                }
+                Ok(())
+            }
+        }
     }
 
     // Plays a run.
@@ -201,17 +232,18 @@ impl<'a, T: Threads + Wait + Clock + Sync> Play<'a, T> {
     }
 }
 
-/// Plays the row `SIZE ROOT SCRIPT # STEP # STEP ..`.
-pub(crate) fn play_row<T: Threads + Wait + Clock + Sync>(
+// Plays the steps of a row.
+fn play_steps<T: Threads + Wait + Clock + Sync>(
     rt: &T,
     alloc: Global,
     row: &str,
     out: &mut Output,
 ) -> Result<(), AllocError> {
-    let (size, row) = first_word(row);
+    let row = row.replace(alloc, '$', "\n")?;
+    let (size, row) = first_word(&row);
     let (begin, steps) = parts(row);
     let (root, script) = first_word(begin);
-    let mut play = Play {
+    let mut play = Playing {
         rt,
         alloc,
         size: number_of(size) as usize,
@@ -223,4 +255,12 @@ pub(crate) fn play_row<T: Threads + Wait + Clock + Sync>(
         play.step(step, out)?;
     }
     Ok(())
+}
+
+/// Appends what comes of the row `SIZE ROOT SCRIPT # STEP # STEP ..`, in which `$` is a line feed; `out` is cut where there is no memory
+/// for it.
+pub fn play<T: Threads + Wait + Clock + Sync>(rt: &T, alloc: Global, row: &str, out: &mut Output) {
+    if play_steps(rt, alloc, row, out).is_err() {
+        out.is_cut = true;
+    }
 }

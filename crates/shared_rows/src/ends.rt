@@ -90,7 +90,7 @@ pub(crate) fn put_session<D: Disk, A: Allocator>(
 /// Appends what a session of the file has.
 pub(crate) fn put_kept<D: Disk + Drop>(alloc: Global, disk: D, out: &mut Output) {
     out.put(" | ");
-    match Session::replay(alloc, disk) {
+    match Session::replay(alloc, disk, None) {
         Ok((session, header)) => {
             drop(header);
             put_status(session.summary(), session.is_closed(), out);

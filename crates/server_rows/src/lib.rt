@@ -1,5 +1,4 @@
-//! Plays rows of text over whole servers: each line of standard input is a row, and for each a line is written that says what came of it. In
-//! both `$` is a line feed. A line that begins with `#` names the rows that follow; it is written as it is, and so is an empty one.
+//! Plays rows of text over whole servers. In a row and its answer `$` is a line feed.
 //!
 //! The row `SIZE ROOT SCRIPT # STEP # STEP ..` is runs of `program::serve_parts` in a folder in memory, with so many records in a part; where
 //! SIZE is 0, of `program::serve` on a disk in memory. They come one after the other, and the files that a run leaves are those of the next.
@@ -30,37 +29,4 @@ mod hall;
 mod runs;
 mod scene;
 
-use rows::Output;
-use std::alloc::{AllocError, Global};
-use std::io;
-use std::sync::Wait;
-use std::thread::Threads;
-use std::time::Clock;
-
-/// What comes of a row, in which `$` is a line feed.
-fn played<T: Threads + Wait + Clock + Sync>(
-    rt: &T,
-    alloc: Global,
-    row: &str,
-) -> Result<Output, AllocError> {
-    let row = row.replace(alloc, '$', "\n")?;
-    let mut out = Output::new(alloc);
-    if row.is_empty() || row.starts_with('#') {
-        out.put(&row);
-    } else {
-        runs::play_row(rt, alloc, &row, &mut out)?;
-    }
-    Ok(out)
-}
-
-fn main(rt: HostRuntime) -> io::Result<()> {
-    let alloc = rt.alloc();
-    for line in rt.lines(alloc) {
-        let line = line?;
-        match played(&rt, alloc, line.as_str()) {
-            Ok(out) if !out.is_cut => println!(rt; "{}", out.text())?,
-            _ => println!(rt; "no memory for the row")?,
-        }
-    }
-    Ok(())
-}
+pub use runs::play;

@@ -1,8 +1,6 @@
-//! Plays rows of text over the libraries that a session is built on: each line of standard input is a row, and for each a line is written that tells
-//! what came of it.
+//! Plays rows of text over the libraries that a session is built on.
 //!
-//! A row is a kind and what it is played on. A line that is empty or begins with `#`, a group's name, is written as it is.
-//! In texts `$` is a line feed, any other character the byte of its number's last eight bits (`␍` a carriage return), and what
+//! A row is a kind and what it is played on. In texts `$` is a line feed, any other character the byte of its number's last eight bits (`␍` a carriage return), and what
 //! stands between two backquotes is a count and, after a blank, what is repeated so many times. Scripts are read for the root
 //! `P`; for a script that has a fault that is told. After its kind a row tells, with `yes` and `no` for answers:
 //!
@@ -58,14 +56,11 @@ mod turns;
 
 use rows::Output;
 use std::alloc::Global;
-use std::io;
 use std::sync::Wait;
 
-/// Appends what comes of a row. A line that is empty or begins with `#` is written as it is.
-fn play<T: Wait>(rt: &T, alloc: Global, row: &str, out: &mut Output) {
-    if row.is_empty() || row.starts_with('#') {
-        out.put(row);
-    } else if !lines::play(rt, alloc, row, out)
+/// Appends what comes of a row.
+pub fn play<T: Wait>(rt: &T, alloc: Global, row: &str, out: &mut Output) {
+    if !lines::play(rt, alloc, row, out)
         && !texts::play(alloc, row, out)
         && !sets::play(row, out)
         && !alphabets::play(row, out)
@@ -75,24 +70,4 @@ fn play<T: Wait>(rt: &T, alloc: Global, row: &str, out: &mut Output) {
     {
         out.put("no such kind of row");
     }
-}
-
-/// Writes what comes of a row.
-fn tell<R: Print + Wait>(rt: &R, alloc: Global, row: &str) -> io::Result<()> {
-    let mut out = Output::new(alloc);
-    play(rt, alloc, row, &mut out);
-    if out.is_cut {
-        rt.println("no memory for the row")
-    } else {
-        rt.println(out.text())
-    }
-}
-
-fn main(rt: HostRuntime) -> io::Result<()> {
-    let alloc = rt.alloc();
-    for line in rt.lines(alloc) {
-        let line = line?;
-        tell(&rt, alloc, line.as_str())?;
-    }
-    Ok(())
 }

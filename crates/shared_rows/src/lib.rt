@@ -1,6 +1,4 @@
-//! Plays rows of text over shared sessions: each line of standard input is a row, and for each a line is written that says what came
-//! of it. In both `$` is a line feed. A line that begins with `#` names the rows that follow; it is written as it is, and so is an
-//! empty one. After each row that refuses requests for memory, standard error has the row, and how many runs there were.
+//! Plays rows of text over shared sessions. In a row and its answer `$` is a line feed.
 //!
 //! | Row | What is played |
 //! |---|---|
@@ -27,55 +25,26 @@ mod talks;
 mod threads;
 
 use rows::Output;
-use std::alloc::{AllocError, Global};
-use std::io;
+use std::alloc::Global;
 use std::sync::Wait;
 use std::thread::Threads;
 use std::time::Clock;
 
-/// What comes of a row, in which `$` is a line feed. A line that is empty or begins with `#` is written as it is.
-fn played<T: Threads + Wait + Clock + Sync>(
-    rt: &T,
-    alloc: Global,
-    row: &str,
-) -> Result<Output, AllocError> {
-    let row = row.replace(alloc, '$', "\n")?;
-    let mut out = Output::new(alloc);
-    if row.is_empty() || row.starts_with('#') {
-        out.put(&row);
-    } else if !playing::play(rt, alloc, &row, &mut out)
-        && !threads::play(rt, alloc, &row, &mut out)
-        && !services::play(rt, alloc, &row, &mut out)
-        && !readers::play(rt, alloc, &row, &mut out)
+// Appends what comes of a row.
+fn play_row<T: Threads + Wait + Clock + Sync>(rt: &T, alloc: Global, row: &str, out: &mut Output) {
+    if !playing::play(rt, alloc, row, out)
+        && !threads::play(rt, alloc, row, out)
+        && !services::play(rt, alloc, row, out)
+        && !readers::play(rt, alloc, row, out)
     {
         out.put("no such kind of row");
     }
-    Ok(out)
 }
 
-/// Writes what comes of a row, and how many runs there were.
-fn tell<T: Print + Eprint + Threads + Wait + Clock + Sync>(
-    rt: &T,
-    alloc: Global,
-    row: &str,
-) -> io::Result<()> {
-    match played(rt, alloc, row) {
-        Ok(out) if !out.is_cut => {
-            println!(rt; "{}", out.text())?;
-            if out.points > 0 {
-                eprintln!(rt; "{row}: {} points", out.points)?;
-            }
-            Ok(())
-        }
-        _ => println!(rt; "no memory for the row"),
+/// Appends what comes of a row, in which `$` is a line feed; `out` is cut where there is no memory for it.
+pub fn play<T: Threads + Wait + Clock + Sync>(rt: &T, alloc: Global, row: &str, out: &mut Output) {
+    match row.replace(alloc, '$', "\n") {
+        Ok(row) => play_row(rt, alloc, &row, out),
+        Err(_) => out.is_cut = true,
     }
-}
-
-fn main(rt: HostRuntime) -> io::Result<()> {
-    let alloc = rt.alloc();
-    for line in rt.lines(alloc) {
-        let line = line?;
-        tell(&rt, alloc, line.as_str())?;
-    }
-    Ok(())
 }
