@@ -58,12 +58,27 @@ fn shallow_targets<A: Allocator + Clone>(
 {
     let _events = spec.alphabet().len();
     let mut all = Transitions::new(alloc, spec)?;
+    shallow_among(&mut all, term, label, alloc)
+}
+
+/// The same, where the term is put into this table of the specification's bodies.
+fn shallow_among<'a, A: Allocator + Clone>(
+    all: &mut Transitions<&'a A>,
+    term: &Term<A>,
+    label: Label,
+    alloc: &'a A,
+) -> Result<Vec<Term<A>, A>, StepFault>
+    requires { SetsBelow 256 (proc term.now) }
+    ensures targets { IfOk result (λ found. AreAllTargets (bodies_of all.old.bodies) (proc term.now) label (map proc found.items)) }
+    ensures within { OnOk result (HasDeepTarget (bodies_of all.old.bodies) (proc term.now) label → ⊥) }
+    ensures depth { result ≡ Err StepFault.Depth → HasDeepTarget (bodies_of all.old.bodies) (proc term.now) label }
+{
     let mut numbers = Vec::new(alloc);
-    put_all(&mut all, term, label, &mut numbers)?;
-    if any_deep(&all, &numbers) {
+    put_all(all, term, label, &mut numbers)?;
+    if any_deep(all, &numbers) {
         return Err(StepFault::Depth);
     }
-    let found = terms_of(&all, &numbers, alloc)?;
+    let found = terms_of(all, &numbers, alloc)?;
     Ok(found)
 }
 
