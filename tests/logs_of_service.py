@@ -88,17 +88,29 @@ def entries_of(folder, name="log"):
     return entries
 
 
+def await_lines(folder, count):
+    """Waits until the log has so many lines: a line may come after the reply to what it is about."""
+    ending = time.monotonic() + SECONDS
+    while time.monotonic() < ending:
+        with open(os.path.join(folder, "log"), "rb") as file:
+            if file.read().count(b"\n") >= count:
+                return
+        time.sleep(0.02)
+    raise RuntimeError("the log has fewer than %d lines" % count)
+
+
 def says_what_happens(options, folder):
     run = Run(options.program, folder, "log")
     with run.connect() as first:
         peer = "127.0.0.1:%d" % first.getsockname()[1]
         replies = ask(first, ["I 3", "E a", "E a", "E c", "R \"é"])
+        await_lines(folder, 5)
         # This one is killed: its end is a reset.
         with run.connect() as second:
             other = "127.0.0.1:%d" % second.getsockname()[1]
             ask(second, ["E b", "S"])
             second.setsockopt(socket.SOL_SOCKET, socket.SO_LINGER, struct.pack("ii", 1, 0))
-        time.sleep(0.3)
+        await_lines(folder, 7)
         replies += ask(first, ["Q"])
         first.recv(1)
     status, errors = run.end()
