@@ -7,8 +7,8 @@ Each case is a script with a few definitions under all operators, some of which 
 lines: events, refusals, `N` and `S`. Replies, messages and exit status have to be the same. With `--large` both keep
 names as their bodies, and where the program meets no limit without the word it has to answer the same with it; half of
 the scripts have up to 25 definitions that unfold one another. A case for which the reference takes longer than S
-seconds is passed over, and counted; one for which the program takes longer than five seconds is a failure. The last line
-is `N passed, M failed`.
+seconds is passed over, and counted; one for which the program takes more than five of the processor is a failure. The last
+line is `N passed, M failed`.
 """
 from __future__ import annotations
 
@@ -24,7 +24,7 @@ from reference import program as reference
 from reference.program import Answer
 
 SECONDS = 5.0
-"""What the program may take for a case."""
+"""What the program may take of the processor for a case."""
 
 FORMS = ["prefix"] * 5 + ["[]", "|~|", "|||", "[|", ";", "hide", "rename", "/\\", "leaf"]
 LIMITS = (b"20 depth", b"21 states")
@@ -130,7 +130,7 @@ def attempt(rng: random.Random, given: argparse.Namespace) -> Outcome:
     if own == wanted and not wrong:
         met = limits_in(wanted)
         return Outcome(met[0] if met else "the same")
-    answer = f"takes more than {SECONDS:.0f} seconds" if own is None else own
+    answer = f"takes more than {SECONDS:.0f} seconds of the processor" if own is None else own
     return Outcome("different", f"\n{case.script}\n{case.lines}\nprogram: {answer}\nreference: {wanted}\n{wrong}\n")
 
 

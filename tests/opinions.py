@@ -3,7 +3,10 @@ from __future__ import annotations
 
 import argparse
 import contextlib
+import functools
+import math
 import os
+import resource
 import signal
 import subprocess
 import sys
@@ -21,6 +24,9 @@ BUILT = os.path.join(os.path.dirname(HERE), "crates", "cspwatch", "out", "cspwat
 RELEASED = os.path.join(os.path.dirname(HERE), "dist", "cspwatch")
 
 Result = TypeVar("Result")
+
+LONGER = 12
+"""How many times as long as it may have the processor a program may take by the clock."""
 
 
 class Question(NamedTuple):
@@ -57,18 +63,24 @@ def limited(seconds: float) -> Iterator[None]:
         signal.signal(signal.SIGALRM, before)
 
 
+def limit_processor(seconds: float) -> None:
+    """Has the system end this process by SIGXCPU once it has had so much of the processor, rounded up to a second."""
+    most = math.ceil(seconds)
+    resource.setrlimit(resource.RLIMIT_CPU, (most, most + 1))
+
+
 def ran(command: list[str], question: Question, seconds: float, environment: dict[str, str] | None = None) -> Answer | None:
-    """What a program answers; None where it takes longer."""
+    """What a program answers; None where it takes more of the processor. A busy machine may take LONGER times as long by the clock."""
     with tempfile.TemporaryDirectory(prefix="compare-") as folder:
         for name, content in question.files.items():
             with open(os.path.join(folder, name), "wb") as file:
                 file.write(content)
         try:
-            done = subprocess.run(command + list(question.words), cwd=folder, input=question.lines, capture_output=True, timeout=seconds,
-                                  env=environment, check=False)
+            done = subprocess.run(command + list(question.words), cwd=folder, input=question.lines, capture_output=True, timeout=LONGER * seconds,
+                                  env=environment, check=False, preexec_fn=functools.partial(limit_processor, seconds))
         except subprocess.TimeoutExpired:
             return None
-    return Answer(done.stdout, done.stderr, done.returncode)
+    return None if done.returncode == -signal.SIGXCPU else Answer(done.stdout, done.stderr, done.returncode)
 
 
 def of_program(program: str, question: Question, seconds: float) -> Answer | None:
