@@ -3,15 +3,17 @@
 
     show_speed.py [--program FILE] [--entries N] [--turns N] [--csv VERSION MACHINE LOAD]
 
-Each journal has 1,000,000 entries of one seat, where --entries doesn't say another number, and is in memory. `serve` makes it. The
-calls take turns; a figure is the median of three, where --turns doesn't say another number: seconds for `replay`, and for the
-others the factor to it. Measure with nothing else on the machine. With --csv the figures are printed as lines for a file of
-bench/results.
+Each journal has 1,000,000 entries of one seat, where --entries doesn't say another number, or a tenth of that where hardly a set
+of states comes twice, and is in memory. `serve` makes it. The calls take turns; a figure is the median of three, where --turns
+doesn't say another number: seconds for `replay`, and for the others the factor to it. Measure with nothing else on the machine.
+With --csv the figures are printed as lines for a file of bench/results.
 """
 import argparse
 import csv
 import itertools
 import os
+import random
+import shutil
 import socket
 import statistics
 import subprocess
@@ -32,8 +34,25 @@ NUMBERS = "channel c : {0..255}\nP = c?x -> P\n"
 SIXTEEN = "channel e : {0..15}\nP = |~| x:{0..15} @ e.x -> P\n"
 OTHERS = "channel c : {0..253}\nchannel d\nP = c?x -> P\nQ = d -> Q\n"
 STATES = "channel c : {0..252}\nchannel d\nP = c?x -> Q\nQ = c?x -> P\nR = d -> R\n"
+COUNTERS = ("channel up, down : {0..2}\nP = ||| n:{0..2} @ Zero(n)\nZero(n) = up.n -> (More(n) ; Zero(n))\n"
+            "More(n) = down.n -> SKIP [] up.n -> (More(n) ; More(n))\n")
+MOST = 300
+"""How far a counter walks."""
 
-# What a row is called, the script of the process P, and the reports, which come again.
+
+def walk():
+    """Reports of three counters that walk to places by chance, and on: hardly a set of states comes twice."""
+    dice, places, targets = random.Random(1), [0] * 3, [0] * 3
+    while True:
+        while places == targets:
+            targets = [dice.randrange(MOST + 1) for _ in range(3)]
+        at = dice.choice([at for at in range(3) if places[at] != targets[at]])
+        way = 1 if places[at] < targets[at] else -1
+        places[at] += way
+        yield "E %s.%d" % ("up" if way == 1 else "down", at)
+
+
+# What a row is called, the script of the process P, and the reports, which come again, or come from a walk.
 ROWS = [
     ("`P = coin -> (tea -> P \\|~\\| milk -> P)`, none rejected", VENDING, ["E coin", "E tea", "E coin", "E milk"]),
     ("all rejected", VENDING, ["E tea"]),
@@ -41,6 +60,8 @@ ROWS = [
     ("every second a rejected refusal with its 16 acceptances", SIXTEEN, ["R " + " ".join("e.%d" % number for number in range(16)), "E e.3"]),
     ("each an event rejected where 254 could come", OTHERS, ["E d"]),
     ("two states in turn with 253 events, an event rejected in each", STATES, ["E d", "E c.7"]),
+    ("three counters up to 300, none rejected", COUNTERS, walk),
+    ("the same in parts (`--large`)", COUNTERS, walk),
 ]
 
 
@@ -50,15 +71,14 @@ def sent(connection, lines):
     connection.shutdown(socket.SHUT_WR)
 
 
-def make_journal(program, folder, script, reports, entries):
+def make_journal(program, folder, script, reports, entries, large):
     """Has a server judge so many of the reports, and leaves its journal in the folder."""
+    shutil.rmtree(folder)
+    os.mkdir(folder)
     with open(os.path.join(folder, "p.csp"), "w", encoding="ascii") as file:
         file.write(script)
-    journal = os.path.join(folder, "run.journal")
-    if os.path.exists(journal):
-        os.remove(journal)
-    lines = "".join(report + "\n" for report in itertools.islice(itertools.cycle(reports), entries)).encode("ascii")
-    words = [program, "serve", "p.csp", "P", "run.journal", "--listen", "127.0.0.1:0", "--connections", "1"]
+    lines = "".join(report + "\n" for report in itertools.islice(reports, entries)).encode("ascii")
+    words = [program, "serve", "p.csp", "P", "run.journal", "--listen", "127.0.0.1:0", "--connections", "1", *["--large"] * large]
     server = subprocess.Popen(words, cwd=folder, stdout=subprocess.PIPE)
     host, _, port = server.stdout.readline().decode("ascii").split()[1].rpartition(":")
     with socket.create_connection((host, int(port))) as connection:
@@ -102,7 +122,9 @@ def main():
     program, out = os.path.abspath(options.program), csv.writer(sys.stdout, lineterminator="\n")
     with tempfile.TemporaryDirectory(prefix="show-speed-", dir="/dev/shm") as folder:
         for row, script, reports in ROWS:
-            make_journal(program, folder, script, reports, options.entries)
+            found = reports() if callable(reports) else itertools.cycle(reports)
+            entries = options.entries // 10 if callable(reports) else options.entries
+            make_journal(program, folder, script, found, entries, "--large" in row)
             figures = figures_of(program, folder, options.turns)
             if not options.csv:
                 print("%s: %s" % (row.replace("\\", ""), ", ".join("%s %.2f" % it for it in figures.items())))
