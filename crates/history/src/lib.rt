@@ -10,6 +10,7 @@ mod crossing;
 mod entry;
 mod history;
 mod legal;
+mod onlooker;
 mod seat;
 
 pub use answers::Summary;
@@ -18,4 +19,5 @@ pub use entry::Entry;
 pub use history::{HISTORY_LIMIT, History, LARGE_HISTORY_LIMIT};
 pub use legal::{Candidate, LegalHistory};
 pub use monitor::{AfterFault, Monitor, crosses};
+pub use onlooker::{Nobody, Onlooker};
 pub use seat::{LARGE_LAST_SEAT, LAST_SEAT, SeatNumber};

@@ -21,9 +21,9 @@ pub use fault::NameFault;
 pub use locked::{Locked, is_of};
 pub use names::{LAST_NAME, Names};
 pub use session::{
-    Entry, Failed, Fault, History, Monitor, ReadScript, Recorder, SeatNumber, Session,
-    SessionError, SessionOn, Summary, crosses, headers_take_scripts, legal_crosses, names_of,
-    read_as,
+    Entry, Failed, Fault, History, Monitor, Nobody, Onlooker, ReadScript, Recorder, SeatNumber,
+    Session, SessionError, SessionOn, Summary, crosses, headers_take_scripts, legal_crosses,
+    names_of, read_as,
 };
 pub use sharing::Sharing;
 pub use waiting::Waiting;

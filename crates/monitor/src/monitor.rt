@@ -1,6 +1,6 @@
 //! Monitors and judgments.
 
-ghost use Rattle.std.specs.Prelude.{IfOk, IfErr, OnErr, OnOk, ◌≡◌, ◌++◌, [], ◌∷◌, ◌↔◌, IsTrue, List, length};
+ghost use Rattle.std.specs.Prelude.{IfOk, IfErr, OnOk, ◌≡◌, ◌++◌, [], ◌∷◌, ◌↔◌, IsTrue, List, length};
 ghost use Rattle.alphabet.specs.declared.events.Event.{Event};
 ghost use Rattle.alphabet.specs.EventSets.{member};
 ghost use Rattle.term.specs.Meaning.{Trace};
@@ -158,21 +158,6 @@ impl<A: Allocator + Copy> Monitor<A> {
         self.trace = self.trace.and(&event);
         self.len += 1;
         self.states = states;
-    }
-
-    /// Goes back to before any event; what was found stays. What was judged before is of this monitor still, but after another trace. The error
-    /// is one of the opening, of which `new` met no limit; all stays then.
-    pub fn begin_again(&mut self) -> Result<(), AfterFault>
-        ensures spec { self.new.spec ≡ self.old.spec }
-        ensures trace { OnOk result (self.new.trace ≡ []) }
-        ensures stays { OnErr result (self.new.trace ≡ self.old.trace) }
-        ensures limit { IfErr result (OpeningMeets self.old.spec) }
-    {
-        let states = StateSet::start(&mut self.space)?;
-        self.trace = Past::new();
-        self.len = 0;
-        self.states = states;
-        Ok(())
     }
 
     /// Begins anew with what the root may be after the present trace alone, where the sets of states that it has found are

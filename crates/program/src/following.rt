@@ -1,15 +1,13 @@
 //! The history of a journal, shown further: what came to it since it was shown.
 
-ghost use Rattle.std.specs.Prelude.{◌≡◌, ◌≢◌, ◌<◌, ◌++◌, IfOk, IfErr, OnOk, IsErrOf};
-ghost use Rattle.shared.specs.Legal.{IsJudged};
-ghost use Rattle.shown.specs.Shows.{Shows};
-ghost use Rattle.program.specs.Followings.{Follows, IsNotFollowed, IsUnwritten, WritesOn};
+ghost use Rattle.std.specs.Prelude.{◌≡◌, ◌≢◌, ◌<◌, ◌++◌, IsTrue, IfOk, IfErr, OnOk, IsErrOf};
+ghost use Rattle.program.specs.Followings.{Follows, IsNotFollowed, IsTextOf, IsUnwritten, WritesOn};
+ghost use Rattle.program.specs.Showings.{HasNoDisplay};
 
-use crate::replaying::{Replayed, replay};
-use crate::showing::lines_of;
+use crate::showing::{DisplayError, lines_of};
 use disk::Disk;
 use journal::after;
-use shared::{History, Monitor, SessionError};
+use shared::SessionError;
 use shown::Options;
 use std::alloc::{AllocError, Allocator};
 use wire::{Plain, Sink, SinkFault, send};
@@ -44,25 +42,28 @@ pub(crate) fn joined<A: Allocator>(
     }
 }
 
-// The lines of a history, by the monitor that has judged it.
-fn text_of<A: Allocator + Copy>(
+// The lines of the history that the disk holds.
+fn text_of<D: Disk + Drop, A: Allocator + Copy>(
     alloc: A,
-    monitor: Monitor<A>,
-    history: &History<A>,
+    disk: D,
     options: Options,
-) -> Result<Vec<u8, A>, AllocError>
-    requires { IsJudged monitor.spec history.now.entries }
-    ensures { IfOk result (λ text. Shows options monitor.spec history.now.entries text.items) }
+) -> Result<Vec<u8, A>, DisplayError>
+    ensures text { IfOk result (λ text. IsTextOf (D.state disk) options text.items) }
+    ensures fault { IfErr result (λ error. IsTrue (D.state disk).claims_bytes → HasNoDisplay (D.state disk).bytes error) }
 {
     let mut text = Plain::new(Vec::new(alloc));
-    match lines_of(alloc, monitor, history, options, &mut text) {
-        Ok((left, monitor)) => {
-            drop(monitor);
-            joined(text.into_inner(), left)
+    match lines_of(alloc, disk, options, &mut text) {
+        Ok((session, header, left)) => {
+            drop(session);
+            drop(header);
+            match joined(text.into_inner(), left) {
+                Ok(text) => Ok(text),
+                Err(AllocError) => Err(DisplayError::Session(SessionError::Memory)),
+            }
         }
-        Err(_) => {
+        Err(error) => {
             drop(text);
-            Err(AllocError)
+            Err(error)
         }
     }
 }
@@ -101,29 +102,14 @@ pub fn follow<D: Disk + Drop, A: Allocator + Copy, W: Sink>(
     ensures silent { IfErr result (λ error. error ≢ FollowError.Output → output.new ≡ output.old) }
     ensures output_failed { IsErrOf result FollowError.Output → W.failures output.old < W.failures output.new }
 {
-    let Replayed {
-        session,
-        header,
-        line,
-        exit: _,
-    } = match replay(alloc, disk) {
-        Ok(replayed) => replayed,
+    match text_of(alloc, disk, options) {
+        Ok(text) => show_on(text, before, output),
         Err(error) => {
             drop(before);
-            return Err(FollowError::Session(error));
-        }
-    };
-    drop(line);
-    drop(header);
-    let (monitor, history, journal) = session.into_parts();
-    drop(journal);
-    let text = text_of(alloc, monitor, &history, options);
-    drop(history);
-    match text {
-        Ok(text) => show_on(text, before, output),
-        Err(AllocError) => {
-            drop(before);
-            Err(FollowError::Session(SessionError::Memory))
+            match error {
+                DisplayError::Session(error) => Err(FollowError::Session(error)),
+                DisplayError::Output => Err(FollowError::Session(SessionError::Memory)),
+            }
         }
     }
 }

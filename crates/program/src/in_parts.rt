@@ -1,20 +1,16 @@
 //! Journals in parts, replayed and shown, one part after the other.
 
-ghost use Rattle.std.specs.Prelude.{◌≡◌, ◌≢◌, ◌⊎◌, ◌≤◌, ◌<◌, ◌^◌, ◌++◌, Ok, length, ℕ, List, [], false, IsTrue, IfOk, IfErr, OnOk, MatchResult, IsErrOf, None};
-ghost use Rattle.std.specs.Io.KnownBytes.{Appends};
-ghost use Rattle.disk.specs.Calls.{Continues};
+ghost use Rattle.std.specs.Prelude.{◌≡◌, ◌≢◌, ◌≤◌, ◌<◌, ◌^◌, Ok, length, ℕ, List, [], false, IsTrue, IfOk, IfErr, OnOk, MatchResult, IsErrOf, None};
 ghost use Rattle.term.specs.Specs.{Specified};
 ghost use Rattle.shared.specs.Entry.{Entry};
-ghost use Rattle.shared.specs.Scripts.{IsOutside, IsReadAs};
-ghost use Rattle.shared.specs.Records.{names_of as names_kept};
+ghost use Rattle.shared.specs.Scripts.{IsOutside};
 ghost use Rattle.wire.specs.Replies.{status_text};
 ghost use Rattle.attending.specs.Courses.{status_of};
 ghost use Rattle.large_sessions.specs.Faults.{HaveFault};
 ghost use Rattle.large_sessions.specs.Opening.{IsDone};
-ghost use Rattle.large_sessions.specs.Parts.{IsAlike};
 ghost use Rattle.large_sessions.specs.PartsError.{PartsError};
-ghost use Rattle.large_sessions.specs.Sessions.{AreRefusedFor, AreReplayOf, HaveNoSession, IsStartOf};
-ghost use Rattle.shown.specs.Shows.{Sends, Writes};
+ghost use Rattle.large_sessions.specs.Sessions.{AreRefusedFor, AreReplayOf, HaveNoSession};
+ghost use Rattle.shown.specs.Shows.{Writes};
 ghost use Rattle.program.specs.Exits.{replay_exit};
 ghost use Rattle.program.specs.Parts.{AreFollowed, AreNotFollowed, AreTextOf, HaveNoDisplay, HaveNoDisplayFor};
 ghost use Rattle.program.specs.Showings.{IsBeyond, WritesAll};
@@ -26,7 +22,7 @@ use crate::summaries::summary_line;
 use answers::Exit;
 use disk::Folder;
 use large_sessions::Replaying;
-use shared::{Monitor, SessionError, names_of, read_as};
+use shared::{Nobody, Onlooker, SessionError};
 use shown::{Options, Showing};
 use std::alloc::{AllocError, Allocator};
 use wire::{Plain, Sink};
@@ -42,23 +38,28 @@ pub struct ReplayedParts<F: Folder, A: Allocator> {
     pub exit: Exit,
 }
 
-// All parts of the journal, replayed.
-fn whole_of<F: Folder + Drop, A: Allocator + Copy>(
+// All parts of the journal, replayed, one after the other, unless the onlooker wants to see no more. It sees each entry as it is judged.
+fn whole_of<F: Folder + Drop, A: Allocator + Copy, W, O: Onlooker<A, W>>(
     alloc: A,
     folder: F,
     size: usize,
+    onlooker: &mut O,
+    output: &mut W,
 ) -> Result<Replaying<F, A>, SessionError>
-    requires { 1 ≤ size }
-    ensures done { IfOk result (λ r. IsDone r.opened) }
-    ensures replayed { IfOk result (λ r. IsTrue (F.state folder).claims_bytes
+    requires size { 1 ≤ size }
+    requires seen { (spec : Specified) → O.has_seen onlooker.old output.old spec [] }
+    ensures done { IfOk result (λ r. O.is_over onlooker.new ≡ false → IsDone r.opened) }
+    ensures replayed { IfOk result (λ r. O.is_over onlooker.new ≡ false → IsTrue (F.state folder).claims_bytes
         → AreReplayOf size (F.state folder).bytes r.opened.held.script r.opened.held.root r.taken.spec r.taken.entries) }
-    ensures no_fault { OnOk result (IsTrue (F.state folder).claims_bytes → (fault : PartsError) → HaveFault size (F.state folder).bytes fault → ⊥) }
+    ensures no_fault { OnOk result (O.is_over onlooker.new ≡ false → IsTrue (F.state folder).claims_bytes → (fault : PartsError) → HaveFault size (F.state folder).bytes fault → ⊥) }
     ensures fault { IfErr result (λ error. IsTrue (F.state folder).claims_bytes → HaveNoSession size (F.state folder).bytes error) }
     ensures only { IsTrue (F.state folder).claims_bytes → (script root : List ℕ) (spec : Specified) (h : List Entry)
         → AreReplayOf size (F.state folder).bytes script root spec h → length h < 2 ^ 62
-        → MatchResult result (λ r. (r.taken.spec ≡ spec) × (r.taken.entries ≡ h)) IsOutside }
+        → MatchResult result (λ r. O.is_over onlooker.new ≡ false → (r.taken.spec ≡ spec) × (r.taken.entries ≡ h)) IsOutside }
+    ensures seen { IfOk result (λ r. O.has_seen onlooker.new output.new r.taken.spec r.taken.entries) }
+    ensures onlooker { (first : O) → O.kept first onlooker.old → O.kept first onlooker.new }
 {
-    let (replaying, header) = match Replaying::begin(alloc, folder, size, None) {
+    let (replaying, header) = match Replaying::begin(alloc, folder, size, None, onlooker, output) {
         Ok(begun) => begun,
         Err((error, folder)) => {
             drop(folder);
@@ -66,7 +67,7 @@ fn whole_of<F: Folder + Drop, A: Allocator + Copy>(
         }
     };
     drop(header);
-    match replaying.whole() {
+    match replaying.whole(onlooker, output) {
         Ok(replaying) => {
             // Then the files hold just its history.
             let _is_done = replaying.is_done();
@@ -104,7 +105,7 @@ pub fn replay_parts<F: Folder + Drop, A: Allocator + Copy>(
     ensures refuses { IsTrue (F.state folder).claims_bytes → (fault : PartsError) → HaveFault size (F.state folder).bytes fault
         → MatchResult result (λ _. ⊥) (AreRefusedFor size (F.state folder).bytes fault) }
 {
-    let replaying = whole_of(alloc, folder, size)?;
+    let replaying = whole_of(alloc, folder, size, &mut Nobody, &mut ())?;
     let summary = replaying.summary();
     match summary_line(alloc, summary, false) {
         Ok(line) => Ok(ReplayedParts {
@@ -117,102 +118,6 @@ pub fn replay_parts<F: Folder + Drop, A: Allocator + Copy>(
             Err(SessionError::Memory)
         }
     }
-}
-
-// The first part, replayed, and a showing of what it is of.
-fn begin_both<F: Folder + Drop, A: Allocator + Copy>(
-    alloc: A,
-    folder: F,
-    size: usize,
-    options: Options,
-) -> Result<(Replaying<F, A>, Showing<A>), DisplayError>
-    requires { 1 ≤ size }
-    ensures showing { IfOk result (λ p. (p.1.spec ≡ p.0.taken.spec) × (p.1.options ≡ options) × (p.1.history ≡ []) × (p.1.written ≡ [])) }
-    ensures sound { IfOk result (λ p. p.1.fault ≡ None) }
-    ensures inside { IsErrOf result DisplayError.Output → ⊥ }
-    ensures gone { IfOk result (λ p. p.0.taken.gone ≡ 0) }
-    ensures size { IfOk result (λ p. p.0.opened.held.size ≡ size) }
-    ensures folder { IfOk result (λ p. Continues (F.state folder) (F.state p.0.opened.held.folder)) }
-    ensures untouched { IfOk result (λ p. IsTrue (F.state folder).claims_bytes → (F.state p.0.opened.held.folder).bytes ≡ (F.state folder).bytes) }
-    ensures only { IsTrue (F.state folder).claims_bytes → (script root : List ℕ) (spec : Specified) (h : List Entry)
-        → AreReplayOf size (F.state folder).bytes script root spec h → length h < 2 ^ 62 → MatchResult result (λ p. IsStartOf p.0 script root spec h) IsBeyond }
-    ensures fault { IfErr result (λ error. IsTrue (F.state folder).claims_bytes → HaveNoDisplay size (F.state folder).bytes error) }
-{
-    let (replaying, header) = match Replaying::begin(alloc, folder, size, None) {
-        Ok(begun) => begun,
-        Err((error, folder)) => {
-            drop(folder);
-            return Err(DisplayError::Session(error));
-        }
-    };
-    // What it keeps: its entries are judged.
-    let _entries = replaying.entries();
-    let names = names_of(header.version);
-    let Ok(spec) = read_as(alloc, &header.script, &header.root, names) else {
-        drop(replaying);
-        return Err(DisplayError::Session(SessionError::Memory));
-    };
-    let Ok(monitor) = Monitor::new(alloc, spec) else {
-        drop(replaying);
-        return Err(DisplayError::Session(SessionError::Memory));
-    };
-    match Showing::begin(alloc, monitor, options) {
-        Ok(showing) => Ok((replaying, showing)),
-        Err(error) => {
-            drop(replaying);
-            Err(error.into())
-        }
-    }
-}
-
-// Shows what the parts hold, one after the other. The entries of a part are let go before the next one is read.
-fn show_each<F: Folder + Drop, A: Allocator + Copy, W: Sink>(
-    alloc: A,
-    replaying: Replaying<F, A>,
-    showing: &mut Showing<A>,
-    output: &mut W,
-) -> Result<Replaying<F, A>, DisplayError>
-    requires spec { showing.old.spec ≡ replaying.taken.spec }
-    requires none { (showing.old.history ≡ []) × (showing.old.written ≡ []) × (replaying.taken.gone ≡ 0) }
-    requires sound { showing.old.fault ≡ None }
-    ensures done { IfOk result (λ r. IsDone r.opened) }
-    ensures alike { IfOk result (λ r. IsAlike replaying.opened.held r.opened.held × (r.taken.spec ≡ replaying.taken.spec)) }
-    ensures options { (showing.new.options ≡ showing.old.options) × (showing.new.spec ≡ showing.old.spec) }
-    ensures history { IfOk result (λ r. showing.new.history ≡ r.taken.entries) }
-    ensures sends { OnOk result (Sends (W.contents output.old) (W.contents output.new) [] showing.new.written) }
-    ensures sound { OnOk result (showing.new.fault ≡ None) }
-    ensures steady { OnOk result (W.failures output.new ≡ W.failures output.old) }
-    ensures output_failed { IsErrOf result DisplayError.Output → W.failures output.old < W.failures output.new }
-    ensures held { IfOk result (λ r. IsTrue (F.state replaying.opened.held.folder).claims_bytes
-        → AreReplayOf replaying.opened.held.size (F.state replaying.opened.held.folder).bytes r.opened.held.script r.opened.held.root r.taken.spec r.taken.entries) }
-    ensures no_fault { OnOk result (IsTrue (F.state replaying.opened.held.folder).claims_bytes → (fault : PartsError)
-        → HaveFault replaying.opened.held.size (F.state replaying.opened.held.folder).bytes fault → ⊥) }
-    ensures fault { IfErr result (λ error. IsTrue (F.state replaying.opened.held.folder).claims_bytes
-        → HaveNoDisplay replaying.opened.held.size (F.state replaying.opened.held.folder).bytes error) }
-    ensures only { IsTrue (F.state replaying.opened.held.folder).claims_bytes → (script root : List ℕ) (spec : Specified) (h : List Entry)
-        → AreReplayOf replaying.opened.held.size (F.state replaying.opened.held.folder).bytes script root spec h → length h < 2 ^ 62 → IsStartOf replaying script root spec h
-        → MatchResult result (λ r. r.taken.entries ≡ h) IsBeyond }
-{
-    let mut replaying = replaying;
-    if let Err(error) = showing.take(alloc, replaying.entries(), output) {
-        drop(replaying);
-        return Err(error.into());
-    }
-    while !replaying.is_done() {
-        replaying.let_go();
-        replaying = match replaying.next() {
-            Ok((next, _)) => next,
-            Err((error, folder)) => {
-                drop(folder);
-                return Err(DisplayError::Session(error));
-            }
-        };
-        if let Err(error) = showing.take(alloc, replaying.entries(), output) {
-            drop(replaying);
-            return Err(error.into());
-        }
-    }
-    Ok(replaying)
 }
 
 // Writes the lines of what the parts hold, but for their end, which is answered.
@@ -236,21 +141,19 @@ fn lines_of_parts<F: Folder + Drop, A: Allocator + Copy, W: Sink>(
         → AreReplayOf size (F.state folder).bytes script root spec h → length h < 2 ^ 62
         → MatchResult result (λ r. (r.0.taken.spec ≡ spec) × (r.0.taken.entries ≡ h)) IsBeyond }
 {
-    let (replaying, mut showing) = begin_both(alloc, folder, size, options)?;
-    match show_each(alloc, replaying, &mut showing, output) {
-        Ok(replaying) => match showing.end() {
-            Ok((left, monitor)) => {
-                drop(monitor);
-                Ok((replaying, left))
-            }
-            Err(error) => {
-                drop(replaying);
-                Err(error.into())
-            }
-        },
+    let mut showing = Showing::new(alloc, options, output);
+    let replaying = match whole_of(alloc, folder, size, &mut showing, output) {
+        Ok(replaying) => replaying,
         Err(error) => {
             drop(showing);
-            Err(error)
+            return Err(DisplayError::Session(error));
+        }
+    };
+    match showing.end(replaying.spec()) {
+        Ok(left) => Ok((replaying, left)),
+        Err(error) => {
+            drop(replaying);
+            Err(error.into())
         }
     }
 }
@@ -266,8 +169,8 @@ pub struct DisplayedParts<F: Folder, A: Allocator> {
 
 /// Judges the records of a journal in parts again, one part after the other, and writes what is asked for of its history: the lines, and then
 /// the counts. Nothing is written to the files. The errors are those of `replay_parts`, and that of the output; a part of the text may have
-/// been written then, of 64 KiB or more. The lines of a part are written before the next part is read: so of files with a fault those of the
-/// parts before it may have been. Takes memory for one part.
+/// been written then, of 64 KiB or more. An entry's line is written once the entry is judged: so of files with a fault those before it may have
+/// been. Takes memory for one part.
 pub fn show_parts<F: Folder + Drop, A: Allocator + Copy, W: Sink>(
     alloc: A,
     folder: F,

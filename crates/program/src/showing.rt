@@ -1,26 +1,25 @@
 //! The history that a journal holds, judged again: a line for each report, why it was rejected, and how often each event came.
 
-ghost use Rattle.std.specs.Prelude.{◌≡◌, ◌<◌, ◌⊎◌, ◌++◌, ℕ, List, IsTrue, IfOk, IfErr, OnOk, IsErrOf, MatchResult};
+ghost use Rattle.std.specs.Prelude.{◌≡◌, ◌<◌, ◌⊎◌, ◌++◌, [], ℕ, List, IsTrue, IfOk, IfErr, OnOk, IsErrOf, MatchResult};
 ghost use Rattle.std.specs.Io.KnownBytes.{Appends};
 ghost use Rattle.term.specs.Specs.{Specified};
 ghost use Rattle.journal.specs.Faults.{HasFault};
 ghost use Rattle.journal.specs.declared.error.JournalError.{JournalError};
 ghost use Rattle.shared.specs.Entry.{Entry};
 ghost use Rattle.shared.specs.SessionFaults.{journal_error};
-ghost use Rattle.shared.specs.Legal.{IsJudged};
 ghost use Rattle.shared.specs.Scripts.{IsReplayOf};
 ghost use Rattle.shown.specs.Shows.{Writes};
 ghost use Rattle.program.specs.Exits.{replay_exit};
 ghost use Rattle.program.specs.Showings.{HasNoDisplay, IsBeyond, WritesAll, summary_text};
 ghost use Rattle.program.specs.declared.showing.DisplayError.TheVariants.{Session as of_session};
 
-use crate::replaying::{Replayed, replay};
+use crate::replaying::exit_of;
 use crate::summaries::{add_json, add_line};
 use answers::Exit;
 use disk::Disk;
 use journal::{Header, Journal};
-use shared::{History, Monitor, SessionError, Summary};
-use shown::{Format, Options, ShowError};
+use shared::{History, Monitor, Session, SessionError, Summary};
+use shown::{Format, Options, ShowError, Showing};
 use std::alloc::{AllocError, Allocator};
 use wire::{Sink, SinkFault, send};
 
@@ -76,27 +75,44 @@ fn add_summary<A: Allocator>(
     }
 }
 
-// Writes the lines of a history, but for their end. The monitor is the one that has judged it: it begins again, and is given back.
-pub(crate) fn lines_of<A: Allocator + Copy, W: Sink>(
+// Judges the records of the journal on the disk again, and writes the lines of its history as it goes, but for their end.
+pub(crate) fn lines_of<D: Disk + Drop, A: Allocator + Copy, W: Sink>(
     alloc: A,
-    monitor: Monitor<A>,
-    history: &History<A>,
+    disk: D,
     options: Options,
     output: &mut W,
-) -> Result<(Vec<u8, A>, Monitor<A>), ShowError>
-    requires { IsJudged monitor.spec history.now.entries }
-    ensures text { IfOk result (λ left. Writes options monitor.spec history.now.entries (W.contents output.old) (W.contents output.new) left.0.items) }
-    ensures spec { IfOk result (λ left. left.1.spec ≡ monitor.spec) }
+) -> Result<(Session<D, A>, Header<A>, Vec<u8, A>), DisplayError>
+    ensures replayed { IfOk result (λ r. IsTrue (D.state disk).claims_bytes
+        → IsReplayOf (D.state disk).bytes r.1.script.items r.1.root.items r.0.spec r.0.history) }
+    ensures none_offered { IfOk result (λ r. r.0.offered ≡ []) }
+    ensures text { IfOk result (λ r. Writes options r.0.spec r.0.history (W.contents output.old) (W.contents output.new) r.2.items) }
     ensures steady { OnOk result (W.failures output.new ≡ W.failures output.old) }
-    ensures output_failed { IsErrOf result ShowError.Output → W.failures output.old < W.failures output.new }
+    ensures output_failed { IsErrOf result DisplayError.Output → W.failures output.old < W.failures output.new }
+    ensures fault { IfErr result (λ error. IsTrue (D.state disk).claims_bytes → HasNoDisplay (D.state disk).bytes error) }
+    ensures only { IsTrue (D.state disk).claims_bytes → (script root : List ℕ) (spec : Specified) (h : List Entry)
+        → IsReplayOf (D.state disk).bytes script root spec h
+        → MatchResult result (λ r. (r.0.spec ≡ spec) × (r.0.history ≡ h)) IsBeyond }
+    ensures refuses { IsTrue (D.state disk).claims_bytes → (error : JournalError) → HasFault (D.state disk).bytes error
+        → MatchResult result (λ _. ⊥) (λ e. (e ≡ of_session (journal_error error)) ⊎ IsBeyond e) }
+    ensures silent { IsTrue (D.state disk).claims_bytes → (error : JournalError) → HasFault (D.state disk).bytes error → output.new ≡ output.old }
 {
-    // Entries that were let go can't be shown.
-    let gone = history.gone();
-    if gone > 0 {
-        drop(monitor);
-        return Err(ShowError::Memory);
+    let mut showing = Showing::new(alloc, options, output);
+    let (session, header) = match Session::replay(alloc, disk, None, &mut showing, output) {
+        Ok(replayed) => replayed,
+        Err((error, disk)) => {
+            drop(disk);
+            drop(showing);
+            return Err(DisplayError::Session(error));
+        }
+    };
+    match showing.end(session.spec()) {
+        Ok(left) => Ok((session, header, left)),
+        Err(error) => {
+            drop(session);
+            drop(header);
+            Err(error.into())
+        }
     }
-    shown::show(alloc, monitor, history.entries(), options, output)
 }
 
 // Writes the end of the lines, and the counts after it.
@@ -116,34 +132,9 @@ pub(crate) fn write_end<A: Allocator, W: Sink>(
     }
 }
 
-// Writes what is shown of a history. The monitor is the one that has judged it, and is given back.
-fn write_all<A: Allocator + Copy, W: Sink>(
-    alloc: A,
-    monitor: Monitor<A>,
-    history: &History<A>,
-    options: Options,
-    output: &mut W,
-) -> Result<Monitor<A>, ShowError>
-    requires { IsJudged monitor.spec history.now.entries }
-    ensures text { OnOk result (WritesAll monitor.spec history.now.entries options (W.contents output.old) (W.contents output.new)) }
-    ensures spec { IfOk result (λ again. again.spec ≡ monitor.spec) }
-    ensures output_failed { IsErrOf result ShowError.Output → W.failures output.old < W.failures output.new }
-{
-    let (mut left, monitor) = lines_of(alloc, monitor, history, options, output)?;
-    let written = write_end(&mut left, options.format, history.summary(), output);
-    drop(left);
-    match written {
-        Ok(()) => Ok(monitor),
-        Err(error) => {
-            drop(monitor);
-            Err(error)
-        }
-    }
-}
-
-/// Judges the records of the journal on the disk again, as `replay` does, and writes what is asked for of its history: the lines, and
-/// then the counts. The errors are those of `replay`, and that of the output. Where the output fails, a part may have been
-/// written; where memory is refused, a part of a text of 64 KiB or more.
+/// Judges the records of the journal on the disk again, as `replay` does, and writes what is asked for of its history: the lines, as it
+/// goes, and then the counts. The errors are those of `replay`, and that of the output, which comes once all records are judged. Where the
+/// output fails, a part may have been written; where memory is refused or a record is refused, a part of a text of 64 KiB or more.
 pub fn show<D: Disk + Drop, A: Allocator + Copy, W: Sink>(
     alloc: A,
     disk: D,
@@ -171,29 +162,24 @@ pub fn show<D: Disk + Drop, A: Allocator + Copy, W: Sink>(
         → MatchResult result (λ _. ⊥) (λ e. (e ≡ of_session (journal_error error)) ⊎ IsBeyond e) }
     ensures silent { IsTrue (D.state disk).claims_bytes → (error : JournalError) → HasFault (D.state disk).bytes error → output.new ≡ output.old }
 {
-    let Replayed {
-        session,
-        header,
-        line,
-        exit,
-    } = match replay(alloc, disk) {
-        Ok(replayed) => replayed,
-        Err(error) => return Err(DisplayError::Session(error)),
-    };
-    drop(line);
+    let (session, header, mut left) = lines_of(alloc, disk, options, output)?;
     let (monitor, history, journal) = session.into_parts();
-    match write_all(alloc, monitor, &history, options, output) {
-        Ok(monitor) => Ok(Displayed {
+    let summary = history.summary();
+    let written = write_end(&mut left, options.format, summary, output);
+    drop(left);
+    match written {
+        Ok(()) => Ok(Displayed {
             journal,
             header,
             history,
             monitor,
-            exit,
+            exit: exit_of(summary.rejected),
         }),
         Err(error) => {
             drop(journal);
             drop(history);
             drop(header);
+            drop(monitor);
             Err(error.into())
         }
     }

@@ -16,9 +16,9 @@ mod turns;
 pub use answers::{Receipt, Status};
 pub use locked::{
     Board, Counts, Entry, Failed, Fault, Front, History, LAST_NAME, Monitor, NameFault, Names,
-    Naming, Opened, Publisher, ReadScript, Recorder, SeatNumber, Session, SessionError, SessionOn,
-    Sharing, Source, Spine, Summary, Waiting, crosses, headers_take_scripts, legal_crosses,
-    names_of, read_as,
+    Naming, Nobody, Onlooker, Opened, Publisher, ReadScript, Recorder, SeatNumber, Session,
+    SessionError, SessionOn, Sharing, Source, Spine, Summary, Waiting, crosses,
+    headers_take_scripts, legal_crosses, names_of, read_as,
 };
 pub use places::Places;
 pub use seat::{Seat, Shared};

@@ -1,22 +1,17 @@
 -- What was made of the first entries, one entry further.
-use Rattle.std.proofs.Common.{◌≡◌, ◌↔◌, ℕ, zero, suc, nat_lt, Result, Ok, Err, OnOk, ◌+◌, ◌^◌, ◌<◌, ◌≤◌, Bool, true, false, not, cond, ◌&&◌, IsTrue, List, [], ◌∷◌, ◌++◌, length, take, drop, get_or, refl, sym, ap, subst, ◌∙◌, append-nil, append_assoc, length-append, arith}
+use Rattle.std.proofs.Common.{◌≡◌, ℕ, suc, nat_lt, Result, Ok, Err, OnOk, ◌+◌, ◌^◌, ◌<◌, ◌≤◌, Bool, true, false, not, cond, ◌&&◌, IsTrue, List, [], ◌∷◌, ◌++◌, length, refl, sym, ap, subst, ◌∙◌, append-nil, length-append, arith}
 use Rattle.std.proofs.lemmas.Grind.{flat_map-append}
 use Rattle.std.proofs.lemmas.List.Sums.{sum_by-append, count_by-le-length}
 use Rattle.std.proofs.lemmas.List.{get_or_past}
 use Rattle.std.proofs.lemmas.Bool.Decides.{nat_tests}
-use Rattle.std.proofs.Math.Seq.{take-suc}
 use Rattle.std.specs.List.{count_by, flat_map}
 use Rattle.alphabet.specs.declared.events.Event.{Event}
 use Rattle.alphabet.specs.EventSets.{Set, member}
 use Rattle.alphabet.specs.Channels.{event_count}
-use Rattle.term.specs.Proc.{bodies_of, root}
-use Rattle.term.specs.Meaning.{Trace}
-use Rattle.term.specs.Verdict.{Verdict}
-use Rattle.monitor.specs.Monitors.{MeetsNone}
+use Rattle.term.specs.Proc.{bodies_of}
 use Rattle.term.specs.Specs.{Specified}
 use Rattle.history.specs.declared.entry.Entry.{Entry}
-use Rattle.history.specs.Entries.{events}
-use Rattle.history.specs.Legal.{HasRoom as HasRoomFor, IsJudged}
+use Rattle.history.specs.Legal.{IsJudged}
 use Rattle.history.proofs.Histories.{room_small}
 use Rattle.shown.specs.declared.options.Options.{Options}
 use Rattle.shown.specs.Findings.{HasNext, ShowsEntry}
@@ -66,49 +61,21 @@ room n h nexts a r p same small were =
       possible_small = λ x. let le = count_by-le-length (λ X. member X x) nexts in omega (arith, le, were.possible_are x);
     }
 
--- a history around one of its entries
-pub around : (h : List Entry) (i : ℕ) (d : Entry) → i < length h → h ≡ take i h ++ get_or h i d ∷ drop (suc i) h
-around [] i d l = absurd (omega (arith, l))
-around (x ∷ xs) zero d l = refl
-around (x ∷ xs) (suc i) d l = ap (λ ys. x ∷ ys) (around xs i d (omega arith))
-
--- the entries that come, one of which is looked at
-module _ (spec : Specified) (start entries : List Entry) (i : ℕ) (e : Entry) (l : i < length entries) (is : e ≡ get_or entries i e) where
-  parted : start ++ entries ≡ (start ++ take i entries) ++ e ∷ drop (suc i) entries
-  parted =
-      ap (λ t. start ++ t) (around entries i e l ∙ ap (λ x. take i entries ++ x ∷ drop (suc i) entries) (sym is))
-      ∙ sym (append_assoc start (take i entries) (e ∷ drop (suc i) entries))
-
-  pub longer : (h h' : List Entry) → h ≡ start ++ take i entries → h' ≡ h ++ e ∷ [] → h' ≡ start ++ take (i + 1) entries
-  longer h h' was now =
-      let k : suc i ≡ i + 1 = omega arith in
-      now ∙ ap (λ t. t ++ e ∷ []) was ∙ append_assoc start (take i entries) (e ∷ [])
-      ∙ ap (λ t. start ++ t) (sym (take-suc entries i e l ∙ ap (λ x. take i entries ++ x ∷ []) (sym is)) ∙ ap (λ (n : ℕ). take n entries) k)
-
-  pub fits_here : (h : List Entry) → IsJudged spec (start ++ entries) → h ≡ start ++ take i entries → IsTrue e.verdict ↔ Verdict (bodies_of spec.bodies) (events h) e.report
-  fits_here h judged was =
-      subst (λ t. IsTrue e.verdict ↔ Verdict (bodies_of spec.bodies) (events t) e.report) (sym was) (judged.legal (start ++ take i entries) e (drop (suc i) entries) parted).verdict
-
-  pub within_here : (h : List Entry) → IsJudged spec (start ++ entries) → h ≡ start ++ take i entries → MeetsNone spec (events h) e.report
-  within_here h judged was =
-      subst (λ t. MeetsNone spec (events t) e.report) (sym was) (judged.within.reports (start ++ take i entries) e (drop (suc i) entries) parted)
-
-  pub small_here : (h : List Entry) → IsJudged spec (start ++ entries) → h ≡ start ++ take i entries → length h < 2 ^ 62
-  small_here h judged was =
-      room_small spec.names h e.seat e.number (subst (λ t. HasRoomFor spec.names t e.seat e.number) (sym was) (judged.room (start ++ take i entries) e (drop (suc i) entries) parted))
+-- there was room for the entry that comes next
+pub small_here : (spec : Specified) (before : List Entry) (e : Entry) → IsJudged spec (before ++ e ∷ []) → length before < 2 ^ 62
+small_here spec before e judged = room_small spec.names before e.seat e.number (judged.room before e [] refl)
 
 -- one entry further
 module _ (options : Options) (spec : Specified) (before : List Entry) (e : Entry) where
-  pub room_here : (text : List ℕ) (trace : List Event) (a r : List ℕ) (p : List Set) → length before < 2 ^ 62 → IsShown options spec before text trace a r p → IsTrue options.coverage → HasRoom a r p
-  room_here text trace a r p small shown wanted = room (event_count spec.alphabet) before shown.nexts a r p shown.same small (shown.counts_are wanted)
+  pub room_here : (text : List ℕ) (a r : List ℕ) (p : List Set) → length before < 2 ^ 62 → IsShown options spec before text a r p → IsTrue options.coverage → HasRoom a r p
+  room_here text a r p small shown wanted = room (event_count spec.alphabet) before shown.nexts a r p shown.same small (shown.counts_are wanted)
 
-  pub shown_next : (next : Set) (text text' : List ℕ) (trace trace' : List Event) (a r : List ℕ) (p : List Set) (a' r' : List ℕ) (p' : List Set) → IsShown options spec before text trace a r p →
-      ((x : Event) → IsTrue (member next x) ↔ Trace (bodies_of spec.bodies) root (trace ++ x ∷ [])) →
+  pub shown_next : (next : Set) (text text' : List ℕ) (a r : List ℕ) (p : List Set) (a' r' : List ℕ) (p' : List Set) → IsShown options spec before text a r p →
+      HasNext (bodies_of spec.bodies) before next →
       (part : List ℕ) × ShowsEntry options spec before e part × (text' ≡ text ++ part) →
-      (IsTrue options.coverage → CountsEntry e next a r p a' r' p') → trace' ≡ events (before ++ e ∷ []) →
-      IsShown options spec (before ++ e ∷ []) text' trace' a' r' p'
-  shown_next next text text' trace trace' a r p a' r' p' shown nexts_is part counted moved =
-      let has : HasNext (bodies_of spec.bodies) before next = λ x. subst (λ u. IsTrue (member next x) ↔ Trace (bodies_of spec.bodies) root (u ++ x ∷ [])) shown.trace_is (nexts_is x) in
+      (IsTrue options.coverage → CountsEntry e next a r p a' r' p') →
+      IsShown options spec (before ++ e ∷ []) text' a' r' p'
+  shown_next next text text' a r p a' r' p' shown has part counted =
       record {
         parts = shown.parts ++ part.0 ∷ [];
         nexts = shown.nexts ++ next ∷ [];
@@ -116,37 +83,35 @@ module _ (options : Options) (spec : Specified) (before : List Entry) (e : Entry
         nexts_are = more shown.nexts_are has;
         same = length-append shown.nexts (next ∷ []) ∙ ap (λ n. n + 1) shown.same ∙ sym (length-append before (e ∷ []));
         text_is = part.2 ∙ ap (λ t. t ++ part.0) shown.text_is ∙ ap (λ t. flat_map (λ q. q) shown.parts ++ t) (sym (append-nil part.0)) ∙ sym (flat_map-append (λ q. q) shown.parts (part.0 ∷ []));
-        trace_is = moved;
         counts_are = λ wanted. all_added (event_count spec.alphabet) before shown.nexts e next a r p a' r' p' (shown.counts_are wanted) (counted wanted);
       }
 
 -- nothing is shown yet
-pub nothing_shown : (options : Options) (spec : Specified) (h : List Entry) (n : ℕ) (text : List ℕ) (trace : List Event) (a r : List ℕ) (p : List Set) → n ≡ event_count spec.alphabet → h ≡ [] → text ≡ [] → trace ≡ [] →
-    AreCounts n (λ _. 0) a → AreCounts n (λ _. 0) r → ((x : Event) → tallied p x ≡ 0) → IsShown options spec h text trace a r p
-nothing_shown options spec h n text trace a r p same none_yet empty begun za zr zp =
-    let it : IsShown options spec [] text trace a r p = record {
+pub nothing_shown : (options : Options) (spec : Specified) (h : List Entry) (n : ℕ) (text : List ℕ) (a r : List ℕ) (p : List Set) → n ≡ event_count spec.alphabet → h ≡ [] → text ≡ [] →
+    AreCounts n (λ _. 0) a → AreCounts n (λ _. 0) r → ((x : Event) → tallied p x ≡ 0) → IsShown options spec h text a r p
+nothing_shown options spec h n text a r p same none_yet empty za zr zp =
+    let it : IsShown options spec [] text a r p = record {
       parts = [];
       nexts = [];
       parts_are = none;
       nexts_are = none;
       same = refl;
       text_is = empty;
-      trace_is = begun;
       counts_are = λ _. record {
         accepted_are = subst (λ m. AreCounts m (λ _. 0) a) same za;
         rejected_are = subst (λ m. AreCounts m (λ _. 0) r) same zr;
         possible_are = zp;
       };
     } in
-    subst (λ l. IsShown options spec l text trace a r p) (sym none_yet) it
+    subst (λ l. IsShown options spec l text a r p) (sym none_yet) it
 
 covers : (b : Bool) (options : Options) (spec : Specified) (h : List Entry) (nexts : List Set) (text : List ℕ) → b ≡ true → IsCoverage options.format spec.alphabet h nexts text →
     HasCoverageIf b options spec h nexts text
 covers b options spec h nexts text wanted is = subst (λ c. HasCoverageIf c options spec h nexts text) (sym wanted) is
 
 -- all is shown, without coverage
-pub shown_alone : (options : Options) (spec : Specified) (h : List Entry) (text : List ℕ) (trace : List Event) (a r : List ℕ) (p : List Set) → IsShown options spec h text trace a r p → options.coverage ≡ false → Shows options spec h text
-shown_alone options spec h text trace a r p shown unwanted =
+pub shown_alone : (options : Options) (spec : Specified) (h : List Entry) (text : List ℕ) (a r : List ℕ) (p : List Set) → IsShown options spec h text a r p → options.coverage ≡ false → Shows options spec h text
+shown_alone options spec h text a r p shown unwanted =
     record {
       parts = shown.parts;
       nexts = shown.nexts;
@@ -158,11 +123,11 @@ shown_alone options spec h text trace a r p shown unwanted =
     }
 
 -- and with it
-pub shown_covered : {T E : Type 0} (result : Result T E) (options : Options) (spec : Specified) (h : List Entry) (text text' : List ℕ) (trace : List Event) (a r : List ℕ) (p : List Set) →
-    (shown : IsShown options spec h text trace a r p) → options.coverage ≡ true →
+pub shown_covered : {T E : Type 0} (result : Result T E) (options : Options) (spec : Specified) (h : List Entry) (text text' : List ℕ) (a r : List ℕ) (p : List Set) →
+    (shown : IsShown options spec h text a r p) → options.coverage ≡ true →
     OnOk result ((put : List ℕ) × IsCoverage options.format spec.alphabet h shown.nexts put × (text' ≡ text ++ put)) → OnOk result (Shows options spec h text')
-shown_covered (Err x) options spec h text text' trace a r p shown wanted put = put
-shown_covered (Ok x) options spec h text text' trace a r p shown wanted put =
+shown_covered (Err x) options spec h text text' a r p shown wanted put = put
+shown_covered (Ok x) options spec h text text' a r p shown wanted put =
     record {
       parts = shown.parts;
       nexts = shown.nexts;

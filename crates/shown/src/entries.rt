@@ -1,4 +1,4 @@
-//! The lines of entries, with what the monitor finds of them.
+//! The lines of entries, with what is found of them.
 
 ghost use Rattle.std.specs.Prelude.{◌≡◌, ◌++◌, ◌↔◌, ℕ, suc, [], ◌∷◌, IsTrue, List, length, OnOk};
 ghost use Rattle.term.specs.Proc.{bodies_of};
@@ -14,81 +14,80 @@ use crate::lines::{put_accepted, put_head, put_report};
 use crate::options::{Format, Options};
 use crate::said::{Said, put_said_expected, put_said_offered};
 use alphabet::Report;
-use history::{AfterFault, Entry};
+use history::{AfterFault, Entry, LegalHistory};
 use monitor::Monitor;
 use std::alloc::{AllocError, Allocator};
 
-/// Appends what is found of the entry after the monitor's trace.
+/// Appends what is found of the entry that comes next in the history.
 fn put_finding<A: Allocator + Copy>(
     text: &mut Vec<u8, A>,
     said: &mut Said<A>,
-    monitor: &Monitor<A>,
+    legal: &LegalHistory<A>,
     alloc: A,
     entry: &Entry,
     format: Format,
 ) -> Result<(), AllocError>
-    requires { IsSaid format monitor.now.spec.alphabet said.old }
-    ensures said { OnOk result (IsSaid format monitor.now.spec.alphabet said.new) }
-    ensures finding { (before : List entry_type) → monitor.now.trace ≡ events before →
-        OnOk result ((finding : Finding) × Finds (bodies_of monitor.now.spec.bodies) before entry.now.verdict entry.now.report finding
-        × (text.new.items ≡ text.old.items ++ finding_text format monitor.now.spec.alphabet finding)) }
+    requires { IsSaid format legal.now.spec.alphabet said.old }
+    ensures said { OnOk result (IsSaid format legal.now.spec.alphabet said.new) }
+    ensures finding { OnOk result ((finding : Finding) × Finds (bodies_of legal.now.spec.bodies) legal.now.entries entry.now.verdict entry.now.report finding
+        × (text.new.items ≡ text.old.items ++ finding_text format legal.now.spec.alphabet finding)) }
 {
-    let alphabet = monitor.spec().alphabet();
+    let alphabet = legal.spec().alphabet();
     if entry.verdict {
         return put_accepted(text, format);
     }
     if let Report::Event(_) = entry.report {
-        return put_said_expected(text, said, alphabet, monitor.next(), format);
+        return put_said_expected(text, said, alphabet, legal.next(), format);
     }
-    let acceptances = monitor.acceptances(alloc)?;
+    let acceptances = legal.acceptances(alloc)?;
     put_said_offered(text, said, alphabet, &acceptances, format)
 }
 
-/// Appends the line of the entry at this place, which comes after the monitor's trace.
+/// Appends the line of the entry that comes next in the history, at this place.
 fn put_entry<A: Allocator + Copy>(
     text: &mut Vec<u8, A>,
     said: &mut Said<A>,
-    monitor: &Monitor<A>,
+    legal: &LegalHistory<A>,
     alloc: A,
     place: u64,
     entry: &Entry,
     format: Format,
 ) -> Result<(), AllocError>
-    requires { IsSaid format monitor.now.spec.alphabet said.old }
-    ensures said { OnOk result (IsSaid format monitor.now.spec.alphabet said.new) }
-    ensures line { (before : List entry_type) → monitor.now.trace ≡ events before → place ≡ suc (length before) →
-        OnOk result ((line : List ℕ) × HasLine format monitor.now.spec before entry.now line × (text.new.items ≡ text.old.items ++ line)) }
+    requires said { IsSaid format legal.now.spec.alphabet said.old }
+    requires place { place ≡ suc (length legal.now.entries) }
+    ensures said { OnOk result (IsSaid format legal.now.spec.alphabet said.new) }
+    ensures line { OnOk result ((line : List ℕ) × HasLine format legal.now.spec legal.now.entries entry.now line × (text.new.items ≡ text.old.items ++ line)) }
 {
     put_head(text, place, entry.seat.get(), entry.number, format)?;
-    put_report(text, monitor.spec().alphabet(), &entry.report, format)?;
-    put_finding(text, said, monitor, alloc, entry, format)?;
+    put_report(text, legal.spec().alphabet(), &entry.report, format)?;
+    put_finding(text, said, legal, alloc, entry, format)?;
     text.extend_from_slice(format.ending())
 }
 
-/// Appends the line of the entry, if it gets one.
+/// Appends the line of the entry that comes next in the history, if it gets one.
 pub(crate) fn put_part<A: Allocator + Copy>(
     text: &mut Vec<u8, A>,
     said: &mut Said<A>,
-    monitor: &Monitor<A>,
+    legal: &LegalHistory<A>,
     alloc: A,
     place: u64,
     entry: &Entry,
     options: Options,
 ) -> Result<(), AllocError>
-    requires { IsSaid options.format monitor.now.spec.alphabet said.old }
-    ensures said { OnOk result (IsSaid options.format monitor.now.spec.alphabet said.new) }
-    ensures part { (before : List entry_type) → monitor.now.trace ≡ events before → place ≡ suc (length before) →
-        OnOk result ((part : List ℕ) × ShowsEntry options monitor.now.spec before entry.now part × (text.new.items ≡ text.old.items ++ part)) }
+    requires said { IsSaid options.format legal.now.spec.alphabet said.old }
+    requires place { place ≡ suc (length legal.now.entries) }
+    ensures said { OnOk result (IsSaid options.format legal.now.spec.alphabet said.new) }
+    ensures part { OnOk result ((part : List ℕ) × ShowsEntry options legal.now.spec legal.now.entries entry.now part × (text.new.items ≡ text.old.items ++ part)) }
 {
     if options.entries.has(entry.verdict) {
-        put_entry(text, said, monitor, alloc, place, entry, options.format)
+        put_entry(text, said, legal, alloc, place, entry, options.format)
     } else {
         Ok(())
     }
 }
 
 /// Memory was refused.
-pub(crate) fn refused(_fault: AfterFault) -> AllocError
+fn refused(_fault: AfterFault) -> AllocError
     requires { _fault ≡ AfterFault.Memory }
 {
     AllocError

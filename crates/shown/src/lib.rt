@@ -16,7 +16,6 @@ mod remarks;
 mod said;
 mod showing;
 mod tally;
-mod whole;
 
 pub use entries::follow;
 pub use error::ShowError;
@@ -25,4 +24,3 @@ pub use monitor::Monitor;
 pub use options::{Format, Options, Selection};
 pub use reasons::put_reason;
 pub use showing::Showing;
-pub use whole::show;

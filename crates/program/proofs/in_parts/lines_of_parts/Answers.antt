@@ -1,81 +1,46 @@
-use Rattle.std.proofs.Common.{◌≡◌, ◌∙◌, IsTrue, refl, sym, subst}
-use Rattle.shown.proofs.Sending.{writes_whole}
-use Rattle.program.proofs.InParts.{IsFrom, claims_at, display_from, err_and, err_match, no_display, no_fault_from, replay_at, replay_from}
-use Rattle.program.specs.Parts.{HaveNoDisplay}
-use Rattle.program.specs.Showings.{IsBeyond}
+use Rattle.std.proofs.Common.{◌≡◌, ◌∙◌, ap, is_some, refl, sym, subst}
+use Rattle.term.specs.Specs.{Specified}
+use Rattle.shown.specs.Showings.{HasShown}
+use Rattle.program.specs.declared.showing.DisplayError.TheVariants.{Output}
+use Rattle.program.proofs.Displays.{has_failed, never_failed, same_error, writes_as}
+use Rattle.program.proofs.InParts.{no_display}
 use Rattle.program.proofs.in_parts.lines_of_parts.Goals as goal
-
-pub returns-in_err-replaying-clause-fault : goal.returns-in_err-replaying-clause-fault
-returns-in_err-replaying-clause-fault g c =
-    let s = g.F.Folder.state c.args.folder in
-    let failed = c.in_err-replaying.field-0.0 in
-    err_and c.from_residual.result (λ e. e ≡ failed) (λ e. IsTrue s.claims_bytes → HaveNoDisplay c.args.size s.bytes e) c.from_residual.ensures.1
-    (λ e same. subst (λ (x : _). IsTrue s.claims_bytes → HaveNoDisplay c.args.size s.bytes x) (sym same) c.in_err-replaying.ensures.fault)
-
-pub returns-in_err-replaying-clause-only : goal.returns-in_err-replaying-clause-only
-returns-in_err-replaying-clause-only g c claims script root spec h is small =
-    let failed = c.in_err-replaying.field-0.0 in
-    err_match c.from_residual.result (λ e. e ≡ failed) _ IsBeyond c.from_residual.ensures.1 (λ e same. subst IsBeyond (sym same) (c.in_err-replaying.ensures.only claims script root spec h is small))
-
-pub returns-in-Ok-end-clause-replayed : goal.returns-in-Ok-end-clause-replayed
-returns-in-Ok-end-clause-replayed g c claims =
-    let state = g.F.Folder.state in
-    let s = state c.args.folder in
-    let b = c.in_ok-replaying.ensures in
-    let begun = c.in_ok-replaying.replaying in
-    let r = c.in-Ok.replaying in
-    let first : IsFrom state s c.args.size begun = record { size_is = b.size; goes = b.folder; bytes = b.untouched } in
-    replay_from state s c.args.size begun first r.opened.held.script r.opened.held.root r.taken.spec r.taken.entries c.in-Ok.ensures.held claims
 
 pub returns-in-Ok-end-clause-text : goal.returns-in-Ok-end-clause-text
 returns-in-Ok-end-clause-text g c =
-    let b = c.in_ok-replaying.ensures in
-    let e = c.in-Ok.ensures in
     let r = c.in-Ok.replaying in
-    let later = c.show_each.new.showing in
-    let old = g.W.Sink.contents c.args.output.now in
-    let new = g.W.Sink.contents c.show_each.new.output in
-    let o = c.show_each.ensures.options in
-    writes_whole c.args.options later.options r.taken.spec later.spec r.taken.entries later.history old new _ later.written c.in-Ok-end.left.items
-    (o.0 ∙ b.showing.1) (o.1 ∙ b.showing.0 ∙ sym e.alike.1) e.history refl e.sends c.in-Ok-end.ensures.text
+    let s = c.whole_of.new.onlooker in
+    let w = c.whole_of.new.output in
+    let contents = g.W.Sink.contents in
+    let kept = c.whole_of.ensures.onlooker c.new-showing.result (refl, refl) in
+    let has = subst (λ (x : Specified). HasShown contents g.W.Sink.failures s w x r.taken.entries) (sym c.spec.ensures) c.in-Ok.ensures.seen in
+    writes_as c.args.options s.options r.taken.spec c.spec.result.now r.taken.entries (contents c.args.output.now) (contents s.began) (contents w) c.in-Ok-end.left.items
+    (kept.0 ∙ c.new-showing.ensures.options) c.spec.ensures (ap contents (kept.1 ∙ c.new-showing.ensures.began)) (c.in-Ok-end.ensures.text w r.taken.entries has)
+
+pub returns-in-Ok-end-clause-steady : goal.returns-in-Ok-end-clause-steady
+returns-in-Ok-end-clause-steady g c =
+    let r = c.in-Ok.replaying in
+    let kept = c.whole_of.ensures.onlooker c.new-showing.result (refl, refl) in
+    never_failed g.W.Sink.contents g.W.Sink.failures c.whole_of.new.onlooker c.whole_of.new.output c.args.output.now r.taken.spec r.taken.entries c.in-Ok.ensures.seen (kept.1 ∙ c.new-showing.ensures.began) c.in-Ok-end.ensures.sound
+
+pub returns-in-Ok-end-clause-done : goal.returns-in-Ok-end-clause-done
+returns-in-Ok-end-clause-done g c = c.in-Ok.ensures.done (ap is_some c.in-Ok-end.ensures.sound)
+
+pub returns-in-Ok-end-clause-no_fault : goal.returns-in-Ok-end-clause-no_fault
+returns-in-Ok-end-clause-no_fault g c = c.in-Ok.ensures.no_fault (ap is_some c.in-Ok-end.ensures.sound)
+
+pub returns-in-Ok-end-clause-replayed : goal.returns-in-Ok-end-clause-replayed
+returns-in-Ok-end-clause-replayed g c = c.in-Ok.ensures.replayed (ap is_some c.in-Ok-end.ensures.sound)
 
 pub returns-in-Ok-end-clause-only : goal.returns-in-Ok-end-clause-only
-returns-in-Ok-end-clause-only g c claims script root spec h is small =
-    let state = g.F.Folder.state in
-    let s = state c.args.folder in
-    let b = c.in_ok-replaying.ensures in
-    let begun = c.in_ok-replaying.replaying in
-    let first : IsFrom state s c.args.size begun = record { size_is = b.size; goes = b.folder; bytes = b.untouched } in
-    let start = b.only claims script root spec h is small in
-    let e = c.in-Ok.ensures in
-    (e.alike.1 ∙ start.spec_is, e.only (claims_at state s c.args.size begun first claims) script root spec h (replay_at state s c.args.size begun first script root spec h claims is) small start)
+returns-in-Ok-end-clause-only g c = λ claims script root spec h is small. c.in-Ok.ensures.only claims script root spec h is small (ap is_some c.in-Ok-end.ensures.sound)
 
-pub returns-in-Err-clause-fault : goal.returns-in-Err-clause-fault
-returns-in-Err-clause-fault g c claims =
-    let state = g.F.Folder.state in
-    let s = state c.args.folder in
-    let b = c.in_ok-replaying.ensures in
-    let begun = c.in_ok-replaying.replaying in
-    let first : IsFrom state s c.args.size begun = record { size_is = b.size; goes = b.folder; bytes = b.untouched } in
-    display_from state s c.args.size begun first c.in-Err.error c.in-Err.ensures.fault claims
-
-pub returns-in-Err-clause-only : goal.returns-in-Err-clause-only
-returns-in-Err-clause-only g c claims script root spec h is small =
-    let state = g.F.Folder.state in
-    let s = state c.args.folder in
-    let b = c.in_ok-replaying.ensures in
-    let begun = c.in_ok-replaying.replaying in
-    let first : IsFrom state s c.args.size begun = record { size_is = b.size; goes = b.folder; bytes = b.untouched } in
-    c.in-Err.ensures.only (claims_at state s c.args.size begun first claims) script root spec h (replay_at state s c.args.size begun first script root spec h claims is) small (b.only claims script root spec h is small)
+pub returns-in-Err-end-clause-output_failed : goal.returns-in-Err-end-clause-output_failed
+returns-in-Err-end-clause-output_failed g c = λ is.
+    let r = c.in-Ok.replaying in
+    let kept = c.whole_of.ensures.onlooker c.new-showing.result (refl, refl) in
+    has_failed g.W.Sink.contents g.W.Sink.failures c.whole_of.new.onlooker c.whole_of.new.output c.args.output.now r.taken.spec r.taken.entries c.in-Ok.ensures.seen (kept.1 ∙ c.new-showing.ensures.began)
+    c.in-Err-end.error c.in-Err-end.ensures.failed (c.into.ensures.1 (same_error c.into.result Output is))
 
 pub returns-in-Err-end-clause-fault : goal.returns-in-Err-end-clause-fault
 returns-in-Err-end-clause-fault g c claims = no_display c.args.size (g.F.Folder.state c.args.folder).bytes c.into.result c.into.ensures.0
-
-pub returns-in-Ok-end-clause-no_fault : goal.returns-in-Ok-end-clause-no_fault
-returns-in-Ok-end-clause-no_fault g c =
-    let state = g.F.Folder.state in
-    let s = state c.args.folder in
-    let b = c.in_ok-replaying.ensures in
-    let begun = c.in_ok-replaying.replaying in
-    let first : IsFrom state s c.args.size begun = record { size_is = b.size; goes = b.folder; bytes = b.untouched } in
-    no_fault_from state s c.args.size begun first c.in-Ok.ensures.no_fault

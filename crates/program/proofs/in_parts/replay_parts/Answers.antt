@@ -1,12 +1,18 @@
-use Rattle.std.proofs.Common.{◌≡◌, IsTrue, sym, subst}
+use Rattle.std.proofs.Common.{◌≡◌, IsTrue, refl, sym, subst}
 use Rattle.shared.specs.Scripts.{IsOutside}
 use Rattle.large_sessions.specs.Sessions.{AreRefusedFor, HaveNoSession}
 use Rattle.large_sessions.proofs.Refusing.{refused_for}
 use Rattle.program.proofs.InParts.{err_and, err_match}
 use Rattle.program.proofs.in_parts.replay_parts.Goals as goal
 
+pub returns-in-Ok-clause-done : goal.returns-in-Ok-clause-done
+returns-in-Ok-clause-done g c = c.in_ok-replaying.ensures.done refl
+
+pub returns-in-Ok-clause-replayed : goal.returns-in-Ok-clause-replayed
+returns-in-Ok-clause-replayed g c = c.in_ok-replaying.ensures.replayed refl
+
 pub returns-in-Ok-clause-only : goal.returns-in-Ok-clause-only
-returns-in-Ok-clause-only g c claims script root spec h is small = c.in_ok-replaying.ensures.only claims script root spec h is small
+returns-in-Ok-clause-only g c claims script root spec h is small = c.in_ok-replaying.ensures.only claims script root spec h is small refl
 
 pub returns-in_err-replaying-clause-fault : goal.returns-in_err-replaying-clause-fault
 returns-in_err-replaying-clause-fault g c =
@@ -28,7 +34,7 @@ returns-in_err-replaying-clause-refuses g c claims fault has =
     (λ e same. subst (AreRefusedFor c.args.size files fault) (sym same) (refused_for c.args.size files fault failed has (c.in_err-replaying.ensures.fault claims)))
 
 pub returns-in-Ok-clause-refuses : goal.returns-in-Ok-clause-refuses
-returns-in-Ok-clause-refuses g c claims fault has = absurd (c.in_ok-replaying.ensures.no_fault claims fault has)
+returns-in-Ok-clause-refuses g c claims fault has = absurd (c.in_ok-replaying.ensures.no_fault refl claims fault has)
 
 pub returns-in-Err-clause-refuses : goal.returns-in-Err-clause-refuses
-returns-in-Err-clause-refuses g c claims fault has = absurd (c.in_ok-replaying.ensures.no_fault claims fault has)
+returns-in-Err-clause-refuses g c claims fault has = absurd (c.in_ok-replaying.ensures.no_fault refl claims fault has)

@@ -98,7 +98,7 @@ returns-then-not-is_of g c =
     let r = c.in-Ok-whole.replaying in
     let whole = c.in-Ok-whole.ensures in
     let no : c.is_of.result ≡ false = search rules in
-    let done = c.is_done-is_done.ensures.done.1 whole.done in
+    let done = c.is_done-is_done.ensures.done.1 (whole.done refl) in
     let back = sym c.into_folder.ensures in
     let begins : (a b : List ℕ) (spec : Specified) (h : List Entry) → IsTrue old.claims_bytes → AreReplayOf c.args.size old.bytes a b spec h → length h < 2 ^ 62 → IsStartOf r a b spec h =
     λ a b spec h claims it small. start_of state old c.args.size p.0 r p.1.version p.1.script.items p.1.root.items first.is whole.alike first.continues first.untouched whole.continues whole.untouched a b spec h claims it
@@ -152,7 +152,7 @@ returns-in-Ok-finish g c =
     let script_is = same_here.0 ∙ c.text-text.ensures in
     let root_is = same_here.1 ∙ c.root-root.ensures in
     let names_are = same_here.2 in
-    let done = c.is_done-is_done.ensures.done.1 whole.done in
+    let done = c.is_done-is_done.ensures.done.1 (whole.done refl) in
     let begins : (a b : List ℕ) (spec : Specified) (h : List Entry) → IsTrue old.claims_bytes → AreReplayOf c.args.size old.bytes a b spec h → length h < 2 ^ 62 → IsStartOf r a b spec h =
     λ a b spec h claims it small. start_of state old c.args.size p.0 r p.1.version p.1.script.items p.1.root.items first.is whole.alike first.continues first.untouched whole.continues whole.untouched a b spec h claims it
     (λ at. whole.only (claims_there state old c.args.size p.0 r p.1.version p.1.script.items p.1.root.items first.is whole.alike first.continues first.untouched whole.continues whole.untouched claims) a b spec h at small (first.only claims a b spec h it small)) in
