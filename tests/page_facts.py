@@ -131,19 +131,24 @@ def check_release(pages):
 
 VERSIONS = {
     "man/cspwatch.1": r'^\.TH CSPWATCH 1 \S+ "cspwatch (.*?)"',
-    "man/cspwatch-logs.1": r'^\.TH CSPWATCH-LOGS 1 \S+ "cspwatch-client (.*?)"',
     "tests/cases/program.json": r'"cspwatch (\d.*?)"',
-    "clients/python/cspwatch_client/__init__.py": r'^__version__ = "(.*)"$',
     "clients/c/cspwatch_client.h": r'^#define CSPWATCH_CLIENT_VERSION "(.*)"$',
 }
-"""Where the version of the program stands too, and how: a release has one version. Python writes `.dev0` for `-dev`."""
+"""Where the version of the program stands too, and how: a release has one version."""
+
+PYTHON_VERSIONS = {
+    "man/cspwatch-logs.1": r'^\.TH CSPWATCH-LOGS 1 \S+ "cspwatch-client (.*?)"',
+    "clients/python/cspwatch_client/__init__.py": r'^__version__ = "(.*)"$',
+}
+"""The same where the client for Python has it, which writes `.dev0` for `-dev`."""
 
 
 def check_versions():
     wanted = re.search(r'^const VERSION: &str = "(.*)";$', text_of("crates/words/src/commands.rt"), re.MULTILINE)[1]
-    for name, form in VERSIONS.items():
-        found = {one.replace("\\-", "-").replace(".dev0", "-dev") for one in re.findall(form, text_of(name), re.MULTILINE)}
-        yield name, None if found == {wanted} else "has version %s, and the program has %s" % (", ".join(sorted(found)) or "none", wanted)
+    for places, version in (VERSIONS, wanted), (PYTHON_VERSIONS, wanted.replace("-dev", ".dev0")):
+        for name, form in places.items():
+            found = {one.replace("\\-", "-") for one in re.findall(form, text_of(name), re.MULTILINE)}
+            yield name, None if found == {version} else "has version %s in place of %s" % (", ".join(sorted(found)) or "none", version)
 
 
 # ---- ports
