@@ -1,9 +1,10 @@
 //! Showings, which look on while a history is judged.
 
-ghost use Rattle.std.specs.Prelude.{◌≡◌, ◌⊎◌, ◌<◌, ◌++◌, [], ◌∷◌, List, None, Some, is_some, IfErr, IfOk, IsErrOf, OnOk};
+ghost use Rattle.std.specs.Prelude.{◌≡◌, ◌⊎◌, ◌<◌, ◌++◌, [], ◌∷◌, Err, List, None, Some, is_some, IfErr, IfOk, IsErrOf, OnOk};
 ghost use Rattle.term.specs.Specs.{Specified};
 ghost use Rattle.history.specs.declared.entry.Entry.{Entry as entry_type};
 ghost use Rattle.history.specs.Legal.{IsJudged};
+ghost use Rattle.shown.specs.declared.error.ShowError.{ShowError as error_type};
 ghost use Rattle.shown.specs.Shows.{Sends, Shows, Writes};
 ghost use Rattle.shown.specs.Showings.{HasShown};
 ghost use Rattle.shown.specs.Steps.{IsAtWhereBegun, history_in, written_in};
@@ -122,6 +123,9 @@ impl<A: Allocator + Copy, W: Sink> Showing<A, W> {
             → IfOk result (λ left. Writes self.options spec.now h (W.contents self.began) (W.contents w) left.items) }
         ensures sound { OnOk result (self.fault ≡ None) }
         ensures failed { IfErr result (λ error. (error ≡ ShowError.Memory) ⊎ (self.fault ≡ Some error)) }
+
+        // What kept an entry from being shown is the error.
+        ensures fault { (error : error_type) → self.fault ≡ Some error → result ≡ Err error }
     {
         let Showing {
             alloc,
