@@ -22,6 +22,8 @@ TURN = "for _ in 0..1u8 {"
 WAITS = "\nfn await_len<"
 # How many such loops there are: one more has to be looked at.
 LOOPS = {"board": 1, "locked": 1, "shared": 5}
+# How long the rows may take, compiled and run beside other tests at a lower priority.
+SECONDS = 1800
 
 
 def copied(folder):
@@ -67,7 +69,7 @@ def main():
     with tempfile.TemporaryDirectory(prefix="turns-") as folder:
         copied(folder)
         found = {crate: change(os.path.join(folder, "crates", crate)) for crate in LOOPS}
-        ran, wanted = played(folder, "shared_rows", 600)
+        ran, wanted = played(folder, "shared_rows", SECONDS)
     checks = [
         ("the loops that would try again are those that were looked at", found == LOOPS, found),
         ("each of them ends with its first turn", ran.returncode == 0 and ran.stdout == wanted, ran.stderr.decode(errors="replace")[-400:]),
