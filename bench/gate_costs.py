@@ -4,10 +4,10 @@
     bench/gate_costs.py [--table FILE] COMMAND ..      for example bench/gate_costs.py --table costs.md .ci/run
 
 Once a second it looks at the checker's processes among the command's children (Linux alone). A check that runs in a
-temporary folder is one of a wrong body; every other one counts as proof and tests, but for those of a variant of the
-program, which don't count. A check by two jobs leaves much to processes of its own, whose time is in its figure once they
-have ended. What a process takes after the last look at it is missing, so a crate's figure is up to a second too small for
-each process. The status is the command's.
+temporary folder is one of a wrong body; every other one counts as proof and tests, but for those of changed programs (a
+variant, a body that rows have to refuse, first turns), which don't count. A check by two jobs leaves much to processes
+of its own, whose time is in its figure once they have ended. What a process takes after the last look at it is missing,
+so a crate's figure is up to a second too small for each process. The status is the command's.
 """
 import argparse
 import collections
@@ -19,8 +19,8 @@ import time
 
 # What the folders are called in which wrong bodies are checked, by `rt ci` and by tests/wrong_bodies.py.
 WRONG = ("rt-edit-", "wrong-")
-# Where tests/variant.py builds.
-VARIANTS = "/cspwatch-variants/"
+# What the folders are called in which tests/variant.py, tests/planted.py and tests/first_turns.py build.
+CHANGED = ("/cspwatch-variants/", "/planted-", "/turns-")
 TICKS = os.sysconf("SC_CLK_TCK")
 PAGE = os.sysconf("SC_PAGE_SIZE")
 
@@ -44,13 +44,13 @@ def name_of(number):
 
 def check_of(number):
     """The crate that a process checks or builds and whether it is one of a wrong body; None for another process, for one that
-    a check began, and for a variant of the program."""
+    a check began, and for a changed program."""
     words = words_of(number)
     if "--crate-name" not in words[:-1] or os.path.basename(words[0]) != "rattle" or name_of(number) != "rattle":
         return None
     crate = words[words.index("--crate-name") + 1]
     folder = os.readlink("/proc/%s/cwd" % number)
-    if VARIANTS in folder or any(VARIANTS in word for word in words):
+    if any(mark in word for mark in CHANGED for word in [folder, *words]):
         return None
     return crate, os.path.basename(folder).startswith(WRONG)
 
