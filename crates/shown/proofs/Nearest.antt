@@ -1,9 +1,9 @@
 -- Each event is in one of the three kinds of nearness.
-use Rattle.std.proofs.Common.{◌≡◌, ◌==◌, ◌+◌, ℕ, suc, Bool, true, false, cond, List, [], ◌∷◌, ◌++◌, length, filter, refl, sym, ap, ◌∙◌, arith}
+use Rattle.std.proofs.Common.{◌≡◌, ◌==◌, ◌+◌, ℕ, suc, Bool, true, false, cond, List, [], ◌∷◌, ◌++◌, length, refl, ap, ◌∙◌, arith}
 use Rattle.std.proofs.lemmas.List.{length-append}
 use Rattle.alphabet.specs.declared.events.Event.{Event}
 use Rattle.alphabet.specs.Channels.{Channel, name_of}
-use Rattle.shown.specs.Nearness.{channel_part, is_same, nearest_first, nearness, shares_value, so_near}
+use Rattle.shown.specs.Nearness.{channel_part, is_same, nearest_first, shares_value, so_near}
 
 one_more : {X : Type 0} (s t : Bool) (x : X) (a b c : List X) → let n = cond {A = ℕ} s 0 (cond {A = ℕ} t 1 2) in
     length (cond (n == 0) (x ∷ a) a) + length (cond (n == 1) (x ∷ b) b) + length (cond (n == 2) (x ∷ c) c) ≡ suc (length a + length b + length c)

@@ -1,6 +1,6 @@
 -- Texts that are cut at their dots.
-use Rattle.std.proofs.Common.{◌≡◌, ◌≢◌, ◌==◌, ℕ, List, [], ◌∷◌, ◌++◌, true, false, Bool, ◌||◌, refl, sym, ◌∙◌, ap}
-use Rattle.std.specs.List.{list_any, slice_split, onto_first}
+use Rattle.std.proofs.Common.{◌≡◌, ◌≢◌, ◌==◌, ℕ, List, [], ◌∷◌, ◌++◌, true, false, Bool, ◌||◌, refl, ◌∙◌, ap}
+use Rattle.std.specs.List.{list_any, onto_first}
 use Rattle.std.proofs.lemmas.Bool.{ne_eqb}
 use Rattle.std.proofs.lemmas.List.Splits.{slice_split-cons_no, slice_split-cons_yes}
 use Rattle.shown.specs.Nearness.{has_part, parts}

@@ -1,5 +1,5 @@
 -- The parts of a reason.
-use Rattle.std.proofs.Common.{◌≡◌, ◌↔◌, ◌≤◌, ◌-◌, ℕ, suc, Bool, true, false, IsTrue, List, [], ◌∷◌, ◌++◌, length, take, drop, get_or, codes, decimal, map, Result, Ok, Err, OnOk, refl, sym, ap, ap₂, subst, ◌∙◌, append_assoc, arith}
+use Rattle.std.proofs.Common.{◌≡◌, ◌≤◌, ◌-◌, ℕ, false, List, [], ◌∷◌, ◌++◌, length, take, drop, get_or, codes, decimal, map, Result, Ok, Err, OnOk, refl, sym, ap, subst, ◌∙◌, append_assoc, arith}
 use Rattle.std.specs.List.{flat_map}
 use Rattle.alphabet.specs.declared.events.Event.{Event}
 use Rattle.alphabet.specs.declared.events.Report.{Report}
@@ -15,7 +15,7 @@ use Rattle.shown.specs.declared.options.Format.TheVariants.{Text}
 use Rattle.shown.specs.Names.{joined, name_text}
 use Rattle.shown.specs.Lines.{Finding, expected, offered, report_text}
 use Rattle.shown.specs.Findings.{Finds, HasNext}
-use Rattle.shown.specs.Reasons.{IsReason, choice_text, expected_text, offer_text, offers_text, reason_text, why_text}
+use Rattle.shown.specs.Reasons.{IsReason, choice_text, expected_text, offer_text, offers_text, why_text}
 use Rattle.shown.proofs.Texts.{grown, joined_from}
 
 -- the first of some events, and the others

@@ -1,5 +1,5 @@
 -- The line that says why a report was rejected.
-use Rattle.std.specs.Prelude.{◌≡◌, ℕ, ◌≤◌, ◌-◌, leb, cond, Bool, true, false, List, [], ◌∷◌, ◌++◌, map, length, take, codes, decimal}
+use Rattle.std.specs.Prelude.{◌≡◌, ℕ, ◌-◌, leb, cond, false, List, [], ◌∷◌, ◌++◌, map, length, take, codes, decimal}
 use Rattle.alphabet.specs.declared.events.Event.{Event}
 use Rattle.alphabet.specs.declared.events.Report.{Report}
 use Rattle.alphabet.specs.declared.events.Report.TheVariants as report
@@ -10,7 +10,7 @@ use Rattle.term.specs.Specs.{Specified}
 use Rattle.history.specs.declared.entry.Entry.{Entry}
 use Rattle.shown.specs.declared.options.Format.TheVariants.{Text}
 use Rattle.shown.specs.Names.{joined, name_text}
-use Rattle.shown.specs.Lines.{Finding, accepted, expected, offered, report_text}
+use Rattle.shown.specs.Lines.{Finding, expected, offered, report_text}
 use Rattle.shown.specs.Findings.{Finds}
 use Rattle.shown.specs.Nearness.{nearest_first}
 

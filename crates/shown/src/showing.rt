@@ -1,10 +1,11 @@
 //! Showings, which look on while a history is judged.
 
-ghost use Rattle.std.specs.Prelude.{◌≡◌, ◌⊎◌, ◌<◌, ◌++◌, [], ◌∷◌, Err, List, None, Some, is_some, IfErr, IfOk, IsErrOf, OnOk};
+ghost use Rattle.std.specs.Prelude.{◌≡◌, ◌⊎◌, ◌<◌, ◌++◌, [], ◌∷◌, Err, List, None, Some, is_some, IfErr, IfOk, IsErrOf, IsSome, OnOk};
 ghost use Rattle.term.specs.Specs.{Specified};
 ghost use Rattle.history.specs.declared.entry.Entry.{Entry as entry_type};
 ghost use Rattle.history.specs.Legal.{IsJudged};
 ghost use Rattle.shown.specs.declared.error.ShowError.{ShowError as error_type};
+ghost use Rattle.shown.specs.declared.options.Options.{Options as options_type};
 ghost use Rattle.shown.specs.Shows.{Sends, Shows, Writes};
 ghost use Rattle.shown.specs.Showings.{HasShown};
 ghost use Rattle.shown.specs.Steps.{IsAtWhereBegun, history_in, written_in};
@@ -55,7 +56,25 @@ impl<A: Allocator, W> Model for Showing<A, W> {
     ghost invariant = { λ s. s.fault ≡ None → IsSound s.options s.progress };
 }
 
-/// Shows the entry that comes next in the history. Where it is the first one, nothing was made of entries before.
+/// Makes what is kept of entries, of none, where that wasn't made before.
+fn begin<A: Allocator + Copy>(
+    progress: &mut Option<Progress<A>>,
+    alloc: A,
+    spec: &Spec<A>,
+) -> Result<(), AllocError>
+    ensures at { (options : options_type) → IsAtWhereBegun options spec.now progress.old → OnOk result (IsAtWhereBegun options spec.now progress.new) }
+    ensures history { OnOk result (history_in progress.new ≡ history_in progress.old) }
+    ensures written { OnOk result (written_in progress.new ≡ written_in progress.old) }
+    ensures some { OnOk result (IsSome progress.new) }
+{
+    if progress.is_none() {
+        let first = Progress::new(alloc, spec)?;
+        drop(progress.replace(first));
+    }
+    Ok(())
+}
+
+/// Shows the entry that comes next in the history.
 fn go_on<A: Allocator + Copy, W: Sink>(
     progress: &mut Option<Progress<A>>,
     alloc: A,
@@ -73,15 +92,11 @@ fn go_on<A: Allocator + Copy, W: Sink>(
     ensures steady { OnOk result (W.failures output.new ≡ W.failures output.old) }
     ensures output_failed { IsErrOf result ShowError.Output → W.failures output.old < W.failures output.new }
 {
-    match progress {
-        Some(known) => known.see(alloc, legal, entry, options, output),
-        None => {
-            let mut first = Progress::new(alloc, legal.spec())?;
-            let seen = first.see(alloc, legal, entry, options, output);
-            *progress = Some(first);
-            seen
-        }
-    }
+    begin(progress, alloc, legal.spec())?;
+    let Some(known) = progress else {
+        unreachable!()
+    };
+    known.see(alloc, legal, entry, options, output)
 }
 
 /// What isn't written yet of the text of the entries that were shown, with the coverage at its end where it is wanted.

@@ -1,4 +1,4 @@
-use Rattle.std.proofs.Common.{◌≡◌, ap, sym, ℕ, List, get_or}
+use Rattle.std.proofs.Common.{ap, sym, ℕ, List, get_or}
 use Rattle.shown.proofs.Parting.{parts_cut, parts_none}
 use Rattle.shown.proofs.nearness.channel_of.Goals as goal
 

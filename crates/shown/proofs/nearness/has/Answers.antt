@@ -1,4 +1,4 @@
-use Rattle.std.proofs.Common.{◌≡◌, ◌∙◌, sym}
+use Rattle.std.proofs.Common.{◌∙◌, sym}
 use Rattle.shown.specs.Nearness.{is_same}
 use Rattle.shown.proofs.Parting.{any_first, any_later, any_last}
 use Rattle.shown.proofs.nearness.has.Goals as goal

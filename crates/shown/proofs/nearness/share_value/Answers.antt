@@ -1,4 +1,4 @@
-use Rattle.std.proofs.Common.{◌≡◌, ◌∙◌, ap, sym, ℕ, List, drop, false}
+use Rattle.std.proofs.Common.{◌∙◌, ap, sym, ℕ, List, drop}
 use Rattle.std.specs.List.{list_any}
 use Rattle.shown.specs.Nearness.{has_part, parts, value_parts}
 use Rattle.shown.proofs.Parting.{parts_cut, parts_none, none_common}
