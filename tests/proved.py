@@ -3,9 +3,11 @@
 
     tests/proved.py [--write]
 
-In docs/PROVED.md the block below `<!-- quoted: CRATE::CALL -->` is the call's contract as crates/CRATE/src has it, and what
-stands between `<!-- definitions -->` and `<!-- end -->` are the files that the contracts quoted in that section are made of:
-bottom up, without those of an earlier section. `<!-- definitions, but those of CRATE::CALL -->` leaves that call's own out.
+In docs/PROVED.md the block below `<!-- quoted: CRATE::CALL -->` is the call's contract as crates/CRATE/src has it, that
+below `<!-- defined: CRATE/FILE.NAME -->` the definition with its comment, as crates/CRATE/specs/FILE.antt has them, and
+what stands between `<!-- definitions -->` and `<!-- end -->` are the files that the contracts quoted in that section are
+made of: bottom up, without those of an earlier section. `<!-- definitions, but those of CRATE::CALL -->` leaves that
+call's own out.
 docs/PROVED-CALLS.md has a line for each public call of the product's libraries, and then the table of tests/definitions.py.
 With --write both pages are made to be so. The last line is `N passed, M failed`.
 """
@@ -25,6 +27,9 @@ TABLE_TITLE = "## How much there is to believe"
 
 QUOTED = re.compile(r"(<!-- quoted: ([\w:]+) -->\n```rust\n).*?(\n```)", re.DOTALL)
 """A quoted contract."""
+
+DEFINED = re.compile(r"(<!-- defined: (\w+)/(\w+)\.(\w+) -->\n```text\n).*?(\n```)", re.DOTALL)
+"""A quoted definition."""
 
 LISTED = re.compile(r"(<!-- definitions(?:, but those of ([\w:, ]+))? -->\n).*?(\n<!-- end -->)", re.DOTALL)
 """A list of files of definitions."""
@@ -46,6 +51,15 @@ def contract(call):
     indent = re.match(r"\s*", call.signature.split("\n")[0])[0]
     lines = [line[len(indent) :] if line.startswith(indent) else line for line in clauses.split("\n")]
     return signature.strip("\n") + "\n" + "\n".join(lines)
+
+
+def definition(crate, file, name):
+    """A record with the comment before it, as the file of definitions has it."""
+    text = spec_text(crate, file)
+    found = re.search(r"(?m)^(--.*\n)*^pub record %s\b.*(\n +.*)*" % name, text)
+    if found is None:
+        raise SystemExit("docs/PROVED.md: there is no record %s in crates/%s/specs/%s.antt" % (name, crate, file))
+    return found[0]
 
 
 def line_count(name):
@@ -76,6 +90,7 @@ def written_page(text):
     found, seen = [], set()
     for section in sections(text):
         section = QUOTED.sub(lambda quoted: quoted[1] + contract(find(quoted[2])) + quoted[3], section)
+        section = DEFINED.sub(lambda quoted: quoted[1] + definition(*quoted.group(2, 3, 4)) + quoted[5], section)
         calls = [find(path) for _, path, _ in QUOTED.findall(section)]
 
         def listed(match, calls=calls):

@@ -9,8 +9,8 @@ use Rattle.shared.specs.SessionError.{SessionError}
 use Rattle.large_sessions.specs.Faults.{HaveFault}
 use Rattle.large_sessions.specs.PartsError.{PartsError}
 use Rattle.large_sessions.specs.Sessions.{AreReplayOf, HaveNoSession, IsStartOf, Replayed}
+use Rattle.large_sessions.specs.Steps.{IsFurther}
 use Rattle.large_sessions.proofs.Refusing.{refused_for}
-use Rattle.large_sessions.proofs.Went.{Went}
 use Rattle.std.specs.Io.KnownBytes.{Appends}
 use Rattle.shared.specs.Entries.{summary_of}
 use Rattle.shared.specs.Summary.{Summary}
@@ -55,7 +55,7 @@ module _ {F : Type 0} (state : F → FolderState) (s : FolderState) (size : ℕ)
       none (claims_at claims) fault (subst (λ (n : ℕ). HaveFault n (state r.opened.held.folder).bytes fault) (sym f.size_is) (subst (λ (l : List (List ℕ)). HaveFault size l fault) (sym (f.bytes claims)) has))
 
   -- more was read
-  pub from_on : (new : Replayed F) → Went state r new → IsFrom state s size new
+  pub from_on : (new : Replayed F) → IsFurther state r new → IsFrom state s size new
   from_on new w = record {
     size_is = w.alike.size ∙ f.size_is;
     goes = continues_on s (state r.opened.held.folder) (state new.opened.held.folder) f.goes w.goes;

@@ -59,7 +59,9 @@ fn whole_of<F: Folder + Drop, A: Allocator + Copy, W, O: Onlooker<A, W>>(
     ensures seen { IfOk result (λ r. O.has_seen onlooker.new output.new r.taken.spec r.taken.entries) }
     ensures onlooker { (first : O) → O.kept first onlooker.old → O.kept first onlooker.new }
 {
-    let (replaying, header) = match Replaying::begin(alloc, folder, size, None, onlooker, output) {
+    let (replaying, header) = match Replaying::begin_watched(
+        alloc, folder, size, None, onlooker, output,
+    ) {
         Ok(begun) => begun,
         Err((error, folder)) => {
             drop(folder);
@@ -67,7 +69,7 @@ fn whole_of<F: Folder + Drop, A: Allocator + Copy, W, O: Onlooker<A, W>>(
         }
     };
     drop(header);
-    match replaying.whole(onlooker, output) {
+    match replaying.whole_watched(onlooker, output) {
         Ok(replaying) => {
             // Then the files hold just its history.
             let _is_done = replaying.is_done();
@@ -81,7 +83,7 @@ fn whole_of<F: Folder + Drop, A: Allocator + Copy, W, O: Onlooker<A, W>>(
 }
 
 /// Judges the records of a journal in parts again, one part after the other: the replay, the line with its counts, and the exit status.
-/// Nothing is written to the files. The errors are those of `Replaying::next`, or `Memory`. Takes memory for one part.
+/// Nothing is written to the files. The errors are those of `Replaying::whole`, or `Memory`. Takes memory for one part.
 pub fn replay_parts<F: Folder + Drop, A: Allocator + Copy>(
     alloc: A,
     folder: F,

@@ -16,7 +16,7 @@ use crate::summaries::summary_line;
 use answers::Exit;
 use disk::Disk;
 use journal::Header;
-use shared::{Nobody, Session, SessionError};
+use shared::{Session, SessionError};
 use std::alloc::Allocator;
 
 /// What a replay comes to.
@@ -68,7 +68,7 @@ pub fn replay<D: Disk + Drop, A: Allocator + Copy>(
     ensures refuses { IsTrue (D.state disk).claims_bytes → (error : JournalError) → HasFault (D.state disk).bytes error
         → MatchResult result (λ _. ⊥) (λ e. (e ≡ journal_error error) ⊎ IsOutside e) }
 {
-    let (session, header) = match Session::replay(alloc, disk, None, &mut Nobody, &mut ()) {
+    let (session, header) = match Session::replay(alloc, disk, None) {
         Ok(replayed) => replayed,
         Err((error, disk)) => {
             drop(disk);

@@ -97,7 +97,7 @@ pub(crate) fn lines_of<D: Disk + Drop, A: Allocator + Copy, W: Sink>(
     ensures silent { IsTrue (D.state disk).claims_bytes → (error : JournalError) → HasFault (D.state disk).bytes error → output.new ≡ output.old }
 {
     let mut showing = Showing::new(alloc, options, output);
-    let (session, header) = match Session::replay(alloc, disk, None, &mut showing, output) {
+    let (session, header) = match Session::replay_watched(alloc, disk, None, &mut showing, output) {
         Ok(replayed) => replayed,
         Err((error, disk)) => {
             drop(disk);

@@ -5,7 +5,7 @@ use crate::memory::{Memory, Way};
 use disk::Disk;
 use memory_disks::{Afterwards, FaultDisk};
 use rows::{Output, Refusing, first_word, number_of, parts};
-use session::{Nobody, Session, SessionError};
+use session::{Session, SessionError};
 use std::alloc::{Allocator, Global};
 
 /// How a session begins, and what it is asked.
@@ -73,7 +73,7 @@ fn begun<D: Disk + Drop, A: Allocator + Copy + Drop>(
 ) -> Result<Session<D, A>, (SessionError, D)> {
     match scene.new {
         Some((root, script)) => Session::create(alloc, disk, script.as_bytes(), root.as_bytes()),
-        None => match Session::replay(alloc, disk, None, &mut Nobody, &mut ()) {
+        None => match Session::replay(alloc, disk, None) {
             Ok((session, _header)) => Ok(session),
             Err(failed) => Err(failed),
         },

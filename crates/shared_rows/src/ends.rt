@@ -3,7 +3,7 @@
 use alphabet::{Alphabet, EventSet};
 use disk::Disk;
 use rows::Output;
-use shared::{Nobody, Session, SessionError, Status, Summary};
+use shared::{Session, SessionError, Status, Summary};
 use std::alloc::{Allocator, Global};
 use wire::{End, Tally, WireError};
 
@@ -90,7 +90,7 @@ pub(crate) fn put_session<D: Disk, A: Allocator>(
 /// Appends what a session of the file has.
 pub(crate) fn put_kept<D: Disk + Drop>(alloc: Global, disk: D, out: &mut Output) {
     out.put(" | ");
-    match Session::replay(alloc, disk, None, &mut Nobody, &mut ()) {
+    match Session::replay(alloc, disk, None) {
         Ok((session, header)) => {
             drop(header);
             put_status(session.summary(), session.is_closed(), out);

@@ -1,4 +1,4 @@
-use Rattle.std.proofs.Common.{◌≡◌, rules, subst, sym, true}
+use Rattle.std.proofs.Common.{◌≡◌, rules, sym, true}
 use Rattle.session.proofs.ScriptLemmas.{read_at}
 use Rattle.session.proofs.reading.known_of.Goals as goal
 
