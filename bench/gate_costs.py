@@ -1,7 +1,9 @@
 #!/usr/bin/env python3
 """Runs a command, and prints what each crate's checks below it took: processor seconds, and the peak memory of a process.
 
-    bench/gate_costs.py [--table FILE] COMMAND ..      for example bench/gate_costs.py --table costs.md .ci/run
+    bench/gate_costs.py [--table FILE] [--csv VERSION MACHINE LOAD] COMMAND ..
+
+For example `bench/gate_costs.py --table costs.md .ci/run`. With --csv lines for a file of bench/results follow the table.
 
 Once a second it looks at the checker's processes among the command's children (Linux alone). A check that runs in a
 temporary folder is one of a wrong body; every other one counts as proof and tests, but for those of changed programs (a
@@ -11,6 +13,8 @@ so a crate's figure is up to a second too small for each process. The status is 
 """
 import argparse
 import collections
+import csv
+import io
 import os
 import resource
 import subprocess
@@ -89,9 +93,22 @@ def table(seconds, memory):
     yield "| all | %.0f | | %.0f |" % tuple(whole)
 
 
+def lines_of_results(seconds, memory, command, version, machine, load):
+    """The same figures as lines for a file of bench/results."""
+    sums = {check: sum(taken.values()) for check, taken in seconds.items()}
+    figures = [("crates / `%s` / proof and rows" % crate, "%.0f" % taken, "s") for (crate, is_edit), taken in sorted(sums.items()) if not is_edit]
+    figures.append(("wrong bodies / all / processor time", "%.0f" % sum(taken for (_, is_edit), taken in sums.items() if is_edit), "s"))
+    figures.append(("gate more / the most memory of a process / peak memory", "%.1f" % (max(memory.values(), default=0) / 1e9), "GB"))
+    text = io.StringIO()
+    for subject, figure, unit in figures:
+        csv.writer(text, lineterminator="\n").writerow([subject, "bench/gate_costs.py " + " ".join(command), version, figure, unit, machine, load])
+    return text.getvalue().splitlines()
+
+
 def main():
     parser = argparse.ArgumentParser(description=__doc__.split("\n")[0])
     parser.add_argument("--table", help="the file for the table; standard error where it is left out")
+    parser.add_argument("--csv", nargs=3, metavar=("VERSION", "MACHINE", "LOAD"), help="lines for a file of bench/results after the table")
     parser.add_argument("command", nargs=argparse.REMAINDER)
     options = parser.parse_args()
     seconds, memory = collections.defaultdict(dict), collections.defaultdict(int)
@@ -103,6 +120,8 @@ def main():
     used = resource.getrusage(resource.RUSAGE_CHILDREN)
     minutes = (time.time() - began) / 60, (used.ru_utime + used.ru_stime) / 60
     lines = [*table(seconds, memory), "", "%.1f minutes by the clock, %.1f of processor time" % minutes]
+    if options.csv:
+        lines += ["", *lines_of_results(seconds, memory, options.command, *options.csv)]
     with open(options.table, "w") if options.table else os.fdopen(os.dup(2), "w") as file:
         file.write("\n".join(lines) + "\n")
     return child.returncode
