@@ -8,8 +8,8 @@ Without --program the program is crates/cspwatch/out/cspwatch, which `rt` builds
 program, its package for Debian, the wheel of the client for Python, what is known of them in RELEASE, and their sums in SHA256SUMS.
 It is made from a state that is committed, whose version doesn't end in -dev, as VERSION does between releases.
 
-A program that differs from the released one passes the comparison where a source of it has changed since, and its version is a later
-one. The last line of a comparison is `N passed, M failed`.
+Where a source of the program has changed since, be it a proof alone, the comparison passes if the version is a later one. The last line
+of a comparison is `N passed, M failed`.
 """
 import argparse
 import hashlib
@@ -197,9 +197,9 @@ def judged(program, release):
     if not os.path.exists(program):
         return "%s: there is no such program" % program, False
     name = release["version"]
-    if digest(program) == release["sha256"]:
-        return "the built program is that of release %s, byte for byte" % name, True
     if sources() == release["sources"]:
+        if digest(program) == release["sha256"]:
+            return "the built program is that of release %s, byte for byte" % name, True
         if kit() == release["kit"]:
             return "the built program is NOT that of release %s, though its sources are the same" % name, False
         return "the built program is another than that of release %s, which was built by another kit: %s" % (name, release["kit"]), True

@@ -124,7 +124,7 @@ def compared(copy, version):
     copy.change(SOURCE, r"\A", "// Changed.\n")
     copy.compare("changed sources of the released version", copy.program(version), "VERSION has to be a later one", False)
     copy.compare("a former version", copy.program("0.0.1-dev"), "VERSION has to be a later one", False)
-    copy.compare("the released program of changed sources", RELEASED, "byte for byte\n1 passed, 0 failed\n", True)
+    copy.compare("the released program of changed sources", RELEASED, "VERSION has to be a later one", False)
     copy.compare("between releases", copy.program(later + "-dev"), "its sources have changed since\n1 passed, 0 failed\n", True)
     copy.compare("before a release", copy.program(later), "version %s isn't released" % later, True)
     copy.change("dist/SHA256SUMS", r"\A.", "x")
