@@ -21,7 +21,7 @@ extern "C" {
 #endif
 
 /* The version of this header. */
-#define CSPWATCH_CLIENT_VERSION "0.6.3"
+#define CSPWATCH_CLIENT_VERSION "0.7.0-dev"
 
 /* The most bytes that a line may have before its LF. */
 #define CSPWATCH_LINE_LIMIT 4096

@@ -16,7 +16,7 @@ from .replies import BadReply, CspwatchError, Fault, FaultCode, NoReply, OtherRe
 from .running import Checker, Outcome, Server, StartFailed
 from .shown import BadLine
 
-__version__ = "0.6.3"
+__version__ = "0.7.0.dev0"
 
 __all__ = [
     "AsyncClient",

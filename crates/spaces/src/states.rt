@@ -41,7 +41,7 @@ impl StateSet {
     }
 
     /// The number of the set.
-    pub(crate) fn number(self) -> u32
+    pub fn number(self) -> u32
         ensures { result ≡ self }
     {
         self.number

@@ -9,7 +9,7 @@ use std::alloc::{AllocError, Global};
 use std::convert::AsStr;
 
 /// The version of the program, as `--version` prints it.
-const VERSION: &str = "0.6.3";
+const VERSION: &str = "0.7.0-dev";
 
 // How a fault of the address is reported.
 const BAD_ADDRESS: &str = "ADDR is 127.x.y.z:port, in decimals without leading zeros, or unix:PATH";
