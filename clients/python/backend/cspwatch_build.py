@@ -36,15 +36,22 @@ Root-Is-Purelib: true
 Tag: py3-none-any
 """
 
-COMMANDS = "[console_scripts]\ncspwatch-logs = cspwatch_client.logs.command:main\n"
+COMMANDS = {
+    "cspwatch-logs": "cspwatch_client.logs.command:main",
+}
+"""The commands, and the function that each calls."""
 
-SHARED = [
-    ("man/cspwatch-logs.1", "man/man1/cspwatch-logs.1"),
-    ("clients/python/completions/cspwatch-logs.bash", "bash-completion/completions/cspwatch-logs"),
-    ("clients/python/completions/_cspwatch-logs", "zsh/site-functions/_cspwatch-logs"),
-    ("clients/python/completions/cspwatch-logs.fish", "fish/vendor_completions.d/cspwatch-logs.fish"),
+ENTRY_POINTS = "[console_scripts]\n" + "".join("%s = %s\n" % row for row in sorted(COMMANDS.items()))
+
+OF_A_COMMAND = [
+    ("man/%s.1", "man/man1/%s.1"),
+    ("clients/python/completions/%s.bash", "bash-completion/completions/%s"),
+    ("clients/python/completions/_%s", "zsh/site-functions/_%s"),
+    ("clients/python/completions/%s.fish", "fish/vendor_completions.d/%s.fish"),
 ]
-"""What the repository has for the command, and where it goes below `share`."""
+"""What the repository has for a command, and where it goes below `share`."""
+
+SHARED = [(source % command, target % command) for command in sorted(COMMANDS) for source, target in OF_A_COMMAND]
 
 LICENCES = ["LICENSE-MIT", "LICENSE-APACHE"]
 
@@ -75,7 +82,7 @@ def package() -> Files:
 
 def about() -> Files:
     """What a wheel says of itself, but for the list of its files. Who has this folder alone has no licences beside it."""
-    found = {"METADATA": (METADATA % version()).encode(), "WHEEL": WHEEL.encode(), "entry_points.txt": COMMANDS.encode()}
+    found = {"METADATA": (METADATA % version()).encode(), "WHEEL": WHEEL.encode(), "entry_points.txt": ENTRY_POINTS.encode()}
     for name in LICENCES:
         if os.path.exists(os.path.join(ROOT, name)):
             found[name] = bytes_of(ROOT, name)
@@ -83,7 +90,7 @@ def about() -> Files:
 
 
 def shared() -> Files:
-    """The manual page and the completions of the command."""
+    """The manual pages and the completions of the commands."""
     there = [(source, target) for source, target in SHARED if os.path.exists(os.path.join(ROOT, source))]
     return {"%s-%s.data/data/share/%s" % (NAME, version(), target): bytes_of(ROOT, source) for source, target in there}
 
