@@ -137,6 +137,7 @@ VERSIONS = {
 """Where the version of the program stands too, and how: a release has one version."""
 
 PYTHON_VERSIONS = {
+    "man/cspwatch-explore.1": r'^\.TH CSPWATCH-EXPLORE 1 \S+ "cspwatch-client (.*?)"',
     "man/cspwatch-logs.1": r'^\.TH CSPWATCH-LOGS 1 \S+ "cspwatch-client (.*?)"',
     "clients/python/cspwatch_client/__init__.py": r'^__version__ = "(.*)"$',
 }

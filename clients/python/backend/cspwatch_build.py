@@ -37,6 +37,7 @@ Tag: py3-none-any
 """
 
 COMMANDS = {
+    "cspwatch-explore": "cspwatch_client.exploring.command:main",
     "cspwatch-logs": "cspwatch_client.logs.command:main",
 }
 """The commands, and the function that each calls."""
