@@ -11,17 +11,17 @@ _cspwatch_logs() {
             COMPREPLY=($(compgen -W "redis://127.0.0.1:" -- "$current"))
             return
             ;;
-        --seat | --partition) return ;;
+        --seat | --partition | --min-reports) return ;;
     esac
     if [[ $current == -* ]]; then
-        COMPREPLY=($(compgen -W "--follow --server --seat --strict --quiet --first --coverage --junit --annotations --record --stream --partition --program --help -h" -- "$current"))
+        COMPREPLY=($(compgen -W "--follow --server --seat --min-reports --strict --quiet --first --coverage --junit --annotations --record --stream --partition --program --help --version -h" -- "$current"))
         return
     fi
     # How many words are before the cursor, without options and what follows them. Bash takes a colon for a word of its own.
     for ((index = 1; index < COMP_CWORD; index++)); do
         word=${COMP_WORDS[index]}
         case $word in
-            --server | --seat | --junit | --record | --stream | --partition | --program)
+            --server | --seat | --junit | --record | --stream | --partition | --program | --min-reports)
                 index=$((index + 1))
                 while [[ ${COMP_WORDS[index + 1]} == : ]]; do index=$((index + 2)); done
                 ;;

@@ -1,8 +1,10 @@
 # Completion for fish. Copy this file to ~/.config/fish/completions.
 complete -c cspwatch-logs -s h -l help -d 'print help'
+complete -c cspwatch-logs -l version -d 'print the version'
 complete -c cspwatch-logs -l follow -d 'wait for more lines'
 complete -c cspwatch-logs -l server -x -a '127.0.0.1:' -d 'report to a server'
 complete -c cspwatch-logs -l seat -x -d 'be this seat of the server'
+complete -c cspwatch-logs -l min-reports -x -d 'how many reports have to be judged'
 complete -c cspwatch-logs -l strict -d 'a line that no rule takes is a fault'
 complete -c cspwatch-logs -l quiet -d 'print the rejected reports alone'
 complete -c cspwatch-logs -l first -d 'end at the first rejected report'

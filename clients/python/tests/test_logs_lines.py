@@ -10,7 +10,8 @@ from logs_folder import NEEDS, RULES, SPECIFICATION, InFolder  # noqa: E402
 
 if sys.version_info >= (3, 11):
     from cspwatch_client.logs.junit import MOST_FAILURES
-    from cspwatch_client.logs.reading import LONGEST, Followed, Source, Splitter
+    from cspwatch_client.logs.following import Followed
+    from cspwatch_client.logs.reading import LONGEST, Source, Splitter
     from cspwatch_client.logs.showing import MOST_MESSAGES, SHOWN, escaped, printable
 
 
@@ -119,7 +120,8 @@ class Texts(InFolder):
     def test_messages_are_limited(self):
         self.file("m.toml", self.MAP)
         status, out, errors = self.logs("m.toml", given=b"open 7\n" * 100)
-        self.assertEqual((status, len(errors)), (2, MOST_MESSAGES + 1))
+        self.assertEqual((status, len(errors)), (2, MOST_MESSAGES + 2))
+        self.assertEqual(errors[-1], "cspwatch-logs: 0 reports were judged, and --min-reports is 1")
         self.assertEqual(errors[0], "-:1: not judged: the script has no event 'open.7'")
         self.assertEqual(out, ["100 lines, 100 reports: 0 accepted, 0 rejected, 100 not judged; 0 ignored, 0 without a rule"])
 

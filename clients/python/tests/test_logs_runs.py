@@ -33,7 +33,7 @@ class OverAStandIn(InFolder):
     def test_reasons(self):
         given = b"# begin\nopen 0\nbad\nno 0\nwhat\nclose 0"
         out = ["-:3: E bad: NO 2, expected open.0 or open.1", "    bad", "-:4: R open.0: NO 3, offers close.0", "    no 0",
-               counts(6, 4, 2, 2, rest="1 ignored, 1 without a rule")]
+               counts(6, 4, 2, 2, rest="1 ignored, 1 without a rule (first: -:5)")]
         self.assertEqual(self.logs("m.toml", given=given), (1, out, []))
 
     def test_a_reason_that_does_not_come(self):
@@ -62,7 +62,7 @@ class OverAStandIn(InFolder):
         self.assertEqual((first[0], first[1][:2], first[2]), (1, ["-:2: E bad: NO 1, expected open.0 or open.1", "    bad"], []))
         self.assertEqual(len(first[1]), 3)
         self.assertEqual(self.logs("--strict", "m.toml", given=b"what\nopen 0\n"),
-                         (2, [counts(2, 1, 1, 0, rest="0 ignored, 1 without a rule")], ["-:1: no rule takes this line: what"]))
+                         (2, [counts(2, 1, 1, 0, rest="0 ignored, 1 without a rule (first: -:1)")], ["-:1: no rule takes this line: what"]))
 
     def test_coverage(self):
         out = ["never came: open.1 close.* bad _tick", "rules that took no line: m.toml:9, m.toml:17", "2 lines, 2 reports"]
@@ -79,8 +79,9 @@ class OverAStandIn(InFolder):
         self.file("p.csp", "channel open : {0, 1}\nchannel close : {0}\nchannel bad\nfault|E bad|21 states\nno|E open.1|x\n")
         self.file("m.toml", SPECIFICATION + RULES)
         status, out, errors = self.logs("m.toml", given=b"bad\nopen 0\n")
-        self.assertEqual((status, out, errors), (6, [counts(2, 2, 1, 0, 1)], ["-:1: not judged: E bad: ERR 21 states"]))
-        self.assertEqual(self.logs("m.toml", given=b"bad\nopen 1\n")[0], 1)
+        self.assertEqual((status, out, errors), (2, [counts(2, 2, 1, 0, 1)], ["-:1: not judged: E bad: ERR 21 states"]))
+        # A rejected report counts where it comes before the event that is missing in the trace.
+        self.assertEqual([self.logs("m.toml", given=given)[0] for given in (b"bad\nopen 1\n", b"open 1\nbad\n")], [2, 1])
 
     def test_a_program_that_ends_early(self):
         for status, wanted in ((3, 3), (6, 6), (9, 5)):
@@ -151,7 +152,7 @@ class Follows(InFolder):
         run.stdout.readline()
         run.send_signal(signal.SIGINT)
         out, errors = run.communicate(timeout=SECONDS)
-        self.assertEqual((run.returncode, out.decode(), errors), (1, counts(3, 2, 1, 1, rest="0 ignored, 1 without a rule") + "\n", b""))
+        self.assertEqual((run.returncode, out.decode(), errors), (1, counts(3, 2, 1, 1, rest="0 ignored, 1 without a rule (first: a.log:3)") + "\n", b""))
 
 
 @NEEDS

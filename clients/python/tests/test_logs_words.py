@@ -48,7 +48,7 @@ def has_word(text, word):
 class Words(unittest.TestCase):
     def setUp(self):
         done = subprocess.run([sys.executable, COMMAND, "--help"], stdout=subprocess.PIPE, timeout=SECONDS, check=True)
-        self.options = set(re.findall(r"(?<![\w-])--[a-z]+", done.stdout.decode("utf-8")))
+        self.options = set(re.findall(r"(?<![\w-])--[a-z][a-z-]*", done.stdout.decode("utf-8")))
         self.assertGreater(len(self.options), 9)
 
     def test_the_manual_page(self):
@@ -61,8 +61,8 @@ class Words(unittest.TestCase):
 
     def test_completions(self):
         for name in ("cspwatch-logs.bash", "_cspwatch-logs"):
-            self.assertEqual(set(re.findall(r"(?<![\w-])--[a-z]+", re.sub(r"#.*", "", text_of(COMPLETIONS, name)))), self.options)
-        self.assertEqual({"--" + word for word in re.findall(r"-l ([a-z]+)", text_of(COMPLETIONS, "cspwatch-logs.fish"))}, self.options)
+            self.assertEqual(set(re.findall(r"(?<![\w-])--[a-z][a-z-]*", re.sub(r"#.*", "", text_of(COMPLETIONS, name)))), self.options)
+        self.assertEqual({"--" + word for word in re.findall(r"-l ([a-z][a-z-]*)", text_of(COMPLETIONS, "cspwatch-logs.fish"))}, self.options)
 
     @unittest.skipUnless(shutil.which("bash"), "there is no bash")
     def test_what_bash_offers(self):

@@ -7,23 +7,26 @@ import resource
 import shutil
 import signal
 import sys
-from typing import Callable, List, Optional, Sequence, TextIO
+from typing import Callable, List, NoReturn, Optional, Sequence, TextIO
 
+from .. import __version__
 from ..client import place_of
 
 if sys.version_info < (3, 11):
     print("cspwatch-logs needs Python 3.11 or later, this is %d.%d" % sys.version_info[:2], file=sys.stderr)
     raise SystemExit(2)
 
+from .following import sources_of
 from .junit import JUnit, suite_of
 from .links import Check, Connection, Link, Lost
 from .mapping import Rules
 from .maps import Map, MapFault, Specification, read_map
 from .program import Program, ProgramFault, check_events, events_of, program_at
-from .reading import Source, cut_lines, sources_of
+from .packed import LogFault
+from .reading import Source
 from .record import Record, RecordFault
 from .running import Run, Wanted
-from .showing import Printer
+from .showing import Printer, printable
 from .streams import Stream, StreamFault, partition
 
 LOOK_SECONDS = 0.2
@@ -43,7 +46,7 @@ class BadUse(Exception):
 
 def parser() -> argparse.ArgumentParser:
     """The words of the command."""
-    found = argparse.ArgumentParser(
+    found = Parser(
         prog="cspwatch-logs", description="Maps the lines of logs to reports, and has them judged by cspwatch.", epilog=EPILOG
     )
     found.add_argument("map", metavar="MAP", help="the map, a file of TOML")
@@ -51,6 +54,7 @@ def parser() -> argparse.ArgumentParser:
     found.add_argument("--follow", action="store_true", help="wait for more lines, also after a log was rotated or cut")
     found.add_argument("--server", metavar="ADDR", help="report to the server at HOST:PORT or unix:PATH, in place of a check of its own")
     found.add_argument("--seat", metavar="N", type=seat, help="be seat N of the server, and go on after its last report (1 to 1000)")
+    found.add_argument("--min-reports", metavar="N", type=count, default=1, help="how many reports have to be judged, 1 where left out")
     found.add_argument("--strict", action="store_true", help="a line that no rule takes is a fault")
     found.add_argument("--quiet", action="store_true", help="print the rejected reports alone, without their lines and the counts")
     found.add_argument("--first", action="store_true", help="end at the first rejected report")
@@ -61,7 +65,22 @@ def parser() -> argparse.ArgumentParser:
     found.add_argument("--stream", metavar="URL", help="read a stream of Redis, redis://HOST:PORT/NAME, in place of logs")
     found.add_argument("--partition", metavar="K/N", type=partition, help="read partition K of N streams, which is NAME:K")
     found.add_argument("--program", metavar="FILE", help="the program cspwatch; $CSPWATCH or the one on the PATH where left out")
+    found.add_argument("--version", action="version", version="cspwatch-logs " + __version__)
     return found
+
+
+class Parser(argparse.ArgumentParser):
+    """A parser that shows what a terminal would obey."""
+
+    def error(self, message: str) -> NoReturn:
+        super().error(printable(message))
+
+
+def count(text: str) -> int:
+    number = int(text)
+    if number < 0:
+        raise ValueError(text)
+    return number
 
 
 def seat(text: str) -> int:
@@ -82,7 +101,9 @@ def main(words: Optional[Sequence[str]] = None) -> int:
         return said(fault, 2)
     except BadUse as fault:
         return said("cspwatch-logs: %s" % fault, 2)
-    except (ProgramFault, Lost, RecordFault, StreamFault) as fault:
+    except ProgramFault as fault:
+        return said(fault, fault.status, "\n")
+    except (Lost, LogFault, RecordFault, StreamFault) as fault:
         return said(fault, fault.status)
     except BrokenPipeError:
         # Nobody reads the verdicts any more; the interpreter would fail again when it flushes at its end.
@@ -92,9 +113,13 @@ def main(words: Optional[Sequence[str]] = None) -> int:
         return said("%s: %s" % (fault.filename or "cspwatch-logs", fault.strerror or fault), 5)
 
 
-def said(fault: object, status: int) -> int:
-    """Says what is wrong."""
-    print(fault, file=sys.stderr)
+def said(fault: object, status: int, between: str = "") -> int:
+    """Says what is wrong.
+
+    between -- what stands between its lines, where it may have several.
+    """
+    lines = str(fault).split(between) if between else [str(fault)]
+    print("\n".join(printable(line) for line in lines), file=sys.stderr)
     return status
 
 
@@ -111,22 +136,20 @@ def run(options: argparse.Namespace, out: TextIO, errors: TextIO) -> int:
     junit = JUnit(options.junit, suite_of(options.map)) if options.junit is not None else None
     record = Record(options.record) if options.record is not None else None
     printer = Printer(out, errors, options.quiet, options.annotations)
-    running = Run(rules, start, printer, Wanted(options.strict, options.first, options.coverage, skip, junit, record))
+    running = Run(rules, start, printer, Wanted(options.strict, options.first, options.coverage, options.min_reports, skip, junit, record))
     try:
         is_whole = read_all(running, sources, options.follow)
         running.finish()
-    except (Lost, StreamFault, RecordFault) as fault:
-        running.counts.statuses.add(fault.status)
+    except (Lost, LogFault, StreamFault, RecordFault) as fault:
         printer.flush()
-        said(fault, fault.status)
+        running.problem(str(fault), fault.status)
         running.abandon()
-        running.close(cut_lines(sources), is_whole=False)
+        running.close(sources, is_whole=False)
         return fault.status
     is_whole = is_whole and not running.stopped
     if running.counts.earlier < skip and is_whole:
-        said("cspwatch-logs: %d reports of the seat stand in the history, and the log has %d" % (skip, running.counts.earlier), 2)
-        running.counts.statuses.add(2)
-    running.close(cut_lines(sources), is_whole)
+        running.problem("cspwatch-logs: %d reports of the seat stand in the history, and the log has %d" % (skip, running.counts.earlier), 2)
+    running.close(sources, is_whole)
     return running.counts.status()
 
 
@@ -177,7 +200,7 @@ def program_for(options: argparse.Namespace, found: Map) -> Optional[Program]:
     name = options.program or os.environ.get("CSPWATCH") or "cspwatch"
     path = shutil.which(name)
     if path is None:
-        raise ProgramFault("%s: there is no such program; --program FILE or the variable CSPWATCH says where it is" % name, 5)
+        raise ProgramFault("%s: there is no such program; --program FILE or the variable CSPWATCH says where it is" % printable(name), 5)
     program = program_at(path)
     if found.specification.large and not program.is_large and options.server is None:
         reason = "this needs `check --large`, which came after cspwatch 0.5.1; %s is %s" % (path, program.version)
@@ -218,6 +241,14 @@ class Stop:
         signal.signal(number, signal.SIG_DFL)
 
 
+def tell_unread(source: Source, printer: Printer) -> None:
+    """Says once of a log that it has bytes which are no text."""
+    splitter = source.splitter
+    if splitter.first_unread and not splitter.is_told:
+        splitter.is_told = True
+        printer.problem("%s:%d: bytes that are no text (UTF-8 without NUL); they are read as \\xff" % (printable(source.name), splitter.first_unread))
+
+
 def read_all(running: Run, sources: List[Source], follow: bool) -> bool:
     """Reads the logs: one after the other, or side by side where they are followed. Answers whether it was to their ends."""
     stop = Stop()
@@ -230,6 +261,7 @@ def read_all(running: Run, sources: List[Source], follow: bool) -> bool:
                 lines = source.read()
                 came = came or bool(lines) or source.ended
                 running.take(lines)
+                tell_unread(source, running.printer)
         if not came:
             ends = [end for end in (source.waits_on() for source in current) if end is not None]
             running.pump(LOOK_SECONDS, ends)

@@ -5,10 +5,10 @@ import os
 import tempfile
 from collections import deque
 from html import escape
-from typing import Deque, List
+from typing import Deque, List, Sequence
 
 from .reading import Line
-from .showing import printable
+from .showing import place_of, printable
 
 AROUND = 3
 """How many lines of the log are shown before and after the one of a rejected report."""
@@ -69,7 +69,7 @@ class Failure:
 
     def written(self) -> str:
         """The failure as an element."""
-        message = quoted("%s:%d: %s" % (self.line.file, self.line.number, self.text))
+        message = quoted("%s: %s" % (place_of(self.line), self.text))
         body = "\n".join(printable(line) for line in self.lines)
         return "<%s message=%s>%s</%s>" % (self.kind, message, escape("\n" + body + "\n", quote=False), self.kind)
 
@@ -90,6 +90,10 @@ class Case:
         if len(self.failures) < MOST_FAILURES:
             self.failures.append(failure)
 
+    def is_empty(self) -> bool:
+        """Whether nothing was judged, and nothing was to be judged: this has neither passed nor failed."""
+        return self.reports == 0 and not self.failures
+
     def is_complete(self) -> bool:
         """Whether the lines around each failure are known."""
         return all(failure.complete for failure in self.failures)
@@ -100,6 +104,8 @@ class Case:
         more = self.rejected + self.not_judged - len(self.failures)
         if more:
             parts.append("<system-out>%d more were rejected or not judged</system-out>" % more)
+        if self.is_empty():
+            parts.append('<skipped message="no report of it was judged in this run"/>')
         names = quoted(suite), quoted(self.name), self.reports
         return "<testcase classname=%s name=%s assertions=\"%d\">%s</testcase>\n" % (*names, "\n".join(parts))
 
@@ -110,17 +116,18 @@ class JUnit:
     def __init__(self, path: str, suite: str) -> None:
         """Opens the file, so that a run doesn't begin whose result can't be written. `OSError` where that fails."""
         self.suite = suite
-        self.file = open(path, "w", encoding="utf-8")
-        self.cases = tempfile.TemporaryFile("w+", encoding="utf-8")
+        self.file = open(path, "w", encoding="utf-8", errors="backslashreplace")
+        self.cases = tempfile.TemporaryFile("w+", encoding="utf-8", errors="backslashreplace")
         self.ended: List[Case] = []
         """Cases that wait for the lines around their failures."""
-        self.tests = self.failed = self.not_judged = 0
+        self.tests = self.failed = self.not_judged = self.skipped = 0
 
     def add(self, case: Case) -> None:
         """A case that has ended."""
         self.tests += 1
         self.failed += case.rejected > 0
         self.not_judged += case.rejected == 0 and case.not_judged > 0
+        self.skipped += case.is_empty()
         self.ended.append(case)
         self.write_complete()
 
@@ -131,11 +138,24 @@ class JUnit:
                 self.cases.write(case.written(self.suite))
         self.ended = [case for case in self.ended if not case.is_complete()]
 
-    def close(self) -> None:
-        """Writes the file. All failures are complete by now."""
+    def write_problems(self, problems: Sequence[str]) -> None:
+        """What is wrong with the whole run, as errors of a case of their own."""
+        if problems:
+            self.tests += 1
+            self.not_judged += 1
+            errors = "\n".join("<error message=%s/>" % quoted(problem) for problem in problems)
+            self.cases.write('<testcase classname=%s name="run" assertions="0">%s</testcase>\n' % (quoted(self.suite), errors))
+
+    def close(self, problems: Sequence[str]) -> None:
+        """Writes the file. All failures are complete by now.
+
+        problems -- what is wrong with the whole run.
+        """
         self.write_complete()
+        self.write_problems(problems)
         name = quoted(self.suite)
         counts = 'tests="%d" failures="%d" errors="%d"' % (self.tests, self.failed, self.not_judged)
+        counts += ' skipped="%d"' % self.skipped if self.skipped else ""
         with self.file as file, self.cases as cases:
             file.write('<?xml version="1.0" encoding="UTF-8"?>\n<testsuites>\n<testsuite name=%s %s>\n' % (name, counts))
             cases.seek(0)

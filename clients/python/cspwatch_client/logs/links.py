@@ -36,6 +36,12 @@ LAST_LINES = 20
 REASON_SECONDS = 2
 """How long the reason of a rejected report may come after its verdict."""
 
+LIMITS = (FaultCode.DEPTH, FaultCode.STATES, FaultCode.HISTORY, FaultCode.MEMORY)
+"""The faults that answer a report which could have been judged, were there no limit."""
+
+UNJUDGED = 2
+"""The status of a run in which a line wasn't judged."""
+
 SECONDS = 30
 """How long a server may take to be connected to, and to give a seat."""
 
@@ -66,10 +72,10 @@ class Sent:
         self.session = session
 
     @classmethod
-    def unjudged(cls, line: Line, index: int, session: object, reason: str) -> Sent:
-        """What stands for a line of which no report could be made."""
-        found = cls(Report("", None), line, index, session)
-        found.done, found.fault, found.status = True, reason, 2
+    def unjudged(cls, line: Line, index: int, session: object, reason: str, is_event: bool) -> Sent:
+        """What stands for a line of which no report could be made, of an event or of a refusal."""
+        found = cls(Report("", "" if is_event else None), line, index, session)
+        found.done, found.fault, found.status = True, reason, UNJUDGED
         return found
 
     def is_complete(self) -> bool:
@@ -92,7 +98,9 @@ class Sent:
         fault = FAULT.fullmatch(reply)
         if fault is not None:
             self.fault = "%s %s" % (fault[1].decode("ascii"), fault[2].decode("ascii"))
-            self.status = status_of(int(fault[1]))
+            # An event that did happen isn't in the trace then: what is judged after it is judged without it.
+            is_gap = self.report.event is not None and int(fault[1]) in LIMITS
+            self.status = UNJUDGED if is_gap else status_of(int(fault[1]))
         return fault is not None
 
 
@@ -115,7 +123,7 @@ def unasked(name: str, reply: bytes) -> Lost:
 def status_of(code: int) -> int:
     """The status of a run in which a report was answered by this fault."""
     if code in (FaultCode.COMMAND, FaultCode.EVENT, FaultCode.LINE):
-        return 2
+        return UNJUDGED
     return 4 if code in (FaultCode.JOURNAL, FaultCode.CLOSED) else 6
 
 

@@ -8,6 +8,7 @@ from dataclasses import dataclass
 from typing import Dict, List, Optional, Sequence, Tuple
 
 from .maps import Map, Specification
+from .showing import printable
 from .templates import Template
 
 TERMINATION = "_tick"
@@ -61,9 +62,9 @@ def answer(words: Sequence[str]) -> subprocess.CompletedProcess[str]:
             words, stdin=subprocess.DEVNULL, stdout=subprocess.PIPE, stderr=subprocess.PIPE, timeout=SECONDS, text=True, errors="replace"
         )
     except OSError as error:
-        raise ProgramFault("%s: %s" % (words[0], error.strerror), 5) from None
+        raise ProgramFault("%s: %s" % (printable(words[0]), error.strerror), 5) from None
     except subprocess.TimeoutExpired:
-        raise ProgramFault("%s: no answer to `%s` in %d seconds" % (words[0], " ".join(words[1:]), SECONDS), 5) from None
+        raise ProgramFault("%s: no answer to `%s` in %d seconds" % (printable(words[0]), printable(" ".join(words[1:])), SECONDS), 5) from None
 
 
 def events_of(program: Program, specification: Specification) -> Tuple[str, ...]:

@@ -1,11 +1,13 @@
-"""Lines of logs: of files, of standard input, and of files that grow and are rotated."""
+"""Lines of logs: of files, compressed ones too, and of standard input."""
 from __future__ import annotations
 
 import os
 import select
 import stat
 import sys
-from typing import Iterable, List, NamedTuple, Optional, Sequence
+from typing import Iterator, List, NamedTuple, Optional
+
+from .packed import FORMS, MAGIC, Unpacker, form_of
 
 CHUNK = 1 << 16
 """How many bytes are read at once."""
@@ -34,6 +36,12 @@ class Splitter:
         self.rest = b""
         self.cut = 0
         """How many lines were longer than they may be."""
+        self.unread = 0
+        """How many lines had bytes that are no text."""
+        self.first_unread = 0
+        """The number of the first of them; 0 for none."""
+        self.is_told = False
+        """Whether that was said."""
         self.skips = False
 
     def take(self, data: bytes) -> List[Line]:
@@ -59,23 +67,52 @@ class Splitter:
 
     def lines(self, data: bytes) -> List[Line]:
         """The lines of bytes that end in LF."""
-        text = data.decode("utf-8", "backslashreplace").replace("\r\n", "\n")
-        texts = text.split("\n")
+        try:
+            text = data.decode("utf-8")
+            is_text = "\0" not in text
+        except UnicodeDecodeError:
+            text, is_text = data.decode("utf-8", "backslashreplace"), False
+        if not is_text:
+            self.count_unread(data)
+        texts = text.replace("\r\n", "\n").split("\n")
         texts.pop()
         begin = self.number + 1
         self.number += len(texts)
         name = self.name
         return [Line(name, number, text) for number, text in enumerate(texts, begin)]
 
+    def count_unread(self, data: bytes) -> None:
+        """Counts the lines of these that aren't UTF-8 or have a NUL."""
+        for number, line in enumerate(data.split(b"\n"), self.number + 1):
+            if b"\0" in line or not is_utf8(line):
+                self.unread += 1
+                self.first_unread = self.first_unread or number
+
+
+def is_utf8(data: bytes) -> bool:
+    """Whether the bytes are UTF-8."""
+    try:
+        data.decode("utf-8")
+    except UnicodeDecodeError:
+        return False
+    return True
+
 
 class Source:
-    """A log: a file, or standard input."""
+    """A log: a file, or standard input. A compressed one is read as its text."""
 
     def __init__(self, name: str) -> None:
         self.name = name
         self.splitter = Splitter(name)
         self.descriptor = sys.stdin.fileno() if name == "-" else os.open(name, os.O_RDONLY | os.O_CLOEXEC)
         self.ended = False
+        self.begin: Optional[bytes] = b""
+        """The first bytes, until they tell whether the log is compressed; None after that."""
+        self.unpacker: Optional[Unpacker] = None
+        self.texts: Iterator[bytes] = iter(())
+        """What the bytes of a compressed log that were read last are, as far as it wasn't taken."""
+        self.amid = False
+        """Whether there may be more of it."""
 
     def waits_on(self) -> Optional[int]:
         """What can be waited for: a pipe, a socket or a terminal; None for a file, which always has what it has."""
@@ -85,68 +122,42 @@ class Source:
     def is_ready(self) -> bool:
         """Whether a read answers at once."""
         end = self.waits_on()
-        return end is None or bool(select.select([end], [], [], 0)[0])
+        return end is None or self.amid or bool(select.select([end], [], [], 0)[0])
 
     def read(self) -> List[Line]:
-        """The next lines. There may be none yet; at the end the source has `ended`."""
+        """The next lines. There may be none yet; at the end the source has `ended`. `LogFault` where it is damaged."""
+        text = next(self.texts, None)
+        if text is not None:
+            return self.splitter.take(text)
+        self.amid = False
+        if not self.is_ready():
+            return []
         data = os.read(self.descriptor, CHUNK)
-        if data:
+        if not data:
+            if self.unpacker is not None:
+                self.unpacker.end()
+            return self.close()
+        data = self.told(data)
+        if self.unpacker is None:
             return self.splitter.take(data)
-        self.ended = True
-        return self.splitter.end()
+        self.texts, self.amid = self.unpacker.take(data), True
+        return self.splitter.take(next(self.texts, b""))
 
     def close(self) -> List[Line]:
         """Ends the log here: its last line, where no LF ends it."""
         self.ended = True
-        return self.splitter.end()
+        return self.splitter.take(self.begin or b"") + self.splitter.end()
 
-
-class Followed(Source):
-    """A file that is read on as it grows. Where it is renamed or removed, it is read to its end, and then the new one of its
-    name; where it is cut, from its beginning."""
-
-    def __init__(self, name: str) -> None:
-        super().__init__(name)
-        self.position = 0
-
-    def read(self) -> List[Line]:
-        data = os.read(self.descriptor, CHUNK)
-        if data:
-            self.position += len(data)
-            return self.splitter.take(data)
-        if os.fstat(self.descriptor).st_size < self.position:
-            os.lseek(self.descriptor, 0, os.SEEK_SET)
-            self.position = 0
-            return self.splitter.end()
-        return self.renewed()
-
-    def renewed(self) -> List[Line]:
-        """Takes the file that has the name now, where it is another one."""
-        try:
-            new = os.open(self.name, os.O_RDONLY | os.O_CLOEXEC)
-        except OSError:
-            return []
-        if os.path.sameopenfile(new, self.descriptor):
-            os.close(new)
-            return []
-        # What was written to the old file since it was read last, before it got its other name.
-        found: List[Line] = []
-        while data := os.read(self.descriptor, CHUNK):
-            found += self.splitter.take(data)
-        os.close(self.descriptor)
-        self.descriptor, self.position = new, 0
-        return found + self.splitter.end()
-
-
-def sources_of(names: Sequence[str], follow: bool) -> List[Source]:
-    """The logs of these names; standard input where there is none. `OSError` where one can't be opened."""
-    return [Followed(name) if follow and is_file(name) else Source(name) for name in names or ["-"]]
-
-
-def is_file(name: str) -> bool:
-    return name != "-" and os.path.isfile(name)
-
-
-def cut_lines(sources: Iterable[Source]) -> int:
-    """How many lines were longer than they may be."""
-    return sum(source.splitter.cut for source in sources)
+    def told(self, data: bytes) -> bytes:
+        """The bytes that can be read now: none before it is known what the log is."""
+        if self.begin is None:
+            return data
+        data = self.begin + data
+        if len(data) < MAGIC and any(magic.startswith(data) for magic, _ in FORMS):
+            self.begin = data
+            return b""
+        self.begin = None
+        form = form_of(data)
+        if form is not None:
+            self.unpacker = Unpacker(self.name, form)
+        return data

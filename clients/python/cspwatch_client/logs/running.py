@@ -3,16 +3,16 @@ from __future__ import annotations
 
 from collections import deque
 from dataclasses import dataclass
-from typing import Callable, Deque, Dict, List, Optional, Sequence, Set, Tuple, Union
+from typing import Callable, Deque, Dict, Iterable, List, Optional, Sequence, Set, Tuple, Union
 
 from .junit import Case, Context, JUnit
-from .links import Link, Links, Lost, Sent
+from .links import UNJUDGED, Link, Links, Lost, Sent
 from .mapping import Joiner, Report, Rules, Unmapped
 from .maps import Map, Rule
 from .places import Groups, Places
-from .reading import Line
+from .reading import Line, Source
 from .record import Record
-from .showing import SHOWN, Counts, Printer, kept, verdict
+from .showing import SHOWN, Counts, Printer, kept, place_of, verdict
 
 AHEAD = 32768
 """The most reports that are sent ahead of their replies, of all sessions together."""
@@ -44,6 +44,8 @@ class Session:
         self.case = Case(name or "reports")
         self.is_over = False
         """Whether its last report was sent, and each was answered."""
+        self.gap = ""
+        """Where the first line stands that reported an event which wasn't judged: later verdicts are of a trace without it."""
 
 
 @dataclass
@@ -53,6 +55,8 @@ class Wanted:
     strict: bool = False
     first: bool = False
     coverage: bool = False
+    at_least: int = 1
+    """How many reports have to be judged."""
     skip: int = 0
     """How many reports stand in the history already."""
     junit: Optional[JUnit] = None
@@ -78,6 +82,8 @@ class Run:
         self.context = Context(WINDOW + AHEAD) if self.junit is not None else None
         self.came: Set[str] = set()
         """The events that were accepted."""
+        self.problems: List[str] = []
+        """What is wrong with the whole run."""
         self.stopped = False
         """Whether no more lines are wanted."""
         self.has_ends = self.map.sessions is not None or bool(self.map.places)
@@ -112,6 +118,7 @@ class Run:
         found = self.rules.match(text)
         if found is None:
             self.counts.without_rule += 1
+            self.counts.first_without_rule = self.counts.first_without_rule or place_of(line)
             if self.wanted.strict:
                 self.counts.statuses.add(2)
                 self.printer.without_rule(kept(line))
@@ -128,7 +135,7 @@ class Run:
             else:
                 session, report = self.in_session(rule, groups)
         except Unmapped as reason:
-            self.not_mapped(line, groups, str(reason))
+            self.not_mapped(line, groups, str(reason), rule.event is not None)
             return
         if session is self.single or session.name in self.sessions:
             self.send(line, session, report)
@@ -203,12 +210,12 @@ class Run:
                 self.links.dirty.add(session.link)
             self.order.append(session)
 
-    def not_mapped(self, line: Line, groups: Groups, reason: str) -> None:
+    def not_mapped(self, line: Line, groups: Groups, reason: str, is_event: bool) -> None:
         """A line of which a rule makes nothing that can be judged."""
         key = self.map.sessions.key.filled_from(groups) if self.map.sessions is not None else ""
         self.counts.reports += 1
         session = self.sessions.get(key or "") or Session(key or "", Places({}))
-        self.order.append(Sent.unjudged(kept(line), self.counts.lines - 1, session, reason))
+        self.order.append(Sent.unjudged(kept(line), self.counts.lines - 1, session, reason, is_event))
 
     def is_far_ahead(self) -> bool:
         """Whether replies have to be waited for before more is read."""
@@ -263,22 +270,34 @@ class Run:
             if sent.report.event is not None:
                 self.came.add(sent.report.event)
             return
-        self.counts.statuses.add(sent.status)
         if sent.fault:
             self.counts.not_judged += 1
+            self.counts.statuses.add(sent.status)
+            if sent.report.event is not None:
+                session.gap = session.gap or place_of(sent.line)
             text = "not judged: " + ("%s: ERR %s" % (sent.report.line, sent.fault) if sent.report.line else sent.fault)
             if is_new:
                 self.printer.not_judged(sent.line, session.name, text)
         else:
-            self.counts.rejected += 1
-            text = verdict(sent)
+            text = self.rejected(sent, session)
             if is_new:
-                self.printer.rejected(sent, session.name)
+                self.printer.rejected(sent, session.name, text)
                 self.stopped = self.stopped or self.wanted.first
         if self.context is not None:
             session.case.add(self.context.failure("error" if sent.fault else "failure", sent.index, sent.line, text))
         else:
             session.case.rejected += not sent.fault
+
+    def rejected(self, sent: Sent, session: Session) -> str:
+        """Counts a rejected report, and answers what is to be said of it."""
+        self.counts.rejected += 1
+        if not session.gap:
+            self.counts.statuses.add(sent.status)
+            return verdict(sent)
+        # The system may have been right: the trace lacks an event that it did.
+        self.counts.after_gap += 1
+        self.counts.statuses.add(UNJUDGED)
+        return "%s (after %s, whose event was not judged)" % (verdict(sent), session.gap)
 
     def session_over(self, session: Session) -> None:
         self.counts.bad_sessions += session.case.rejected > 0
@@ -308,16 +327,33 @@ class Run:
             self.session_over(session)
         self.by_link.clear()
 
-    def close(self, cut: int, is_whole: bool) -> None:
+    def problem(self, text: str, status: int) -> None:
+        """What is wrong with the whole run."""
+        self.printer.problem(text)
+        self.problems.append(text)
+        self.counts.statuses.add(status)
+
+    def find_problems(self) -> None:
+        """What the counts say against the run: it was to judge more, or to leave no line without a rule."""
+        counts = self.counts
+        if counts.judged() < self.wanted.at_least and not self.stopped:
+            hint = "; the first line without a rule is %s" % counts.first_without_rule if counts.first_without_rule else ""
+            self.problem("cspwatch-logs: %d reports were judged, and --min-reports is %d%s" % (counts.judged(), self.wanted.at_least, hint), UNJUDGED)
+        if self.wanted.strict and counts.without_rule:
+            self.problems.append("%d lines without a rule, the first %s" % (counts.without_rule, counts.first_without_rule))
+
+    def close(self, sources: Iterable[Source], is_whole: bool) -> None:
         """Shows coverage and counts, and ends the files that are written.
 
-        cut -- how many lines were longer than they may be.
+        sources -- what was read.
         is_whole -- whether the whole log was read and judged.
         """
-        self.counts.cut = cut
+        self.counts.cut = sum(source.splitter.cut for source in sources)
+        self.counts.unread = sum(source.splitter.unread for source in sources)
+        self.find_problems()
         if self.context is not None and self.junit is not None:
             self.context.complete(True)
-            self.junit.close()
+            self.junit.close(self.problems)
         if self.wanted.coverage:
             self.show_coverage()
         self.printer.counts(self.counts, self.map.sessions is not None)

@@ -14,8 +14,8 @@ SHOWN = 1000
 MOST_MESSAGES = 20
 """How many messages on lines that weren't judged are printed. Further ones are only counted."""
 
-CONTROLS = re.compile(r"[\x00-\x08\x0a-\x1f\x7f-\x9f]")
-"""Characters that a terminal would obey, or that a page of XML can't have."""
+CONTROLS = re.compile("[\\x00-\\x08\\x0a-\\x1f\\x7f-\\x9f\u200e\u200f\u2028-\u202e\u2066-\u2069\ud800-\udfff\ufeff\ufffe\uffff]")
+"""Characters that a terminal would obey (those that turn the direction of writing too), or that a page of XML can't have."""
 
 ORDER = (4, 5, 1, 6, 2, 0)
 """Of several statuses, the first of these counts."""
@@ -30,7 +30,12 @@ def kept(line: Line) -> Line:
 
 def printable(text: str) -> str:
     """The text without characters that a terminal would obey."""
-    return CONTROLS.sub(lambda found: "\\x%02x" % ord(found[0]), text)
+    return CONTROLS.sub(lambda found: ("\\x%02x" if found[0] < "\u0100" else "\\u%04x") % ord(found[0]), text)
+
+
+def place_of(line: Line) -> str:
+    """Where the line stands."""
+    return "%s:%d" % (printable(line.file), line.number)
 
 
 def verdict(sent: Sent) -> str:
@@ -54,6 +59,8 @@ class Counts:
     joined: int = 0
     """First halves of joined lines."""
     without_rule: int = 0
+    first_without_rule: str = ""
+    """Where the first line without a rule stands."""
     outside: int = 0
     """Lines of no session: before the event that begins one, or after its end."""
     sessions: int = 0
@@ -61,12 +68,20 @@ class Counts:
     """Sessions with a rejected report."""
     cut: int = 0
     """Lines that were longer than they may be."""
+    unread: int = 0
+    """Lines with bytes that are no text."""
+    after_gap: int = 0
+    """Rejected reports of a session after an event of it that wasn't judged."""
     statuses: Set[int] = field(default_factory=set)
     """The statuses that something asks for."""
 
     def status(self) -> int:
         """The status of the run."""
         return next((status for status in ORDER if status in self.statuses), 0)
+
+    def judged(self) -> int:
+        """How many reports were judged, those that stood in the history among them."""
+        return self.accepted + self.rejected + self.earlier
 
     def text(self, in_sessions: bool) -> str:
         """The last line of a run."""
@@ -77,9 +92,11 @@ class Counts:
             self.rejected,
             self.not_judged,
         )
-        named = [(self.earlier, "in the history before")] if self.earlier else []
-        parts = ["%d %s" % pair for pair in named + [(self.ignored, "ignored"), (self.without_rule, "without a rule")]]
-        more = [(self.joined, "joined"), (self.outside, "outside a session"), (self.cut, "cut")]
+        named = [(self.after_gap, "rejected after an event that was not judged"), (self.earlier, "in the history before")]
+        parts = ["%d %s" % pair for pair in [pair for pair in named if pair[0]] + [(self.ignored, "ignored"), (self.without_rule, "without a rule")]]
+        if self.first_without_rule:
+            parts[-1] += " (first: %s)" % self.first_without_rule
+        more = [(self.joined, "joined"), (self.outside, "outside a session"), (self.cut, "cut"), (self.unread, "with bytes that are no text")]
         parts += ["%d %s" % pair for pair in more if pair[0]]
         if in_sessions:
             parts.append("%d sessions, %d with a rejected report" % (self.sessions, self.bad_sessions))
@@ -94,10 +111,10 @@ class Printer:
         self.quiet, self.annotations = quiet, annotations
         self.messages = 0
 
-    def rejected(self, sent: Sent, session: str) -> None:
+    def rejected(self, sent: Sent, session: str, text: str) -> None:
         """A rejected report, with its line below it."""
-        text = (session + ": " if session else "") + verdict(sent)
-        print("%s:%d: %s" % (sent.line.file, sent.line.number, printable(text)), file=self.out)
+        text = (session + ": " if session else "") + text
+        print("%s: %s" % (place_of(sent.line), printable(text)), file=self.out)
         if not self.quiet:
             print("    " + printable(sent.line.text), file=self.out)
         if self.annotations:
@@ -114,7 +131,7 @@ class Printer:
     def message(self, line: Line, text: str) -> None:
         self.messages += 1
         if self.messages <= MOST_MESSAGES:
-            print("%s:%d: %s" % (line.file, line.number, printable(text)), file=self.errors)
+            print("%s: %s" % (place_of(line), printable(text)), file=self.errors)
             if self.annotations:
                 self.annotate("warning", line, text)
         elif self.messages == MOST_MESSAGES + 1:
@@ -122,17 +139,21 @@ class Printer:
 
     def annotate(self, kind: str, line: Line, text: str) -> None:
         """The same as an annotation of GitHub."""
-        words = "file=%s,line=%d,title=cspwatch" % (escaped(line.file, in_field=True), line.number)
+        words = "file=%s,line=%d,title=cspwatch" % (escaped(printable(line.file), in_field=True), line.number)
         print("::%s %s::%s" % (kind, words, escaped(printable(text), in_field=False)), file=self.out)
 
     def coverage(self, never_came: List[str], unused: List[int], map_file: str) -> None:
         """Which events never came, and which rules took no line."""
         print("never came: %s" % (" ".join(never_came) or "none"), file=self.out)
-        print("rules that took no line: %s" % (", ".join("%s:%d" % (map_file, line) for line in unused) or "none"), file=self.out)
+        print("rules that took no line: %s" % (", ".join("%s:%d" % (printable(map_file), line) for line in unused) or "none"), file=self.out)
 
     def counts(self, counts: Counts, in_sessions: bool) -> None:
         if not self.quiet:
             print(counts.text(in_sessions), file=self.out)
+
+    def problem(self, text: str) -> None:
+        """What is wrong with the whole run. It may have several lines."""
+        print("\n".join(printable(line) for line in text.split("\n")), file=self.errors)
 
     def flush(self) -> None:
         self.out.flush()
