@@ -28,6 +28,9 @@ Requires-Python: >=3.9
 Classifier: Operating System :: POSIX
 Classifier: Programming Language :: Python :: 3
 Classifier: Typing :: Typed
+Provides-Extra: watch
+Requires-Dist: prometheus_client; extra == 'watch'
+Requires-Dist: aiohttp; extra == 'watch'
 """
 
 WHEEL = """Wheel-Version: 1.0
@@ -39,6 +42,7 @@ Tag: py3-none-any
 COMMANDS = {
     "cspwatch-explore": "cspwatch_client.exploring.command:main",
     "cspwatch-logs": "cspwatch_client.logs.command:main",
+    "cspwatch-metrics": "cspwatch_client.watching.metrics:main",
 }
 """The commands, and the function that each calls."""
 
@@ -76,7 +80,7 @@ def package() -> Files:
     found = {}
     for folder, _, names in os.walk(os.path.join(HERE, NAME)):
         for name in names:
-            if name.endswith((".py", ".css", ".js")) or name == "py.typed":
+            if name.endswith((".py", ".css", ".js", ".html")) or name == "py.typed":
                 found[os.path.relpath(os.path.join(folder, name), HERE)] = bytes_of(folder, name)
     return found
 
