@@ -17,6 +17,7 @@ The comparers in `tests/compare_*.py` hold the program's answers against it. Fro
     printing     a specification as text
     steps        what a process can do next
     states       the processes reached by a trace, and the limits
+    refinement   refinement, deadlock and determinism, by a search over all traces up to a length
     journal      files of records
     session      reports judged and recorded
     parts        files of journals in parts
