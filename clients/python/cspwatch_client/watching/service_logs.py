@@ -5,7 +5,7 @@ import json
 from collections import Counter
 from typing import Dict, Optional
 
-from ..logs.reading import Followed
+from ..logs.following import Followed
 
 MOST_KINDS = 64
 """How many codes and reasons are told apart; what more there are is counted together."""
