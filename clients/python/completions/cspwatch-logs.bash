@@ -11,17 +11,17 @@ _cspwatch_logs() {
             COMPREPLY=($(compgen -W "redis://127.0.0.1:" -- "$current"))
             return
             ;;
-        --seat | --partition | --min-reports) return ;;
+        --seat | --partition | --patience | --min-reports) return ;;
     esac
     if [[ $current == -* ]]; then
-        COMPREPLY=($(compgen -W "--follow --server --seat --min-reports --strict --quiet --first --coverage --junit --annotations --record --stream --partition --program --help --version -h" -- "$current"))
+        COMPREPLY=($(compgen -W "--follow --server --seat --patience --state --min-reports --strict --quiet --first --coverage --junit --annotations --record --stream --partition --program --help --version -h" -- "$current"))
         return
     fi
     # How many words are before the cursor, without options and what follows them. Bash takes a colon for a word of its own.
     for ((index = 1; index < COMP_CWORD; index++)); do
         word=${COMP_WORDS[index]}
         case $word in
-            --server | --seat | --junit | --record | --stream | --partition | --program | --min-reports)
+            --server | --seat | --junit | --record | --stream | --partition | --program | --patience | --state | --min-reports)
                 index=$((index + 1))
                 while [[ ${COMP_WORDS[index + 1]} == : ]]; do index=$((index + 2)); done
                 ;;
@@ -30,7 +30,7 @@ _cspwatch_logs() {
         esac
     done
     compopt -o filenames 2>/dev/null
-    if [[ $place == 0 && $previous != --junit && $previous != --record && $previous != --program ]]; then
+    if [[ $place == 0 && $previous != --junit && $previous != --record && $previous != --program && $previous != --state ]]; then
         mapfile -t COMPREPLY < <(compgen -f -X '!*.toml' -- "$current"; compgen -d -- "$current")
     else
         mapfile -t COMPREPLY < <(compgen -f -- "$current")

@@ -26,7 +26,7 @@ printf '%s\\n' "${COMPREPLY[@]}"
 """
 
 LINES = [
-    (["--s"], {"--server", "--seat", "--strict", "--stream"}),
+    (["--s"], {"--server", "--seat", "--state", "--strict", "--stream"}),
     ([""], {"m.toml"}),
     (["m.toml", ""], {"m.toml", "a.log"}),
     (["--server", "127.0.0.1", ":", "4050", "--seat", "3", "m.toml", "a"], {"a.log"}),

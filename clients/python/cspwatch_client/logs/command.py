@@ -11,14 +11,15 @@ from typing import Callable, List, NoReturn, Optional, Sequence, TextIO
 
 from .. import __version__
 from ..client import place_of
+from ..reconnecting import PATIENCE
 
 if sys.version_info < (3, 11):
     print("cspwatch-logs needs Python 3.11 or later, this is %d.%d" % sys.version_info[:2], file=sys.stderr)
     raise SystemExit(2)
 
-from .following import sources_of
+from .following import Followed, sources_of
 from .junit import JUnit, suite_of
-from .links import Check, Connection, Link, Lost
+from .links import UNJUDGED, Check, Connection, Link, Lost, connected_patiently
 from .mapping import Rules
 from .maps import Map, MapFault, Specification, read_map
 from .program import Program, ProgramFault, check_events, events_of, program_at
@@ -27,6 +28,7 @@ from .reading import Source
 from .record import Record, RecordFault
 from .running import Run, Wanted
 from .showing import Printer, printable
+from .state import Keeper, StateFault, StateFile
 from .streams import Stream, StreamFault, partition
 
 LOOK_SECONDS = 0.2
@@ -54,6 +56,8 @@ def parser() -> argparse.ArgumentParser:
     found.add_argument("--follow", action="store_true", help="wait for more lines, also after a log was rotated or cut")
     found.add_argument("--server", metavar="ADDR", help="report to the server at HOST:PORT or unix:PATH, in place of a check of its own")
     found.add_argument("--seat", metavar="N", type=seat, help="be seat N of the server, and go on after its last report (1 to 1000)")
+    found.add_argument("--patience", metavar="SECONDS", type=seconds, help="how long a server that has ended is tried again (60 with --follow and --seat)")
+    found.add_argument("--state", metavar="FILE", help="keep in FILE how far the logs were read, and go on there")
     found.add_argument("--min-reports", metavar="N", type=count, default=1, help="how many reports have to be judged, 1 where left out")
     found.add_argument("--strict", action="store_true", help="a line that no rule takes is a fault")
     found.add_argument("--quiet", action="store_true", help="print the rejected reports alone, without their lines and the counts")
@@ -83,6 +87,13 @@ def count(text: str) -> int:
     return number
 
 
+def seconds(text: str) -> float:
+    number = float(text)
+    if not 0 <= number < float("inf"):
+        raise ValueError(text)
+    return number
+
+
 def seat(text: str) -> int:
     number = int(text)
     if not 1 <= number <= MOST_SEATS:
@@ -103,7 +114,7 @@ def main(words: Optional[Sequence[str]] = None) -> int:
         return said("cspwatch-logs: %s" % fault, 2)
     except ProgramFault as fault:
         return said(fault, fault.status, "\n")
-    except (Lost, LogFault, RecordFault, StreamFault) as fault:
+    except (Lost, LogFault, RecordFault, StateFault, StreamFault) as fault:
         return said(fault, fault.status)
     except BrokenPipeError:
         # Nobody reads the verdicts any more; the interpreter would fail again when it flushes at its end.
@@ -131,32 +142,72 @@ def run(options: argparse.Namespace, out: TextIO, errors: TextIO) -> int:
         raise_limit()
     program = program_for(options, found)
     rules = Rules(found, events_for(found, program))
+    state = StateFile(options.state, options.seat, options.map) if options.state is not None else None
     start, skip = judge_of(options, found, program)
-    sources = sources_for(options)
+    sources = sources_for(options, state)
     junit = JUnit(options.junit, suite_of(options.map)) if options.junit is not None else None
     record = Record(options.record) if options.record is not None else None
     printer = Printer(out, errors, options.quiet, options.annotations)
-    running = Run(rules, start, printer, Wanted(options.strict, options.first, options.coverage, options.min_reports, skip, junit, record))
+    wanted = Wanted(options.strict, options.first, options.coverage, options.min_reports, skip, junit, record, come_back_of(options))
+    running = Run(rules, start, printer, wanted)
     try:
-        is_whole = read_all(running, sources, options.follow)
+        keeper = begun(state, running, sources) if state is not None else None
+        is_whole = read_all(running, sources, options.follow, keeper)
         running.finish()
-    except (Lost, LogFault, StreamFault, RecordFault) as fault:
+        if keeper is not None and not running.stopped:
+            keeper.write()
+    except (Lost, LogFault, StreamFault, RecordFault, StateFault) as fault:
         printer.flush()
         running.problem(str(fault), fault.status)
         running.abandon()
         running.close(sources, is_whole=False)
         return fault.status
     is_whole = is_whole and not running.stopped
-    if running.counts.earlier < skip and is_whole:
-        running.problem("cspwatch-logs: %d reports of the seat stand in the history, and the log has %d" % (skip, running.counts.earlier), 2)
+    if running.counts.earlier < wanted.skip and is_whole:
+        running.problem("cspwatch-logs: %d reports of the seat stand in the history, and the log has %d" % (wanted.skip, running.counts.earlier), 2)
     running.close(sources, is_whole)
     return running.counts.status()
 
 
-def sources_for(options: argparse.Namespace) -> List[Source]:
+def begun(state: StateFile, running: Run, sources: Sequence[Source]) -> Keeper:
+    """What keeps how far the run is, after it has taken what an earlier one kept."""
+    earlier = state.earlier
+    wanted = running.wanted
+    if earlier is not None:
+        if wanted.skip < earlier.judged:
+            raise state.fault("it has %d reports of the seat, and the history %d: that is another history" % (earlier.judged, wanted.skip))
+        wanted.skip -= earlier.judged
+        running.counts.kept = earlier.judged
+        running.restore(earlier.numbers, earlier.gap)
+        if wanted.skip and len(sources) > 1:
+            text = "cspwatch-logs: of which of the logs %d reports are, which stand in the history since %s was written, isn't known"
+            running.problem(text % (wanted.skip, printable(state.path)), UNJUDGED)
+    keeper = Keeper(state, running, sources)
+    if earlier is None:
+        keeper.write()
+    return keeper
+
+
+def come_back_of(options: argparse.Namespace) -> Optional[Callable[[Callable[[], bool]], Connection]]:
+    """What opens a connection again that was lost; None where that isn't wanted."""
+    patience = patience_of(options)
+    if not patience:
+        return None
+    return lambda is_asked: connected_patiently(options.server, options.seat, patience, is_asked)
+
+
+def patience_of(options: argparse.Namespace) -> float:
+    """For how many seconds the server is tried."""
+    if options.patience is not None:
+        return float(options.patience)
+    return PATIENCE if options.follow and options.seat is not None else 0.0
+
+
+def sources_for(options: argparse.Namespace, state: Optional[StateFile]) -> List[Source]:
     """What is read."""
     if options.stream is None:
-        return sources_of(options.logs, options.follow)
+        marks = None if state is None else state.earlier.logs if state.earlier is not None else {}
+        return sources_of(options.logs, options.follow, marks)
     try:
         return [Stream(options.stream, options.partition, options.follow)]
     except ValueError as error:
@@ -167,6 +218,10 @@ def check_use(options: argparse.Namespace, found: Map) -> None:
     """Finds words that don't fit together, or not with the map."""
     if options.server is None and options.seat is not None:
         raise BadUse("--seat goes with --server")
+    if options.patience is not None and options.seat is None:
+        raise BadUse("--patience goes with --seat, by which the server knows what it has judged")
+    if options.state is not None and (options.seat is None or not options.follow or not options.logs):
+        raise BadUse("--state goes with --follow, --seat and logs")
     if options.stream is not None and options.logs:
         raise BadUse("--stream is read in place of logs")
     if options.partition is not None and options.stream is None:
@@ -220,7 +275,7 @@ def events_for(found: Map, program: Optional[Program]) -> Optional[Sequence[str]
 def judge_of(options: argparse.Namespace, found: Map, program: Optional[Program]) -> tuple[Callable[[], Link], int]:
     """What starts the judge of a session, and how many reports stand in the history."""
     if options.server is not None:
-        connection = Connection(options.server, options.seat)
+        connection = connected_patiently(options.server, options.seat, patience_of(options))
         return lambda: connection, connection.reported
     specification: Optional[Specification] = found.specification
     assert program is not None and specification is not None
@@ -249,9 +304,26 @@ def tell_unread(source: Source, printer: Printer) -> None:
         printer.problem("%s:%d: bytes that are no text (UTF-8 without NUL); they are read as \\xff" % (printable(source.name), splitter.first_unread))
 
 
-def read_all(running: Run, sources: List[Source], follow: bool) -> bool:
+def tell_lost(source: Source, running: Run) -> None:
+    """Says what can't be known of a log that was rotated or cut."""
+    if not isinstance(source, Followed) or not source.lost:
+        return
+    for text in source.lost:
+        running.problem(text, UNJUDGED)
+    source.lost.clear()
+    left = running.wanted.skip - running.counts.earlier
+    if left > 0:
+        # They may be of lines that aren't there any more, and no line of another file stands for them.
+        running.problem("cspwatch-logs: %d reports that stand in the history are of lines that aren't known" % left, UNJUDGED)
+        running.wanted.skip = running.counts.earlier
+
+
+def read_all(running: Run, sources: List[Source], follow: bool, keeper: Optional[Keeper]) -> bool:
     """Reads the logs: one after the other, or side by side where they are followed. Answers whether it was to their ends."""
     stop = Stop()
+    running.is_asked = lambda: stop.asked
+    for source in sources:
+        tell_lost(source, running)
     while not (stop.asked or running.stopped or all(source.ended for source in sources)):
         open_ones = [source for source in sources if not source.ended]
         current = open_ones if follow else open_ones[:1]
@@ -260,11 +332,14 @@ def read_all(running: Run, sources: List[Source], follow: bool) -> bool:
             if source.is_ready():
                 lines = source.read()
                 came = came or bool(lines) or source.ended
+                tell_lost(source, running)
                 running.take(lines)
                 tell_unread(source, running.printer)
         if not came:
             ends = [end for end in (source.waits_on() for source in current) if end is not None]
             running.pump(LOOK_SECONDS, ends)
+        if keeper is not None:
+            keeper.look(came)
         running.printer.flush()
     is_whole = all(source.ended for source in sources)
     for source in sources:

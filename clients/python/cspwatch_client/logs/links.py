@@ -8,9 +8,10 @@ import socket
 import subprocess
 import time
 from collections import deque
-from typing import Deque, Dict, List, Optional, Sequence, Set
+from typing import Callable, Deque, Dict, List, Optional, Sequence, Set
 
 from ..client import connected
+from ..reconnecting import FIRST_PAUSE, LONGEST_PAUSE, PASSING
 from ..replies import FAULT, FaultCode
 from .mapping import Report
 from .reading import Line
@@ -61,6 +62,8 @@ class Sent:
     """What the answer asks for as the status of the run."""
     reason = ""
     """Why the report was rejected, where that is known."""
+    number_lost = 0
+    """The number of the report among those of its seat, where it was judged and its verdict was lost; 0 where it wasn't."""
     since = 0.0
     """Since when its reason is waited for, by the clock `monotonic`."""
 
@@ -107,9 +110,11 @@ class Sent:
 class Lost(Exception):
     """What judges has ended before it answered, or answered what the protocol doesn't have. `status` is what the run ends with."""
 
-    def __init__(self, text: str, status: int = 5) -> None:
+    def __init__(self, text: str, status: int = 5, may_pass: bool = False) -> None:
         super().__init__(text)
         self.status = status
+        self.may_pass = may_pass
+        """Whether another attempt may do better."""
 
 
 def unasked(name: str, reply: bytes) -> Lost:
@@ -140,6 +145,8 @@ class Link:
         self.unexplained: Dict[int, Sent] = {}
         """The rejected reports whose reasons haven't come, by the numbers of their lines."""
         self.answered = 0
+        self.judged = 0
+        """How many of the answers were verdicts."""
         self.errors: Deque[str] = deque(maxlen=LAST_LINES)
         """The last lines of standard error that explain no report."""
         self.rests: Dict[int, bytes] = {}
@@ -210,7 +217,9 @@ class Link:
                 raise unasked(self.name, reply)
             sent = waiting.popleft()
             self.answered += 1
-            if not sent.answer(reply):
+            is_answer = sent.answer(reply)
+            self.judged += not sent.fault
+            if not is_answer:
                 raise Lost("%s: %r was answered by %r" % (self.name, sent.report.line, reply[:200]))
             if sent.accepted or sent.fault or sent.reason or not self.explains or self.told not in self.open:
                 sent.done = True
@@ -302,12 +311,14 @@ class Connection(Link):
             reply = self.reply()
         except OSError as error:
             self.socket.close()
-            raise Lost("seat %d: %s" % (seat, error.strerror or error)) from None
+            raise Lost("seat %d: %s" % (seat, error.strerror or error), may_pass=True) from None
         found = SEATED.fullmatch(reply)
         if found is not None and int(found[1]) == seat:
             return int(found[2])
         self.socket.close()
-        raise Lost("seat %d: %s" % (seat, SEAT_FAULTS.get(reply) or "the server answered %r" % reply[:200]))
+        fault = FAULT.fullmatch(reply)
+        may_pass = not reply or fault is not None and int(fault[1]) in PASSING
+        raise Lost("seat %d: %s" % (seat, SEAT_FAULTS.get(reply) or "the server answered %r" % reply[:200]), may_pass=may_pass)
 
     def reply(self) -> bytes:
         """The next line, without its LF; what there is of it where the connection ends."""
@@ -328,6 +339,21 @@ class Connection(Link):
 
     def close(self) -> None:
         self.socket.close()
+
+
+def connected_patiently(address: str, seat: Optional[int], patience: float, is_asked: Callable[[], bool] = lambda: False) -> Connection:
+    """A connection as this seat; tried again for so many seconds, as long as nobody asks for the end."""
+    latest = time.monotonic() + patience
+    pause = FIRST_PAUSE
+    while True:
+        try:
+            return Connection(address, seat)
+        except (OSError, Lost) as error:
+            may_pass = not isinstance(error, Lost) or error.may_pass
+            if not may_pass or is_asked() or time.monotonic() + pause > latest:
+                raise
+        time.sleep(pause)
+        pause = min(2 * pause, LONGEST_PAUSE)
 
 
 SEAT_FAULTS = {

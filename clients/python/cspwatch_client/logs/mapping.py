@@ -2,7 +2,7 @@
 from __future__ import annotations
 
 import re
-from typing import Dict, List, Mapping, NamedTuple, Optional, Sequence, Tuple, Union
+from typing import Any, Dict, List, Mapping, NamedTuple, Optional, Sequence, Tuple, Union
 
 from ..client import LINE_LIMIT
 from .maps import Ignored, Join, Map, Rule
@@ -57,6 +57,15 @@ class Joiner:
                     both = {**groups, **last.groupdict()}
                     return join.line.filled(lambda field: both[field] or "")
         return text
+
+    def kept(self) -> Any:
+        """The lines that wait, as they are kept in a file."""
+        return [self.lost, [[[list(key), groups] for key, groups in begun.items()] for begun in self.begun]]
+
+    def restore(self, kept: Any) -> None:
+        """Takes lines that were kept."""
+        self.lost = kept[0]
+        self.begun = [{tuple(key): groups for key, groups in begun} for begun in kept[1]]
 
     def waiting(self) -> int:
         """How many beginnings have no end: those that wait, and those that were let go."""

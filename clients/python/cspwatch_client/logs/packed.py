@@ -7,6 +7,9 @@ import lzma
 import zlib
 from typing import Any, Generator, Iterator, Optional
 
+CHUNK = 1 << 16
+"""How many bytes are read at once."""
+
 ONCE = 1 << 18
 """The most bytes of text that are unpacked at once, so that a small file of a large text takes little memory."""
 
@@ -91,3 +94,16 @@ class Unpacker:
         """Finds that the file ends amid a part (`LogFault`)."""
         if self.begun:
             raise LogFault("%s: the file ends before its %s does" % (self.name, self.form))
+
+
+def pieces_of(path: str) -> Iterator[bytes]:
+    """The text of a file, compressed or not, in pieces. `LogFault` where it is damaged, `OSError` where it can't be read."""
+    with open(path, "rb") as file:
+        data = file.read(CHUNK)
+        form = form_of(data)
+        unpacker = Unpacker(path, form) if form is not None else None
+        while data:
+            yield from unpacker.take(data) if unpacker is not None else (data,)
+            data = file.read(CHUNK)
+        if unpacker is not None:
+            unpacker.end()

@@ -2,7 +2,7 @@
 from __future__ import annotations
 
 import heapq
-from typing import Dict, List, Mapping, Optional, Tuple
+from typing import Any, Dict, List, Mapping, Optional, Tuple
 
 from .maps import PlaceKind
 
@@ -89,6 +89,20 @@ class Places:
                 return None
             text += value + literal
         return text
+
+    def kept(self) -> Any:
+        """The numbers as they are kept in a file."""
+        return {
+            kind: [[list(owner), numbers.of, numbers.returned] for owner, numbers in owners.items()]
+            for kind, owners in self.numbers.items()
+        }
+
+    def restore(self, kept: Any) -> None:
+        """Takes numbers that were kept."""
+        for kind, owners in kept.items():
+            for owner, of, returned in owners:
+                self.numbers[kind][tuple(owner)] = numbers = Numbers()
+                numbers.of, numbers.returned = dict(of), list(returned)
 
     def give_back(self, kind: PlaceKind, groups: Groups, one: bool) -> None:
         """Gives back one name's number, or those of all names of its owner; and what these own."""

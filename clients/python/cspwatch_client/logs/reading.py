@@ -7,10 +7,7 @@ import stat
 import sys
 from typing import Iterator, List, NamedTuple, Optional
 
-from .packed import FORMS, MAGIC, Unpacker, form_of
-
-CHUNK = 1 << 16
-"""How many bytes are read at once."""
+from .packed import CHUNK, FORMS, MAGIC, Unpacker, form_of
 
 LONGEST = 1 << 20
 """The most bytes of a line. What comes after them, up to the next LF, is left out."""

@@ -3,10 +3,10 @@ from __future__ import annotations
 
 from collections import deque
 from dataclasses import dataclass
-from typing import Callable, Deque, Dict, Iterable, List, Optional, Sequence, Set, Tuple, Union
+from typing import Any, Callable, Deque, Dict, Iterable, List, Optional, Sequence, Set, Tuple, Union
 
 from .junit import Case, Context, JUnit
-from .links import UNJUDGED, Link, Links, Lost, Sent
+from .links import UNJUDGED, Connection, Link, Links, Lost, Sent
 from .mapping import Joiner, Report, Rules, Unmapped
 from .maps import Map, Rule
 from .places import Groups, Places
@@ -61,6 +61,8 @@ class Wanted:
     """How many reports stand in the history already."""
     junit: Optional[JUnit] = None
     record: Optional[Record] = None
+    come_back: Optional[Callable[[Callable[[], bool]], Connection]] = None
+    """Opens a connection again, as the same seat, until somebody asks for the end. None where one that is lost isn't opened again."""
 
 
 class Run:
@@ -82,8 +84,12 @@ class Run:
         self.context = Context(WINDOW + AHEAD) if self.junit is not None else None
         self.came: Set[str] = set()
         """The events that were accepted."""
+        self.is_asked: Callable[[], bool] = lambda: False
+        """Whether somebody asks for the end."""
         self.problems: List[str] = []
         """What is wrong with the whole run."""
+        self.is_broken = False
+        """Whether something failed, so that the run couldn't go on."""
         self.stopped = False
         """Whether no more lines are wanted."""
         self.has_ends = self.map.sessions is not None or bool(self.map.places)
@@ -210,6 +216,24 @@ class Run:
                 self.links.dirty.add(session.link)
             self.order.append(session)
 
+    def settle(self) -> bool:
+        """Waits until all that was sent is answered. Answers whether it is."""
+        while self.order and not self.stopped and not self.is_asked():
+            self.pump(WAIT_SECONDS)
+        return not self.order
+
+    def kept(self) -> Any:
+        """What is known of earlier lines, as it is kept in a file."""
+        assert self.single is not None
+        return [self.single.places.kept(), self.joiner.kept()]
+
+    def restore(self, kept: Any, gap: str) -> None:
+        """Takes what an earlier run kept."""
+        assert self.single is not None
+        self.single.places.restore(kept[0])
+        self.joiner.restore(kept[1])
+        self.single.gap = gap
+
     def not_mapped(self, line: Line, groups: Groups, reason: str, is_event: bool) -> None:
         """A line of which a rule makes nothing that can be judged."""
         key = self.map.sessions.key.filled_from(groups) if self.map.sessions is not None else ""
@@ -238,12 +262,34 @@ class Run:
         status = link.status()
         if link.waiting or not (link.finishing or self.stopped):
             self.show()
+            if self.wanted.come_back is not None and isinstance(link, Connection):
+                self.replace(link, self.wanted.come_back(self.is_asked), session)
+                return
             said = "\n".join(link.errors) or ("it ended with status %d" % status if status is not None else "the connection has ended")
             count = len(link.waiting)
             text = "%s: %s" % (link.name, said) if not link.errors else said
             raise Lost("%s (%d reports were not answered)" % (text, count) if count else text, LOST_STATUSES.get(status or 0, 5))
         link.close()
         session.is_over = True
+
+    def replace(self, lost: Connection, found: Connection, session: Session) -> None:
+        """Goes on over another connection. What the server has judged isn't sent again; its verdicts were lost."""
+        lost.close()
+        known = lost.reported + lost.judged
+        if not known <= found.reported <= known + len(lost.waiting):
+            found.close()
+            raise Lost("%s: the history has %d reports of the seat, and not the %d of this run" % (found.name, found.reported, known))
+        for number in range(known + 1, found.reported + 1):
+            sent = lost.waiting.popleft()
+            sent.done, sent.number_lost = True, number
+        session.link = found
+        self.by_link[found] = session
+        self.links.add(found)
+        for sent in lost.waiting:
+            found.send(sent)
+        self.links.dirty.add(found)
+        if lost.finishing:
+            found.finish()
 
     def show(self) -> None:
         """Shows the verdicts from the front on that are complete."""
@@ -270,6 +316,9 @@ class Run:
             if sent.report.event is not None:
                 self.came.add(sent.report.event)
             return
+        if sent.number_lost:
+            self.lost(sent, session)
+            return
         if sent.fault:
             self.counts.not_judged += 1
             self.counts.statuses.add(sent.status)
@@ -287,6 +336,15 @@ class Run:
             session.case.add(self.context.failure("error" if sent.fault else "failure", sent.index, sent.line, text))
         else:
             session.case.rejected += not sent.fault
+
+    def lost(self, sent: Sent, session: Session) -> None:
+        """A report that was judged, and whose verdict was lost."""
+        self.counts.lost += 1
+        self.counts.statuses.add(UNJUDGED)
+        text = "%s: its verdict was lost with the connection; it is report %d of the seat in the journal (cspwatch show)" % (sent.report.line, sent.number_lost)
+        self.printer.not_judged(sent.line, "", text)
+        if self.context is not None:
+            session.case.add(self.context.failure("error", sent.index, sent.line, text))
 
     def rejected(self, sent: Sent, session: Session) -> str:
         """Counts a rejected report, and answers what is to be said of it."""
@@ -332,11 +390,12 @@ class Run:
         self.printer.problem(text)
         self.problems.append(text)
         self.counts.statuses.add(status)
+        self.is_broken = self.is_broken or status != UNJUDGED
 
     def find_problems(self) -> None:
         """What the counts say against the run: it was to judge more, or to leave no line without a rule."""
         counts = self.counts
-        if counts.judged() < self.wanted.at_least and not self.stopped:
+        if counts.judged() < self.wanted.at_least and not (self.stopped or self.is_broken):
             hint = "; the first line without a rule is %s" % counts.first_without_rule if counts.first_without_rule else ""
             self.problem("cspwatch-logs: %d reports were judged, and --min-reports is %d%s" % (counts.judged(), self.wanted.at_least, hint), UNJUDGED)
         if self.wanted.strict and counts.without_rule:

@@ -53,6 +53,10 @@ class Counts:
     accepted: int = 0
     rejected: int = 0
     not_judged: int = 0
+    lost: int = 0
+    """Reports that were judged, and whose verdicts were lost with a connection."""
+    kept: int = 0
+    """Reports that an earlier run had judged, as its state says."""
     earlier: int = 0
     """Reports that stood in the history already, and weren't sent."""
     ignored: int = 0
@@ -81,7 +85,7 @@ class Counts:
 
     def judged(self) -> int:
         """How many reports were judged, those that stood in the history among them."""
-        return self.accepted + self.rejected + self.earlier
+        return self.accepted + self.rejected + self.lost + self.earlier + self.kept
 
     def text(self, in_sessions: bool) -> str:
         """The last line of a run."""
@@ -92,7 +96,8 @@ class Counts:
             self.rejected,
             self.not_judged,
         )
-        named = [(self.after_gap, "rejected after an event that was not judged"), (self.earlier, "in the history before")]
+        named = [(self.after_gap, "rejected after an event that was not judged"), (self.lost, "whose verdict was lost")]
+        named += [(self.earlier, "in the history before")]
         parts = ["%d %s" % pair for pair in [pair for pair in named if pair[0]] + [(self.ignored, "ignored"), (self.without_rule, "without a rule")]]
         if self.first_without_rule:
             parts[-1] += " (first: %s)" % self.first_without_rule
