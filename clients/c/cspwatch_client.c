@@ -5,9 +5,11 @@
 
 #include <errno.h>
 #include <inttypes.h>
+#include <limits.h>
 #include <netdb.h>
 #include <netinet/in.h>
 #include <netinet/tcp.h>
+#include <poll.h>
 #include <stdio.h>
 #include <stdlib.h>
 #include <string.h>
@@ -27,6 +29,7 @@ struct cspwatch_client {
     char *host;
     char *port;
     unsigned timeout;
+    uint64_t latest; /* by when the call has to be over, where it may not take for ever */
     unsigned patience; /* 0 where the client doesn't come back */
     unsigned seat;     /* 0 where it hasn't said which one it is */
     uint64_t judged;
@@ -42,6 +45,31 @@ struct cspwatch_client {
 };
 
 /* ---- the connection ---- */
+
+/* Milliseconds of a clock that only goes forward. */
+static uint64_t now(void) {
+    struct timespec time;
+    clock_gettime(CLOCK_MONOTONIC, &time);
+    return (uint64_t)time.tv_sec * 1000 + (uint64_t)time.tv_nsec / 1000000;
+}
+
+/* Waits until the connection can be read or written, and tells whether that was in time. */
+static int is_ready(const cspwatch_client *client, short events) {
+    struct pollfd asked;
+    int count;
+    if (client->timeout == 0)
+        return 1;
+    asked.fd = client->socket;
+    asked.events = events;
+    do {
+        uint64_t moment = now();
+        if (moment >= client->latest)
+            return 0;
+        asked.revents = 0;
+        count = poll(&asked, 1, client->latest - moment > INT_MAX ? INT_MAX : (int)(client->latest - moment));
+    } while (count < 0 && errno == EINTR);
+    return count > 0;
+}
 
 static void drop(cspwatch_client *client) {
     if (client->socket >= 0)
@@ -168,9 +196,10 @@ static void begin(cspwatch_client *client, char word) {
  * end, is read after it. */
 static void send_line(cspwatch_client *client, const char *line, size_t length) {
     size_t sent = 0;
-    while (sent < length) {
-        ssize_t count = send(client->socket, line + sent, length - sent, MSG_NOSIGNAL);
-        if (count < 0 && errno == EINTR)
+    int flags = client->timeout == 0 ? MSG_NOSIGNAL : MSG_NOSIGNAL | MSG_DONTWAIT;
+    while (sent < length && is_ready(client, POLLOUT)) {
+        ssize_t count = send(client->socket, line + sent, length - sent, flags);
+        if (count < 0 && (errno == EINTR || errno == EAGAIN))
             continue;
         if (count < 0)
             return;
@@ -216,8 +245,12 @@ static enum cspwatch_result read_reply(cspwatch_client *client) {
             return CSPWATCH_ANSWERED;
         }
         seen = client->filled;
+        if (seen >= CSPWATCH_REPLY_LIMIT)
+            return CSPWATCH_BAD_REPLY;
         if (grow(client) != 0)
             return CSPWATCH_OUT_OF_MEMORY;
+        if (!is_ready(client, POLLIN))
+            return CSPWATCH_NO_REPLY;
         do
             count = recv(client->socket, client->input + seen, client->capacity - seen, 0);
         while (count < 0 && errno == EINTR);
@@ -297,9 +330,10 @@ static enum cspwatch_result exchange(cspwatch_client *client, const char *line, 
     enum cspwatch_result result;
     if (client->socket < 0)
         return CSPWATCH_NO_REPLY;
+    client->latest = now() + client->timeout;
     send_line(client, line, length);
     result = read_reply(client);
-    if (result == CSPWATCH_OUT_OF_MEMORY)
+    if (result == CSPWATCH_OUT_OF_MEMORY || result == CSPWATCH_BAD_REPLY)
         return ended(client, result);
     if (result != CSPWATCH_ANSWERED) {
         drop(client);
@@ -345,13 +379,6 @@ static int is_passing(const cspwatch_client *client, enum cspwatch_result result
         return code == CSPWATCH_FAULT_SEATS || code == CSPWATCH_FAULT_READER || code == CSPWATCH_FAULT_TAKEN ||
                code == CSPWATCH_FAULT_MEMORY;
     return result == CSPWATCH_NO_REPLY || result == CSPWATCH_NOT_CONNECTED;
-}
-
-/* Milliseconds of a clock that only goes forward. */
-static uint64_t now(void) {
-    struct timespec time;
-    clock_gettime(CLOCK_MONOTONIC, &time);
-    return (uint64_t)time.tv_sec * 1000 + (uint64_t)time.tv_nsec / 1000000;
 }
 
 static void wait_for(unsigned milliseconds) {

@@ -26,6 +26,10 @@ extern "C" {
 /* The most bytes that a line may have before its LF. */
 #define CSPWATCH_LINE_LIMIT 4096
 
+/* The most bytes that a reply may have, with its LF: a longer one isn't one of the protocol's. A server's longest has the names of
+ * 256 events, of at most 4,096 bytes each. */
+#define CSPWATCH_REPLY_LIMIT 1052672
+
 /* The greatest number of a seat that a client may be. */
 #define CSPWATCH_SEATS 1000
 
@@ -109,7 +113,7 @@ typedef struct cspwatch_client cspwatch_client;
 /* Connects to the server at the host and the port, and fills in the client. With the host "unix:PATH" that is the socket
  * at this path of the file system, and the port, which may be empty, isn't looked at.
  *
- * timeout -- how many milliseconds each write and each read may take; 0 for ever.
+ * timeout -- how many milliseconds the connection, and then each call, may take; 0 for ever.
  *
  * It ends by CSPWATCH_ANSWERED, CSPWATCH_NOT_CONNECTED or CSPWATCH_OUT_OF_MEMORY. A server without a free seat takes the
  * connection, and answers the first call by a fault. */

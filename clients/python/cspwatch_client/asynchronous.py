@@ -7,12 +7,9 @@ from collections import deque
 from types import TracebackType
 from typing import Any, Callable, Deque, Generic, Iterable, Optional, Set, Tuple, Type, TypeVar
 
-from .client import Address, check_seat, line_of_event, line_of_refusal, place_of
+from .client import REPLY_LIMIT, Address, check_seat, line_of_event, line_of_refusal, place_of
 from .reconnecting import FIRST_PAUSE, LONGEST_PAUSE, PASSING
-from .replies import Fault, NoReply, OtherReports, Status, Verdict, VerdictLost, judged_of, next_of, raise_fault, status_of, verdict_of
-
-REPLY_LIMIT = 1 << 20
-"""The most bytes that a reply may have: a server's longest has the names of 256 events, of at most 4,096 bytes each."""
+from .replies import BadReply, Fault, NoReply, OtherReports, Status, Verdict, VerdictLost, judged_of, next_of, raise_fault, status_of, verdict_of
 
 AHEAD = 1024
 """The most lines that are sent ahead of their replies: so many reports share a sync at most."""
@@ -65,7 +62,7 @@ class AsyncClient:
         """A client that is connected to the server at this address.
 
         address -- `"HOST:PORT"`, or a pair of host and port; or `"unix:PATH"`, a socket in the file system.
-        timeout -- how many seconds the connection, and then each reply after the one before it, may take; None for ever.
+        timeout -- how many seconds the connection, and then each call once its line is sent, may take; None for ever.
         seat -- the seat that the client is, from 1 to 1000, of a server that gives seats by number.
         patience -- for how many seconds a client with a seat tries to get it, and to come back; 0 for never.
 
@@ -157,6 +154,7 @@ class AsyncClient:
             call = self._unsent.popleft()
             if not call.answer.done():
                 lines.append(call.line + b"\n")
+                call.sent = time.monotonic()
                 self._sent.append(call)
         if self._writer and lines:
             self._writer.write(b"".join(lines))
@@ -183,11 +181,17 @@ class AsyncClient:
 
     async def _read(self) -> None:
         try:
-            reply = await reply_of(self._reader, self._timeout)
+            reply = await reply_of(self._reader, self._left())
         except NoReply as lost:
             await self._come_back(lost)
         else:
             self._take(reply)
+
+    # How many seconds the call that has waited longest may still take.
+    def _left(self) -> Optional[float]:
+        if self._timeout is None:
+            return None
+        return max(0.0, self._sent[0].sent + self._timeout - time.monotonic())
 
     # Answers the call that has waited longest.
     def _take(self, reply: bytes) -> None:
@@ -256,6 +260,7 @@ class Call(Generic[Answer]):
         self.line = line
         self.read = read
         self.answer = answer
+        self.sent = 0.0
 
     @property
     def is_report(self) -> bool:
@@ -317,13 +322,15 @@ async def opened_patiently(address: Address, timeout: Optional[float], seat: Opt
 
 
 async def reply_of(reader: asyncio.StreamReader, timeout: Optional[float]) -> bytes:
-    """The next reply without its LF, or `NoReply`."""
+    """The next reply without its LF, or `NoReply`; `BadReply` where it has no end."""
     try:
-        reply = await asyncio.wait_for(reader.readline(), timeout)
+        reply = await asyncio.wait_for(reader.readuntil(b"\n"), timeout)
     except asyncio.TimeoutError as error:
         raise NoReply("timed out") from error
-    except (OSError, ValueError) as error:
+    except asyncio.IncompleteReadError as error:
+        raise NoReply("the connection has ended") from error
+    except asyncio.LimitOverrunError as error:
+        raise BadReply(await reader.read(REPLY_LIMIT)) from error
+    except OSError as error:
         raise NoReply(str(error) or "the connection failed") from error
-    if not reply.endswith(b"\n"):
-        raise NoReply("the connection has ended")
     return reply[:-1]

@@ -1,14 +1,19 @@
 """The client: one connection, which is one seat of the session."""
 from __future__ import annotations
 
+import io
 import socket
 from types import TracebackType
 from typing import BinaryIO, Callable, Iterable, Optional, Tuple, Type, TypeVar, Union
 
 from .replies import BadReply, Fault, NoReply, Status, Verdict, judged_of, next_of, raise_fault, status_of, verdict_of
+from .timed import Timed
 
 LINE_LIMIT = 4096
 """The most bytes that a line may have before its LF."""
+
+REPLY_LIMIT = 257 * 4096
+"""The most bytes that a reply may have: a server's longest has the names of 256 events, of at most 4,096 bytes each."""
 
 SEATS = 1000
 """The greatest number of a seat that a client may be."""
@@ -37,7 +42,7 @@ class Client:
         """Connects to the server.
 
         address -- `"HOST:PORT"`, or a pair of host and port; or `"unix:PATH"`, a socket in the file system.
-        timeout -- how many seconds the connection, and then each write and each read, may take; None for ever.
+        timeout -- how many seconds the connection, and then each call, may take; None for ever.
         seat -- the seat that the client is, from 1 to 1000, of a server that gives seats by number. `judged` then
             counts the seat's earlier reports too.
 
@@ -52,7 +57,8 @@ class Client:
 
     def _connect(self, address: Address, timeout: Optional[float], seat: Optional[int]) -> None:
         connection = connected(address, timeout)
-        self._begin(connection.makefile("rb"), connection.makefile("wb"), connection)
+        timed = Timed(connection, timeout)
+        self._begin(io.BufferedReader(timed), io.BufferedWriter(timed), connection, timed)
         if seat is not None:
             self._identify(seat)
 
@@ -69,13 +75,14 @@ class Client:
     def over(cls, reader: BinaryIO, writer: BinaryIO) -> Client:
         """A client over two open files: it reads the replies from one, and writes the lines to the other."""
         client = cls.__new__(cls)
-        client._begin(reader, writer, None)
+        client._begin(reader, writer, None, None)
         return client
 
-    def _begin(self, reader: BinaryIO, writer: BinaryIO, connection: Optional[socket.socket]) -> None:
+    def _begin(self, reader: BinaryIO, writer: BinaryIO, connection: Optional[socket.socket], timed: Optional[Timed]) -> None:
         self._reader = reader
         self._writer = writer
         self._connection = connection
+        self._timed = timed
         self._closed = False
         self._judged = 0
 
@@ -150,15 +157,20 @@ class Client:
     def _exchange(self, line: bytes) -> bytes:
         if self._closed:
             raise NoReply("the client is closed")
+        if self._timed is not None:
+            self._timed.begin()
         try:
             failure = self._send(line)
-            reply = self._reader.readline()
+            reply = self._reader.readline(REPLY_LIMIT + 1)
         except OSError as error:
             self._drop()
             raise NoReply(str(error) or "the connection failed") from error
         except BaseException:
             self._drop()
             raise
+        if len(reply) > REPLY_LIMIT:
+            self._drop()
+            raise BadReply(reply)
         if not reply.endswith(b"\n"):
             self._drop()
             raise NoReply("the connection has ended") from failure

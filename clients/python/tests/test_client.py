@@ -3,6 +3,7 @@ import io
 import os
 import sys
 import threading
+import time
 import unittest
 from typing import Any
 
@@ -131,6 +132,24 @@ class Faults(Talk):
             with self.assertRaises(NoReply):
                 client.event("a")
             self.assertTrue(client.closed)
+
+    def test_a_reply_that_dribbles(self):
+        server = StandIn([(b"E a", [b"O", b"K", b" "] + [b"1"] * 300)])
+        self.entered(server)
+        client = self.kind(server.address, timeout=0.3)
+        begun = time.monotonic()
+        with self.assertRaises(NoReply):
+            client.event("a")
+        self.assertLess(time.monotonic() - begun, SECONDS / 2)
+        self.assertTrue(client.closed)
+
+    def test_a_reply_without_an_end(self):
+        server = StandIn([(b"E a", [b"O" * 65536] * 20)])
+        self.entered(server)
+        client = self.kind(server.address, timeout=SECONDS)
+        with self.assertRaises(BadReply):
+            client.event("a")
+        self.assertTrue(client.closed)
 
     def test_replies_of_no_protocol(self):
         rows = [
