@@ -43,6 +43,7 @@ COMMANDS = {
     "cspwatch-explore": "cspwatch_client.exploring.command:main",
     "cspwatch-logs": "cspwatch_client.logs.command:main",
     "cspwatch-metrics": "cspwatch_client.watching.metrics:main",
+    "cspwatch-web": "cspwatch_client.watching.web:main",
 }
 """The commands, and the function that each calls."""
 

@@ -178,14 +178,15 @@ class Follower(threading.Thread):
         target, rest, looked = self.view.extent.records, b"", time.monotonic()
         self.reach(target)
         while not self.stopping.is_set():
-            if select.select([come], [], [], LOOK_SECONDS if self.is_told else 0)[0]:
+            asks = not self.is_told and self.view.coming is None
+            if select.select([come], [], [], 0 if asks else LOOK_SECONDS)[0]:
                 data = os.read(come, CHUNK)
                 if not data:
                     raise Ended(self.reason())
                 whole, end, rest = (rest + data).rpartition(b"\n")
                 self.take(whole + end)
                 self.reach(target)
-            elif not self.is_told:
+            elif asks:
                 self.ask()
             if time.monotonic() - looked >= LOOK_SECONDS:
                 self.look()
