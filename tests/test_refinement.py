@@ -1,14 +1,18 @@
-"""Assertions whose answers are worked out by hand, against the reference's search over all traces up to a length."""
+"""The reference's search over all traces up to a length, against answers that are worked out by hand, and against the definition."""
 from __future__ import annotations
 
 import json
 import os
+import random
 from typing import Any
 
 import pytest
+from reference.alphabet import Alphabet
 from reference.elaboration import read
+from reference.meaning import Meaning
 from reference.refinement import Broken, Process, choice, counterexample, deadlock
 from reference.terms import Spec
+from test_reference import some_term
 
 FILE = os.path.join(os.path.dirname(os.path.abspath(__file__)), "assertions.json")
 LENGTH = 4
@@ -86,3 +90,25 @@ def test_assertion(script: str, assertion: Assertion) -> None:
     trace = tuple(claim.event(name) for name in assertion["after"])
     assert found is not None and len(found.trace) == len(trace), "the trace is a shortest one"
     assert shows(claim, trace, assertion)
+
+
+def of_definition(spec: Meaning, made: Meaning, with_failures: bool) -> int | None:
+    """After how many events a process first breaks a refinement, by the sets of all traces and of all failures; None where it doesn't."""
+    beyond = [len(trace) - 1 for trace in made.traces(made.spec.bodies[0], 0) - spec.traces(spec.spec.bodies[0], 0)]
+    if with_failures:
+        beyond += [len(trace) for trace, _ in made.failures(made.spec.bodies[0], 0) - spec.failures(spec.spec.bodies[0], 0)]
+    return min(beyond, default=None)
+
+
+@pytest.mark.parametrize("with_failures", [False, True])
+@pytest.mark.parametrize("seed", range(150))
+def test_search_is_the_definition(seed: int, with_failures: bool) -> None:
+    """Of processes without names, which have finitely many traces."""
+    rng = random.Random(seed)
+    alphabet = Alphabet()
+    for name in "ab":
+        alphabet.declare(name, [])
+    spec, made = (Spec(alphabet, [some_term(rng, 2, 2, 0)]) for _ in range(2))
+    wanted = of_definition(Meaning(spec, 0), Meaning(made, 0), with_failures)
+    found = counterexample(spec, made, with_failures, 5)
+    assert (None if found is None else len(found.trace)) == wanted
