@@ -140,6 +140,7 @@ PYTHON_VERSIONS = {
     "man/cspwatch-explore.1": r'^\.TH CSPWATCH-EXPLORE 1 \S+ "cspwatch-client (.*?)"',
     "man/cspwatch-logs.1": r'^\.TH CSPWATCH-LOGS 1 \S+ "cspwatch-client (.*?)"',
     "man/cspwatch-metrics.1": r'^\.TH CSPWATCH-METRICS 1 \S+ "cspwatch-client (.*?)"',
+    "man/cspwatch-test.1": r'^\.TH CSPWATCH-TEST 1 \S+ "cspwatch-client (.*?)"',
     "man/cspwatch-web.1": r'^\.TH CSPWATCH-WEB 1 \S+ "cspwatch-client (.*?)"',
     "clients/python/cspwatch_client/__init__.py": r'^__version__ = "(.*)"$',
 }

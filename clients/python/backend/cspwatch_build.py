@@ -31,6 +31,8 @@ Classifier: Typing :: Typed
 Provides-Extra: watch
 Requires-Dist: prometheus_client; extra == 'watch'
 Requires-Dist: aiohttp; extra == 'watch'
+Provides-Extra: test
+Requires-Dist: hypothesis; extra == 'test'
 """
 
 WHEEL = """Wheel-Version: 1.0
@@ -43,6 +45,7 @@ COMMANDS = {
     "cspwatch-explore": "cspwatch_client.exploring.command:main",
     "cspwatch-logs": "cspwatch_client.logs.command:main",
     "cspwatch-metrics": "cspwatch_client.watching.metrics:main",
+    "cspwatch-test": "cspwatch_client.testing.command:main",
     "cspwatch-web": "cspwatch_client.watching.web:main",
 }
 """The commands, and the function that each calls."""

@@ -78,7 +78,7 @@ class InFolder(unittest.TestCase):
             env=self.environment(**more),
         )
 
-    def test_of(self, *words, **more):
+    def command(self, *words, **more):
         """The status, the lines of output and those of errors of a run of the command."""
         run = self.start(*words, **more)
         try:
