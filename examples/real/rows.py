@@ -35,7 +35,7 @@ def text_of(*path):
 
 
 def without_reasons(verdicts):
-    return re.sub(r"(: NO \d+), .*", r"\1", verdicts)
+    return re.sub(r"(: NO \d+(?: \(first\))?), .*", r"\1", verdicts)
 
 
 def run(program, name, log):

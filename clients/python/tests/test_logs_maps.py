@@ -14,15 +14,16 @@ if sys.version_info >= (3, 11):
     from cspwatch_client.logs.places import NoPlace, Places
     from cspwatch_client.logs.templates import Template
 
+FIRST = "the first of two"
 RULE = "[[rule]]\nmatch = 'a'\nevent = 'a'\n"
 
 FAULTS = [
-    ("x = 1\n", 1, "x", "there is no such key; there are specification, places, rule, names, ignore, join, sessions"),
-    ("[[rule]]\nmatch = 'a'\nevent = \"a\"\nevnt = 1\n", 4, "rule.evnt", "there is no such key; there are match, event, refusal"),
+    ("x = 1\n", 1, "x", "there is no such key; there are specification, time, order, json, places, rule, names, ignore, join, sessions"),
+    ("[[rule]]\nmatch = 'a'\nevent = \"a\"\nevnt = 1\n", 4, "rule.evnt", "there is no such key; there are name, file, match, event, events, refusal, free_by"),
     ("[[rule]]\nmatch = 'a'\n\nevent = \"a.{x}\"\n", 4, "rule.event", "`match` has no group 'x', which 'a.{x}' asks for"),
     ("[[rule]]\nmatch = '(a'\nevent = \"a\"\n", 2, "rule.match", "(a: missing ), unterminated subpattern at position 0"),
-    ("[[rule]]\nmatch = 'a'\n", 1, "rule", "a rule has either `event` or `refusal`"),
-    ("[[rule]]\nmatch = 'a'\nevent = 'a'\nrefusal = []\n", 1, "rule", "a rule has either `event` or `refusal`"),
+    ("[[rule]]\nmatch = 'a'\n", 1, "rule", "a rule has `event`, `events`, `refusal` or `free_by`"),
+    ("[[rule]]\nmatch = 'a'\nevent = 'a'\nevents = ['b']\n", 4, "rule.events", "write either `event` or `events`"),
     ("[[rule]]\nevent = 'a'\n", 1, "rule.match", "this key is missing"),
     ("[[rule]]\nmatch = 3\nevent = 'a'\n", 2, "rule.match", "a text is wanted, not 3"),
     ("[[rule]]\nmatch = 'a'\nevent = '{a'\n", 3, "rule.event", "{a: the brace at 1 belongs to no field; a field is {name}, a brace is doubled"),
@@ -64,11 +65,11 @@ class Faults(InFolder):
     def test_the_command_says_it(self):
         self.file("m.toml", SPECIFICATION + "\n[[rule]]\nmatch = 'a'\nevent = \"open.{n}\"\n")
         wanted = "m.toml:7: rule.event: `match` has no group 'n', which 'open.{n}' asks for"
-        self.assertEqual(self.logs("m.toml"), (2, [], [wanted]))
+        self.assertEqual(self.logs("m.toml"), (3, [], [wanted]))
 
     def test_not_text(self):
         self.file("m.toml", b"a = 1\nb = '\xff'\n")
-        self.assertEqual(self.logs("m.toml"), (2, [], ["m.toml:2: this isn't UTF-8"]))
+        self.assertEqual(self.logs("m.toml"), (3, [], ["m.toml:2: this isn't UTF-8"]))
 
     def test_events_that_the_script_does_not_have(self):
         rows = [
@@ -79,14 +80,14 @@ class Faults(InFolder):
         for text, reason in rows:
             self.file("m.toml", SPECIFICATION + "[[rule]]\nmatch = '(?P<n>.)'\n" + text + "\n")
             key = text.split()[0]
-            self.assertEqual(self.logs("m.toml", given=b"x\n"), (2, [], ["m.toml:6: rule.%s: %s" % (key, reason)]))
+            self.assertEqual(self.logs("m.toml", given=b"x\n"), (3, [], ["m.toml:6: rule.%s: %s" % (key, reason)]))
 
     def test_places_that_the_script_has_too_few_events_for(self):
         self.file("m.toml", SPECIFICATION + "[places.n]\nsize = 3\n" + RULES)
         wanted = "m.toml:9: rule.event: the script has no event of the form 'open.{n}' for place 2 of n"
-        self.assertEqual(self.logs("m.toml"), (2, [], [wanted]))
+        self.assertEqual(self.logs("m.toml"), (3, [], [wanted]))
         self.file("m.toml", SPECIFICATION + "[names.n]\n1 = 7\n" + RULES)
-        self.assertEqual(self.logs("m.toml"), (2, [], ["m.toml:9: rule.event: the script has no event of the form 'open.{n}'"]))
+        self.assertEqual(self.logs("m.toml"), (3, [], ["m.toml:9: rule.event: the script has no event of the form 'open.{n}'"]))
 
 
 @NEEDS
@@ -130,14 +131,16 @@ class Mapped(InFolder):
         places, found = Places(rules.map.places), []
         for line in lines:
             rule, match = rules.match(line)
-            try:
-                report = rules.report(rule, match.groupdict(), places)
-            except Unmapped as reason:
-                found.append(str(reason))
-                continue
-            found.append(report.line)
-            if report.event is not None:
-                places.after(report.event, match.groupdict())
+            for reported in rule.reports:
+                try:
+                    report = rules.report(reported, match.groupdict(), places)
+                except Unmapped as reason:
+                    found.append(str(reason))
+                    continue
+                found.append(report.line)
+                if report.event is not None:
+                    places.after(report.event, match.groupdict())
+            places.free(rule.frees, match.groupdict())
         return found
 
 
@@ -192,7 +195,7 @@ refusal = ["come.{client}", "lost.{client}"]
         for number in range(1000):
             for line in ("come c%d" % number, "send c%d p%d" % (number, number), "gone c%d" % number):
                 rule, match = rules.match(line)
-                places.after(rules.report(rule, match.groupdict(), places).event, match.groupdict())
+                places.after(rules.report(rule.reports[0], match.groupdict(), places).event, match.groupdict())
         self.assertEqual(places.numbers, {"client": {}, "packet": {}})
 
     def test_no_place_is_said(self):
@@ -246,14 +249,15 @@ event = 'a'
         joiner = self.joiner()
         lines = ["7 read(3,  <unfinished ...>", "8 read(4,  <unfinished ...>", "9 close(5) = 0", "7 <... read resumed>\"x\", 1) = 1",
                  "8 <... write resumed>) = 0", "8 <... read resumed>\"y\", 1) = 1"]
-        wanted = [None, None, lines[2], "7 read(3, \"x\", 1) = 1", lines[4], "8 read(4, \"y\", 1) = 1"]
-        self.assertEqual([joiner.line(line) for line in lines], wanted)
+        wanted = [FIRST, FIRST, lines[2], "7 read(3, \"x\", 1) = 1", lines[4], "8 read(4, \"y\", 1) = 1"]
+        found = [joiner.line(line) for line in lines]
+        self.assertEqual([one if isinstance(one, str) else FIRST for one in found], wanted)
         self.assertEqual(joiner.waiting(), 0)
 
     def test_beginnings_without_an_end(self):
         joiner = self.joiner()
         for pid in range(MOST_BEGUN + 10):
-            self.assertIsNone(joiner.line("%d read(3,  <unfinished ...>" % pid))
+            self.assertNotIsInstance(joiner.line("%d read(3,  <unfinished ...>" % pid), str)
         self.assertEqual(len(joiner.begun[0]), MOST_BEGUN)
         self.assertEqual(joiner.waiting(), MOST_BEGUN + 10)
 

@@ -53,7 +53,7 @@ class OverAStandIn(InFolder):
         self.file("m.toml", SPECIFICATION + "large = true\n" + RULES)
         self.assertEqual(self.logs("m.toml", given=b"open 0\n"), (0, [counts(1, 1, 1, 0)], []))
         reason = "m.toml:4: specification.large: this needs `check --large`, which came after cspwatch 0.5.1; %s is cspwatch 0.0.0" % STAND_IN
-        self.assertEqual(self.logs("m.toml", STAND_IN_OPTIONS="--explain"), (2, [], [reason]))
+        self.assertEqual(self.logs("m.toml", STAND_IN_OPTIONS="--explain"), (3, [], [reason]))
 
     def test_quiet_first_and_strict(self):
         given = b"what\nbad\nbad\n"
@@ -99,7 +99,7 @@ class OverAStandIn(InFolder):
         self.assertEqual(self.logs("m.toml", self.folder)[0], 5)
         self.assertEqual(self.logs("--program", "/none", "m.toml")[0], 5)
         self.file("s.toml", RULES)
-        self.assertEqual(self.logs("s.toml"), (2, [], ["s.toml:1: specification: this table is missing, and a run without --server needs it"]))
+        self.assertEqual(self.logs("s.toml"), (3, [], ["s.toml:1: specification: this table is missing, and a run without --server needs it"]))
 
     def test_standard_output_fails(self):
         run = self.start("m.toml")
@@ -162,14 +162,14 @@ class InSessions(InFolder):
 
     def test_each_key_has_a_history(self):
         self.map("")
-        out = ["-:3: a: E bad: NO 2, expected open.0 or open.1", "    a bad", "-:4: b: E bad: NO 2, expected open.0 or open.1", "    b bad",
+        out = ["-:3: a: E bad: NO 2 (first), expected open.0 or open.1", "    a bad", "-:4: b: E bad: NO 2 (first), expected open.0 or open.1", "    b bad",
                counts(5, 5, 3, 2, rest="0 ignored, 0 without a rule, 3 sessions, 2 with a rejected report")]
         self.assertEqual(self.logs("m.toml", given=b"a open 0\nb open 1\na bad\nb bad\nc open 0\n"), (1, out, []))
 
     def test_events_that_begin_and_end(self):
         self.map("begin = 'open.0'\nend = ['close.0', 'close.1']\n")
         given = b"a bad\na open 0\na open 1\na close 0\na bad\na open 0\na bad\na open 0\na bad\n"
-        out = ["-:7: a: E bad: NO 2, expected open.0 or open.1", "    a bad", "-:9: a: E bad: NO 2, expected open.0 or open.1", "    a bad",
+        out = ["-:7: a: E bad: NO 2 (first), expected open.0 or open.1", "    a bad", "-:9: a: E bad: NO 2 (first), expected open.0 or open.1", "    a bad",
                counts(9, 7, 5, 2, rest="0 ignored, 0 without a rule, 2 outside a session, 3 sessions, 2 with a rejected report")]
         self.assertEqual(self.logs("m.toml", given=given), (1, out, []))
 

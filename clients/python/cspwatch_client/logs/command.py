@@ -37,8 +37,8 @@ LOOK_SECONDS = 0.2
 MOST_SEATS = 1000
 """The greatest number of a seat that a component may ask for."""
 
-EPILOG = """exit status: 0 all reports were accepted; 1 one was rejected; 2 bad use, a fault in the map, or a line that wasn't
-judged; 3 the script was refused; 4 the server couldn't write its journal; 5 a file, the program or the connection failed;
+EPILOG = """exit status: 0 all reports were accepted; 1 one was rejected; 2 bad use, or a line that wasn't judged; 3 the map or the
+script was refused; 4 the server couldn't write its journal; 5 a file, the program or the connection failed;
 6 a limit was met. Of several, the first of 4, 5, 1, 6, 2, 0."""
 
 
@@ -108,13 +108,11 @@ def main(words: Optional[Sequence[str]] = None) -> int:
         stream.reconfigure(errors="backslashreplace")  # type: ignore[attr-defined]
     try:
         return run(options, sys.stdout, sys.stderr)
-    except MapFault as fault:
-        return said(fault, 2)
     except BadUse as fault:
         return said("cspwatch-logs: %s" % fault, 2)
     except ProgramFault as fault:
         return said(fault, fault.status, "\n")
-    except (Lost, LogFault, RecordFault, StateFault, StreamFault) as fault:
+    except (MapFault, Lost, LogFault, RecordFault, StateFault, StreamFault) as fault:
         return said(fault, fault.status)
     except BrokenPipeError:
         # Nobody reads the verdicts any more; the interpreter would fail again when it flushes at its end.

@@ -82,6 +82,8 @@ class Case:
         self.reports = 0
         self.rejected = 0
         self.not_judged = 0
+        self.after_no = 0
+        """Reports after the first rejected one, where they aren't judged."""
         self.failures: List[Failure] = []
 
     def add(self, failure: Failure) -> None:
@@ -106,6 +108,8 @@ class Case:
             parts.append("<system-out>%d more were rejected or not judged</system-out>" % more)
         if self.is_empty():
             parts.append('<skipped message="no report of it was judged in this run"/>')
+        if self.after_no:
+            parts.append("<system-out>%d reports after the first NO were not judged</system-out>" % self.after_no)
         names = quoted(suite), quoted(self.name), self.reports
         return "<testcase classname=%s name=%s assertions=\"%d\">%s</testcase>\n" % (*names, "\n".join(parts))
 

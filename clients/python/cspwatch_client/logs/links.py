@@ -66,6 +66,10 @@ class Sent:
     """The number of the report among those of its seat, where it was judged and its verdict was lost; 0 where it wasn't."""
     since = 0.0
     """Since when its reason is waited for, by the clock `monotonic`."""
+    times = 1
+    """How many reports that are alike it stands for."""
+    after_no = False
+    """Whether its session wasn't judged any more."""
 
     def __init__(self, report: Report, line: Line, index: int, session: object) -> None:
         self.report = report
@@ -80,6 +84,10 @@ class Sent:
         found = cls(Report("", "" if is_event else None), line, index, session)
         found.done, found.fault, found.status = True, reason, UNJUDGED
         return found
+
+    def passed(self) -> int:
+        """How many of the reports that it stands for were accepted."""
+        return 1 if self.accepted else 0
 
     def is_complete(self) -> bool:
         """Whether its answer is complete, or its reason has been waited for long enough."""
@@ -105,6 +113,83 @@ class Sent:
             is_gap = self.report.event is not None and int(fault[1]) in LIMITS
             self.status = UNJUDGED if is_gap else status_of(int(fault[1]))
         return fault is not None
+
+
+NOTHING = Report("", None)
+
+NO_LINE = Line("", 0, "")
+
+
+class Ticks(Sent):
+    """Ticks that follow one another, with nothing else between. One that is rejected changes nothing, so all after it are rejected too."""
+
+    def __init__(self, report: Report, line: Line, index: int, session: object, times: int, first: int, length: int) -> None:
+        """first -- the time of the first; length -- the time from one to the next."""
+        super().__init__(report, line, index, session)
+        self.times = times
+        self.first, self.length = first, length
+        self.accepted_ones = self.answered = 0
+
+    def passed(self) -> int:
+        return self.accepted_ones
+
+    def answer(self, reply: bytes) -> bool:
+        """Takes the next reply. What it says of the first that wasn't accepted stays."""
+        one = Sent(self.report, self.line, self.index, self.session)
+        if not one.answer(reply):
+            return False
+        self.answered += 1
+        if one.accepted:
+            self.accepted_ones += 1
+        elif self.status == 0:
+            self.place, self.fault, self.status = one.place, one.fault, one.status
+        self.accepted = self.accepted_ones == self.times
+        return True
+
+    def is_answered(self) -> bool:
+        return self.answered == self.times
+
+
+class Block(Sent):
+    """Reports of one session that follow one another. Most are accepted; where one isn't, each becomes one that was sent alone."""
+
+    def __init__(self, session: object) -> None:
+        super().__init__(NOTHING, NO_LINE, 0, session)
+        self.times = 0
+        self.reports: List[Report] = []
+        self.lines: List[Line] = []
+        self.indexes: List[int] = []
+        self.answered = 0
+
+    def add(self, report: Report, line: Line, index: int) -> None:
+        """One more report."""
+        self.reports.append(report)
+        self.lines.append(line)
+        self.indexes.append(index)
+
+    def close(self) -> None:
+        """No more reports are added."""
+        self.times = len(self.reports)
+        self.line, self.index = self.lines[0], self.indexes[0]
+
+    def passed(self) -> int:
+        return self.times if self.accepted else 0
+
+    def are_accepted(self, replies: List[bytes]) -> None:
+        """So many replies have come, each of them as expected."""
+        self.answered += len(replies)
+        self.accepted = self.done = self.answered == self.times
+
+    def parts(self, place: int) -> List[Sent]:
+        """Each report as one that was sent alone; those that were answered are accepted.
+
+        place -- the place of the last that was answered.
+        """
+        found = [Sent(report, line, index, self.session) for report, line, index in zip(self.reports, self.lines, self.indexes)]
+        for number, sent in enumerate(found[: self.answered]):
+            sent.accepted = sent.done = True
+            sent.place = place - self.answered + 1 + number
+        return found
 
 
 class Lost(Exception):
@@ -142,8 +227,14 @@ class Link:
         self.outgoing = bytearray()
         self.waiting: Deque[Sent] = deque()
         """The reports whose verdicts haven't come."""
+        self.place = 0
+        """The place of the last report that was judged, as far as it is known."""
+        self.split: Callable[[Block, List[Sent]], None] = lambda block, parts: None
+        """What is told that a block has become parts."""
         self.unexplained: Dict[int, Sent] = {}
         """The rejected reports whose reasons haven't come, by the numbers of their lines."""
+        self.early: Dict[int, str] = {}
+        """Reasons that have come before their verdicts were read, by the same numbers."""
         self.answered = 0
         self.judged = 0
         """How many of the answers were verdicts."""
@@ -164,7 +255,11 @@ class Link:
         self.waiting.append(sent)
         if self.broken:
             return
-        self.outgoing += sent.report.line.encode("utf-8", "replace") + b"\n"
+        if isinstance(sent, Block):
+            self.outgoing += ("\n".join([report.line for report in sent.reports]) + "\n").encode("utf-8", "replace")
+            return
+        line = sent.report.line.encode("utf-8", "replace") + b"\n"
+        self.outgoing += line if sent.times == 1 else line * sent.times
 
     def write(self) -> None:
         """Writes what can be written now."""
@@ -212,20 +307,75 @@ class Link:
 
     def take_replies(self, replies: List[bytes]) -> None:
         waiting = self.waiting
-        for reply in replies:
+        at = 0
+        while at < len(replies):
+            if waiting and isinstance(waiting[0], Block):
+                at += self.take_block(waiting[0], replies[at:] if at else replies)
+                continue
+            reply = replies[at]
+            at += 1
             if not waiting:
                 raise unasked(self.name, reply)
             sent = waiting.popleft()
             self.answered += 1
+            is_first = sent.status == 0
             is_answer = sent.answer(reply)
-            self.judged += not sent.fault
+            self.judged += reply[2:3] != b"R"
             if not is_answer:
                 raise Lost("%s: %r was answered by %r" % (self.name, sent.report.line, reply[:200]))
-            if sent.accepted or sent.fault or sent.reason or not self.explains or self.told not in self.open:
+            if reply[2:3] != b"R":
+                self.place = int(reply[3:])
+            if sent.times > 1 and isinstance(sent, Ticks) and not sent.is_answered():
+                waiting.appendleft(sent)
+                if not sent.status:
+                    continue
+            if sent.accepted or not sent.status:
                 sent.done = True
             else:
+                self.explain(sent, is_first)
+
+    def take_block(self, block: Block, replies: List[bytes]) -> int:
+        """Takes as many replies as the block waits for, where all of them accept; else the block becomes its parts. Answers how many
+        were taken."""
+        count = min(block.times - block.answered, len(replies))
+        taken = replies[:count]
+        if taken == [b"OK %d" % place for place in range(self.place + 1, self.place + 1 + count)]:
+            self.place += count
+            self.answered += count
+            self.judged += count
+            block.are_accepted(taken)
+            if block.done:
+                self.waiting.popleft()
+            return count
+        self.split_first()
+        return 0
+
+    def split_first(self) -> None:
+        """Makes parts of the block that is answered next, where it is one."""
+        if self.waiting and isinstance(self.waiting[0], Block):
+            block = self.waiting.popleft()
+            assert isinstance(block, Block)
+            parts = block.parts(self.place)
+            self.waiting.extendleft(reversed(parts[block.answered :]))
+            self.split(block, parts)
+
+    def unanswered(self) -> int:
+        """How many reports wait for their verdicts."""
+        return sum(sent.times - (sent.answered if isinstance(sent, (Block, Ticks)) else 0) for sent in self.waiting)
+
+    def explain(self, sent: Sent, is_first: bool) -> None:
+        """The reason of a report that wasn't accepted, which may have come or not. It is done with that, once all of it is answered.
+
+        is_first -- whether it is the first of the reports that it stands for, whose reason is that of all.
+        """
+        reason = self.early.pop(self.answered, "")
+        if is_first:
+            sent.reason = reason
+            if not (sent.fault or reason) and self.explains and self.told in self.open:
                 self.unexplained[self.answered] = sent
                 sent.since = time.monotonic()
+        is_answered = not isinstance(sent, Ticks) or sent.is_answered()
+        sent.done = is_answered and sent not in self.unexplained.values()
 
     def take_error(self, line: str) -> None:
         """A line of standard error. A reason may come before its verdict is read."""
@@ -238,10 +388,11 @@ class Link:
             # Reasons come in the order of the reports, so these have none.
             self.unexplained.pop(earlier).done = True
         sent = self.unexplained.pop(number, None)
-        if sent is None and 0 < number - self.answered <= len(self.waiting):
-            self.waiting[number - self.answered - 1].reason = found[2]
-        elif sent is not None:
-            sent.reason, sent.done = found[2], True
+        if sent is not None:
+            sent.reason = found[2]
+            sent.done = not isinstance(sent, Ticks) or sent.is_answered()
+        elif number > self.answered and self.waiting:
+            self.early[number] = found[2]
 
     def explain_nothing(self) -> None:
         """No further reason comes."""

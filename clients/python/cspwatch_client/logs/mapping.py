@@ -1,11 +1,15 @@
 """What a map makes of lines: which report a line is, and of which session."""
 from __future__ import annotations
 
+import os
 import re
-from typing import Any, Dict, List, Mapping, NamedTuple, Optional, Sequence, Tuple, Union
+from fnmatch import fnmatchcase
+from typing import Any, Callable, Dict, List, Mapping, NamedTuple, Optional, Sequence, Tuple, Union
 
 from ..client import LINE_LIMIT
-from .maps import Ignored, Join, Map, Rule
+from .jsonlines import Fields
+from .maps import Found, Ignored, Join, Map, Reported, Rule
+from .needles import needles
 from .places import Groups, NoPlace, Places
 from .templates import Template
 
@@ -38,9 +42,11 @@ class Joiner:
         self.lost = 0
         """How many beginnings were let go without an end."""
 
-    def line(self, text: str) -> Optional[str]:
-        """The line itself, the joined one where this is the second of two, None where it is the first."""
+    def line(self, text: str, file: str = "") -> Union[str, Tuple[Join, re.Match[str]]]:
+        """The line itself, the joined one where this is the second of two, or the join and its match where it is the first."""
         for join, begun in zip(self.joins, self.begun):
+            if join.file is not None and not is_named(file, join.file):
+                continue
             first = join.begin.search(text)
             if first is not None:
                 key = tuple(first[name] for name in join.shared)
@@ -49,7 +55,7 @@ class Joiner:
                 if len(begun) > MOST_BEGUN:
                     del begun[next(iter(begun))]
                     self.lost += 1
-                return None
+                return join, first
             last = join.end.search(text)
             if last is not None:
                 groups = begun.pop(tuple(last[name] for name in join.shared), None)
@@ -72,50 +78,98 @@ class Joiner:
         return self.lost + sum(len(begun) for begun in self.begun)
 
 
+Tried = Tuple[str, Callable[[Any], Optional[Found]], Optional[Rule]]
+"""What is tried with a line: a text that it needs to have, the search, and the rule; None for what ignores the line."""
+
+
 class Rules:
     """The rules of a map, with how each field gets its text."""
 
     def __init__(self, found: Map, events: Optional[Sequence[str]]) -> None:
         """events -- all events of the script and termination, in their order; None where they aren't known."""
         self.map = found
-        both: List[Union[Rule, Ignored]] = sorted([*found.rules, *found.ignored], key=lambda one: one.line)
-        self.searches = [(one.pattern.search, one if isinstance(one, Rule) else None) for one in both]
-        """What is tried with a line, in the order of the map; None for what ignores it."""
+        tried = [rule for rule in found.rules if rule.path[0] == "rule"]
+        self.all: List[Union[Rule, Ignored]] = sorted([*tried, *found.ignored], key=lambda one: one.line)
+        """What is tried with a line, in the order of the map."""
+        self.tables: Dict[str, List[Tried]] = {}
+        """The same by the names of logs, only what is for them."""
+        self.by_file = any(one.file is not None for one in self.all)
+        self.table = self.table_of("")
+        """The same for each log, where it is."""
         self.events = events or ()
         self.alphabet = None if events is None else frozenset(events)
-        self.literal: Dict[int, Report] = {}
-        """The reports of rules without fields, which are always the same."""
+        self.fixed: Dict[int, Report] = {}
+        """What reports without fields are, which is always the same, by the identity of what the map has."""
         self.used = [False] * len(found.rules)
         """Which rules have taken a line."""
 
-    def match(self, text: str) -> Optional[Tuple[Optional[Rule], re.Match[str]]]:
+    def table_of(self, file: str) -> List[Tried]:
+        """What is tried with the lines of a log."""
+        fitting = [one for one in self.all if not self.by_file or one.file is None or is_named(file, one.file)]
+        patterns = [one.pattern for one in fitting if isinstance(one.pattern, re.Pattern)]
+        texts = needles(patterns) if len(patterns) == len(fitting) else [""] * len(fitting)
+        return [(text, one.pattern.search, one if isinstance(one, Rule) else None) for text, one in zip(texts, fitting)]
+
+    def match(self, line: str, file: str = "") -> Optional[Tuple[Optional[Rule], Found]]:
         """The first rule that takes the line, with its match; the rule is None where the line is to be ignored."""
-        for search, rule in self.searches:
-            found = search(text)
-            if found is not None:
-                if rule is not None:
-                    self.used[rule.number] = True
-                return rule, found
+        table = self.table
+        if self.by_file:
+            if file not in self.tables:
+                self.tables[file] = self.table_of(file)
+            table = self.tables[file]
+        for text, search, rule in table:
+            if text in line:
+                found = search(line)
+                if found is not None:
+                    if rule is not None:
+                        self.used[rule.number] = True
+                    return rule, found
         return None
 
-    def report(self, rule: Rule, groups: Groups, places: Places) -> Report:
-        """What the rule reports of a line with these groups. `Unmapped` says why it is nothing that can be sent."""
-        found = self.literal.get(rule.number)
-        if found is not None:
-            return found
-        found = self.made(rule, groups, places)
-        if not any(template.fields for template in ([rule.event] if rule.event is not None else rule.refusal or ())):
-            self.literal[rule.number] = found
+    def plain(self) -> Dict[int, Report]:
+        """What the lines of the rules always are whose one report has no fields, and which end nothing, by the rules' numbers."""
+        found: Dict[int, Report] = {}
+        for rule in self.map.rules:
+            if len(rule.reports) == 1 and not any(template.fields for template in rule.reports[0].templates()):
+                try:
+                    found[rule.number] = self.report(rule.reports[0], {}, Places({}))
+                except Unmapped:
+                    # That is said of each of its lines.
+                    continue
         return found
 
-    def made(self, rule: Rule, groups: Groups, places: Places) -> Report:
+    def match_fields(self, fields: Fields, file: str) -> Optional[Tuple[Optional[Rule], Found]]:
+        """The same for a line of JSON."""
+        for one in self.all:
+            found = one.pattern.search(fields) if one.file is None or is_named(file, one.file) else None
+            if found is not None:
+                if not isinstance(one, Rule):
+                    return None, found
+                self.used[one.number] = True
+                return one, found
+        return None
+
+    def report(self, reported: Reported, groups: Groups, places: Places) -> Report:
+        """What is reported of a line with these groups. `Unmapped` says why it is nothing that can be sent."""
+        found = self.fixed.get(id(reported))
+        if found is not None:
+            return found
+        found = self.made(reported, groups, places)
+        if not any(template.fields for template in reported.templates()):
+            self.fixed[id(reported)] = found
+        return found
+
+    def made(self, reported: Reported, groups: Groups, places: Places) -> Report:
         """The report, put together."""
-        if rule.event is not None:
-            event = self.name(rule.event, groups, places)
+        if reported.event is not None:
+            held = places.held(groups)
+            event = self.name(reported.event, groups, places)
+            if held and places.taken_anew(held, event, groups):
+                event = self.name(reported.event, groups, places)
             return Report("E " + event, event)
         try:
             # What is refused hasn't happened: a name that has no number yet gets none that it keeps.
-            names = [self.name(template, groups, places, lend=True) for template in rule.refusal or ()]
+            names = [self.name(template, groups, places, lend=True) for template in reported.refused]
         finally:
             places.take_back(groups)
         line = " ".join(["R"] + names)
@@ -157,3 +211,8 @@ class Rules:
 def shortened(text: str) -> str:
     """The text, or its beginning where it is long."""
     return text if len(text) <= 100 else text[:100] + "…"
+
+
+def is_named(file: str, pattern: str) -> bool:
+    """Whether a log has such a name, with or without its folder."""
+    return fnmatchcase(file, pattern) or fnmatchcase(os.path.basename(file), pattern)

@@ -4,30 +4,54 @@ from __future__ import annotations
 import os
 import re
 import tomllib
-from dataclasses import dataclass
-from typing import Callable, Dict, List, Mapping, Optional, Sequence, Tuple, TypeVar
+from dataclasses import dataclass, replace
+from typing import Any, Dict, List, Mapping, Optional, Protocol, Sequence, Tuple
 
+from .jsonlines import JsonForm, read_fields, read_json
 from .keys import Path, dotted, line_of, lines_of_keys
+from .tables import MapFault as MapFault
+from .tables import Pattern, Positions, Table
 from .templates import Template
-
-Pattern = re.Pattern[str]
-Made = TypeVar("Made")
+from .times import KEYS as TIME_KEYS
+from .times import TimeForm, read_time
 
 MOST_PLACES = 256
 """The most places of a kind: a script has at most so many events."""
 
+KEYS = {
+    "specification": ("script", "process", "large"),
+    "time": TIME_KEYS,
+    "order": ("rules",),
+    "json": ("each", "fields"),
+    "places": ("size", "of", "take", "free"),
+    "rule": ("name", "file", "match", "event", "events", "refusal", "free_by"),
+    "names": (),
+    "ignore": ("file", "match"),
+    "join": ("file", "begin", "begin_event", "end", "line"),
+    "sessions": ("key", "begin", "end", "after_no", "skip_until"),
+}
+"""The tables of a map, with the keys of each; those of `names` are the user's own."""
 
-class MapFault(Exception):
-    """What is wrong with a map: `FILE:LINE: KEY: reason`."""
+GO_ON, STOP = "go on", "stop"
+"""What is done after the first rejected report of a session."""
 
-    def __init__(self, file: str, line: int, key: str, reason: str) -> None:
-        super().__init__("%s:%d: %s%s" % (file, line, key + ": " if key else "", reason))
-        self.line = line
-        """The line of the key, counted from 1."""
-        self.key = key
-        """The key, such as `rule.event`; empty where the file isn't TOML."""
-        self.reason = reason
-        """What is wrong."""
+
+class Found(Protocol):
+    """A line that matches."""
+
+    def groupdict(self) -> Dict[str, Optional[str]]:
+        """The texts of the groups."""
+
+
+class Searcher(Protocol):
+    """What is searched for in lines: a regular expression, or one for each of some fields of JSON."""
+
+    @property
+    def groupindex(self) -> Mapping[str, int]:
+        """The names of the groups."""
+
+    def search(self, subject: Any, /) -> Optional[Found]:
+        """The match; None where there is none."""
 
 
 @dataclass(frozen=True)
@@ -49,21 +73,44 @@ class PlaceKind:
     size: int
     of: Optional[Template]
     """What has places of its own; None where all names share them."""
+    take: Tuple[Template, ...]
+    """The events by which a name becomes that of somebody else, who has no number yet."""
     free: Tuple[Template, ...]
     """The events after which a name gives its number back."""
 
 
 @dataclass(frozen=True)
+class Reported:
+    """What a rule reports: an event, or a refusal."""
+
+    key: str
+    """The key of the map that says it."""
+    event: Optional[Template]
+    """None for a refusal."""
+    refused: Tuple[Template, ...]
+
+    def templates(self) -> Tuple[Template, ...]:
+        return self.refused if self.event is None else (self.event,)
+
+
+@dataclass(frozen=True)
 class Rule:
-    """A line that matches is this report."""
+    """A line that matches is these reports."""
 
     number: int
     """Its number among the rules, from 0."""
+    path: Path
+    """Where it stands in the map."""
     line: int
     """Its line in the map."""
-    pattern: Pattern
-    event: Optional[Template]
-    refusal: Optional[Tuple[Template, ...]]
+    pattern: Searcher
+    reports: Tuple[Reported, ...]
+    """In their order; none where the line only frees places."""
+    frees: Tuple[str, ...]
+    """The kinds of places that the names in its groups give back."""
+    name: Optional[str]
+    file: Optional[str]
+    """The logs whose lines it takes, as a pattern of names; None for all."""
 
 
 @dataclass(frozen=True)
@@ -72,7 +119,8 @@ class Ignored:
 
     line: int
     """Its line in the map."""
-    pattern: Pattern
+    pattern: Searcher
+    file: Optional[str]
 
 
 @dataclass(frozen=True)
@@ -84,6 +132,9 @@ class Join:
     line: Template
     shared: Tuple[str, ...]
     """The groups that both have: their texts are the same in both lines."""
+    rule: Optional[Rule]
+    """What the first line reports when it comes."""
+    file: Optional[str]
 
 
 @dataclass(frozen=True)
@@ -101,17 +152,33 @@ class Map:
 
     file: str
     specification: Optional[Specification]
+    time: Optional[TimeForm]
+    order: Tuple[int, ...]
+    """The numbers of the rules whose lines come first of those that have one time."""
+    json: Optional[JsonForm]
+    """How lines of JSON are read; None where lines are text."""
     places: Mapping[str, PlaceKind]
     names: Mapping[str, Mapping[str, str]]
     rules: Tuple[Rule, ...]
+    """Those that are tried with each line, and after them those of the first lines of joins."""
     ignored: Tuple[Ignored, ...]
     joins: Tuple[Join, ...]
     sessions: Optional[Sessions]
+    """None where the whole log is one session."""
+    after_no: str
+    """What is done after the first rejected report of a session: `GO_ON` or `STOP`."""
+    skip_until: Optional[int]
+    """The number of the rule whose line is the first of a session that is judged; None where the first line is."""
     lines: Mapping[Path, int]
 
     def fault(self, path: Path, reason: str) -> MapFault:
         """A fault of what is at this path."""
         return MapFault(self.file, line_of(dict(self.lines), path), dotted(path), reason)
+
+    def may_report(self, template: Template) -> bool:
+        """Whether a rule may report an event that the template can be."""
+        events = (reported.event for rule in self.rules for reported in rule.reports)
+        return any(template.may_equal(event) for event in events if event is not None)
 
 
 def read_map(file: str) -> Map:
@@ -128,118 +195,84 @@ def read_map(file: str) -> Map:
         at = re.search(r" \(at (?:line (\d+), column \d+|end of document)\)$", reason)
         line = int(at[1]) if at and at[1] else text.count("\n") + 1
         raise MapFault(file, line, "", "this isn't TOML: " + (reason[: at.start()] if at else reason)) from None
-    return Reader(file, text, table).map()
-
-
-class Table:
-    """A table of the map, with the path to it."""
-
-    def __init__(self, reader: Reader, path: Path, found: object, keys: Sequence[str]) -> None:
-        self.reader, self.path = reader, path
-        if not isinstance(found, dict):
-            raise reader.fault(path, "a table is wanted here")
-        self.found: Dict[str, object] = found
-        for key in found:
-            if keys and key not in keys:
-                raise reader.fault(path + (key,), "there is no such key; there are %s" % ", ".join(keys))
-
-    def __contains__(self, key: str) -> bool:
-        return key in self.found
-
-    def fault(self, key: str, reason: str) -> MapFault:
-        return self.reader.fault(self.path + (key,), reason)
-
-    def value(self, key: str, kind: type, called: str) -> object:
-        if key not in self.found:
-            raise self.fault(key, "this key is missing")
-        found = self.found[key]
-        if type(found) is not kind:
-            raise self.fault(key, "%s is wanted, not %r" % (called, found))
-        return found
-
-    def text(self, key: str) -> str:
-        return str(self.value(key, str, "a text"))
-
-    def texts(self, key: str) -> List[str]:
-        """A text, or a list of texts."""
-        found = self.found.get(key, [])
-        texts = [found] if isinstance(found, str) else found
-        if not (isinstance(texts, list) and all(isinstance(text, str) for text in texts)):
-            raise self.fault(key, "a text or a list of texts is wanted, not %r" % (found,))
-        return texts
-
-    def made(self, key: str, make: Callable[[str], Made], text: str) -> Made:
-        """What is made of the text, which is a value of this key."""
-        try:
-            return make(text)
-        except (ValueError, re.error) as error:
-            raise self.fault(key, "%s: %s" % (text, error)) from None
-
-    def pattern(self, key: str) -> Pattern:
-        return self.made(key, re.compile, self.text(key))
-
-    def template(self, key: str) -> Template:
-        return self.made(key, Template, self.text(key))
-
-    def templates(self, key: str) -> Tuple[Template, ...]:
-        return tuple(self.made(key, Template, text) for text in self.texts(key))
-
-    def need(self, key: str, template: Template, groups: Sequence[str], whose: str) -> None:
-        """A fault where the template has a field that isn't one of these groups."""
-        for field in template.fields:
-            if field not in groups:
-                raise self.fault(key, "%s group %r, which %r asks for" % (whose, field, template.source))
+    found = Reader(Positions(file, lines_of_keys(text)), table).map()
+    check_templates(found)
+    return found
 
 
 class Reader:
     """Reads the tables of a map."""
 
-    TOP = ("specification", "places", "rule", "names", "ignore", "join", "sessions")
-
-    def __init__(self, file: str, text: str, table: Dict[str, object]) -> None:
-        self.file = file
-        self.lines = lines_of_keys(text)
-        self.top = Table(self, (), table, self.TOP)
+    def __init__(self, positions: Positions, table: Dict[str, object]) -> None:
+        self.positions = positions
+        self.top = Table(positions, (), table, tuple(KEYS))
+        form = self.table("json")
+        self.json = read_json(positions, form) if form is not None else None
+        """How lines of JSON are read."""
 
     def fault(self, path: Path, reason: str) -> MapFault:
-        return MapFault(self.file, line_of(self.lines, path), dotted(path), reason)
+        return self.positions.fault(path, reason)
+
+    def line(self, path: Path) -> int:
+        return line_of(self.positions.lines, path)
 
     def map(self) -> Map:
-        names = {name: self.names_of(table) for name, table in self.named("names", ())}
-        places = {name: self.place(name, table) for name, table in self.named("places", ("size", "of", "free"))}
+        names = {name: self.names_of(table) for name, table in self.named("names")}
+        places = {name: self.place(name, table) for name, table in self.named("places")}
         for name in places:
             if name in names:
                 raise self.fault(("names", name), "these names have places already")
-        rules = tuple(self.rule(number, table) for number, table in enumerate(self.tables("rule", ("match", "event", "refusal"))))
+        rules = [self.rule(number, table) for number, table in enumerate(self.top.tables("rule", KEYS["rule"]))]
         if not rules:
             raise self.fault(("rule",), "there is no rule")
-        joins = tuple(self.join(table) for table in self.tables("join", ("begin", "end", "line")))
-        ignored = tuple(Ignored(line_of(self.lines, table.path), table.pattern("match")) for table in self.tables("ignore", ("match",)))
-        found = Map(self.file, self.specification(), places, names, rules, ignored, joins, self.sessions(), self.lines)
-        check_templates(found)
-        return found
+        named = named_rules(self, rules)
+        joins = [self.join(len(rules) + number, table) for number, table in enumerate(self.top.tables("join", KEYS["join"]))]
+        rules = [*rules, *(join.rule for join in joins if join.rule is not None)]
+        ignored = [self.ignore(table) for table in self.top.tables("ignore", KEYS["ignore"])]
+        time, sessions = self.table("time"), self.table("sessions")
+        return Map(
+            file=self.positions.file,
+            specification=self.specification(),
+            time=read_time(self.positions, time, self.json) if time is not None else None,
+            order=self.order(named),
+            json=self.json,
+            places=places,
+            names=names,
+            rules=tuple(replace(rule, number=number) for number, rule in enumerate(rules)),
+            ignored=tuple(ignored),
+            joins=tuple(joins),
+            sessions=self.sessions(sessions) if sessions is not None else None,
+            after_no=sessions.choice("after_no", (GO_ON, STOP)) if sessions is not None else GO_ON,
+            skip_until=number_of(sessions, named) if sessions is not None and "skip_until" in sessions else None,
+            lines=self.positions.lines,
+        )
 
-    def named(self, key: str, keys: Sequence[str]) -> List[Tuple[str, Table]]:
+    def table(self, key: str) -> Optional[Table]:
+        """The table with this key; None where there is none."""
+        return Table(self.positions, (key,), self.top.found[key], KEYS[key]) if key in self.top else None
+
+    def named(self, key: str) -> List[Tuple[str, Table]]:
         """The tables below this key, with their names."""
         if key not in self.top:
             return []
-        tables = Table(self, (key,), self.top.found[key], ()).found
-        return [(name, Table(self, (key, name), table, keys)) for name, table in tables.items()]
-
-    def tables(self, key: str, keys: Sequence[str]) -> List[Table]:
-        """The tables of an array of tables."""
-        found = self.top.found.get(key, [])
-        if not isinstance(found, list):
-            raise self.fault((key,), "write [[%s]], since there may be several" % key)
-        return [Table(self, (key, number), table, keys) for number, table in enumerate(found)]
+        tables = Table(self.positions, (key,), self.top.found[key], ()).found
+        return [(name, Table(self.positions, (key, name), table, KEYS[key])) for name, table in tables.items()]
 
     def specification(self) -> Optional[Specification]:
-        if "specification" not in self.top:
+        table = self.table("specification")
+        if table is None:
             return None
-        table = Table(self, ("specification",), self.top.found["specification"], ("script", "process", "large"))
         large = "large" in table and table.value("large", bool, "true or false") is True
-        script = os.path.join(os.path.dirname(self.file), table.text("script"))
+        script = os.path.join(os.path.dirname(self.positions.file), table.text("script"))
         return Specification(script, table.text("process"), large)
+
+    def order(self, named: Mapping[str, int]) -> Tuple[int, ...]:
+        table = self.table("order")
+        if table is None:
+            return ()
+        if "time" not in self.top:
+            raise self.fault(("order",), "lines are put in order by their times, and there is no table [time]")
+        return tuple(rule_named(table, "rules", name, named) for name in table.texts("rules"))
 
     def names_of(self, table: Table) -> Dict[str, str]:
         for name, value in table.found.items():
@@ -255,58 +288,125 @@ class Reader:
         of = table.template("of") if "of" in table else None
         if of is not None and name in of.fields:
             raise table.fault("of", "these places can't be of themselves")
-        return PlaceKind(name, size, of, table.templates("free"))
+        take = table.templates("take")
+        for template in take:
+            if name not in template.fields:
+                raise table.fault("take", "%r doesn't name {%s}" % (template.source, name))
+        return PlaceKind(name, size, of, take, table.templates("free"))
+
+    def pattern(self, table: Table) -> Searcher:
+        """What is searched for in the lines of a rule."""
+        given = table.found.get("match")
+        if self.json is None:
+            if isinstance(given, dict):
+                raise table.fault("match", "there is no table [json]; write a regular expression")
+            return table.pattern("match")
+        if isinstance(given, str):
+            raise table.fault("match", "this map reads JSON: write a table with a regular expression for each field")
+        return read_fields(self.positions, table.path + ("match",), table.value("match", dict, "a table"), self.json)
 
     def rule(self, number: int, table: Table) -> Rule:
-        pattern = table.pattern("match")
-        if ("event" in table) == ("refusal" in table):
-            raise self.fault(table.path, "a rule has either `event` or `refusal`")
-        event = table.template("event") if "event" in table else None
-        refusal = table.templates("refusal") if "refusal" in table else None
-        for key, template in [("event", event)] + [("refusal", one) for one in refusal or ()]:
-            if template is not None:
-                table.need(key, template, list(pattern.groupindex), "`match` has no")
-        return Rule(number, line_of(self.lines, table.path), pattern, event, refusal)
+        pattern = self.pattern(table)
+        table.one_of("event", "events")
+        reports: List[Reported] = []
+        if "event" in table:
+            reports.append(Reported("event", table.template("event"), ()))
+        reports += [Reported("events", template, ()) for template in table.templates("events")]
+        if "refusal" in table:
+            reports.append(Reported("refusal", None, table.templates("refusal")))
+        if not reports and "free_by" not in table:
+            raise self.fault(table.path, "a rule has `event`, `events`, `refusal` or `free_by`")
+        for reported in reports:
+            for template in reported.templates():
+                table.need(reported.key, template, list(pattern.groupindex), "`match` has no")
+        frees = tuple(table.texts("free_by"))
+        return Rule(number, table.path, self.line(table.path), pattern, tuple(reports), frees, self.text_in(table, "name"), self.text_in(table, "file"))
 
-    def join(self, table: Table) -> Join:
+    def text_in(self, table: Table, key: str) -> Optional[str]:
+        return table.text(key) if key in table else None
+
+    def ignore(self, table: Table) -> Ignored:
+        return Ignored(self.line(table.path), self.pattern(table), self.text_in(table, "file"))
+
+    def join(self, number: int, table: Table) -> Join:
+        """number -- the number of the rule for its first line."""
+        if self.json is not None:
+            raise self.fault(table.path, "lines of JSON aren't joined")
         begin, end, line = table.pattern("begin"), table.pattern("end"), table.template("line")
         shared = tuple(name for name in begin.groupindex if name in end.groupindex)
         if not shared:
             raise table.fault("end", "`begin` and `end` have no group in common, by which lines belong together")
         table.need("line", line, [*begin.groupindex, *end.groupindex], "neither `begin` nor `end` has a")
-        return Join(begin, end, line, shared)
+        file, rule = self.text_in(table, "file"), None
+        if "begin_event" in table:
+            event = table.template("begin_event")
+            table.need("begin_event", event, list(begin.groupindex), "`begin` has no")
+            rule = Rule(number, table.path, self.line(table.path), begin, (Reported("begin_event", event, ()),), (), None, file)
+        return Join(begin, end, line, shared, rule, file)
 
-    def sessions(self) -> Optional[Sessions]:
-        if "sessions" not in self.top:
+    def sessions(self, table: Table) -> Optional[Sessions]:
+        if "key" not in table:
+            for key in ("begin", "end"):
+                if key in table:
+                    raise table.fault(key, "`%s` goes with `key`; without a key the whole log is one session" % key)
             return None
-        table = Table(self, ("sessions",), self.top.found["sessions"], ("key", "begin", "end"))
         begin = table.template("begin") if "begin" in table else None
         return Sessions(table.template("key"), begin, table.templates("end"))
 
 
+def named_rules(reader: Reader, rules: Sequence[Rule]) -> Dict[str, int]:
+    """The numbers of the rules that have names, by these."""
+    found: Dict[str, int] = {}
+    for rule in rules:
+        if rule.name is not None and rule.name in found:
+            raise reader.fault(rule.path + ("name",), "another rule has the name %r" % rule.name)
+        if rule.name is not None:
+            found[rule.name] = rule.number
+    return found
+
+
+def rule_named(table: Table, key: str, name: str, named: Mapping[str, int]) -> int:
+    """The number of the rule with this name."""
+    if name not in named:
+        raise table.fault(key, "no rule has `name = \"%s\"`" % name)
+    return named[name]
+
+
+def number_of(sessions: Table, named: Mapping[str, int]) -> int:
+    return rule_named(sessions, "skip_until", sessions.text("skip_until"), named)
+
+
 def check_templates(found: Map) -> None:
     """Finds what names events that no rule reports, and groups that rules don't have."""
-    events = [rule.event for rule in found.rules if rule.event is not None]
-    named: List[Tuple[Path, Template]] = [(("places", kind.name, "free"), free) for kind in found.places.values() for free in kind.free]
+    named: List[Tuple[Path, Template]] = []
+    for kind in found.places.values():
+        named += [(("places", kind.name, "take"), take) for take in kind.take]
+        named += [(("places", kind.name, "free"), free) for free in kind.free]
     if found.sessions is not None:
         named += [(("sessions", "begin"), found.sessions.begin)] if found.sessions.begin is not None else []
         named += [(("sessions", "end"), end) for end in found.sessions.end]
     for path, template in named:
-        if not any(template.may_equal(event) for event in events):
+        if not found.may_report(template):
             raise found.fault(path, "no rule reports %r" % template.source)
     for rule in found.rules:
         check_groups(found, rule)
 
 
 def check_groups(found: Map, rule: Rule) -> None:
-    """Finds what a rule has no group for: the key of sessions, and what a place is of."""
+    """Finds what a rule has no group for: the key of sessions, what a place is of, and what it frees."""
     groups = rule.pattern.groupindex
+    match = "begin" if rule.path[0] == "join" else "match"
     for field in found.sessions.key.fields if found.sessions is not None else ():
         if field not in groups:
-            raise found.fault(("rule", rule.number, "match"), "there is no group %r, which sessions.key asks for" % field)
-    templates = [rule.event] if rule.event is not None else list(rule.refusal or ())
-    for kind in (found.places[field] for template in templates for field in template.fields if field in found.places):
+            raise found.fault(rule.path + (match,), "there is no group %r, which sessions.key asks for" % field)
+    used = [(reported.key, field) for reported in rule.reports for template in reported.templates() for field in template.fields]
+    for name in rule.frees:
+        if name not in found.places:
+            raise found.fault(rule.path + ("free_by",), "there is no table [places.%s]" % name)
+        if name not in groups:
+            raise found.fault(rule.path + ("free_by",), "`match` has no group %r" % name)
+        used.append(("free_by", name))
+    for key, kind in [(key, found.places[field]) for key, field in used if field in found.places]:
         for field in kind.of.fields if kind.of is not None else ():
             if field not in groups:
-                key = "event" if rule.event is not None else "refusal"
-                raise found.fault(("rule", rule.number, key), "`match` has no group %r, which places.%s.of asks for" % (field, kind.name))
+                raise found.fault(rule.path + (key,), "`%s` has no group %r, which places.%s.of asks for" % (match, field, kind.name))

@@ -2,7 +2,7 @@
 from __future__ import annotations
 
 import heapq
-from typing import Any, Dict, List, Mapping, Optional, Tuple
+from typing import Any, Dict, List, Mapping, Optional, Sequence, Tuple
 
 from .maps import PlaceKind
 
@@ -49,6 +49,10 @@ class Places:
         self.numbers: Dict[str, Dict[Tuple[str, ...], Numbers]] = {name: {} for name in kinds}
         self.lent: List[PlaceKind] = []
         """The kinds whose names got numbers for one report alone."""
+        self.taken = [kind for kind in kinds.values() if kind.take]
+        """The kinds of which it is known by which events their numbers are taken."""
+        self.notes: List[str] = []
+        """What is to be said of numbers that were taken, until somebody has said it."""
 
     def number(self, kind: PlaceKind, groups: Groups, lend: bool) -> int:
         """The number of the name that the groups have for the kind. `NoPlace` where there is none left.
@@ -68,6 +72,31 @@ class Places:
         for kind in self.lent:
             self.give_back(kind, groups, True)
         self.lent.clear()
+
+    def held(self, groups: Groups) -> List[PlaceKind]:
+        """The kinds whose names in these groups have numbers, of those of which it is known by which events they are taken."""
+        return [kind for kind in self.taken if groups.get(kind.name) is not None and self.number_of(kind, groups) is not None]
+
+    def number_of(self, kind: PlaceKind, groups: Groups) -> Optional[int]:
+        """The number that the name has; None where it has none."""
+        numbers = self.numbers[kind.name].get(owner_of(kind, groups))
+        return numbers.of.get(str(groups[kind.name])) if numbers else None
+
+    def taken_anew(self, held: Sequence[PlaceKind], event: str, groups: Groups) -> bool:
+        """Gives back the numbers of these kinds that the event takes anew, and notes it. Answers whether there were any."""
+        found = [kind for kind in held if any(self.text(take.literals, take.fields, groups) == event for take in kind.take)]
+        for kind in found:
+            self.notes.append(
+                "%s %r takes a place, and no event gave back number %s of the one before it" % (kind.name, groups[kind.name], self.number_of(kind, groups))
+            )
+            self.give_back(kind, groups, True)
+        return bool(found)
+
+    def free(self, names: Sequence[str], groups: Groups) -> None:
+        """Gives back the numbers of the names that the groups have for these kinds."""
+        for name in names:
+            if groups.get(name) is not None:
+                self.give_back(self.kinds[name], groups, True)
 
     def after(self, event: str, groups: Groups) -> None:
         """Gives back what is free after the event, which the rule with these groups reported."""

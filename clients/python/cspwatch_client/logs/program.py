@@ -83,13 +83,14 @@ def events_of(program: Program, specification: Specification) -> Tuple[str, ...]
 
 def check_events(found: Map, events: Sequence[str]) -> None:
     """Finds the rules whose events the script doesn't have, and places that it has too few events for (`MapFault`)."""
-    for rule in found.rules:
-        templates = [("event", rule.event)] if rule.event is not None else [("refusal", one) for one in rule.refusal or ()]
-        for key, template in templates:
-            assert template is not None
-            reason = missing(found, template, events)
-            if reason is not None:
-                raise found.fault(("rule", rule.number, key), reason)
+    templates = [(rule.path + (one.key,), template) for rule in found.rules for one in rule.reports for template in one.templates()]
+    for path, template in templates:
+        reason = missing(found, template, events)
+        if reason is not None:
+            raise found.fault(path, reason)
+    tick = found.time.event if found.time is not None else None
+    if tick is not None and tick not in events:
+        raise found.fault(("time", "event"), "the script has no event %r" % tick)
 
 
 def missing(found: Map, template: Template, events: Sequence[str]) -> Optional[str]:

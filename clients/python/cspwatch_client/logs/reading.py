@@ -22,6 +22,8 @@ class Line(NamedTuple):
     """The number of the line in the file, from 1."""
     text: str
     """The line without its end. Bytes that aren't UTF-8 are written as `\\xff`."""
+    time: Optional[int] = None
+    """Its time, in nanoseconds since 1970, where the map says how it is read."""
 
 
 class Splitter:

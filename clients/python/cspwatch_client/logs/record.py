@@ -71,7 +71,11 @@ class Record:
 def line_of(sent: Sent, session: str) -> bytes:
     """The line of an outcome."""
     fields = {"line": sent.line.number, "session": session, "report": sent.report.line}
-    if sent.fault:
+    if sent.times > 1:
+        fields.update(times=sent.times, accepted=sent.passed())
+    if sent.after_no:
+        fields["after"] = "NO"
+    elif sent.fault:
         fields["fault"] = sent.fault
     else:
         fields["verdict"] = "OK" if sent.accepted else "NO"

@@ -5,14 +5,16 @@ from collections import deque
 from dataclasses import dataclass
 from typing import Any, Callable, Deque, Dict, Iterable, List, Optional, Sequence, Set, Tuple, Union
 
-from .junit import Case, Context, JUnit
-from .links import UNJUDGED, Connection, Link, Links, Lost, Sent
+from .junit import Context, JUnit
+from .links import UNJUDGED, Block, Connection, Link, Links, Lost, Sent, Ticks
 from .mapping import Joiner, Report, Rules, Unmapped
-from .maps import Map, Rule
+from .maps import STOP, Found, Map, Reported, Rule
 from .places import Groups, Places
 from .reading import Line, Source
 from .record import Record
-from .showing import SHOWN, Counts, Printer, kept, place_of, verdict
+from .sessions import Session, Sessions
+from .showing import SHOWN, Counts, Printer, kept, place_of, tick_line, verdict
+from .ticking import MOST_TICKS, SLICE, Clock
 
 AHEAD = 32768
 """The most reports that are sent ahead of their replies, of all sessions together."""
@@ -32,22 +34,6 @@ LOST_STATUSES = {3: 3, 6: 6}
 """The statuses of a `check` that ended early which become the run's; any other is 5."""
 
 
-class Session:
-    """One history: what judges it, and the numbers of its names."""
-
-    def __init__(self, name: str, places: Places) -> None:
-        self.name = name
-        """Its key; empty where there is one session for all."""
-        self.places = places
-        self.link: Optional[Link] = None
-        """None before its first report."""
-        self.case = Case(name or "reports")
-        self.is_over = False
-        """Whether its last report was sent, and each was answered."""
-        self.gap = ""
-        """Where the first line stands that reported an event which wasn't judged: later verdicts are of a trace without it."""
-
-
 @dataclass
 class Wanted:
     """What a run is to do beside judging."""
@@ -63,6 +49,10 @@ class Wanted:
     record: Optional[Record] = None
     come_back: Optional[Callable[[Callable[[], bool]], Connection]] = None
     """Opens a connection again, as the same seat, until somebody asks for the end. None where one that is lost isn't opened again."""
+    clock: Optional[Clock] = None
+    """The ticks that are reported; None where there are none."""
+    is_served: bool = False
+    """Whether a server judges, whose history others may report to."""
 
 
 class Run:
@@ -78,8 +68,7 @@ class Run:
         self.counts = Counts()
         self.order: Deque[Union[Sent, Session]] = deque()
         """The reports without a complete answer in the order of their lines, and sessions where they end."""
-        self.sessions: Dict[str, Session] = {}
-        """Those that are open, by their keys."""
+        self.sessions = Sessions(self.map)
         self.by_link: Dict[Link, Session] = {}
         self.context = Context(WINDOW + AHEAD) if self.junit is not None else None
         self.came: Set[str] = set()
@@ -92,13 +81,18 @@ class Run:
         """Whether something failed, so that the run couldn't go on."""
         self.stopped = False
         """Whether no more lines are wanted."""
-        self.has_ends = self.map.sessions is not None or bool(self.map.places)
-        """Whether an event may end something: the number of a name, or a session."""
-        self.single: Optional[Session] = None
-        """The one session, where the map has no sessions by keys."""
-        if self.map.sessions is None:
-            self.single = self.session("")
-            self.open(self.single)
+        self.block: Optional[Block] = None
+        """The reports that are gathered, where there is one session; None where each is sent alone."""
+        self.plain: Dict[int, Report] = {}
+        """What lines of some rules always are, where nothing else follows from them; by the numbers of the rules."""
+        self.last_line: Optional[Line] = None
+        """The line that came last, where there are ticks."""
+        if self.sessions.single is not None:
+            self.open(self.sessions.single).split = self.split
+            if self.wanted.record is None and self.wanted.come_back is None:
+                self.block = Block(self.sessions.single)
+            if self.map.skip_until is None and self.wanted.clock is None and not self.sessions.may_end:
+                self.plain = self.rules.plain()
 
     def take(self, lines: Sequence[Line]) -> None:
         """The next lines."""
@@ -107,21 +101,50 @@ class Run:
             counts.lines += 1
             if context is not None:
                 context.add(kept(line))
-            text = self.joiner.line(line.text) if self.map.joins else line.text
-            if text is None:
-                counts.joined += 1
+            if self.map.json is not None:
+                self.take_fields(line)
+            elif self.map.joins:
+                self.take_joined(line)
             else:
-                self.take_text(line, text)
-        if self.single is not None or len(self.order) >= BATCH:
+                found = self.rules.match(line.text, line.file)
+                plain = self.plain.get(found[0].number) if found is not None and found[0] is not None else None
+                if plain is not None:
+                    self.send(line, self.sessions.single, plain)
+                else:
+                    self.take_match(line, found)
+        self.send_block()
+        if lines and self.wanted.clock is not None:
+            self.last_line = kept(lines[-1])
+        if self.sessions.single is not None or len(self.order) >= BATCH:
             self.pump(0)
         while self.is_far_ahead():
             self.pump(WAIT_SECONDS)
 
-    def take_text(self, line: Line, text: str) -> None:
-        """A line as the rules see it."""
-        if text is not line.text:
-            line = line._replace(text=text)
-        found = self.rules.match(text)
+    def take_fields(self, line: Line) -> None:
+        """A line of JSON, in which there may be several that stand for lines."""
+        assert self.map.json is not None
+        records = self.map.json.records(line.text)
+        for record in records:
+            self.take_match(line, self.rules.match_fields(record, line.file))
+        if not records:
+            self.take_match(line, None)
+
+    def take_joined(self, line: Line) -> None:
+        """A line that may belong together with another one."""
+        text = self.joiner.line(line.text, line.file)
+        if isinstance(text, str):
+            if text is not line.text:
+                line = line._replace(text=text)
+            self.take_match(line, self.rules.match(text, line.file))
+            return
+        join, match = text
+        self.counts.joined += 1
+        if join.rule is not None:
+            self.rules.used[join.rule.number] = True
+            self.take_rule(line, join.rule, match.groupdict())
+
+    def take_match(self, line: Line, found: Optional[Tuple[Optional[Rule], Found]]) -> None:
+        """A line with the rule that takes it."""
         if found is None:
             self.counts.without_rule += 1
             self.counts.first_without_rule = self.counts.first_without_rule or place_of(line)
@@ -133,49 +156,88 @@ class Run:
         if rule is None:
             self.counts.ignored += 1
             return
-        groups = match.groupdict() if rule.pattern.groupindex else NO_GROUPS
-        try:
-            if self.single is not None:
-                session = self.single
-                report = self.rules.report(rule, groups, session.places)
-            else:
-                session, report = self.in_session(rule, groups)
-        except Unmapped as reason:
-            self.not_mapped(line, groups, str(reason), rule.event is not None)
+        self.take_rule(line, rule, match.groupdict() if rule.pattern.groupindex else NO_GROUPS)
+
+    def take_rule(self, line: Line, rule: Rule, groups: Groups) -> None:
+        """A line that a rule takes."""
+        if self.map.skip_until is not None and self.sessions.is_skipped(rule, groups):
+            self.counts.skipped += 1
             return
-        if session is self.single or session.name in self.sessions:
-            self.send(line, session, report)
-            if self.has_ends and report.event is not None:
-                self.after(session, report.event, groups)
-        else:
-            self.counts.outside += 1
+        for reported in rule.reports:
+            self.take_report(line, reported, groups)
+        if not rule.reports:
+            self.counts.ignored += 1
+        if rule.frees:
+            session = self.sessions.open.get(self.sessions.key(groups) or "")
+            if session is not None:
+                session.places.free(rule.frees, groups)
 
-    def in_session(self, rule: Rule, groups: Groups) -> Tuple[Session, Report]:
-        """The session of the line and what it reports. The session isn't among the open ones where the line belongs to none."""
-        assert self.map.sessions is not None
-        begin, key = self.map.sessions.begin, self.map.sessions.key.filled_from(groups)
-        if key is None:
-            raise Unmapped("a group of sessions.key took no part in the match")
-        session = self.sessions.get(key)
-        if begin is None:
-            session = session or self.session(key)
-            return session, self.rules.report(rule, groups, session.places)
-        fresh = Session(key, Places(self.map.places))
-        if rule.event is not None and begin.may_equal(rule.event):
-            report = self.rules.report(rule, groups, fresh.places)
-            if report.event == fresh.places.text(begin.literals, begin.fields, groups):
-                if session is not None:
-                    self.end(session)
-                self.sessions[key] = fresh
-                return fresh, report
-        if session is None:
-            return fresh, Report("", None)
-        return session, self.rules.report(rule, groups, session.places)
+    def take_report(self, line: Line, reported: Reported, groups: Groups) -> None:
+        """One of the reports of a line."""
+        sessions = self.sessions
+        try:
+            session, report, ended = sessions.found(reported, groups, self.rules)
+        except Unmapped as reason:
+            self.not_mapped(line, groups, str(reason), reported.event is not None)
+            return
+        if not sessions.is_open(session):
+            if report.line == "":
+                self.counts.outside += 1
+                return
+            if ended is not None:
+                self.end(ended)
+            sessions.begins(session)
+        if session.places.notes:
+            self.say_notes(line, session)
+        if self.wanted.clock is not None and line.time is not None:
+            self.tick(session, line, line.time)
+            session.quiet, session.tick_refused = 0, False
+        self.send(line, session, report)
+        if sessions.may_end and report.event is not None:
+            is_last = sessions.is_last(session, report.event, groups)
+            session.places.after(report.event, groups)
+            if is_last:
+                self.end(session)
 
-    def session(self, key: str) -> Session:
-        """A new session."""
-        session = self.sessions[key] = Session(key, Places(self.map.places))
-        return session
+    def say_notes(self, line: Line, session: Session) -> None:
+        """Says which places were taken anew."""
+        for note in session.places.notes:
+            self.counts.taken_anew += 1
+            self.printer.message(line, note)
+        session.places.notes.clear()
+
+    def tick(self, session: Session, line: Line, time: int) -> None:
+        """Reports the ticks that are due in the session before the line."""
+        clock = self.wanted.clock
+        assert clock is not None
+        before = session.ticked
+        count = clock.due(session, time)
+        if count == 0 or before is None or (session.tick_refused and not self.wanted.is_served):
+            return
+        if count > MOST_TICKS:
+            self.counts.statuses.add(2)
+            self.printer.message(line, "%d ticks are due before this line, and the first %d of them are reported" % (count, MOST_TICKS))
+            count = MOST_TICKS
+        session.quiet += count
+        self.send_block()
+        shown = kept(line)
+        # Those of a connection that may be lost are sent one by one, since each is answered or not.
+        length = SLICE if self.wanted.come_back is None else 1
+        for first in range(0, count, length):
+            times = min(length, count - first)
+            self.send_report(Ticks(clock.report, shown, self.counts.lines - 1, session, times, (before + 1 + first) * clock.length, clock.length))
+            while count > SLICE and self.order and not self.stopped:
+                self.pump(WAIT_SECONDS)
+            if session.tick_refused and not self.wanted.is_served:
+                # A tick that was rejected has changed nothing, so those that follow it would be rejected too.
+                return
+
+    def tick_all(self, time: int) -> None:
+        """Reports the ticks that are due by now in all open sessions, where no line has come."""
+        if self.wanted.clock is not None and self.last_line is not None:
+            for session in list(self.sessions.open.values()):
+                if session.ticked is not None:
+                    self.tick(session, self.last_line, time)
 
     def open(self, session: Session) -> Link:
         """Starts what judges the session."""
@@ -185,31 +247,55 @@ class Run:
         self.counts.sessions += 1
         return link
 
-    def send(self, line: Line, session: Session, report: Report) -> None:
+    def send(self, line: Line, session: Optional[Session], report: Report) -> None:
+        """Sends a report; where there is one session, with those that come next."""
         counts = self.counts
-        counts.reports += 1
+        if self.block is not None and counts.earlier == self.wanted.skip:
+            counts.reports += 1
+            self.block.add(report, line if len(line.text) <= SHOWN else kept(line), counts.lines - 1)
+        else:
+            self.send_alone(line, session, report)
+
+    def send_block(self) -> None:
+        """Sends the reports that were gathered."""
+        block = self.block
+        if block is not None and block.reports:
+            self.block = Block(block.session)
+            block.close()
+            self.counts.reports -= block.times
+            self.send_report(block)
+
+    def split(self, block: Block, parts: List[Sent]) -> None:
+        """A block has become parts, which take its place."""
+        order = list(self.order)
+        at = order.index(block)
+        self.order = deque([*order[:at], *parts, *order[at + 1 :]])
+
+    def send_alone(self, line: Line, session: Optional[Session], report: Report) -> None:
+        self.send_report(Sent(report, line if len(line.text) <= SHOWN else kept(line), self.counts.lines - 1, session))
+
+    def send_report(self, sent: Sent) -> None:
+        """Sends a report, or several that are alike."""
+        counts, session = self.counts, sent.session
+        assert isinstance(session, Session)
+        counts.reports += sent.times
         if counts.earlier < self.wanted.skip:
-            counts.earlier += 1
+            counts.earlier += sent.times
+            if counts.earlier <= self.wanted.skip:
+                return
+            sent.times = counts.earlier - self.wanted.skip
+            counts.earlier = self.wanted.skip
+        self.order.append(sent)
+        if session.stopped:
+            sent.done = True
             return
         link = session.link or self.open(session)
-        sent = Sent(report, line if len(line.text) <= SHOWN else kept(line), counts.lines - 1, session)
-        self.order.append(sent)
         link.send(sent)
         self.links.dirty.add(link)
 
-    def after(self, session: Session, event: str, groups: Groups) -> None:
-        """What the event ends: the numbers of names, and the session."""
-        sessions = self.map.sessions
-        ends = sessions is not None and any(
-            session.places.text(end.literals, end.fields, groups) == event for end in sessions.end
-        )
-        session.places.after(event, groups)
-        if ends:
-            self.end(session)
-
     def end(self, session: Session) -> None:
         """Sends nothing more for the session. Its end is shown after its last verdict."""
-        del self.sessions[session.name]
+        self.sessions.ended(session)
         if session.link is not None:
             session.link.finish()
             if session.link.outgoing:
@@ -224,21 +310,26 @@ class Run:
 
     def kept(self) -> Any:
         """What is known of earlier lines, as it is kept in a file."""
-        assert self.single is not None
-        return [self.single.places.kept(), self.joiner.kept()]
+        session = self.sessions.single
+        assert session is not None
+        return [session.places.kept(), self.joiner.kept(), session.kept(), sorted(self.sessions.judged)]
 
     def restore(self, kept: Any, gap: str) -> None:
         """Takes what an earlier run kept."""
-        assert self.single is not None
-        self.single.places.restore(kept[0])
+        session = self.sessions.single
+        assert session is not None
+        session.places.restore(kept[0])
         self.joiner.restore(kept[1])
-        self.single.gap = gap
+        session.restore(kept[2])
+        self.sessions.judged.update(kept[3])
+        session.gap = gap
 
     def not_mapped(self, line: Line, groups: Groups, reason: str, is_event: bool) -> None:
         """A line of which a rule makes nothing that can be judged."""
-        key = self.map.sessions.key.filled_from(groups) if self.map.sessions is not None else ""
+        key = self.sessions.key(groups) or ""
+        self.send_block()
         self.counts.reports += 1
-        session = self.sessions.get(key or "") or Session(key or "", Places({}))
+        session = self.sessions.open.get(key) or Session(key, Places({}))
         self.order.append(Sent.unjudged(kept(line), self.counts.lines - 1, session, reason, is_event))
 
     def is_far_ahead(self) -> bool:
@@ -261,12 +352,13 @@ class Run:
         session = self.by_link.pop(link)
         status = link.status()
         if link.waiting or not (link.finishing or self.stopped):
+            link.split_first()
             self.show()
             if self.wanted.come_back is not None and isinstance(link, Connection):
                 self.replace(link, self.wanted.come_back(self.is_asked), session)
                 return
             said = "\n".join(link.errors) or ("it ended with status %d" % status if status is not None else "the connection has ended")
-            count = len(link.waiting)
+            count = link.unanswered()
             text = "%s: %s" % (link.name, said) if not link.errors else said
             raise Lost("%s (%d reports were not answered)" % (text, count) if count else text, LOST_STATUSES.get(status or 0, 5))
         link.close()
@@ -309,33 +401,52 @@ class Run:
     def show_sent(self, sent: Sent) -> None:
         session = sent.session
         assert isinstance(session, Session)
+        sent.after_no = session.stopped
         is_new = self.wanted.record is None or self.wanted.record.add(sent, session.name)
-        session.case.reports += 1
+        session.case.reports += sent.times
+        if sent.after_no:
+            self.counts.after_no += sent.times
+            session.case.after_no += sent.times
+            return
+        self.counts.accepted += sent.passed()
         if sent.accepted:
-            self.counts.accepted += 1
-            if sent.report.event is not None:
-                self.came.add(sent.report.event)
+            reports = sent.reports if isinstance(sent, Block) else [sent.report]
+            self.came.update([report.event for report in reports if report.event is not None])
             return
         if sent.number_lost:
             self.lost(sent, session)
             return
         if sent.fault:
-            self.counts.not_judged += 1
+            self.counts.not_judged += sent.times - sent.passed()
             self.counts.statuses.add(sent.status)
             if sent.report.event is not None:
                 session.gap = session.gap or place_of(sent.line)
             text = "not judged: " + ("%s: ERR %s" % (sent.report.line, sent.fault) if sent.report.line else sent.fault)
             if is_new:
                 self.printer.not_judged(sent.line, session.name, text)
+            self.add_failure("error", sent, session, text)
         else:
-            text = self.rejected(sent, session)
-            if is_new:
-                self.printer.rejected(sent, session.name, text)
-                self.stopped = self.stopped or self.wanted.first
+            self.show_rejected(sent, session, is_new)
+
+    def show_rejected(self, sent: Sent, session: Session, is_new: bool) -> None:
+        """Shows a report that was rejected."""
+        if isinstance(sent, Ticks):
+            is_new = is_new and not session.tick_refused
+            session.tick_refused = True
+            sent.line = tick_line(sent)
+        text = self.rejected(sent, session)
+        if is_new:
+            self.printer.rejected(sent.line, session.name, text)
+            self.stopped = self.stopped or self.wanted.first
+        session.stopped = self.map.after_no == STOP
+        self.add_failure("failure", sent, session, text)
+
+    def add_failure(self, kind: str, sent: Sent, session: Session, text: str) -> None:
+        """Keeps what was rejected or not judged for the test case of its session."""
         if self.context is not None:
-            session.case.add(self.context.failure("error" if sent.fault else "failure", sent.index, sent.line, text))
+            session.case.add(self.context.failure(kind, sent.index, sent.line, text))
         else:
-            session.case.rejected += not sent.fault
+            session.case.rejected += kind == "failure"
 
     def lost(self, sent: Sent, session: Session) -> None:
         """A report that was judged, and whose verdict was lost."""
@@ -348,14 +459,16 @@ class Run:
 
     def rejected(self, sent: Sent, session: Session) -> str:
         """Counts a rejected report, and answers what is to be said of it."""
-        self.counts.rejected += 1
+        count = sent.times - sent.passed()
+        self.counts.rejected += count
+        said = verdict(sent, self.map.sessions is not None and session.case.rejected == 0)
         if not session.gap:
             self.counts.statuses.add(sent.status)
-            return verdict(sent)
+            return said
         # The system may have been right: the trace lacks an event that it did.
-        self.counts.after_gap += 1
+        self.counts.after_gap += count
         self.counts.statuses.add(UNJUDGED)
-        return "%s (after %s, whose event was not judged)" % (verdict(sent), session.gap)
+        return "%s (after %s, whose event was not judged)" % (said, session.gap)
 
     def session_over(self, session: Session) -> None:
         self.counts.bad_sessions += session.case.rejected > 0
@@ -364,7 +477,9 @@ class Run:
 
     def finish(self) -> None:
         """Ends all sessions, and waits for what is still to come."""
-        for session in list(self.sessions.values()):
+        if self.last_line is not None and self.last_line.time is not None:
+            self.tick_all(self.last_line.time)
+        for session in list(self.sessions.open.values()):
             self.end(session)
         while self.by_link and not self.stopped:
             self.pump(WAIT_SECONDS)
@@ -377,7 +492,7 @@ class Run:
         """Ends at once, with the cases as they are."""
         for link in self.by_link:
             link.close()
-        over = {id(session): session for session in [*self.by_link.values(), *self.sessions.values()]}
+        over = {id(session): session for session in [*self.by_link.values(), *self.sessions.open.values()]}
         for waiting in self.order:
             if isinstance(waiting, Session):
                 over[id(waiting)] = waiting

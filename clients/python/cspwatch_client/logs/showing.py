@@ -5,8 +5,9 @@ import re
 from dataclasses import dataclass, field
 from typing import List, Set, TextIO
 
-from .links import Sent
+from .links import Sent, Ticks
 from .reading import Line
+from .times import shown
 
 SHOWN = 1000
 """The most characters of a log's line that are kept and printed."""
@@ -38,9 +39,19 @@ def place_of(line: Line) -> str:
     return "%s:%d" % (printable(line.file), line.number)
 
 
-def verdict(sent: Sent) -> str:
-    """A rejected report, and why where that is known."""
-    return "%s: NO %s%s" % (sent.report.line, sent.place, ", " + sent.reason if sent.reason else "")
+def verdict(sent: Sent, is_first: bool = False) -> str:
+    """A rejected report, and why where that is known.
+
+    is_first -- whether it is marked as the first of its session.
+    """
+    more = sent.times - sent.passed() - 1
+    marks = (" (first)" if is_first else "") + (" (and %d more)" % more if more else "")
+    return "%s: NO %s%s%s" % (sent.report.line, sent.place, marks, ", " + sent.reason if sent.reason else "")
+
+
+def tick_line(sent: Ticks) -> Line:
+    """What is shown as the line of a tick that was rejected: its time, and the line before which it was due."""
+    return sent.line._replace(text="tick at %s, before: %s" % (shown(sent.first + sent.passed() * sent.length), sent.line.text))
 
 
 @dataclass
@@ -70,6 +81,12 @@ class Counts:
     sessions: int = 0
     bad_sessions: int = 0
     """Sessions with a rejected report."""
+    after_no: int = 0
+    """Reports after the first rejected one of a session that isn't judged any more then."""
+    skipped: int = 0
+    """Lines before the one from which on it is judged."""
+    taken_anew: int = 0
+    """Places that were taken before they were given back."""
     cut: int = 0
     """Lines that were longer than they may be."""
     unread: int = 0
@@ -101,7 +118,9 @@ class Counts:
         parts = ["%d %s" % pair for pair in [pair for pair in named if pair[0]] + [(self.ignored, "ignored"), (self.without_rule, "without a rule")]]
         if self.first_without_rule:
             parts[-1] += " (first: %s)" % self.first_without_rule
-        more = [(self.joined, "joined"), (self.outside, "outside a session"), (self.cut, "cut"), (self.unread, "with bytes that are no text")]
+        more = [(self.after_no, "after a NO"), (self.joined, "joined"), (self.skipped, "before the first that is judged")]
+        more += [(self.outside, "outside a session"), (self.taken_anew, "places taken anew"), (self.cut, "cut")]
+        more += [(self.unread, "with bytes that are no text")]
         parts += ["%d %s" % pair for pair in more if pair[0]]
         if in_sessions:
             parts.append("%d sessions, %d with a rejected report" % (self.sessions, self.bad_sessions))
@@ -116,14 +135,17 @@ class Printer:
         self.quiet, self.annotations = quiet, annotations
         self.messages = 0
 
-    def rejected(self, sent: Sent, session: str, text: str) -> None:
-        """A rejected report, with its line below it."""
-        text = (session + ": " if session else "") + text
-        print("%s: %s" % (place_of(sent.line), printable(text)), file=self.out)
+    def rejected(self, line: Line, session: str, said: str) -> None:
+        """A rejected report, with its line below it.
+
+        said -- the verdict.
+        """
+        text = (session + ": " if session else "") + said
+        print("%s: %s" % (place_of(line), printable(text)), file=self.out)
         if not self.quiet:
-            print("    " + printable(sent.line.text), file=self.out)
+            print("    " + printable(line.text), file=self.out)
         if self.annotations:
-            self.annotate("error", sent.line, text)
+            self.annotate("error", line, text)
 
     def not_judged(self, line: Line, session: str, text: str) -> None:
         """A report that wasn't judged, and why."""

@@ -119,7 +119,7 @@ class Keeper:
 
     def write(self) -> None:
         """Writes the file. All that was read is judged by now."""
-        session = self.running.single
+        session = self.running.sessions.single
         assert session is not None and isinstance(session.link, Connection)
         # Of what the history has, these are still to be found in the logs.
         ahead = self.running.wanted.skip - self.running.counts.earlier
