@@ -6,6 +6,7 @@ from collections import Counter
 from typing import Dict, Optional
 
 from ..logs.following import Followed
+from ..logs.packed import LogFault
 
 MOST_KINDS = 64
 """How many codes and reasons are told apart; what more there are is counted together."""
@@ -44,12 +45,14 @@ class ServiceLog:
             if self.source is None:
                 self.source = Followed(self.path)
             while True:
-                before = self.source.position, self.source.descriptor
-                for line in self.source.read():
+                lines = self.source.read()
+                for line in lines:
                     self.take(line.text)
-                if before == (self.source.position, self.source.descriptor):
+                # What was lost at a rotation stands in no log that is there.
+                self.source.lost.clear()
+                if not lines and self.source.is_idle:
                     return
-        except OSError:
+        except (OSError, LogFault):
             return
 
     def take(self, text: str) -> None:

@@ -123,8 +123,16 @@ def end_by(number: int) -> NoReturn:
     raise SystemExit(128 + number)
 
 
+def end_at_once(fault: threading.ExceptHookArgs) -> None:
+    """Ends the process where the thread that follows has failed: what it shows would be old for ever, and nobody would see it."""
+    sys.__excepthook__(fault.exc_type, fault.exc_value or fault.exc_type(), fault.exc_traceback)
+    sys.stderr.flush()
+    os._exit(1)
+
+
 def run(command: Callable[[], int]) -> int:
     """Runs a command, and says why it can't run."""
+    threading.excepthook = end_at_once
     for stream in (sys.stdout, sys.stderr):
         stream.reconfigure(errors="backslashreplace")  # type: ignore[attr-defined]
     try:
