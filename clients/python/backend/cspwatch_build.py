@@ -50,7 +50,10 @@ COMMANDS = {
 }
 """The commands, and the function that each calls."""
 
-ENTRY_POINTS = "[console_scripts]\n" + "".join("%s = %s\n" % row for row in sorted(COMMANDS.items()))
+PYTEST = "[pytest11]\ncspwatch = cspwatch_client.pytest_plugin\n"
+"""The plugin for pytest, which finds it where the package is installed."""
+
+ENTRY_POINTS = "[console_scripts]\n" + "".join("%s = %s\n" % row for row in sorted(COMMANDS.items())) + "\n" + PYTEST
 
 OF_A_COMMAND = [
     ("man/%s.1", "man/man1/%s.1"),

@@ -9,7 +9,21 @@ from typing import Any, Callable, Deque, Generic, Iterable, Optional, Set, Tuple
 
 from .client import REPLY_LIMIT, Address, check_seat, line_of_event, line_of_refusal, place_of
 from .reconnecting import FIRST_PAUSE, LONGEST_PAUSE, PASSING
-from .replies import BadReply, Fault, NoReply, OtherReports, Status, Verdict, VerdictLost, judged_of, next_of, raise_fault, status_of, verdict_of
+from .replies import (
+    BadReply,
+    Fault,
+    NoReply,
+    OtherReports,
+    Status,
+    Verdict,
+    VerdictLost,
+    explained,
+    judged_of,
+    next_of,
+    raise_fault,
+    status_of,
+    verdict_of,
+)
 
 AHEAD = 1024
 """The most lines that are sent ahead of their replies: so many reports share a sync at most."""
@@ -47,6 +61,7 @@ class AsyncClient:
         self._address: Address = ""
         self._seat = 0
         self._patience = 0.0
+        self._reasons = False
         self._unsent: Deque[Call[Any]] = deque()
         self._sent: Deque[Call[Any]] = deque()
         self._known: Set[bytes] = set()
@@ -57,7 +72,7 @@ class AsyncClient:
 
     @classmethod
     async def connect(
-        cls, address: Address, timeout: Optional[float] = None, seat: Optional[int] = None, patience: float = 0.0
+        cls, address: Address, timeout: Optional[float] = None, seat: Optional[int] = None, patience: float = 0.0, reasons: bool = False
     ) -> AsyncClient:
         """A client that is connected to the server at this address.
 
@@ -65,6 +80,7 @@ class AsyncClient:
         timeout -- how many seconds the connection, and then each call once its line is sent, may take; None for ever.
         seat -- the seat that the client is, from 1 to 1000, of a server that gives seats by number.
         patience -- for how many seconds a client with a seat tries to get it, and to come back; 0 for never.
+        reasons -- whether the verdict on a rejected report has what was `expected`, as by `Client`.
 
         An `OSError` is raised where there is no connection. With a seat a `Fault` is raised where the server doesn't give
         it, as by `Client`.
@@ -75,16 +91,17 @@ class AsyncClient:
             raise ValueError("a client comes back only where it has a seat by number")
         reader, writer, judged = await opened_patiently(address, timeout, seat, patience)
         client = cls(reader, writer, timeout)
+        client._reasons = reasons
         client._address, client._seat, client._patience, client._judged = address, seat or 0, patience, judged
         return client
 
     async def event(self, name: str) -> Verdict:
         """Reports that the event happened. `_tick` is termination."""
-        return await self._ask(line_of_event(name), verdict_of)
+        return await self._report(line_of_event(name))
 
     async def refusal(self, names: Iterable[str] = ()) -> Verdict:
         """Reports that the system refuses all of these events now. A repeated name counts once."""
-        return await self._ask(line_of_refusal(names), verdict_of)
+        return await self._report(line_of_refusal(names))
 
     async def status(self) -> Status:
         """How many reports of all clients were judged so far, and how. See `Client.status`."""
@@ -133,6 +150,17 @@ class AsyncClient:
         trace: Optional[TracebackType],
     ) -> None:
         await self.close()
+
+    async def _report(self, line: bytes) -> Verdict:
+        verdict = self._ask(line, verdict_of)
+        if not self._reasons:
+            return await verdict
+        told = await asyncio.gather(verdict, self._ask(b"N", next_of), self._ask(b"S", status_of), return_exceptions=True)
+        if isinstance(told[0], BaseException):
+            raise told[0]
+        if isinstance(told[1], BaseException) or isinstance(told[2], BaseException):
+            return told[0]
+        return explained(told[0], told[1], told[2])
 
     # The future of what the reply to the line says. Lines are sent once all tasks that are ready have had their turn, so
     # that those which are made together go together.

@@ -4,9 +4,9 @@ from __future__ import annotations
 import io
 import socket
 from types import TracebackType
-from typing import BinaryIO, Callable, Iterable, Optional, Tuple, Type, TypeVar, Union
+from typing import BinaryIO, Callable, Iterable, List, Optional, Tuple, Type, TypeVar, Union, cast
 
-from .replies import BadReply, Fault, NoReply, Status, Verdict, judged_of, next_of, raise_fault, status_of, verdict_of
+from .replies import BadReply, Fault, NoReply, Status, Verdict, explained, judged_of, next_of, raise_fault, status_of, verdict_of
 from .timed import Timed
 
 LINE_LIMIT = 4096
@@ -38,13 +38,15 @@ class Client:
     As a context manager the client closes itself at the end of the block.
     """
 
-    def __init__(self, address: Address, timeout: Optional[float] = None, seat: Optional[int] = None) -> None:
+    def __init__(self, address: Address, timeout: Optional[float] = None, seat: Optional[int] = None, reasons: bool = False) -> None:
         """Connects to the server.
 
         address -- `"HOST:PORT"`, or a pair of host and port; or `"unix:PATH"`, a socket in the file system.
         timeout -- how many seconds the connection, and then each call, may take; None for ever.
         seat -- the seat that the client is, from 1 to 1000, of a server that gives seats by number. `judged` then
             counts the seat's earlier reports too.
+        reasons -- whether the verdict on a rejected report has what was `expected`. For that each report is sent with two
+            questions, in one write.
 
         An `OSError` is raised where there is no connection. A server without a free seat takes the connection, and
         answers the first call by a `Fault`. With a seat that call is made here: a `Fault` is raised where the server
@@ -53,6 +55,7 @@ class Client:
         """
         if seat is not None:
             check_seat(seat)
+        self._reasons = reasons
         self._connect(address, timeout, seat)
 
     def _connect(self, address: Address, timeout: Optional[float], seat: Optional[int]) -> None:
@@ -72,9 +75,10 @@ class Client:
             raise
 
     @classmethod
-    def over(cls, reader: BinaryIO, writer: BinaryIO) -> Client:
+    def over(cls, reader: BinaryIO, writer: BinaryIO, reasons: bool = False) -> Client:
         """A client over two open files: it reads the replies from one, and writes the lines to the other."""
         client = cls.__new__(cls)
+        client._reasons = reasons
         client._begin(reader, writer, None, None)
         return client
 
@@ -85,6 +89,7 @@ class Client:
         self._timed = timed
         self._closed = False
         self._judged = 0
+        self._further: List[bytes] = []
 
     def event(self, name: str) -> Verdict:
         """Reports that the event happened. `_tick` is termination."""
@@ -139,12 +144,23 @@ class Client:
         self.close()
 
     def _report(self, line: bytes) -> Verdict:
-        verdict = self._answer(line, verdict_of)
+        if not self._reasons:
+            verdict = self._answer(line, verdict_of)
+            self._judged += 1
+            return verdict
+        verdict = self._answer(line + b"\nN\nS", verdict_of, further=2)
         self._judged += 1
-        return verdict
+        try:
+            names, status = (read(reply) for read, reply in zip((next_of, status_of), self._further))
+        except (BadReply, ValueError):
+            # The report was judged, whatever else was answered. Where the connection has ended, the next call finds that.
+            return verdict
+        return explained(verdict, cast(Tuple[str, ...], names), cast(Status, status))
 
-    def _answer(self, line: bytes, read: Callable[[bytes], Answer]) -> Answer:
+    # Sends the lines, and answers what the reply to the first says. As many further replies are read as are said, and kept.
+    def _answer(self, line: bytes, read: Callable[[bytes], Answer], further: int = 0) -> Answer:
         reply = self._exchange(line)
+        self._further = self._read_further(further)
         raise_fault(reply)
         try:
             return read(reply)
@@ -175,6 +191,23 @@ class Client:
             self._drop()
             raise NoReply("the connection has ended") from failure
         return reply[:-1]
+
+    # So many further replies; fewer where the connection ends, which closes the client.
+    def _read_further(self, count: int) -> List[bytes]:
+        found: List[bytes] = []
+        try:
+            while len(found) < count and not self._closed:
+                reply = self._reader.readline(REPLY_LIMIT + 1)
+                if reply.endswith(b"\n"):
+                    found.append(reply[:-1])
+                else:
+                    self._drop()
+        except OSError:
+            self._drop()
+        except BaseException:
+            self._drop()
+            raise
+        return found
 
     # A server without a free seat sends its reason and closes at once, so the reason is read also after a failed write.
     def _send(self, line: bytes) -> Optional[OSError]:

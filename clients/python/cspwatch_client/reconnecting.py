@@ -33,7 +33,7 @@ class ReconnectingClient(Client):
     connection was lost, and the client is closed.
     """
 
-    def __init__(self, address: Address, seat: int, timeout: Optional[float] = None, patience: float = PATIENCE) -> None:
+    def __init__(self, address: Address, seat: int, timeout: Optional[float] = None, patience: float = PATIENCE, reasons: bool = False) -> None:
         """Connects to the server as the seat; it tries again for so many seconds as it has patience.
 
         The arguments are those of `Client`, and what is raised is what the last attempt raised.
@@ -43,6 +43,7 @@ class ReconnectingClient(Client):
         self._seat = seat
         self._timeout = timeout
         self._patience = patience
+        self._reasons = reasons
         self._ended = False
         self._open_patiently()
 

@@ -2,9 +2,9 @@
 from __future__ import annotations
 
 import re
-from dataclasses import dataclass
+from dataclasses import dataclass, field, replace
 from enum import IntEnum
-from typing import Tuple
+from typing import Optional, Tuple
 
 
 @dataclass(frozen=True)
@@ -17,8 +17,17 @@ class Verdict:
     place: int
     """The place of the report in the history of all clients, counted from 1."""
 
+    expected: Optional[Tuple[str, ...]] = field(default=None, compare=False)
+    """Of a rejected report what could have come then, in the order of the script's channels, `_tick` last: in place of a rejected
+    event; of a rejected refusal those of its events among these were to be offered. None where it wasn't asked for, or isn't known
+    since another client has reported meanwhile."""
+
     def __bool__(self) -> bool:
         return self.accepted
+
+    def __repr__(self) -> str:
+        more = "" if self.expected is None else ", expected=%r" % (self.expected,)
+        return "Verdict(accepted=%r, place=%r%s)" % (self.accepted, self.place, more)
 
 
 @dataclass(frozen=True)
@@ -145,6 +154,17 @@ def verdict_of(reply: bytes) -> Verdict:
     if found is None:
         raise BadReply(reply)
     return Verdict(accepted=found[1] == b"OK", place=int(found[2]))
+
+
+def explained(verdict: Verdict, names: Tuple[str, ...], status: Status) -> Verdict:
+    """The verdict with what could have come, where that was asked for before anybody else's next report.
+
+    names -- what may come next, asked for after the report.
+    status -- the counts, asked for after that.
+    """
+    if verdict.accepted or status.judged != verdict.place:
+        return verdict
+    return replace(verdict, expected=names)
 
 
 def status_of(reply: bytes) -> Status:

@@ -135,6 +135,11 @@ class Followed(Source):
         if mark is not None:
             self.go_on(mark)
 
+    @property
+    def position(self) -> int:
+        """How many bytes of the file that has the name now were read."""
+        return self.sum.size
+
     def mark(self) -> Mark:
         """How far the log was read."""
         if self.old is not None:

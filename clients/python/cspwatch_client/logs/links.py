@@ -13,6 +13,7 @@ from typing import Callable, Deque, Dict, List, Optional, Sequence, Set
 from ..client import connected
 from ..reconnecting import FIRST_PAUSE, LONGEST_PAUSE, PASSING
 from ..replies import FAULT, FaultCode
+from ..running import explaining
 from .mapping import Report
 from .reading import Line
 
@@ -420,7 +421,7 @@ class Check(Link):
 
     def __init__(self, words: Sequence[str], explains: bool) -> None:
         """Starts it. `OSError` where that can't be done."""
-        self.process = subprocess.Popen(words, stdin=subprocess.PIPE, stdout=subprocess.PIPE, stderr=subprocess.PIPE, bufsize=0)
+        self.process = subprocess.Popen(words, stdin=subprocess.PIPE, stdout=subprocess.PIPE, stderr=subprocess.PIPE, bufsize=0, env=explaining())
         ends = []
         for stream in (self.process.stdin, self.process.stdout, self.process.stderr):
             assert stream is not None

@@ -7,6 +7,7 @@ import subprocess
 from dataclasses import dataclass
 from typing import Dict, List, Optional, Sequence, Tuple
 
+from ..running import REFUSED, explaining
 from .maps import Map, Specification
 from .showing import printable
 from .templates import Template
@@ -59,7 +60,7 @@ def answer(words: Sequence[str]) -> subprocess.CompletedProcess[str]:
     """What a short run of the program prints."""
     try:
         return subprocess.run(
-            words, stdin=subprocess.DEVNULL, stdout=subprocess.PIPE, stderr=subprocess.PIPE, timeout=SECONDS, text=True, errors="replace"
+            words, env=explaining(), stdin=subprocess.DEVNULL, stdout=subprocess.PIPE, stderr=subprocess.PIPE, timeout=SECONDS, text=True, errors="replace"
         )
     except OSError as error:
         raise ProgramFault("%s: %s" % (printable(words[0]), error.strerror), 5) from None
@@ -70,6 +71,9 @@ def answer(words: Sequence[str]) -> subprocess.CompletedProcess[str]:
 def events_of(program: Program, specification: Specification) -> Tuple[str, ...]:
     """All events of the script in the order of its alphabet, termination last. `ProgramFault` where the script is refused."""
     printed = answer([program.path, "print", specification.script, specification.process])
+    if printed.returncode == REFUSED and program.explains and "\n" not in printed.stderr.strip():
+        # Up to 0.6.3 `check` alone says in words what is wrong with a script.
+        printed = answer(program.check(specification))
     if printed.returncode != 0:
         raise ProgramFault(printed.stderr.rstrip("\n"), printed.returncode if printed.returncode > 0 else 5)
     found: List[str] = []
