@@ -8,7 +8,7 @@ function __cspwatch_words
     for word in $words[2..-1]
         if test $skip = 1
             set skip 0
-        else if contains -- $word --listen --connections --format
+        else if contains -- $word --listen --connections --format --log
             set skip 1
         else if not string match -q -- '-*' $word
             echo $word

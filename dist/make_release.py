@@ -135,16 +135,17 @@ def make(program):
             os.remove(os.path.join(HERE, name))
     shutil.copy(program, COPY)
     try:
-        package, wheel = make_package.make(COPY, HERE), make_wheel.make(HERE)
+        packages, wheel = make_package.make(COPY, HERE), make_wheel.make(HERE)
     except make_package.Refused as why:
         raise Refused(str(why)) from None
     with open(RELEASE, "w", encoding="utf-8") as file:
         file.writelines("%s: %s\n" % fact for fact in facts)
     with open(SUMS, "w", encoding="utf-8") as file:
-        file.writelines("%s  %s\n" % (digest(path), os.path.basename(path)) for path in (COPY, package, wheel))
+        file.writelines("%s  %s\n" % (digest(path), os.path.basename(path)) for path in (COPY, *packages, wheel))
     with open(RELEASE, encoding="utf-8") as file:
         print(file.read(), end="")
-    print("the program is dist/cspwatch, its package dist/%s, and the wheel dist/%s" % (os.path.basename(package), os.path.basename(wheel)))
+    made = " and ".join("dist/" + os.path.basename(path) for path in packages)
+    print("the program is dist/cspwatch, the packages are %s, and the wheel dist/%s" % (made, os.path.basename(wheel)))
 
 
 def released():

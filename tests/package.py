@@ -1,10 +1,11 @@
 #!/usr/bin/env python3
-"""The package for Debian: what it has, and that it can be installed, used and removed.
+"""The packages for Debian: what they have, and that they can be installed, used and removed.
 
     tests/package.py [--program FILE]                                  in a folder
     sudo tests/package.py --chroot [--system FOLDER] [--program FILE]   and in a Debian system of its own, under systemd
 
-It makes the package of the program, looks at its files, and has `lintian` look at them. It installs the package into an empty
+It makes the packages of the program and of the client for Python, looks at their files, and has `lintian` look at them. The commands
+of the client are run from a folder. It installs the package into an empty
 folder: as root by dpkg, else its files are put there. There it runs the session of the README and the examples, has systemd look at
 the unit, and starts by hand what the unit starts: it reports to it, ends it by SIGTERM, kills it, and starts it again. Then it removes
 the package: nothing but journals may be left.
@@ -45,12 +46,12 @@ WANTED = [
     "etc/cspwatch", "usr/bin/cspwatch", "usr/share/man/man1/cspwatch.1.gz", "usr/share/bash-completion/completions/cspwatch",
     "usr/share/zsh/vendor-completions/_cspwatch", "usr/share/fish/vendor_completions.d/cspwatch.fish",
     "usr/share/doc/cspwatch/copyright", "usr/share/doc/cspwatch/changelog.gz", "usr/share/doc/cspwatch/THIRD-PARTY.md.gz",
-    "usr/share/doc/cspwatch/docs/PROTOCOL.md", EXAMPLES + "/README.md", EXAMPLES + "/two_components.sh", UNIT,
+    "usr/share/doc/cspwatch/README.md", "usr/share/doc/cspwatch/SECURITY.md", EXAMPLES + "/real/sqlite/sqlite.toml", UNIT,
 ]
-"""What has to be there, among others."""
+"""What has to be there, among others; all pages and examples too."""
 
-RUN_BY_SOMEBODY = ["usr/bin/cspwatch", EXAMPLES + "/two_components.sh"]
-"""The files that may be run."""
+CLIENT = "python3-cspwatch"
+MODULES = "usr/lib/python3/dist-packages"
 
 SCRIPT = "channel a, b\nP = a -> b -> P\n"
 
@@ -80,11 +81,10 @@ printf 'PROCESS='"'"'P \ {| c |}'"'"'\nLISTEN=127.0.0.1:7000\n' > /etc/cspwatch/
   systemctl is-active cspwatch@p
   systemctl show -p Result --value cspwatch@p
   cspwatch replay --read-only /var/lib/private/cspwatch/p.journal
-  echo 'OPTIONS=--log -' >> /etc/cspwatch/p.conf
   systemctl start cspwatch@p && listens
   dpkg --purge cspwatch > /dev/null 2>&1 && echo removed
   systemctl is-active cspwatch@p
-  journalctl -q -o cat -u cspwatch@p | grep -o '"what":"listening"'
+  journalctl -q -o cat -u cspwatch@p | grep -o '"what":"listening"' | sort -u
 } > /srv/said 2>&1
 systemctl poweroff
 """
@@ -169,15 +169,48 @@ class Counter:
 # ---- the files
 
 
+def tracked(place, target):
+    """The files that the repository has below a folder, by their names in a package, and whether they can be run."""
+    found = {}
+    for path in output(["git", "-C", ROOT, "ls-files", place]).splitlines():
+        found[os.path.join(target, os.path.relpath(path, place))] = os.access(os.path.join(ROOT, path), os.X_OK)
+    return found
+
+
+def commands():
+    """The commands of the client, by what the wheel is built with."""
+    text = text_of(ROOT, "clients", "python", "backend", "cspwatch_build.py")
+    return sorted(re.findall(r'^    "(cspwatch-\w+)": "', text, re.MULTILINE))
+
+
+def look_at_client(tests, package, scratch):
+    """Looks at the package of the client, and runs its commands from a folder."""
+    folder = os.path.join(scratch, "client")
+    output(["dpkg-deb", "-x", package, folder])
+    files = files_below(folder)
+    wanted = set(tracked("clients/python/cspwatch_client", MODULES + "/cspwatch_client"))
+    for command in commands():
+        wanted |= {"usr/bin/" + command, "usr/share/man/man1/%s.1.gz" % command, "usr/share/bash-completion/completions/" + command}
+    wanted |= set(tracked("clients/c", "usr/share/doc/%s/c" % CLIENT))
+    tests.same("what the client's package lacks", sorted(wanted - files), [])
+    place = dict(os.environ, PYTHONPATH=os.path.join(folder, MODULES), PYTHONDONTWRITEBYTECODE="1")
+    for command in commands():
+        said = output(["/usr/bin/python3", os.path.join(folder, "usr/bin", command), "--help"], env=place)
+        tests.check(command, "usage: " + command in said or "needs" in said, said)
+    asked = "import importlib.metadata as m; print([one.name for one in m.entry_points(group='pytest11') if one.value.startswith('cspwatch')])"
+    tests.same("the plugin for pytest", output(["/usr/bin/python3", "-c", asked], env=place), "['cspwatch']\n")
+
+
 def look(tests, package, folder):
     """Looks at the package; its files are below the folder."""
     listed = [line.split(None, 5) for line in output(["dpkg-deb", "-c", package]).splitlines()]
     names = {words[5].rstrip("/")[2:]: words for words in listed}
-    tests.same("what is missing", [name for name in WANTED if name not in names], [])
+    own = {**tracked("docs", "usr/share/doc/cspwatch/docs"), **tracked("examples", EXAMPLES), "usr/bin/cspwatch": True}
+    tests.same("what is missing", [name for name in [*WANTED, *own] if name not in names], [])
     tests.same("whose the files are", {words[1] for words in listed}, {"root/root"})
     tests.same("when they were changed", len({(words[3], words[4]) for words in listed}), 1)
     runnable = sorted(name for name, words in names.items() if words[0] == "-rwxr-xr-x")
-    tests.same("what can be run", runnable, sorted(RUN_BY_SOMEBODY))
+    tests.same("what can be run", runnable, sorted(name for name, can_run in own.items() if can_run))
     tests.same("the rights of the others", {words[0] for words in listed}, {"drwxr-xr-x", "-rwxr-xr-x", "-rw-r--r--"})
     sums = output(["dpkg-deb", "--info", package, "md5sums"])
     write(sums, folder, "sums")
@@ -248,7 +281,8 @@ def started_by(folder, settings):
     words = []
     for word in line.replace("%i", "p").split():
         if word == "$OPTIONS":
-            words += shlex.split(settings.get("OPTIONS", ""))
+            (given,) = re.findall(r'"OPTIONS=(.*?)"', text_of(folder, UNIT))
+            words += shlex.split(settings.get("OPTIONS", given))
         elif word.startswith("${"):
             words.append(settings[word[2:-1]])
         else:
@@ -291,16 +325,27 @@ def run_unit(tests, folder):
     settings = {"PROCESS": "P [] STOP", "LISTEN": "127.0.0.1:0"}
     service = Service(folder, settings)
     tests.same("a service", service.ask("I 3\nE a\nQ\n"), "I 3 0\nOK 1\nBYE\n")
-    tests.same("its end", service.end(signal.SIGTERM), (-signal.SIGTERM, ""))
-    service = Service(folder, dict(settings, OPTIONS="--log -"))
+    status, said = service.end(signal.SIGTERM)
+    tests.check("its end", status == -signal.SIGTERM and '"what":"listening"' in said, said)
+    service = Service(folder, dict(settings, OPTIONS=""))
     tests.same("a service again", service.ask("I 3\nE b\nE b\nQ\n"), "I 3 1\nOK 2\nNO 3\nBYE\n")
-    status, said = service.end(signal.SIGKILL)
-    tests.check("its end by force", status == -signal.SIGKILL and '"what":"listening"' in said, said)
+    tests.same("its end by force", service.end(signal.SIGKILL), (-signal.SIGKILL, ""))
     service = Service(folder, settings)
     tests.same("a service once more", service.ask("I 3\nS\nQ\n"), "I 3 3\nS 3 2 0 1 open\nBYE\n")
     service.end(signal.SIGTERM)
+    tests.same("a script that is refused", refused_before(folder, settings), "/etc/cspwatch/q.csp:2: 3 expected")
     words = [os.path.join(folder, "usr/bin/cspwatch"), "replay", "--read-only", os.path.join(folder, "var/lib/private/cspwatch/p.journal")]
     tests.same("the journal", output(words), "S 3 2 0 1 open\nstatus 1\n")
+
+
+def refused_before(folder, settings):
+    """What is said, before a service is begun, of a script that doesn't read."""
+    (line,) = re.findall(r"^ExecStartPre=/bin/sh -c '(.*)'$", text_of(folder, UNIT), re.MULTILINE)
+    write("channel a\nP = = STOP\n", folder, "etc/cspwatch/q.csp")
+    command = line.replace("$$", "$").replace("%i", "q").replace("/usr/", folder + "/usr/").replace("/etc/", folder + "/etc/")
+    said = output(["sh", "-c", command], env=dict(os.environ, PROCESS=settings["PROCESS"]))
+    os.remove(os.path.join(folder, "etc/cspwatch/q.csp"))
+    return said.splitlines()[0].replace(folder, "")
 
 
 # ---- in a folder
@@ -394,20 +439,20 @@ def run_by_systemd(tests, system):
 
 
 def make(tests, program, folder):
-    """Makes the package, twice; None where that can't be done."""
+    """Makes the packages, twice; None where that can't be done."""
     made = []
     for name in ("one", "two"):
         os.mkdir(os.path.join(folder, name))
-        said = output([sys.executable, MAKE, "--program", program, "--output", os.path.join(folder, name)]).strip()
-        tests.check("making the package", os.path.isfile(said), said)
+        said = output([sys.executable, MAKE, "--program", program, "--output", os.path.join(folder, name)]).splitlines()
+        tests.check("making the packages", len(said) == 2 and all(os.path.isfile(path) for path in said), said)
         made.append(said)
-    if not all(os.path.isfile(path) for path in made):
+    if not all(os.path.isfile(path) for paths in made for path in paths):
         return None
     contents = []
-    for path in made:
+    for path in [path for paths in made for path in paths]:
         with open(path, "rb") as file:
             contents.append(file.read())
-    tests.check("the same bytes each time", contents[0] == contents[1])
+    tests.check("the same bytes each time", contents[:2] == contents[2:])
     return made[0]
 
 
@@ -420,9 +465,12 @@ def main():
     tests = Counter()
     if tests.has("dpkg-deb", "the package") and tests.has("objdump", "the package"):
         with tempfile.TemporaryDirectory(prefix="package-") as scratch:
-            package = make(tests, os.path.abspath(options.program), scratch)
-            if package is not None:
+            packages = make(tests, os.path.abspath(options.program), scratch)
+            if packages is not None:
+                package, client = packages
                 look_by_lintian(tests, package)
+                look_by_lintian(tests, client)
+                look_at_client(tests, client, scratch)
                 use_in_folder(tests, package, scratch)
                 if options.chroot or options.system:
                     use_in_system(tests, package, scratch, options.system)

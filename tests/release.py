@@ -97,12 +97,13 @@ def refused(copy, version):
 def made(copy, version):
     """A release, twice: the same bytes."""
     package, wheel = "cspwatch_%s_amd64.deb" % version, "cspwatch_client-%s-py3-none-any.whl" % version
+    client = "python3-cspwatch_%s_all.deb" % version
     with open(os.path.join(copy.folder, "dist", "cspwatch_0.0.1_amd64.deb"), "w", encoding="ascii"):
         pass
     copy.commit()
-    copy.make("a release", "its package dist/%s, and the wheel dist/%s" % (package, wheel), 0)
-    copy.check("the sums", ["sh", "-c", "cd dist && sha256sum -c SHA256SUMS"], "cspwatch: OK\n%s: OK\n%s: OK\n" % (package, wheel), 0)
-    copy.check("the files", ["sh", "-c", "ls dist | LC_ALL=C sort | grep '[.]deb\\|[.]whl'"], "%s\n%s\n" % (package, wheel), 0)
+    copy.make("a release", "the packages are dist/%s and dist/%s, and the wheel dist/%s" % (package, client, wheel), 0)
+    copy.check("the sums", ["sh", "-c", "cd dist && sha256sum -c SHA256SUMS"], "cspwatch: OK\n%s: OK\n%s: OK\n%s: OK\n" % (package, client, wheel), 0)
+    copy.check("the files", ["sh", "-c", "ls dist | LC_ALL=C sort | grep '[.]deb\\|[.]whl'"], "%s\n%s\n%s\n" % (package, wheel, client), 0)
     unpacked = "dpkg-deb --fsys-tarfile dist/%s | tar -xO ./usr/bin/cspwatch | cmp - dist/cspwatch" % package
     copy.check("the program in the package", ["sh", "-c", unpacked], "", 0)
     sums = os.path.join(copy.folder, "dist", "SHA256SUMS")
