@@ -20,8 +20,10 @@ if sys.version_info < (3, 11):
 from .following import Followed, sources_of
 from .junit import JUnit, suite_of
 from .links import UNJUDGED, Check, Connection, Link, Lost, connected_patiently
+from .looking import look
 from .mapping import Rules
 from .maps import Map, MapFault, Specification, read_map
+from .merging import Timeline
 from .program import Program, ProgramFault, check_events, events_of, program_at
 from .packed import LogFault
 from .reading import Source
@@ -30,6 +32,7 @@ from .running import Run, Wanted
 from .showing import Printer, printable
 from .state import Keeper, StateFault, StateFile
 from .streams import Stream, StreamFault, partition
+from .ticking import clock_of
 
 LOOK_SECONDS = 0.2
 """How often a followed file is looked at."""
@@ -140,6 +143,7 @@ def run(options: argparse.Namespace, out: TextIO, errors: TextIO) -> int:
         raise_limit()
     program = program_for(options, found)
     rules = Rules(found, events_for(found, program))
+    look(found, options.logs, options.follow)
     state = StateFile(options.state, options.seat, options.map) if options.state is not None else None
     start, skip = judge_of(options, found, program)
     sources = sources_for(options, state)
@@ -147,7 +151,11 @@ def run(options: argparse.Namespace, out: TextIO, errors: TextIO) -> int:
     record = Record(options.record) if options.record is not None else None
     printer = Printer(out, errors, options.quiet, options.annotations)
     wanted = Wanted(options.strict, options.first, options.coverage, options.min_reports, skip, junit, record, come_back_of(options))
+    wanted.clock, wanted.is_served = clock_of(found.time, options.server is not None), options.server is not None
     running = Run(rules, start, printer, wanted)
+    if found.time is not None:
+        running.timeline = Timeline(found, rules, sources, options.follow, printer, running.counts, running.watch)
+    running.watch.start()
     try:
         keeper = begun(state, running, sources) if state is not None else None
         is_whole = read_all(running, sources, options.follow, keeper)
@@ -218,6 +226,8 @@ def check_use(options: argparse.Namespace, found: Map) -> None:
         raise BadUse("--seat goes with --server")
     if options.patience is not None and options.seat is None:
         raise BadUse("--patience goes with --seat, by which the server knows what it has judged")
+    if options.state is not None and found.time is not None and len(options.logs) > 1:
+        raise BadUse("--state goes with one log where the map has [time], since lines of several wait for one another")
     if options.state is not None and (options.seat is None or not options.follow or not options.logs):
         raise BadUse("--state goes with --follow, --seat and logs")
     if options.stream is not None and options.logs:
@@ -324,15 +334,17 @@ def read_all(running: Run, sources: List[Source], follow: bool, keeper: Optional
         tell_lost(source, running)
     while not (stop.asked or running.stopped or all(source.ended for source in sources)):
         open_ones = [source for source in sources if not source.ended]
-        current = open_ones if follow else open_ones[:1]
+        timeline = running.timeline
+        current = timeline.wanted(open_ones) if timeline is not None else open_ones if follow else open_ones[:1]
         came = False
         for source in current:
             if source.is_ready():
                 lines = source.read()
                 came = came or bool(lines) or source.ended
                 tell_lost(source, running)
-                running.take(lines)
+                running.take_from(source, lines)
                 tell_unread(source, running.printer)
+        running.take_ready()
         if not came:
             ends = [end for end in (source.waits_on() for source in current) if end is not None]
             running.pump(LOOK_SECONDS, ends)
@@ -342,5 +354,6 @@ def read_all(running: Run, sources: List[Source], follow: bool, keeper: Optional
     is_whole = all(source.ended for source in sources)
     for source in sources:
         if not source.ended:
-            running.take(source.close())
+            running.take_from(source, source.close())
+    running.take_ready()
     return is_whole

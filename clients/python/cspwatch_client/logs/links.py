@@ -124,11 +124,16 @@ NO_LINE = Line("", 0, "")
 class Ticks(Sent):
     """Ticks that follow one another, with nothing else between. One that is rejected changes nothing, so all after it are rejected too."""
 
-    def __init__(self, report: Report, line: Line, index: int, session: object, times: int, first: int, length: int) -> None:
-        """first -- the time of the first; length -- the time from one to the next."""
+    first = 0
+    """The time of the first."""
+    length = 0
+    """The time from one to the next."""
+    silence = 0
+    """Which silence of its session they are in."""
+
+    def __init__(self, report: Report, line: Line, index: int, session: object, times: int) -> None:
         super().__init__(report, line, index, session)
         self.times = times
-        self.first, self.length = first, length
         self.accepted_ones = self.answered = 0
 
     def passed(self) -> int:

@@ -6,9 +6,11 @@ from dataclasses import dataclass
 from typing import Any, Callable, Deque, Dict, Iterable, List, Optional, Sequence, Set, Tuple, Union
 
 from .junit import Context, JUnit
+from .limits import TooLong, Watch
 from .links import UNJUDGED, Block, Connection, Link, Links, Lost, Sent, Ticks
 from .mapping import Joiner, Report, Rules, Unmapped
 from .maps import STOP, Found, Map, Reported, Rule
+from .merging import Timeline
 from .places import Groups, Places
 from .reading import Line, Source
 from .record import Record
@@ -85,6 +87,9 @@ class Run:
         """The reports that are gathered, where there is one session; None where each is sent alone."""
         self.plain: Dict[int, Report] = {}
         """What lines of some rules always are, where nothing else follows from them; by the numbers of the rules."""
+        self.watch = Watch()
+        self.timeline: Optional[Timeline] = None
+        """What puts lines in the order of their times; None where they come in the order of the logs."""
         self.last_line: Optional[Line] = None
         """The line that came last, where there are ticks."""
         if self.sessions.single is not None:
@@ -94,24 +99,37 @@ class Run:
             if self.map.skip_until is None and self.wanted.clock is None and not self.sessions.may_end:
                 self.plain = self.rules.plain()
 
+    def take_from(self, source: Source, lines: Sequence[Line]) -> None:
+        """The next lines of a log."""
+        if self.timeline is None:
+            self.take(lines)
+        else:
+            self.timeline.take(source, lines)
+
+    def take_ready(self) -> None:
+        """The lines that are next by their times, and the ticks of a silence."""
+        timeline = self.timeline
+        if timeline is None:
+            return
+        while lines := timeline.ready():
+            self.take(lines)
+        passed = timeline.passed() if timeline.follow and self.wanted.clock is not None else None
+        if passed is not None:
+            self.tick_all(passed)
+
     def take(self, lines: Sequence[Line]) -> None:
         """The next lines."""
-        counts, context = self.counts, self.context
+        counts, context, watch = self.counts, self.context, self.watch
         for line in lines:
             counts.lines += 1
             if context is not None:
                 context.add(kept(line))
-            if self.map.json is not None:
-                self.take_fields(line)
-            elif self.map.joins:
-                self.take_joined(line)
-            else:
-                found = self.rules.match(line.text, line.file)
-                plain = self.plain.get(found[0].number) if found is not None and found[0] is not None else None
-                if plain is not None:
-                    self.send(line, self.sessions.single, plain)
-                else:
-                    self.take_match(line, found)
+            watch.at = line
+            try:
+                self.take_line(line)
+            except TooLong as reason:
+                self.not_mapped(line, NO_GROUPS, str(reason), True)
+        watch.at = None
         self.send_block()
         if lines and self.wanted.clock is not None:
             self.last_line = kept(lines[-1])
@@ -119,6 +137,20 @@ class Run:
             self.pump(0)
         while self.is_far_ahead():
             self.pump(WAIT_SECONDS)
+
+    def take_line(self, line: Line) -> None:
+        """The next line, as the map reads it."""
+        if self.map.json is not None:
+            self.take_fields(line)
+        elif self.map.joins:
+            self.take_joined(line)
+        else:
+            found = self.rules.match(line.text, line.file)
+            plain = self.plain.get(found[0].number) if found is not None and found[0] is not None else None
+            if plain is not None:
+                self.send(line, self.sessions.single, plain)
+            else:
+                self.take_match(line, found)
 
     def take_fields(self, line: Line) -> None:
         """A line of JSON, in which there may be several that stand for lines."""
@@ -191,7 +223,8 @@ class Run:
             self.say_notes(line, session)
         if self.wanted.clock is not None and line.time is not None:
             self.tick(session, line, line.time)
-            session.quiet, session.tick_refused = 0, False
+            session.quiet = 0
+            session.silence += 1
         self.send(line, session, report)
         if sessions.may_end and report.event is not None:
             is_last = sessions.is_last(session, report.event, groups)
@@ -212,23 +245,26 @@ class Run:
         assert clock is not None
         before = session.ticked
         count = clock.due(session, time)
-        if count == 0 or before is None or (session.tick_refused and not self.wanted.is_served):
+        if count == 0 or before is None or (session.is_refused() and not self.wanted.is_served):
             return
         if count > MOST_TICKS:
             self.counts.statuses.add(2)
             self.printer.message(line, "%d ticks are due before this line, and the first %d of them are reported" % (count, MOST_TICKS))
             count = MOST_TICKS
         session.quiet += count
+        self.watch.at = None
         self.send_block()
         shown = kept(line)
         # Those of a connection that may be lost are sent one by one, since each is answered or not.
         length = SLICE if self.wanted.come_back is None else 1
         for first in range(0, count, length):
             times = min(length, count - first)
-            self.send_report(Ticks(clock.report, shown, self.counts.lines - 1, session, times, (before + 1 + first) * clock.length, clock.length))
+            ticks = Ticks(clock.report, shown, self.counts.lines - 1, session, times)
+            ticks.first, ticks.length, ticks.silence = (before + 1 + first) * clock.length, clock.length, session.silence
+            self.send_report(ticks)
             while count > SLICE and self.order and not self.stopped:
                 self.pump(WAIT_SECONDS)
-            if session.tick_refused and not self.wanted.is_served:
+            if session.is_refused() and not self.wanted.is_served:
                 # A tick that was rejected has changed nothing, so those that follow it would be rejected too.
                 return
 
@@ -431,8 +467,8 @@ class Run:
     def show_rejected(self, sent: Sent, session: Session, is_new: bool) -> None:
         """Shows a report that was rejected."""
         if isinstance(sent, Ticks):
-            is_new = is_new and not session.tick_refused
-            session.tick_refused = True
+            is_new = is_new and session.refused_in != sent.silence
+            session.refused_in = sent.silence
             sent.line = tick_line(sent)
         text = self.rejected(sent, session)
         if is_new:

@@ -21,8 +21,10 @@ class Session:
     """The number of the last tick that was reported or passed over; None before the first line."""
     quiet = 0
     """How many ticks were reported since the last other report."""
-    tick_refused = False
-    """Whether a tick was rejected since the last other report."""
+    silence = 0
+    """How many other reports there were; it tells one silence from another."""
+    refused_in = -1
+    """The last silence in which a tick was rejected."""
     stopped = False
     """Whether a report was rejected, and nothing is judged after it."""
     is_over = False
@@ -38,13 +40,17 @@ class Session:
         self.gap = ""
         """Where the first line stands that reported an event which wasn't judged: later verdicts are of a trace without it."""
 
+    def is_refused(self) -> bool:
+        """Whether a tick was rejected since the last other report."""
+        return self.refused_in == self.silence
+
     def kept(self) -> Any:
         """What is known of time and of rejected reports, as it is kept in a file."""
-        return [self.ticked, self.quiet, self.tick_refused, self.stopped]
+        return [self.ticked, self.quiet, self.silence, self.refused_in, self.stopped]
 
     def restore(self, kept: Any) -> None:
         """Takes what was kept."""
-        self.ticked, self.quiet, self.tick_refused, self.stopped = kept
+        self.ticked, self.quiet, self.silence, self.refused_in, self.stopped = kept
 
 
 class Sessions:

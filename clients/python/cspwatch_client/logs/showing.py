@@ -7,7 +7,7 @@ from typing import List, Set, TextIO
 
 from .links import Sent, Ticks
 from .reading import Line
-from .times import shown
+from .times import SECOND, shown
 
 SHOWN = 1000
 """The most characters of a log's line that are kept and printed."""
@@ -87,6 +87,14 @@ class Counts:
     """Lines before the one from which on it is judged."""
     taken_anew: int = 0
     """Places that were taken before they were given back."""
+    back: int = 0
+    """Lines that are earlier than one before them."""
+    back_step: int = 0
+    """By how much at most, in nanoseconds."""
+    back_at: str = ""
+    """Where the line stands that goes back the most."""
+    undecided: int = 0
+    """Lines of one time whose order was decided by nothing."""
     cut: int = 0
     """Lines that were longer than they may be."""
     unread: int = 0
@@ -122,6 +130,10 @@ class Counts:
         more += [(self.outside, "outside a session"), (self.taken_anew, "places taken anew"), (self.cut, "cut")]
         more += [(self.unread, "with bytes that are no text")]
         parts += ["%d %s" % pair for pair in more if pair[0]]
+        if self.back:
+            parts.append("%d went back in time, by up to %g s (%s)" % (self.back, self.back_step / SECOND, self.back_at))
+        if self.undecided:
+            parts.append("%d whose order nothing decided" % self.undecided)
         if in_sessions:
             parts.append("%d sessions, %d with a rejected report" % (self.sessions, self.bad_sessions))
         return "%s; %s" % (first, ", ".join(parts))

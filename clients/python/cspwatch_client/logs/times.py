@@ -7,6 +7,7 @@ from datetime import date
 from typing import Dict, List, Mapping, Optional, Sequence, Tuple
 
 from .jsonlines import JsonForm
+from .keys import Path
 from .tables import Pattern, Positions, Table
 
 SECOND = 1_000_000_000
@@ -117,7 +118,7 @@ class LogForm:
     field: Optional[str]
     """The field of a line of JSON, in place of a pattern."""
     format: StampFormat
-    path: Tuple[object, ...]
+    path: Path
     """Where it stands in the map."""
 
     def text(self, line: str, json: Optional[JsonForm]) -> Optional[str]:
