@@ -3,7 +3,7 @@ from __future__ import annotations
 
 import random
 import time
-from collections import Counter
+from collections import Counter, deque
 from dataclasses import dataclass
 from typing import Callable, List, Optional, Sequence, Set, Tuple
 
@@ -27,9 +27,14 @@ BATCH = 50
 SHRINK_SECONDS = 60.0
 """How long a failing run is made shorter."""
 
+SEARCHED = 200
+"""How many runs that are shorter than the one that hypothesis ends with are tried, the shortest first."""
+
 NUMBER = sampled_from(range(NUMBERS))
 
 Numbers = Tuple[int, ...]
+
+EMPTY: Numbers = ()
 
 
 @dataclass(frozen=True)
@@ -74,7 +79,11 @@ class Shrinking:
 
     def is_wanted(self, numbers: Numbers) -> bool:
         """Whether these are to be played. What failed is: it has to fail again, or it is flaky."""
-        return numbers in self._failing or numbers not in self._passing and time.monotonic() < self._until
+        return numbers in self._failing or numbers not in self._passing and not self.is_over()
+
+    def is_over(self) -> bool:
+        """Whether it takes too long."""
+        return time.monotonic() >= self._until
 
     def add(self, numbers: Numbers, failure: Optional[Failure]) -> None:
         """Adds what came of them."""
@@ -157,7 +166,8 @@ class Campaign:
         try:
             play()
         except Failure as failure:
-            self._found(failure, flaky=False)
+            assert self._shrinking is not None
+            self._found(self._searched(failure, self._shrinking, choices), flaky=False)
         except Flaky:
             assert self._shrinking is not None
             self._found(self._shrinking.shortest, flaky=True)
@@ -196,6 +206,25 @@ class Campaign:
         except (AdapterFault, Hung, ProgramFault, Fault):
             pass
         shrinking.add(numbers, None)
+
+    # The failing run that hypothesis ends with, or a shorter one. What hypothesis leaves out doesn't lead to every shorter run
+    # that fails, so the shortest runs are all tried.
+    def _searched(self, failure: Failure, shrinking: Shrinking, choices: Choices) -> Failure:
+        assert self._system.run is not None
+        steps, waiting, left = len(self._system.run.tried), deque([EMPTY]), SEARCHED
+        while waiting and len(waiting[0]) + 1 < steps:
+            known = waiting.popleft()
+            for number in range(1, len(self._system.adapter.inputs) + 1):
+                if left == 0 or shrinking.is_over() or self._is_cancelled():
+                    return failure
+                left -= 1
+                try:
+                    self._try_shorter(shrinking, (*known, number), choices)
+                except Failure as shorter:
+                    return shorter
+                if len(self._system.run.tried) == len(known) + 1:
+                    waiting.append((*known, number))
+        return failure
 
     def _play(self, numbers: Sequence[int], choices: Choices) -> None:
         def steps(run: Run) -> None:

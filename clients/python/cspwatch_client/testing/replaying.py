@@ -30,7 +30,7 @@ def replay_of(path: str, adapter: Adapter) -> Replay:
     `OSError` is raised where the file can't be read, `ReplayFault` where it is no run of this adapter.
     """
     inputs: List[str] = []
-    with open(path, encoding="utf-8", errors="backslashreplace") as file:
+    with open(path, encoding="utf-8", errors="backslashreplace", newline="\n") as file:
         for number, line in enumerate(file, 1):
             kind, *names = line.rstrip("\n").split(" ")
             if kind not in ("E", "R") or kind == "E" and len(names) != 1:

@@ -100,7 +100,7 @@ class Run:
         except (AdapterFault, Hung):
             self._judge_pending()
             raise
-        self._judge_pending()
+        self._offer(self._judge_pending())
 
     def _take_outputs(self) -> None:
         quiet, begun, seen = self._adapter.quiet, time.monotonic(), 0
@@ -131,7 +131,8 @@ class Run:
                 raise AdapterFault("%s: observe() gives %r, which is no event of its outputs" % (self._adapter.name, output))
         return outputs
 
-    def _judge_pending(self) -> None:
+    # What may come after all that was reported.
+    def _judge_pending(self) -> Next:
         pending, self._pending = self._pending, []
         replies, offered = self._judge.answers([report.line for report in pending])
         for report, reply in zip(pending, replies):
@@ -144,7 +145,7 @@ class Run:
                 self.lines.append(report.line)
             if report.kind in (MAY, TAKEN):
                 self.events.append(report.event)
-        self._offer(offered)
+        return offered
 
     def _offer(self, offered: Next) -> None:
         self.next = offered
