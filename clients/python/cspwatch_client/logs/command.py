@@ -155,10 +155,10 @@ def run(options: argparse.Namespace, out: TextIO, errors: TextIO) -> int:
     running = Run(rules, start, printer, wanted)
     if found.time is not None:
         running.timeline = Timeline(found, rules, sources, options.follow, printer, running.counts, running.watch)
-    running.watch.start()
     try:
         keeper = begun(state, running, sources) if state is not None else None
-        is_whole = read_all(running, sources, options.follow, keeper)
+        with running.watch:
+            is_whole = read_all(running, sources, options.follow, keeper)
         running.finish()
         if keeper is not None and not running.stopped:
             keeper.write()

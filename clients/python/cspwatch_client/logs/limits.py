@@ -33,10 +33,14 @@ class Watch:
         self.looks = 0
         """How many looks have found this one."""
 
-    def start(self) -> None:
+    def __enter__(self) -> None:
         """Looks from now on. Python looks for signals while an expression is searched for."""
         signal.signal(signal.SIGVTALRM, self.look)
         signal.setitimer(signal.ITIMER_VIRTUAL, LOOK_SECONDS, LOOK_SECONDS)
+
+    def __exit__(self, *_: object) -> None:
+        """Looks no more. At its end the interpreter lets go of what a signal calls, and would be ended by the next one."""
+        signal.setitimer(signal.ITIMER_VIRTUAL, 0)
 
     def look(self, number: int, frame: Optional[FrameType]) -> None:
         """Raises `TooLong` in what goes on, where it is still at the line of some looks before."""
