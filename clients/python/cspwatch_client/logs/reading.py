@@ -1,6 +1,7 @@
 """Lines of logs: of files, compressed ones too, and of standard input."""
 from __future__ import annotations
 
+import errno
 import os
 import select
 import stat
@@ -103,6 +104,8 @@ class Source:
     def __init__(self, name: str) -> None:
         self.name = name
         self.splitter = Splitter(name)
+        if os.path.isdir(name):
+            raise IsADirectoryError(errno.EISDIR, os.strerror(errno.EISDIR), name)
         self.descriptor = sys.stdin.fileno() if name == "-" else os.open(name, os.O_RDONLY | os.O_CLOEXEC)
         self.ended = False
         self.begin: Optional[bytes] = b""
