@@ -30,7 +30,7 @@ BUDGETS = {
     "docs/PROTOCOL.md": 2800,
     "docs/PROVED.md": 2500,
     "docs/SEMANTICS.md": 2750,
-    "tests/README.md": 1800,
+    "tests/README.md": 1900,
 }
 """How many words a page is to have. A page that isn't here may have any number."""
 
