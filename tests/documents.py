@@ -19,11 +19,12 @@ own files to itself, with `cspwatch` on the PATH and no kit. Of its blocks
 
 A shown line may have a note to its right, after two blanks. `cspwatch serve` runs beside the commands that come after it, as
 in a terminal of its own, and has to end by itself before the page does. A block of `sh` is passed over, and named, where a
-command in it proves, is a form with a word to be filled in, is a test of its own, is for root, or needs pytest and there is
-none. Any other block is only to be read. The last line is `N passed, M failed`.
+command in it proves, is a form with a word to be filled in, is a test of its own, is for root, or needs what there is none of
+(pytest, hypothesis, Redis). Any other block is only to be read. The last line is `N passed, M failed`.
 """
 import argparse
 import collections
+import functools
 import itertools
 import os
 import queue
@@ -53,8 +54,11 @@ TESTS = re.compile(r"\b(?:tests/\w+\.py|clients/run_tests\.py|dist/make_release\
 ROOTS = re.compile(r"^install .* /(?:usr|etc)/", re.MULTILINE)
 """A command that only root can run."""
 
-PYTEST = re.compile(r"\bpython3 -m pytest\b")
-"""A command that needs pytest."""
+PACKAGES = {"pytest": re.compile(r"\bpython3 -m pytest\b"), "hypothesis": re.compile(r"\bcspwatch-test\b"), "redis": re.compile(r"testing/redis")}
+"""Packages of Python, and the commands that need them."""
+
+REDIS = re.compile(r"testing/redis")
+"""A command that needs a server of Redis."""
 
 FILE = re.compile(r"`([\w.-]+\.\w+)`:$")
 """The end of a line that names the file below it."""
@@ -101,15 +105,19 @@ def why_not(step):
     text = "\n".join(step.block.lines)
     if step.does == "file":
         return None
-    if PYTEST.search(text) and not has_pytest():
-        return "there is no pytest"
+    for package, pattern in PACKAGES.items():
+        if pattern.search(text) and not has_package(package):
+            return "there is no " + package
+    if REDIS.search(text) and shutil.which("redis-server") is None:
+        return "there is no redis-server"
     reasons = (PROVES, "proves"), (FORM, "a form"), (TESTS, "a test of its own"), (ROOTS, "for root")
     return next((reason for pattern, reason in reasons if pattern.search(text)), None)
 
 
-def has_pytest():
-    """Whether the Python that the pages' commands call has pytest."""
-    return subprocess.run(["python3", "-c", "import pytest"], stderr=subprocess.DEVNULL).returncode == 0
+@functools.lru_cache(maxsize=None)
+def has_package(name):
+    """Whether the Python that the pages' commands call has this package."""
+    return subprocess.run(["python3", "-c", "import " + name], stderr=subprocess.DEVNULL).returncode == 0
 
 
 def is_as_shown(printed, shown):

@@ -15,14 +15,14 @@ _cspwatch_test() {
             ;;
     esac
     if [[ $current == -* ]]; then
-        COMPREPLY=($(compgen -W "--runs --steps --time --seed --jobs --robust --timeout --replay --save --junit --json --database --large --program --help -h" -- "$current"))
+        COMPREPLY=($(compgen -W "--runs --steps --time --seed --jobs --robust --timeout --replay --quiet --save --junit --json --database --large --program --help -h" -- "$current"))
         return
     fi
     # How many words are before the cursor, without options and what follows them.
     for ((index = 1; index < COMP_CWORD; index++)); do
         word=${COMP_WORDS[index]}
         case $word in
-            --robust | --large | --help | -h) ;;
+            --robust | --quiet | --large | --help | -h) ;;
             -*) index=$((index + 1)) ;;
             *) place=$((place + 1)) ;;
         esac

@@ -58,6 +58,7 @@ def parser() -> argparse.ArgumentParser:
     found.add_argument("--robust", action="store_true", help="try inputs that the specification refuses, too")
     found.add_argument("--timeout", metavar="TIME", type=seconds_of, default=TIMEOUT_SECONDS, help="how long a call of the adapter may take (10s)")
     found.add_argument("--replay", metavar="FILE", help="do the inputs of the run in FILE once more, in place of a campaign")
+    found.add_argument("--quiet", action="store_true", help="print the failing run alone, without the counts")
     found.add_argument("--save", metavar="FILE", help="write the shortest failing run to FILE, as lines for cspwatch check")
     found.add_argument("--junit", metavar="FILE", help="write the runs to FILE as test cases")
     found.add_argument("--json", metavar="FILE", help="write what came of the campaign to FILE")
@@ -110,7 +111,7 @@ def run(options: argparse.Namespace, out: TextIO, errors: TextIO) -> int:
     junit = JUnit(options.junit, options.process) if options.junit is not None else None
     told = open(options.json, "w", encoding="utf-8") if options.json is not None else None
     result = campaign(options, Progress(errors))
-    print_result(result, out, errors)
+    print_result(result, out, errors, options.quiet)
     if result.finding is not None and options.save is not None:
         save(options.save, result.finding)
     if junit is not None:

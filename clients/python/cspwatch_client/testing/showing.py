@@ -61,20 +61,21 @@ def print_stopped(stopped: Stopped, errors: TextIO) -> None:
         print_run(stopped.lines, errors)
 
 
-def print_result(result: Result, out: TextIO, errors: TextIO) -> None:
-    """Prints what came of a campaign: what was found on one stream, what went wrong on the other, and the counts."""
+def print_result(result: Result, out: TextIO, errors: TextIO, quiet: bool) -> None:
+    """Prints what came of a campaign: what was found on one stream, what went wrong on the other, and the counts unless it is
+    to be quiet."""
     finding, stopped = result.finding, result.stopped
     if finding is not None:
         print_finding(finding, out)
         if finding.flaky:
             print("the system is flaky: this run failed, and passed when it was replayed", file=out)
-        else:
+        elif not quiet:
             print("found in run %d, and made shorter in %d further runs" % (result.runs, finding.attempts), file=out)
     if stopped is not None:
         print_stopped(stopped, errors)
     elif finding is None and result.not_judged():
         print(result.not_judged(), file=errors)
-    if result.runs or stopped is None:
+    if not quiet and (result.runs or stopped is None):
         print(counts_of(result), file=out)
 
 
