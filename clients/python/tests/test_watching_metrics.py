@@ -1,4 +1,5 @@
 """The command `cspwatch-metrics`: what it counts, through all that can become of a journal. CSPWATCH names the program."""
+import contextlib
 import json
 import os
 import re
@@ -133,6 +134,24 @@ class Journals(WithMetrics):
         self.reaches(port, "cspwatch_refused", 1)
         self.assertIn("j: 50 header", self.said())
 
+    def test_what_is_no_file(self):
+        os.mkfifo(self.path("pipe"))
+        for name in ("pipe", "/dev/zero", "."):
+            _, port = self.start(name)
+            soon(lambda: "%s: it is no file; waiting for it" % name in self.said())
+            self.assertEqual(self.value(port, "cspwatch_following"), 0)
+
+    def test_without_standard_streams(self):
+        self.write("j", journal(BOTH))
+        with socket.create_server(("127.0.0.1", 0)) as free:
+            port = free.getsockname()[1]
+        words = self.words("j", "--listen", "127.0.0.1:%d" % port)
+        environment = {**os.environ, "PYTHONPATH": PYTHON}
+        run = subprocess.Popen(["sh", "-c", 'exec "$@" <&- >&- 2>&-', "sh", *words], cwd=self.folder, env=environment, stdout=subprocess.PIPE)
+        self.addCleanup(self.end, run)
+        soon(lambda: listens(port))
+        self.reaches(port, "cspwatch_rejected_reports_total", 1)
+
     def test_a_name_that_nobody_should_give(self):
         # The program can't open one that isn't UTF-8.
         for name, following, shown in (
@@ -238,6 +257,16 @@ class Logs(WithMetrics):
         self.assertEqual(found["cspwatch_connections_ended_total", ("why", why)], 1)
         self.assertEqual((found["cspwatch_open",], found["cspwatch_log_lines_lost_total",]), (0, 3))
 
+    def test_a_log_that_isnt_read_yet_has_no_counts(self):
+        # 20 MB are read in several looks. Too small a count would look like a reset, and what follows like new lines.
+        line = self.log().splitlines(keepends=True)[3]
+        lines = 20_000_000 // len(line)
+        self.write("j", journal(BOTH))
+        self.write("log", line * lines)
+        _, port = self.start("j", "--log", "log")
+        found = soon(lambda: self.value(port, "cspwatch_lines_not_judged_total", code="11"))
+        self.assertEqual(found, lines)
+
     def test_reasons_without_end_are_counted_together(self):
         port = self.begun(self.log(*({"what": "ended", "connection": 2, "why": "why %d" % number} for number in range(1000))))
         found = {key: value for key, value in self.samples(port).items() if key[0] == "cspwatch_connections_ended_total"}
@@ -269,13 +298,11 @@ class Requests(WithMetrics):
         status, headers, body = fetched(port, "/%0d%0aSet-Cookie:%20a=b")
         self.assertEqual((status, headers["Set-Cookie"], body), (404, None, b"there is only /metrics\n"))
         for sent in (b"\xff\xfe\x00\n\n", b"GET /metrics HTTP/9.9\r\n\r\n", b"GET " + b"/" * 100000 + b" HTTP/1.1\r\n\r\n", b"\n"):
-            with socket.create_connection(("127.0.0.1", port), SECONDS) as link:
+            with socket.create_connection(("127.0.0.1", port), SECONDS) as link, contextlib.suppress(OSError):
+                # It may end the connection before all is sent.
                 link.sendall(sent)
                 link.shutdown(socket.SHUT_WR)
-                try:
-                    while link.recv(65536):
-                        pass
-                except ConnectionResetError:
+                while link.recv(65536):
                     pass
         self.assertEqual(fetched(port, "/metrics")[0], 200)
         self.assertNotIn("Traceback", self.said())
@@ -332,6 +359,11 @@ class Requests(WithMetrics):
                 self.end(run)
             finally:
                 subprocess.run(["umount", place], check=True)
+
+
+def listens(port):
+    with socket.socket() as link:
+        return link.connect_ex(("127.0.0.1", port)) == 0
 
 
 def file_takes(file):

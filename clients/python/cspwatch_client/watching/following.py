@@ -106,7 +106,6 @@ class Follower(threading.Thread):
 
     def run(self) -> None:
         while not self.stopping.is_set():
-            stamp = stamp_of(self.path)
             try:
                 if self.begin():
                     self.follow()
@@ -114,8 +113,8 @@ class Follower(threading.Thread):
                     self.stopping.wait(LOOK_SECONDS)
             except Ended as end:
                 self.close()
-                self.refuse(str(end))
-                self.wait_for_change(stamp)
+                if not self.refuse(str(end)):
+                    self.wait_for_change(stamp_of(self.path))
             except OSError as error:
                 # Too many descriptors, or no process: what is missing now may be there later.
                 self.close()
@@ -256,7 +255,7 @@ class Follower(threading.Thread):
         except OSError:
             return
         if self.log is not None:
-            self.log.look()
+            self.log.look(self.lock)
         with self.lock:
             before = self.view.extent, self.view.is_open
             self.view.extent, self.view.is_open = extent, self.takes_reports()
@@ -289,13 +288,14 @@ class Follower(threading.Thread):
             self.view.phase, self.view.reason, self.view.is_open = WAITING, text, self.takes_reports()
             self.view.revision += 0 if is_known else 1
         if self.log is not None:
-            self.log.look()
+            self.log.look(self.lock)
         if not is_known:
             self.say(text)
             self.changed()
 
-    def refuse(self, reason: str) -> None:
-        """Notes why the journal isn't followed any more. Another journal has other counts; else what was counted stays."""
+    def refuse(self, reason: str) -> bool:
+        """Notes why the journal isn't followed any more. Another journal has other counts; else what was counted stays. Answers whether
+        it is another one."""
         is_another = reason.endswith("is another journal now")
         with self.lock:
             is_known = self.view.phase == REFUSED and self.view.reason == reason
@@ -307,9 +307,12 @@ class Follower(threading.Thread):
         if not is_known:
             self.say(reason)
         self.changed()
+        return is_another
 
     def wait_for_change(self, stamp: object) -> None:
         """Waits until the file isn't any more what it was, for some seconds at most."""
+        if stamp is None:
+            return
         ending = time.monotonic() + RETRY_SECONDS
         while time.monotonic() < ending and not self.stopping.wait(LOOK_SECONDS):
             if stamp_of(self.path) != stamp:

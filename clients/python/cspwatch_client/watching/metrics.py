@@ -47,7 +47,7 @@ class Metrics:
             families = [*self.of_the_journal(view), *self.of_the_follower(view)]
             if view.tally is not None:
                 families += self.of_the_entries(view.tally, view)
-            if log is not None:
+            if log is not None and log.is_read:
                 families += self.of_the_log(log)
         return iter(families)
 

@@ -2,11 +2,15 @@
 from __future__ import annotations
 
 import json
+import threading
 from collections import Counter
 from typing import Dict, Optional
 
 from ..logs.following import Followed
 from ..logs.packed import LogFault
+
+MOST_READS = 100
+"""How often a look reads at most, 64 KiB each time: what is left of a long log is for the next look."""
 
 MOST_KINDS = 64
 """How many codes and reasons are told apart; what more there are is counted together."""
@@ -23,6 +27,8 @@ class ServiceLog:
     def __init__(self, path: str) -> None:
         self.path = path
         self.source: Optional[Followed] = None
+        self.is_read = False
+        """Whether the log was read to its end once: before that its counts are too small."""
         self.not_judged: Counter[str] = Counter()
         """Lines that were answered `ERR`, by code."""
         self.ended: Counter[str] = Counter()
@@ -39,21 +45,24 @@ class ServiceLog:
         self.failed = False
         """Whether the journal has failed in the last run."""
 
-    def look(self) -> None:
-        """Reads what came."""
+    def look(self, lock: threading.Lock) -> None:
+        """Reads what came. The counts are changed under the lock."""
         try:
             if self.source is None:
                 self.source = Followed(self.path)
-            while True:
+            for _ in range(MOST_READS):
                 lines = self.source.read()
-                for line in lines:
-                    self.take(line.text)
+                with lock:
+                    for line in lines:
+                        self.take(line.text)
                 # What was lost at a rotation stands in no log that is there.
                 self.source.lost.clear()
                 if not lines and self.source.is_idle:
+                    self.is_read = True
                     return
         except (OSError, LogFault):
-            return
+            # Without a log there is nothing to count.
+            self.is_read = True
 
     def take(self, text: str) -> None:
         """Counts a line."""

@@ -7,6 +7,7 @@ import ipaddress
 import json
 import os
 import signal
+import socket
 import sys
 import time
 from typing import Any, Dict, List, NamedTuple, Optional, Sequence
@@ -209,7 +210,9 @@ async def listen(factory: Any, where: Address) -> asyncio.AbstractServer:
     try:
         return await loop.create_server(connection, where.host, where.port, backlog=CONNECTIONS)
     except OSError as error:
-        raise Fault("%s: cannot listen: %s" % (str(where), os.strerror(error.errno) if error.errno else error)) from None
+        # What asyncio says of a fault names the address once more.
+        reason = error.strerror if isinstance(error, socket.gaierror) or not error.errno else os.strerror(error.errno)
+        raise Fault("%s: cannot listen: %s" % (str(where), reason)) from None
 
 
 async def serve(options: argparse.Namespace) -> int:
@@ -246,7 +249,7 @@ async def serve(options: argparse.Namespace) -> int:
 
 def addresses_of(server: asyncio.AbstractServer) -> List[Any]:
     """Where the server listens."""
-    return [socket.getsockname() for socket in server.sockets]  # type: ignore[attr-defined]
+    return [one.getsockname() for one in server.sockets]  # type: ignore[attr-defined]
 
 
 def begin(options: argparse.Namespace) -> int:

@@ -134,7 +134,8 @@ def run(command: Callable[[], int]) -> int:
     """Runs a command, and says why it can't run."""
     threading.excepthook = end_at_once
     for stream in (sys.stdout, sys.stderr):
-        stream.reconfigure(errors="backslashreplace")  # type: ignore[attr-defined]
+        if stream is not None:
+            stream.reconfigure(errors="backslashreplace")  # type: ignore[attr-defined]
     try:
         return command()
     except Fault as fault:
