@@ -6,6 +6,7 @@ import time
 from collections import Counter, deque
 from dataclasses import dataclass
 from typing import Callable, List, Optional, Sequence, Set, Tuple
+from unittest import SkipTest
 
 from hypothesis import HealthCheck, Phase, Verbosity, given, reject, seed, settings
 from hypothesis.errors import Flaky
@@ -185,6 +186,9 @@ class Campaign:
 
         try:
             play()
+        except SkipTest:
+            # There was no kept run.
+            return
         except Failure as failure:
             assert self._shrinking is not None
             self._found(self._searched(failure, self._shrinking, choices), flaky=False)
