@@ -245,8 +245,7 @@ class RealSystems(InFolder):
 
     def test_sqlite(self):
         words = [sys.executable, COMMAND, "--database", self.path("kept"), "store.csp", "STORE(0)", "store.py"]
-        self.found(words, "sqlite", None)
-        self.found([*words, "--robust"], "sqlite", None)
+        self.found([*words, "--robust", "--runs", "40"], "sqlite", None)
         self.found(words, "sqlite", "dirty.reports", STORE="dirty")
 
     @unittest.skipUnless(shutil.which("redis-server"), "there is no redis-server")
@@ -255,7 +254,7 @@ class RealSystems(InFolder):
             import redis  # noqa: F401
         except ImportError:
             self.skipTest("python3-redis isn't installed")
-        self.found(["./run.sh"], "redis", None)
+        self.found(["./run.sh", "--runs", "40"], "redis", None)
         self.found(["./run.sh"], "redis", "careless.reports", LOCK="careless")
 
 
