@@ -5,6 +5,7 @@ here=$(cd "$(dirname "$0")" && pwd)
 folder=$(mktemp -d)
 export ETCDCTL_API=3
 running=
+each=
 trap 'for each in $running; do kill -CONT "$each" 2>/dev/null || true; kill "$each" 2>/dev/null || true; done; wait; rm -rf "$folder"' EXIT
 free_port() { python3 -c 'import socket; s = socket.socket(); s.bind(("127.0.0.1", 0)); print(s.getsockname()[1])'; }
 

@@ -2,7 +2,8 @@
 # Records the logs of this folder anew. It needs Debian's package postgresql, and runs its server as the user postgres where root calls it.
 set -eu
 here=$(cd "$(dirname "$0")" && pwd)
-bin=$(dirname "$(ls /usr/lib/postgresql/*/bin/postgres | tail -n 1)")
+programs=(/usr/lib/postgresql/*/bin/postgres)
+bin=$(dirname "${programs[-1]}")
 folder=$(mktemp -d)
 server=
 trap '[ -z "$server" ] || kill -INT "$server" 2>/dev/null || true; wait; rm -rf "$folder"' EXIT
@@ -31,16 +32,16 @@ client() { # the name of its file
 }
 
 # A statement that locks a row goes on for some milliseconds when it has the lock.
-rounds() { # what begins a transaction
+rounds() { # what begins a transaction, and what is done with the lock
   local round
   for ((round = 0; round < 20; round++)); do
     printf '%s\n' "$1" "WITH locked AS MATERIALIZED (SELECT amount FROM account WHERE id = $((RANDOM % 2 + 1)) FOR UPDATE NOWAIT)" \
       'SELECT amount, pg_sleep(0.003) FROM locked;'
-    printf '%s\n' '\if :ERROR' 'ROLLBACK;' '\else' 'COMMIT;' '\endif'
+    printf '%s\n' '\if :ERROR' 'ROLLBACK;' '\else' "$2" 'COMMIT;' '\endif'
   done
 }
 RANDOM=1
-for number in 1 2 3 4 5 6 7 8; do rounds 'BEGIN;' >"client$number"; done
+for number in 1 2 3 4 5 6 7 8; do rounds 'BEGIN;' '' >"client$number"; done
 all_clients() {
   local all=() number
   for number in 1 2 3 4 5 6 7 8; do
@@ -54,7 +55,7 @@ all_clients
 end rows-good.log
 
 # Client 8 begins no transaction, so its lock is gone before it has done its work and says that it commits.
-rounds '' >client8
+rounds '' '\! sleep 0.05' >client8
 begin 1s
 all_clients
 end rows-bad.log
@@ -84,6 +85,7 @@ end deadlock-good.log
 begin 1h
 two_clients
 sleep 6
+# shellcheck disable=SC2016 # the dollar signs are PostgreSQL's
 psql -h "$folder" -U postgres -c 'select pg_terminate_backend(pid) from pg_stat_activity where wait_event_type = $$Lock$$ limit 1' >/dev/null
 # shellcheck disable=SC2086
 wait $pids || true
