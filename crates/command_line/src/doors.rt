@@ -4,20 +4,23 @@ ghost use Rattle.std.specs.Prelude.{◌≡◌, IfErr, OnOk, OnErr};
 ghost use Rattle.answers.specs.declared.exit.Exit.TheVariants.{FileFailed};
 ghost use Rattle.command_line.specs.Endings.{IsUnserved};
 
+use crate::groups::group_number;
 use crate::journal_files::keep_name;
 use crate::logged::Known;
-use crate::sockets::listener_at;
+use crate::reasons::tell_failed;
+use crate::sockets::{Rights, leave, listener_at};
 use crate::telling::tell_fault;
 use program::Exit;
 use serving::{TcpAccept, UnixAccept};
 use std::alloc::Global;
 use std::fmt::Display;
-use std::fs::{File, remove_file};
+use std::fs::File;
 use std::io;
 use std::io::Write;
 use std::net::{Net, SocketAddr, SocketAddrV4, TcpListener, TcpStream};
 use std::rt::Files;
-use std::time::Duration;
+use std::sync::Wait;
+use std::time::{Clock, Duration};
 use wire::{Sink, SinkFault, send};
 use words::{Service, Until};
 
@@ -68,11 +71,11 @@ pub(crate) struct AtUnix<'a, 's, R> {
 }
 
 // Reports a fault of files before clients were told where to connect.
-fn shut_by<E: Write>(errors: &mut E, name: &str, fault: &str) -> Shut
+fn shut_by<E: Write>(errors: &mut E, name: &str, fault: &str, reason: &io::Error) -> Shut
     ensures { result.exit ≡ FileFailed }
 {
     Shut {
-        exit: tell_fault(errors, name, fault, Exit::FileFailed),
+        exit: tell_failed(errors, name, fault, reason, Exit::FileFailed),
         was_open: false,
     }
 }
@@ -87,7 +90,7 @@ fn keep_journal<R: Files<File = File>, E: Write>(
 {
     match keep_name(rt, name) {
         Ok(()) => Ok(()),
-        Err(_) => Err(shut_by(errors, name, "cannot write")),
+        Err(fault) => Err(shut_by(errors, name, "cannot write", &fault)),
     }
 }
 
@@ -108,10 +111,30 @@ fn tcp_accept<R: Net<Stream = TcpStream, Listener = TcpListener>>(
     Ok((accept, address))
 }
 
+// Who may connect at the socket's file.
+fn rights_of<R: Files<File = File> + AllocGlobal>(
+    rt: &R,
+    service: &Service<'_>,
+) -> io::Result<Rights> {
+    let group = match service.group {
+        Some(name) => Some(group_number(rt, name)?),
+        None => None,
+    };
+    Ok(Rights {
+        mode: service.mode,
+        group,
+    })
+}
+
 // Listens at the socket's file.
-fn unix_accept<R: Files + Net>(rt: &R, file: &str, until: Until) -> io::Result<UnixAccept> {
-    let listener = listener_at(rt, file)?;
-    match until {
+fn unix_accept<R: Files<File = File> + Net + AllocGlobal + Wait + Clock>(
+    rt: &R,
+    file: &str,
+    service: &Service<'_>,
+) -> io::Result<UnixAccept> {
+    let rights = rights_of(rt, service)?;
+    let listener = listener_at(rt, rt.alloc(), file, rights)?;
+    match service.until {
         Until::Over(_) => Ok(UnixAccept::new(listener)),
         Until::Idle | Until::Stopped => UnixAccept::within(listener, Duration::from_millis(MOMENT)),
     }
@@ -137,7 +160,10 @@ fn tell_listening<T: Display, O: Sink, E: Write>(
     };
     match send(output, line.as_bytes()) {
         Ok(()) => Ok(()),
-        Err(SinkFault) => Err(shut_by(errors, "-", "cannot write")),
+        Err(SinkFault) => Err(Shut {
+            exit: tell_fault(errors, "-", "cannot write", Exit::FileFailed),
+            was_open: false,
+        }),
     }
 }
 
@@ -152,8 +178,11 @@ impl<R: Files<File = File> + Net<Stream = TcpStream, Listener = TcpListener> + A
         errors: &mut E,
     ) -> Result<(TcpAccept, Option<SocketAddr>), Shut> {
         keep_journal(self.rt, self.service.journal, errors)?;
-        let Ok((accept, address)) = tcp_accept(self.rt, self.address, self.service.until) else {
-            return Err(shut_by(errors, self.service.listen, "cannot listen"));
+        let (accept, address) = match tcp_accept(self.rt, self.address, self.service.until) {
+            Ok(opened) => opened,
+            Err(fault) => {
+                return Err(shut_by(errors, self.service.listen, "cannot listen", &fault));
+            }
         };
         match tell_listening(self.rt.alloc(), self.service.spec, &address, output, errors) {
             Ok(()) => Ok((accept, Some(address))),
@@ -169,8 +198,13 @@ impl<R: Files<File = File> + Net<Stream = TcpStream, Listener = TcpListener> + A
     }
 }
 
-impl<R: Files<File = File> + Net<Stream = TcpStream, Listener = TcpListener> + AllocGlobal> Door
-    for AtUnix<'_, '_, R> {
+impl<
+    R: Files<File = File>
+        + Net<Stream = TcpStream, Listener = TcpListener>
+        + AllocGlobal
+        + Wait
+        + Clock,
+> Door for AtUnix<'_, '_, R> {
     type Accept = UnixAccept;
 
     #[tactic(auto, using(crate::proofs::Told::file_failed))]
@@ -180,8 +214,11 @@ impl<R: Files<File = File> + Net<Stream = TcpStream, Listener = TcpListener> + A
         errors: &mut E,
     ) -> Result<(UnixAccept, Option<SocketAddr>), Shut> {
         keep_journal(self.rt, self.service.journal, errors)?;
-        let Ok(accept) = unix_accept(self.rt, self.file, self.service.until) else {
-            return Err(shut_by(errors, self.service.listen, "cannot listen"));
+        let accept = match unix_accept(self.rt, self.file, self.service) {
+            Ok(accept) => accept,
+            Err(fault) => {
+                return Err(shut_by(errors, self.service.listen, "cannot listen", &fault));
+            }
         };
         match tell_listening(
             self.rt.alloc(),
@@ -200,7 +237,7 @@ impl<R: Files<File = File> + Net<Stream = TcpStream, Listener = TcpListener> + A
     }
 
     fn close(&mut self) -> bool {
-        let _ = remove_file(self.rt, self.file);
+        leave(self.rt, self.file);
         true
     }
 }

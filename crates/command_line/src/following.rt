@@ -6,7 +6,8 @@ ghost use Rattle.std.specs.Time.{instant_nanos};
 
 use crate::evidence::{Stamp, bytes_of, files_of, is_large, stamp_of};
 use crate::limits::PART_SIZE;
-use crate::telling::{tell_fault, tell_journal};
+use crate::reasons::{Noted, Reason};
+use crate::telling::{tell_fault, tell_noted};
 use file_disk::FileSystem;
 use memory_disks::MemoryDisk;
 use program::{Exit, FollowError, Options};
@@ -28,9 +29,10 @@ fn tell_follow<R: Files<File = File>, E: Write + IsTerminal>(
     errors: &mut E,
     name: &str,
     error: FollowError,
+    reason: &Reason,
 ) -> Exit {
     match error {
-        FollowError::Session(error) => tell_journal(rt, errors, name, error),
+        FollowError::Session(error) => tell_noted(rt, errors, name, error, reason),
         FollowError::Output => tell_fault(errors, "-", "cannot write", Exit::FileFailed),
         FollowError::Changed => tell_fault(
             errors,
@@ -50,7 +52,8 @@ fn look_at_parts<R: Files<File = File> + FileSystem + AllocGlobal, O: Sink, E: W
     output: &mut O,
     errors: &mut E,
 ) -> Result<Vec<u8, Global>, Exit> {
-    let folder = match files_of(rt, name, errors) {
+    let noted = Noted::new(rt);
+    let folder = match files_of(rt, &noted, name, errors) {
         Ok(folder) => folder,
         Err(exit) => {
             drop(before);
@@ -59,7 +62,7 @@ fn look_at_parts<R: Files<File = File> + FileSystem + AllocGlobal, O: Sink, E: W
     };
     match program::follow_parts(rt.alloc(), folder, PART_SIZE, options, before, output) {
         Ok(text) => Ok(text),
-        Err(error) => Err(tell_follow(rt, errors, name, error)),
+        Err(error) => Err(tell_follow(rt, errors, name, error, &noted.reason)),
     }
 }
 
@@ -90,7 +93,7 @@ fn look<R: Files<File = File> + FileSystem + AllocGlobal, O: Sink, E: Write + Is
     };
     match program::follow(rt.alloc(), MemoryDisk::new(bytes), options, before, output) {
         Ok(text) => Ok(text),
-        Err(error) => Err(tell_follow(rt, errors, name, error)),
+        Err(error) => Err(tell_follow(rt, errors, name, error, &Reason::new())),
     }
 }
 

@@ -5,6 +5,7 @@ ghost use Rattle.std.specs.Io.KnownBytes.{Appends};
 ghost use Rattle.answers.specs.declared.exit.Exit.TheVariants.{Done, FileFailed};
 ghost use Rattle.command_line.specs.Commands.{Printed};
 
+use crate::reasons::tell_failed;
 use crate::scripts::{Script, text_of};
 use crate::telling::{tell_fault, tell_script};
 use program::{Exit, PrintError};
@@ -15,11 +16,17 @@ use std::rt::Files;
 pub(crate) fn put_out<O: Write, E: Write>(text: &[u8], output: &mut O, errors: &mut E) -> bool
     ensures { IsTrue result → Appends (O.contents output.old) (O.contents output.new) text.now }
 {
-    let is_written = output.write_all(text).is_ok() && output.flush().is_ok();
-    if !is_written {
-        tell_fault(errors, "-", "cannot write", Exit::FileFailed);
+    let done = match output.write_all(text) {
+        Ok(()) => output.flush(),
+        Err(fault) => Err(fault),
+    };
+    match done {
+        Ok(()) => true,
+        Err(fault) => {
+            tell_failed(errors, "-", "cannot write", &fault, Exit::FileFailed);
+            false
+        }
     }
-    is_written
 }
 
 /// Writes the text, and answers this exit status, or that of the output that failed.

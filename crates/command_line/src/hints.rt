@@ -242,13 +242,6 @@ pub(crate) fn show_other<E: Write + IsTerminal>(errors: &mut E) {
     }
 }
 
-/// Shows, where the errors go to a terminal, that another run has the journal open.
-pub(crate) fn show_in_use<E: Write + IsTerminal>(errors: &mut E) {
-    if errors.is_terminal() {
-        let _ = errors.write_all(b"        in use by another run\n");
-    }
-}
-
 /// How many bytes are looked at of a file whose header is refused.
 const MOST_OF_HEADER: usize = 32;
 

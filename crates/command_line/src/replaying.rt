@@ -13,9 +13,10 @@ use crate::evidence::{bytes_of, files_of, is_large, tell_after};
 use crate::forms::write;
 use crate::journal_files::{hold_streams, journal_there};
 use crate::limits::PART_SIZE;
-use crate::telling::tell_journal;
+use crate::reasons::Noted;
+use crate::telling::{tell_journal, tell_noted};
 use disk::{Disk, Folder};
-use file_disk::{FileDisk, FileFolder, FileSystem};
+use file_disk::{FileDisk, FileFolder, FileSystem, SystemFile};
 use memory_disks::MemoryDisk;
 use program::{Exit, Replayed, ReplayedParts, Replaying, SessionError};
 use std::alloc::Global;
@@ -81,12 +82,13 @@ fn replay_large<R: Files<File = File> + FileSystem + AllocGlobal, O: Write, E: W
 ) -> Exit
     ensures { (result ≡ Done) ⊎ (result ≡ Rejected) → Counted (O.contents output.old) (O.contents output.new) result }
 {
-    let Ok(folder) = FileFolder::new(rt, rt.alloc(), name, file) else {
-        return tell_journal(rt, errors, name, SessionError::Device);
+    let noted = Noted::new(rt);
+    let Ok(folder) = FileFolder::new(&noted, rt.alloc(), name, file) else {
+        return tell_noted(rt, errors, name, SessionError::Device, &noted.reason);
     };
     match line_of_cut(rt.alloc(), folder) {
         Ok((line, exit)) => write(&line, exit, output, errors),
-        Err(error) => tell_journal(rt, errors, name, error),
+        Err(error) => tell_noted(rt, errors, name, error, &noted.reason),
     }
 }
 
@@ -124,9 +126,10 @@ fn replay_held<R: Files<File = File> + FileSystem + AllocGlobal, O: Write, E: Wr
         Ok(false) => {}
         Err(exit) => return exit,
     }
-    match line_of(rt.alloc(), FileDisk::new(file)) {
+    let noted = Noted::new(rt);
+    match line_of(rt.alloc(), FileDisk::new(SystemFile::new(&noted, file))) {
         Ok((line, exit, _)) => write(&line, exit, output, errors),
-        Err(error) => tell_journal(rt, errors, name, error),
+        Err(error) => tell_noted(rt, errors, name, error, &noted.reason),
     }
 }
 
@@ -152,7 +155,8 @@ fn read_large<R: Files<File = File> + FileSystem + AllocGlobal, O: Write, E: Wri
 ) -> Exit
     ensures { (result ≡ Done) ⊎ (result ≡ Rejected) → Counted (O.contents output.old) (O.contents output.new) result }
 {
-    let folder = match files_of(rt, name, errors) {
+    let noted = Noted::new(rt);
+    let folder = match files_of(rt, &noted, name, errors) {
         Ok(folder) => folder,
         Err(exit) => return exit,
     };
@@ -161,7 +165,7 @@ fn read_large<R: Files<File = File> + FileSystem + AllocGlobal, O: Write, E: Wri
             tell_after(errors, name, after);
             write(&line, exit, output, errors)
         }
-        Err(error) => tell_journal(rt, errors, name, error),
+        Err(error) => tell_noted(rt, errors, name, error, &noted.reason),
     }
 }
 

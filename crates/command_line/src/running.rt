@@ -9,6 +9,7 @@ use crate::following::follow;
 use crate::forms::print;
 use crate::limits::names_by;
 use crate::patient::Patient;
+use crate::reasons::{Noting, Reason};
 use crate::replaying::{replay, replay_read_only};
 use crate::server::serve;
 use crate::showing::show;
@@ -24,7 +25,7 @@ use std::sync::Wait;
 use std::thread::Threads;
 use std::time::Clock;
 use wire::Plain;
-use words::{Check, Wish, example_of, read_words};
+use words::{Check, Service, Wish, example_of, read_words};
 
 // Judges the reports on the input, and answers the exit status.
 fn fulfil_check<R: Files + AllocGlobal + Wait, I: Read, O: Write, E: Write + IsTerminal>(
@@ -33,9 +34,10 @@ fn fulfil_check<R: Files + AllocGlobal + Wait, I: Read, O: Write, E: Write + IsT
     input: &mut I,
     output: &mut O,
     errors: &mut E,
+    reason: &Reason,
 ) -> Exit {
-    let mut reader = Plain::new(Patient::new(&mut *input));
-    let mut writer = sink_of(output);
+    let mut reader = Plain::new(Noting::new(Patient::new(&mut *input), reason));
+    let mut writer = sink_of(output, reason);
     let names = names_by(wished.large);
     let manner = Manner {
         explain: wished.explain,
@@ -66,8 +68,11 @@ fn fulfil_check<R: Files + AllocGlobal + Wait, I: Read, O: Write, E: Write + IsT
 }
 
 // The output, as what counts its failures.
-fn sink_of<O: Write>(output: &mut O) -> Plain<Patient<&mut O>> {
-    Plain::new(Patient::new(output))
+fn sink_of<'a, O: Write>(
+    output: &'a mut O,
+    reason: &'a Reason,
+) -> Plain<Noting<'a, Patient<&'a mut O>>> {
+    Plain::new(Noting::new(Patient::new(output), reason))
 }
 
 // Shows a journal, and then what comes to it, where it is followed; answers the exit status.
@@ -82,15 +87,21 @@ fn fulfil_show<
     is_followed: bool,
     output: &mut O,
     errors: &mut E,
+    reason: &Reason,
 ) -> Exit {
-    let mut output = sink_of(output);
+    let mut output = sink_of(output, reason);
     if is_followed {
         return follow(rt, journal, options, &mut output, errors);
     }
     show(rt, journal, options, &mut output, errors)
 }
 
-// Does what is wished for, and answers the exit status.
+// Whether the reason for which a standard stream failed can be shown: lines of a log may still wait for standard error.
+fn is_shown(wish: &Wish<'_>) -> bool {
+    !matches!(wish, Wish::Serve(Service { log: Some("-"), .. }))
+}
+
+// Does what is wished for, shows why a standard stream failed, where one has, and answers the exit status.
 fn fulfil<
     R: Files<File = File>
         + FileSystem
@@ -108,8 +119,34 @@ fn fulfil<
     O: Write,
     E: Write + IsTerminal,
 >(rt: &R, wish: &Wish<'_>, input: &mut I, output: &mut O, errors: &mut E) -> Exit {
+    let reason = Reason::new();
+    let exit = fulfil_noted(rt, wish, input, output, errors, &reason);
+    if is_shown(wish) {
+        reason.show(errors);
+    }
+    exit
+}
+
+// The same, and notes why a standard stream failed, where one has.
+fn fulfil_noted<
+    R: Files<File = File>
+        + FileSystem
+        + Net<Stream = TcpStream, Listener = TcpListener>
+        + AllocGlobal
+        + Threads
+        + Wait
+        + Clock
+        + Eprint
+        + Copy
+        + Send
+        + Sync
+        + 'static,
+    I: Read,
+    O: Write,
+    E: Write + IsTerminal,
+>(rt: &R, wish: &Wish<'_>, input: &mut I, output: &mut O, errors: &mut E, reason: &Reason) -> Exit {
     match wish {
-        Wish::Check(wished) => fulfil_check(rt, wished, input, output, errors),
+        Wish::Check(wished) => fulfil_check(rt, wished, input, output, errors, reason),
         Wish::Print { spec, process } => print(rt, spec, process, output, errors),
         Wish::Replay {
             journal,
@@ -123,8 +160,8 @@ fn fulfil<
             journal,
             options,
             follow,
-        } => fulfil_show(rt, journal, *options, *follow, output, errors),
-        Wish::Serve(service) => serve(rt, service, &mut sink_of(output), errors),
+        } => fulfil_show(rt, journal, *options, *follow, output, errors, reason),
+        Wish::Serve(service) => serve(rt, service, &mut sink_of(output, reason), errors),
     }
 }
 

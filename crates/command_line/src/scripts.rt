@@ -2,7 +2,8 @@
 ghost use Rattle.std.specs.Prelude.{◌≡◌, IfOk, IfErr};
 ghost use Rattle.command_line.specs.Commands.{IsRefusal};
 
-use crate::telling::{tell_fault, tell_script};
+use crate::reasons::tell_failed;
+use crate::telling::tell_script;
 use program::{Exit, ReadScript};
 use std::alloc::Global;
 use std::fs::OpenOptions;
@@ -39,7 +40,7 @@ fn tell_unread<E: Write + IsTerminal>(
     errors: &mut E,
     alloc: Global,
     name: &str,
-    kind: ErrorKind,
+    fault: &io::Error,
 ) -> Exit
     ensures { IsRefusal result }
 {
@@ -48,9 +49,9 @@ fn tell_unread<E: Write + IsTerminal>(
         text: &[],
         process: &[],
     };
-    match kind {
+    match fault.kind() {
         ErrorKind::OutOfMemory => tell_script(errors, alloc, &script, &NO_MEMORY),
-        _ => tell_fault(errors, name, "cannot read", Exit::FileFailed),
+        _ => tell_failed(errors, name, "cannot read", fault, Exit::FileFailed),
     }
 }
 
@@ -66,7 +67,7 @@ pub(crate) fn text_of<R: Files + AllocGlobal, E: Write + IsTerminal>(
     let mut text = Vec::new(rt.alloc());
     match read_file(rt, name, &mut text) {
         Ok(_) => Ok(text),
-        Err(fault) => Err(tell_unread(errors, rt.alloc(), name, fault.kind())),
+        Err(fault) => Err(tell_unread(errors, rt.alloc(), name, &fault)),
     }
 }
 

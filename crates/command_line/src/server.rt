@@ -1,8 +1,7 @@
 //! `cspwatch serve`: the reports of connections, judged by one session with a journal.
 ghost use Rattle.std.specs.Prelude.{◌≡◌, ◌<◌, ◌⊎◌, cond, IfOk, IfErr};
-ghost use Rattle.std.specs.Thread.{IsSend};
+ghost use Rattle.answers.specs.declared.exit.Exit.TheVariants.{FileFailed};
 ghost use Rattle.term.specs.declared.names.Names.TheVariants.{Bodies, Steps};
-ghost use Rattle.command_line.specs.Crossings.{DiskCrosses};
 ghost use Rattle.command_line.specs.Endings.{IsServedFor, IsShutFor, IsUnserved};
 
 use crate::doors::{AtTcp, AtUnix, Door};
@@ -12,7 +11,8 @@ use crate::limits::{PART_SIZE, names_by};
 use crate::logging::Logged;
 use crate::scripts::{Script, tell_read, text_of};
 use crate::telling::{tell_fault, tell_journal, tell_open};
-use file_disk::{FileDisk, FileFolder, FileSystem};
+use crate::watching::Watched;
+use file_disk::{FileDisk, FileFolder, FileSystem, SystemFile};
 use program::{Demand, Exit, ReadScript, Served, SessionError, Unserved};
 use serving::{OpenError, Plan, Recorder};
 use std::alloc::{AllocError, Global};
@@ -21,6 +21,7 @@ use std::io::{IsTerminal, Write};
 use std::net::{Net, TcpListener, TcpStream};
 use std::rt::Files;
 use std::sync::Wait;
+use std::sync::atomic::{AtomicBool, Ordering};
 use std::thread::Threads;
 use std::time::Clock;
 use term::Names;
@@ -139,7 +140,15 @@ fn tell_served<J: Recorder + Drop, E: Write>(
     exit
 }
 
-// Reports why nothing was served, and answers the status. Unless clients were told where to connect, it takes away the journal that this run made,
+// Whether the journal's device failed.
+fn is_device(error: &OpenError) -> bool {
+    matches!(
+        error,
+        OpenError::Begin(SessionError::Device) | OpenError::Replay(SessionError::Device)
+    )
+}
+
+// Reports why nothing was served, where that isn't told yet, and answers the status. Unless clients were told where to connect, it takes away the journal that this run made,
 // before the file is closed, and its lock goes.
 fn tell_unserved<
     D: Drop,
@@ -153,6 +162,7 @@ fn tell_unserved<
     is_made: bool,
     unserved: Unserved<D, J>,
     past: Past,
+    is_told: &AtomicBool,
     errors: &mut E,
 ) -> Exit
     ensures { IsShutFor unserved → IsUnserved result }
@@ -161,6 +171,9 @@ fn tell_unserved<
     match unserved {
         Unserved::Unopened(error, disk) => {
             drop(disk);
+            if is_device(&error) && is_told.load(Ordering::SeqCst) {
+                return Exit::FileFailed;
+            }
             tell_unopened(rt, service, script, error, errors)
         }
         Unserved::Shut(exit, session) => {
@@ -171,9 +184,11 @@ fn tell_unserved<
     }
 }
 
-// Serves connections at this door, with the journal in the file, and answers the exit status.
+// Serves connections at this door, with the journal in the file, which is one of this file system, and answers the exit status.
 fn serve_in_file<
+    'a,
     D: Door + Drop,
+    S: FileSystem + Sync,
     R: Files<File = File>
         + FileSystem
         + Net<Stream = TcpStream, Listener = TcpListener>
@@ -190,7 +205,9 @@ fn serve_in_file<
     E: Write + IsTerminal,
 >(
     rt: &R,
-    service: &Service<'_>,
+    system: &'a S,
+    is_told: &'a AtomicBool,
+    service: &'a Service<'_>,
     script: ReadScript<'_, Global>,
     door: D,
     output: &mut O,
@@ -199,7 +216,6 @@ fn serve_in_file<
     requires { script.root ≡ service.now.process.now }
     ensures { IsUnserved result ⊎ IsServedFor Steps service.now.process.now (O.contents output.new) (O.failures output.old < O.failures output.new) result }
 {
-    disk_crosses();
     let text = script.text();
     let (file, is_made) = match journal_at(rt, service.journal, errors) {
         Ok(opened) => opened,
@@ -210,7 +226,7 @@ fn serve_in_file<
         let end = program::serve(
             rt,
             rt.alloc(),
-            FileDisk::new(file),
+            FileDisk::new(SystemFile::new(system, file)),
             script,
             Names::Steps,
             demand_of(service),
@@ -222,8 +238,23 @@ fn serve_in_file<
     };
     match end {
         Ok(served) => tell_served(service, served, past, errors),
-        Err(unserved) => tell_unserved(rt, service, text, is_made, unserved, past, errors),
+        Err(unserved) => tell_unserved(rt, service, text, is_made, unserved, past, is_told, errors),
     }
+}
+
+// Reports that the journal's device failed, where that isn't told yet, and answers the status.
+fn tell_device<R: Files<File = File>, E: Write + IsTerminal>(
+    rt: &R,
+    name: &str,
+    is_told: &AtomicBool,
+    errors: &mut E,
+) -> Exit
+    ensures { result ≡ FileFailed }
+{
+    if is_told.load(Ordering::SeqCst) {
+        return Exit::FileFailed;
+    }
+    tell_journal(rt, errors, name, SessionError::Device)
 }
 
 // The same, with names kept as their bodies, on a journal in parts, the first of which is the file.
@@ -247,6 +278,7 @@ fn serve_in_parts<
 >(
     rt: &R,
     system: &'a S,
+    is_told: &'a AtomicBool,
     service: &'a Service<'_>,
     script: ReadScript<'_, Global>,
     door: D,
@@ -262,7 +294,7 @@ fn serve_in_parts<
     };
     let Ok(folder) = FileFolder::new(system, rt.alloc(), service.journal, file) else {
         take_away(rt, service.journal, is_made);
-        return tell_journal(rt, errors, service.journal, SessionError::Device);
+        return tell_device(rt, service.journal, is_told, errors);
     };
     let text = script.text();
     let (end, past) = {
@@ -282,7 +314,7 @@ fn serve_in_parts<
     };
     match end {
         Ok(served) => tell_served(service, served, past, errors),
-        Err(unserved) => tell_unserved(rt, service, text, is_made, unserved, past, errors),
+        Err(unserved) => tell_unserved(rt, service, text, is_made, unserved, past, is_told, errors),
     }
 }
 
@@ -314,10 +346,12 @@ fn serve_at<
     requires { script.root ≡ service.now.process.now }
     ensures { IsUnserved result ⊎ IsServedFor (cond service.now.large Bodies Steps) service.now.process.now (O.contents output.new) (O.failures output.old < O.failures output.new) result }
 {
+    let is_told = AtomicBool::new(false);
+    let system = Watched::new(rt, service.journal, &is_told);
     if service.large {
-        serve_in_parts(rt, rt, service, script, door, output, errors)
+        serve_in_parts(rt, &system, &is_told, service, script, door, output, errors)
     } else {
-        serve_in_file(rt, service, script, door, output, errors)
+        serve_in_file(rt, &system, &is_told, service, script, door, output, errors)
     }
 }
 
@@ -377,18 +411,6 @@ fn tell_unopened<R: Files<File = File> + AllocGlobal, E: Write + IsTerminal>(
     };
     let names = names_by(service.large);
     tell_open(rt, errors, &script, names, service.journal, error)
-}
-
-// That a type may go to another thread.
-fn crosses<T: Send>()
-    ensures { IsSend T.row }
-{}
-
-// That a file may, as a disk.
-fn disk_crosses()
-    ensures disk { DiskCrosses }
-{
-    crosses::<FileDisk<File>>();
 }
 
 // The text of the script, or the status of the fault that was reported.

@@ -6,7 +6,8 @@ ghost use Rattle.command_line.specs.Commands.{Shown};
 
 use crate::evidence::{bytes_of, files_of, is_large, tell_after};
 use crate::limits::PART_SIZE;
-use crate::telling::{tell_fault, tell_journal};
+use crate::reasons::{Noted, Reason};
+use crate::telling::{tell_fault, tell_noted};
 use disk::{Disk, Folder};
 use file_disk::FileSystem;
 use memory_disks::MemoryDisk;
@@ -61,12 +62,13 @@ fn tell_display<R: Files<File = File>, E: Write + IsTerminal>(
     rt: &R,
     name: &str,
     error: DisplayError,
+    reason: &Reason,
     errors: &mut E,
 ) -> Exit
     ensures { ((result ≡ Done) ⊎ (result ≡ Rejected)) → ⊥ }
 {
     match error {
-        DisplayError::Session(error) => tell_journal(rt, errors, name, error),
+        DisplayError::Session(error) => tell_noted(rt, errors, name, error, reason),
         DisplayError::Output => tell_fault(errors, "-", "cannot write", Exit::FileFailed),
     }
 }
@@ -81,7 +83,8 @@ fn show_large<R: Files<File = File> + FileSystem + AllocGlobal, O: Sink, E: Writ
 ) -> Exit
     ensures { (result ≡ Done) ⊎ (result ≡ Rejected) → Shown options (O.contents output.old) (O.contents output.new) result }
 {
-    let folder = match files_of(rt, name, errors) {
+    let noted = Noted::new(rt);
+    let folder = match files_of(rt, &noted, name, errors) {
         Ok(folder) => folder,
         Err(exit) => return exit,
     };
@@ -90,7 +93,7 @@ fn show_large<R: Files<File = File> + FileSystem + AllocGlobal, O: Sink, E: Writ
             tell_after(errors, name, after);
             exit
         }
-        Err(error) => tell_display(rt, name, error, errors),
+        Err(error) => tell_display(rt, name, error, &noted.reason, errors),
     }
 }
 
@@ -121,6 +124,6 @@ pub fn show<R: Files<File = File> + FileSystem + AllocGlobal, O: Sink, E: Write 
             tell_after(errors, name, len.saturating_sub(disk.bytes().len()));
             exit
         }
-        Err(error) => tell_display(rt, name, error, errors),
+        Err(error) => tell_display(rt, name, error, &Reason::new(), errors),
     }
 }

@@ -6,6 +6,7 @@ ghost use Rattle.answers.specs.declared.exit.Exit.TheVariants.{Limit};
 ghost use Rattle.command_line.specs.Statuses.{open_exit};
 
 use crate::hints::{show_example, show_fault, show_header, show_limit, show_other, show_part};
+use crate::reasons::{Reason, tell_failed};
 use crate::scripts::Script;
 use clap::Error;
 use clap::error::ErrorKind;
@@ -113,11 +114,18 @@ pub(crate) fn tell_use<O: Write, E: Write + IsTerminal>(
         let _ = write!(errors, "{error}");
         show_example(errors, example);
         Exit::Misuse
-    } else if write!(output, "{error}").is_err() || output.flush().is_err() {
-        tell_fault(errors, "-", "cannot write", Exit::FileFailed)
     } else {
-        Exit::Done
+        match put_help(error, output) {
+            Ok(()) => Exit::Done,
+            Err(fault) => tell_failed(errors, "-", "cannot write", &fault, Exit::FileFailed),
+        }
     }
+}
+
+// Writes the help on the output.
+fn put_help<O: Write>(error: &Error, output: &mut O) -> io::Result<()> {
+    write!(output, "{error}")?;
+    output.flush()
 }
 
 /// Reports why the journal gives no session, and answers the status; on a terminal, where its header is refused, with what the file
@@ -137,6 +145,23 @@ pub(crate) fn tell_journal<R: Files<File = File>, E: Write + IsTerminal>(
         _ => {}
     }
     exit_of_journal(&error)
+}
+
+/// The same, where a call on the journal's files failed with the reason for that.
+pub(crate) fn tell_noted<R: Files<File = File>, E: Write + IsTerminal>(
+    rt: &R,
+    errors: &mut E,
+    name: &str,
+    error: SessionError,
+    reason: &Reason,
+) -> Exit
+    ensures { result ≡ journal_exit error }
+{
+    let exit = tell_journal(rt, errors, name, error);
+    if let SessionError::Device = error {
+        reason.show(errors);
+    }
+    exit
 }
 
 /// Reports why there is no session of the script on the journal, and answers the status.

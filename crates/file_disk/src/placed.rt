@@ -5,8 +5,9 @@ ghost use Rattle.disk.specs.Calls.{overwritten, Torn, CutShort, Follows, AddsNon
 ghost use Rattle.file_disk.specs.Files.{MayLeaveStill};
 ghost use Rattle.file_disk.specs.declared.placed.FileFault.TheVariants.{Interrupted};
 
+use crate::system::FileSystem;
 use std::fs::{File, OpenFile};
-use std::io;
+use std::io::{self, ErrorKind};
 use std::os::unix::fs::FileExt;
 
 /// The most bytes of a file.
@@ -122,5 +123,82 @@ impl PlacedFile for File {
 
     fn sync(&mut self) -> Result<(), FileFault> {
         self.sync_all().map_err(|fault| fault_of(&fault))
+    }
+}
+
+/// A file of a file system, which takes note of why calls on the file fail. A read or a write that was broken off before it did anything is
+/// none that failed.
+#[derive(Drop)]
+pub struct SystemFile<'a, S> {
+    system: &'a S,
+    file: File,
+}
+
+impl<'a, S: FileSystem> SystemFile<'a, S> {
+    /// This file of the system.
+    pub fn new(system: &'a S, file: File) -> SystemFile<'a, S> {
+        SystemFile { system, file }
+    }
+
+    // Has the system take note of the fault, and answers what it is to a file.
+    fn noted(&self, fault: &io::Error) -> FileFault {
+        let kind = fault_of(fault);
+        if kind == FileFault::Failed {
+            self.system.note(fault);
+        }
+        kind
+    }
+
+    // The same of a call that isn't made again.
+    fn failed(&self, fault: &io::Error) -> FileFault {
+        self.system.note(fault);
+        fault_of(fault)
+    }
+}
+
+/// It claims as much as its file: nothing.
+impl<S: FileSystem> PlacedFile for SystemFile<'_, S> {
+    ghost state = { λ _. of_bytes false [] 0 };
+
+    fn size(&mut self) -> Result<usize, FileFault> {
+        match self.file.metadata() {
+            Ok(metadata) => usize::try_from(metadata.len()).map_err(|_| FileFault::Failed),
+            Err(fault) => Err(self.failed(&fault)),
+        }
+    }
+
+    fn read_some(&mut self, at: usize, buf: &mut [u8]) -> Result<usize, FileFault> {
+        if at >= LONGEST {
+            return Ok(0);
+        }
+        match self.file.read_at(buf, at as u64) {
+            Ok(count) => Ok(count),
+            Err(fault) => Err(self.noted(&fault)),
+        }
+    }
+
+    fn write_some(&mut self, at: usize, bytes: &[u8]) -> Result<usize, FileFault> {
+        match self.file.write_at(bytes, at as u64) {
+            Ok(0) => {
+                self.system.note(&io::Error::from(ErrorKind::WriteZero));
+                Ok(0)
+            }
+            Ok(count) => Ok(count),
+            Err(fault) => Err(self.noted(&fault)),
+        }
+    }
+
+    fn resize(&mut self, len: usize) -> Result<(), FileFault> {
+        match self.file.set_len(len as u64) {
+            Ok(()) => Ok(()),
+            Err(fault) => Err(self.failed(&fault)),
+        }
+    }
+
+    fn sync(&mut self) -> Result<(), FileFault> {
+        match self.file.sync_all() {
+            Ok(()) => Ok(()),
+            Err(fault) => Err(self.failed(&fault)),
+        }
     }
 }

@@ -1,5 +1,6 @@
 //! The command line.
 use crate::addresses::address_of;
+use crate::sizes::{LOG_SIZE, mode_of, size_of};
 use crate::wish::{Address, Check, Service, Until, Wish};
 use clap::error::ErrorKind;
 use clap::{Arg, ArgAction, ArgMatches, Command, Error};
@@ -13,6 +14,13 @@ const VERSION: &str = "0.7.0-dev";
 
 // How a fault of the address is reported.
 const BAD_ADDRESS: &str = "ADDR is 127.x.y.z:port, in decimals without leading zeros, or unix:PATH";
+
+// How other faults of the words for a server are reported.
+const BAD_SIZE: &str = "SIZE is a number of bytes, 4K at least, as 65536, 64K, 64M or 1G";
+
+const BAD_MODE: &str = "MODE is octal, as 0660, and at most 0777";
+
+const NO_SOCKET: &str = "--mode and --group are of unix:PATH";
 
 // How a fault of the process is reported.
 const BAD_PROCESS: &str = "PROCESS is one line";
@@ -192,6 +200,51 @@ fn log_option<'a>(alloc: Global) -> Arg<'a> {
         .help("Write to this file what happens, one JSON object a line; - for standard error")
 }
 
+// The option for the size of the log.
+fn log_size_option<'a>(alloc: Global) -> Result<Arg<'a>, AllocError> {
+    Arg::new(alloc, "SIZE")
+        .long("log-size")
+        .action(ArgAction::Set)
+        .help("How large the log's file may be, 64M without this; one older file is kept")
+        .requires_arg("FILE")
+}
+
+// The option for the rights of a socket's file.
+fn mode_option<'a>(alloc: Global) -> Arg<'a> {
+    Arg::new(alloc, "MODE")
+        .long("mode")
+        .action(ArgAction::Set)
+        .help("The rights of the socket's file, as 0660; without this 0600")
+}
+
+// The option for the group of a socket's file.
+fn group_option<'a>(alloc: Global) -> Arg<'a> {
+    Arg::new(alloc, "GROUP")
+        .long("group")
+        .action(ArgAction::Set)
+        .help("The group of the socket's file, by name or number")
+}
+
+// The option for the lines of a connection in a second.
+fn pace_option<'a>(alloc: Global) -> Result<Arg<'a>, AllocError> {
+    Arg::new(alloc, "RATE")
+        .long("reports-per-second")
+        .action(ArgAction::Set)
+        .value_parser(clap::value_parser!(u32).range(1..=1_000_000))
+        .help("How many lines of each connection are read in a second; more of them wait")
+        .conflicts_with("N")
+}
+
+// The option for connections that are silent.
+fn silence_option<'a>(alloc: Global) -> Result<Arg<'a>, AllocError> {
+    Arg::new(alloc, "SECONDS")
+        .long("silent")
+        .action(ArgAction::Set)
+        .value_parser(clap::value_parser!(u32).range(1..=86_400))
+        .help("Close a connection that sends no line for so many seconds")
+        .conflicts_with("N")
+}
+
 fn serve_command<'a>(alloc: Global) -> Result<Command<'a>, AllocError> {
     on_process(
         alloc,
@@ -205,6 +258,11 @@ fn serve_command<'a>(alloc: Global) -> Result<Command<'a>, AllocError> {
     .arg(connections_option(alloc))?
     .arg(until_idle_option(alloc)?)?
     .arg(log_option(alloc))?
+    .arg(log_size_option(alloc)?)?
+    .arg(mode_option(alloc))?
+    .arg(group_option(alloc))?
+    .arg(pace_option(alloc)?)?
+    .arg(silence_option(alloc)?)?
     .arg(large_option(alloc))
 }
 
@@ -244,6 +302,41 @@ fn until_of<'a>(matches: &ArgMatches<'a>) -> Option<Until> {
     }
 }
 
+// How many bytes the log's file may have; none where the word for that is none.
+fn log_size_of(matches: &ArgMatches<'_>) -> Option<u64> {
+    match matches.get_str("SIZE") {
+        Some(word) => size_of(word),
+        None => Some(LOG_SIZE),
+    }
+}
+
+// Whether the word for the mode, if there is one, is that of a mode.
+fn has_mode(matches: &ArgMatches<'_>) -> bool {
+    match matches.get_str("MODE") {
+        Some(word) => mode_of(word).is_some(),
+        None => true,
+    }
+}
+
+// Whether the words ask for the rights of a socket's file.
+fn asks_for_rights(matches: &ArgMatches<'_>) -> bool {
+    matches.get_str("MODE").is_some() || matches.get_str("GROUP").is_some()
+}
+
+// What is wrong with the words for a server at this address, if something is.
+fn fault_of(matches: &ArgMatches<'_>, address: Address<'_>) -> Option<&'static str> {
+    if log_size_of(matches).is_none() {
+        return Some(BAD_SIZE);
+    }
+    if !has_mode(matches) {
+        return Some(BAD_MODE);
+    }
+    match address {
+        Address::Tcp(_) if asks_for_rights(matches) => Some(NO_SOCKET),
+        _ => None,
+    }
+}
+
 // The wish to serve at this address.
 fn wish_at<'a>(matches: &ArgMatches<'a>, address: Address<'a>) -> Option<Wish<'a>> {
     Some(Wish::Serve(Service {
@@ -255,24 +348,32 @@ fn wish_at<'a>(matches: &ArgMatches<'a>, address: Address<'a>) -> Option<Wish<'a
         large: matches.get_flag("large"),
         until: until_of(matches)?,
         log: matches.get_str("FILE"),
+        log_size: log_size_of(matches)?,
+        mode: mode_of(matches.get_str("MODE").unwrap_or("")),
+        group: matches.get_str("GROUP"),
+        pace: matches.get_one::<u32>("RATE"),
+        silence: matches.get_one::<u32>("SECONDS"),
     }))
 }
 
-// The fault of use of an address.
-fn bad_address(alloc: Global) -> Result<Error, AllocError> {
+// The fault of use of the words for a server.
+fn bad_server(alloc: Global, fault: &'static str) -> Result<Error, AllocError> {
     serve_command(alloc)?
         .bin_name("cspwatch serve")?
-        .error(ErrorKind::ValueValidation, BAD_ADDRESS)
+        .error(ErrorKind::ValueValidation, fault)
 }
 
-// The wish to serve, or the fault of use of its address.
+// The wish to serve, or the fault of use of its words.
 fn serve_wish<'a>(alloc: Global, matches: &ArgMatches<'a>) -> Result<Option<Wish<'a>>, Error> {
     let Some(listen) = matches.get_str("ADDR") else {
         return Ok(None);
     };
-    match address_of(alloc, listen)? {
-        Some(address) => Ok(wish_at(matches, address)),
-        None => Err(bad_address(alloc)?),
+    let Some(address) = address_of(alloc, listen)? else {
+        return Err(bad_server(alloc, BAD_ADDRESS)?);
+    };
+    match fault_of(matches, address) {
+        Some(fault) => Err(bad_server(alloc, fault)?),
+        None => Ok(wish_at(matches, address)),
     }
 }
 

@@ -6,6 +6,7 @@
 
 mod addresses;
 mod commands;
+mod sizes;
 mod wish;
 mod words;
 

@@ -86,4 +86,14 @@ pub struct Service<'a> {
     pub until: Until,
     /// The file of the log, if there is to be one; `-` for standard error.
     pub log: Option<&'a str>,
+    /// How many bytes the file of the log may have.
+    pub log_size: u64,
+    /// The mode of a socket's file, if one is asked for.
+    pub mode: Option<u32>,
+    /// The group of a socket's file, if one is asked for: its name or its number.
+    pub group: Option<&'a str>,
+    /// How many lines of a connection are read in a second at most, if that is bounded.
+    pub pace: Option<u32>,
+    /// For how many seconds a connection may be silent, if that is bounded.
+    pub silence: Option<u32>,
 }

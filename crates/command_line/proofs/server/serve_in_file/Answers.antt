@@ -1,7 +1,7 @@
+use mir.Syntax.{named}
 use denote.Param.Send.{param_send}
 use Rattle.std.proofs.Common.{◌<◌, inl, inr}
-use Rattle.std.specs.contracts.fs.File as File
-use Rattle.file_disk.specs.contracts.FileDisk as FileDisk
+use Rattle.command_line.proofs.Folders.{file_row, file_send}
 use Rattle.std.specs.Prelude.{is_some}
 use Rattle.term.specs.declared.names.Names.TheVariants.{Steps}
 use Rattle.command_line.proofs.Told.{of_err, of_ok, served_for, shut_for}
@@ -9,7 +9,9 @@ use Rattle.command_line.proofs.server.serve_in_file.Goals as goal
 
 pub serve-end-requires-send-D : goal.serve-end-requires-send-D
 serve-end-requires-send-D g c κs within =
-    let sent : _ = param_send 0 (FileDisk.the_row File.the_row) c.disk_crosses.ensures.disk in
+    let κ : _ = record { mir = named 4; lft = κs.1.1.1.1.0 } in
+    let crosses : _ = file_send κ 1 g.row.S g.S.FileSystem (record { shared = c.type_bounds.sync-S.shared }) in
+    let sent : _ = param_send 0 (file_row κ 1 g.row.S g.S.FileSystem) crosses in
     record { owned = sent.owned; leaving = sent.leaving }
 
 pub returns-in-Ok-end : goal.returns-in-Ok-end
