@@ -19,7 +19,11 @@ _cspwatch() {
             COMPREPLY=($(compgen -W "127.0.0.1: unix:" -- "$current"))
             return
             ;;
-        --connections) return ;;
+        --group)
+            COMPREPLY=($(compgen -g -- "$current"))
+            return
+            ;;
+        --connections | --log-size | --mode | --reports-per-second | --silent) return ;;
         --log)
             compopt -o filenames 2>/dev/null
             mapfile -t COMPREPLY < <(compgen -f -- "$current")
@@ -33,7 +37,7 @@ _cspwatch() {
     if [[ $current == -* ]]; then
         case $command in
             check) COMPREPLY=($(compgen -W "--large --explain --quiet --first --help -h" -- "$current")) ;;
-            serve) COMPREPLY=($(compgen -W "--listen --connections --until-idle --log --large --help -h" -- "$current")) ;;
+            serve) COMPREPLY=($(compgen -W "--listen --connections --until-idle --log --log-size --mode --group --reports-per-second --silent --large --help -h" -- "$current")) ;;
             replay) COMPREPLY=($(compgen -W "--read-only --help -h" -- "$current")) ;;
             show) COMPREPLY=($(compgen -W "--rejected --coverage --format --follow --help -h" -- "$current")) ;;
             *) COMPREPLY=($(compgen -W "--help -h" -- "$current")) ;;
@@ -66,7 +70,7 @@ _cspwatch_words() {
     for ((index = 1; index < COMP_CWORD; index++)); do
         word=${COMP_WORDS[index]}
         case $word in
-            --listen | --connections | --log | --format)
+            --listen | --connections | --log | --log-size | --mode | --group | --reports-per-second | --silent | --format)
                 index=$((index + 1))
                 [[ ${COMP_WORDS[index + 1]} != : ]] || index=$((index + 2))
                 ;;

@@ -8,7 +8,7 @@ function __cspwatch_words
     for word in $words[2..-1]
         if test $skip = 1
             set skip 0
-        else if contains -- $word --listen --connections --format --log
+        else if contains -- $word --listen --connections --log --log-size --mode --group --reports-per-second --silent --format
             set skip 1
         else if not string match -q -- '-*' $word
             echo $word
@@ -45,6 +45,11 @@ complete -c cspwatch -n "__fish_seen_subcommand_from serve" -l listen -x -a '127
 complete -c cspwatch -n "__fish_seen_subcommand_from serve" -l connections -x -d 'how many connections are taken'
 complete -c cspwatch -n "__fish_seen_subcommand_from serve" -l until-idle -d 'end once the last connection has ended'
 complete -c cspwatch -n "__fish_seen_subcommand_from serve" -l log -r -F -d 'what happens, one JSON object a line'
+complete -c cspwatch -n "__fish_seen_subcommand_from serve" -l log-size -x -a '64M' -d 'how large the log may be'
+complete -c cspwatch -n "__fish_seen_subcommand_from serve" -l mode -x -a '0600 0660' -d 'the rights of the socket'
+complete -c cspwatch -n "__fish_seen_subcommand_from serve" -l group -x -a '(__fish_complete_groups)' -d 'the group of the socket'
+complete -c cspwatch -n "__fish_seen_subcommand_from serve" -l reports-per-second -x -d 'how many lines of a connection are read in a second'
+complete -c cspwatch -n "__fish_seen_subcommand_from serve" -l silent -x -d 'for how many seconds a connection may send no line'
 complete -c cspwatch -n "__fish_seen_subcommand_from replay" -l read-only -d 'only read the file'
 complete -c cspwatch -n "__fish_seen_subcommand_from show" -l rejected -d 'print the rejected reports alone'
 complete -c cspwatch -n "__fish_seen_subcommand_from show" -l coverage -d 'print how often each event came and could have come'

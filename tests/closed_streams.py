@@ -7,12 +7,15 @@ Each of the three streams is closed in turn while `serve` judges reports, and wh
 output `serve` can't say where it listens, and ends. The last line is `N passed, M failed`.
 """
 import argparse
+import errno
 import os
 import socket
 import subprocess
 import sys
 import tempfile
 import time
+
+from reasons import said
 
 HERE = os.path.dirname(os.path.abspath(__file__))
 PROGRAM = os.path.join(os.path.dirname(HERE), "crates", "cspwatch", "out", "cspwatch")
@@ -53,7 +56,7 @@ def unheard(program, folder):
     """What is wrong with a service that can't say where it listens: it ends before that, and leaves no journal."""
     words = ["serve", "p.csp", "P", "j", "--listen", "127.0.0.1:0", "--until-idle"]
     done = subprocess.run(without("standard output", program, words), cwd=folder, stderr=subprocess.PIPE, timeout=SECONDS, check=False, text=True)
-    if (done.returncode, done.stderr) != (5, "-: cannot write\n"):
+    if (done.returncode, done.stderr) != (5, said(program, "-: cannot write", errno.EBADF)):
         yield f"it ended with {done.returncode} {done.stderr!r}"
     if os.path.exists(os.path.join(folder, "j")):
         yield "there is a journal"

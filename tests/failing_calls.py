@@ -41,6 +41,7 @@ import time
 
 sys.dont_write_bytecode = True
 
+from reasons import said_of_failed  # noqa: E402
 from sweeping import (  # noqa: E402
     HERE, SCRIPT, Book, History, Link, Run, Server, add_options, begin, journal_bytes, journal_of, read_file, report_of, run, shown,
     status_of_check, summary_of, write_file)
@@ -224,7 +225,7 @@ class Device:
         problems = [] if told.replies == wanted else ["replies %s, wanted %s" % (told.replies, wanted)]
         if told.second != [b"ERR 31 closed"]:
             problems.append("the second connection read %s" % told.second)
-        if told.end != Run(history.summary("closed") + b"\n", b"", 4):
+        if told.end != Run(history.summary("closed") + b"\n", said_of_failed(self.options.program), 4):
             problems.append("it ended with %s, wanted %s" % (told.end, history.summary("closed")))
         return problems, self.entries_at(place, self.stands(call, how))
 

@@ -23,6 +23,7 @@ import tempfile
 sys.dont_write_bytecode = True
 
 from failing_calls import ALWAYS, ERRORS, built, failing  # noqa: E402
+from reasons import said_of_failed  # noqa: E402
 from sweeping import (  # noqa: E402
     SCRIPT, Book, History, Link, Run, Server, add_options, begin, journal_bytes, journal_of, read_file, run, shown,
     summary_of, write_file)
@@ -152,7 +153,7 @@ class Groups:
         closed, _ = history_of(0)
         wanted = [b"ERR 30 journal"] + [b"ERR 31 closed"] * (self.size - 1) + [b"BYE"]
         problems = [] if told.replies == wanted else ["replies %s, wanted %s" % (told.replies, wanted)]
-        end = Run(closed.summary("closed") + b"\n", b"", 4)
+        end = Run(closed.summary("closed") + b"\n", said_of_failed(self.options.program), 4)
         problems += [] if told.end == end else ["it ended with %s, wanted %s" % (told.end, end)]
         return problems, self.sizes_after(call, how)
 

@@ -17,6 +17,8 @@ import sys
 import tempfile
 import time
 
+from reasons import without_reasons
+
 HERE = os.path.dirname(os.path.abspath(__file__))
 PROGRAM = os.path.join(os.path.dirname(HERE), "crates", "cspwatch", "out", "cspwatch")
 SCRIPT = "channel a, b\nP = a -> b -> P\n"
@@ -136,7 +138,7 @@ def bad_use(program, folder):
     if run.returncode != 2 or run.stdout:
         yield f"{run.returncode} with --coverage"
     run = subprocess.run([program, "show", "--follow", "none"], cwd=folder, capture_output=True, timeout=SOON, check=False)
-    if (run.returncode, run.stderr) != (5, b"none: cannot read\n"):
+    if (run.returncode, without_reasons(run.stderr)) != (5, b"none: cannot read\n"):
         yield f"{run.returncode} {run.stderr!r} without a file"
 
 

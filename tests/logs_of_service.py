@@ -4,11 +4,13 @@
     tests/logs_of_service.py [--program FILE] [--speed] [--lines 20000] [--ratio 1.2]
 
 A service has a client that is rejected once, sends a line that isn't judged, and quits, and one that is killed; its log has these in
-their order. A log that is full, or a pipe that nobody reads, changes no reply, and is reported once; standard error that nobody reads
-holds up no end. With --speed 64 clients send lines ahead, with a log and without one. The last line is `N passed, M failed`.
+their order. Nonsense is cut and counted, and the file has a bound. A log that is full, or a pipe that nobody reads, changes no reply, and
+is reported once; standard error that nobody reads holds up no end. With --speed 64 clients send lines ahead, with a log and without one.
+The last line is `N passed, M failed`.
 """
 import argparse
 import contextlib
+import errno
 import json
 import os
 import re
@@ -19,6 +21,8 @@ import sys
 import tempfile
 import threading
 import time
+
+from reasons import has_reasons, said
 
 HERE = os.path.dirname(os.path.abspath(__file__))
 ROOT = os.path.dirname(HERE)
@@ -32,6 +36,9 @@ REJECTIONS = 4000
 """So many lines fill a pipe that nobody reads: one has some 110 bytes, and the pipe takes 65,536."""
 
 AT_ONCE = 64
+
+APART = 1.1
+"""After so many seconds the log has another line of a connection that wasn't judged."""
 
 
 class Run:
@@ -103,7 +110,9 @@ def says_what_happens(options, folder):
     run = Run(options.program, folder, "log")
     with run.connect() as first:
         peer = "127.0.0.1:%d" % first.getsockname()[1]
-        replies = ask(first, ["I 3", "E a", "E a", "E c", "R \"é"])
+        replies = ask(first, ["I 3", "E a", "E a", "E c"])
+        time.sleep(APART)
+        replies += ask(first, ["R \"é"])
         await_lines(folder, 5)
         # This one is killed: its end is a reset.
         with run.connect() as second:
@@ -149,13 +158,94 @@ def says_each_fault(options, folder):
     run = Run(options.program, folder, "log")
     with run.connect() as first, run.connect() as second:
         ask(first, ["I 3"])
-        if (got := ask(second, ["I 3", "a", "E " + "a" * 5000])) != ["ERR 27 taken", "ERR 10 command", "ERR 12 line"]:
+        got = []
+        for line in ("I 3", "a", "E " + "a" * 5000):
+            got += ask(second, [line])
+            time.sleep(APART)
+        if got != ["ERR 27 taken", "ERR 10 command", "ERR 12 line"]:
             yield f"the replies are {got}"
         second.recv(1)
     run.end()
     got = [(entry["code"], entry["line"]) for entry in entries_of(folder) if entry["what"] == "not judged"]
-    if got[:2] != [(27, "I 3"), (10, "a")] or [code for code, _ in got[2:]] != [12] or got[2][1] != "E " + "a" * 4094:
+    shown = 200 if has_reasons(options.program) else 4096
+    if got != [(27, "I 3"), (10, "a"), (12, ("E " + "a" * 5000)[:shown])]:
         yield f"the lines not judged are {got}"
+
+
+def cuts_and_counts_nonsense(options, folder):
+    """Of each line 200 bytes, but no part of a character; of the lines of a connection one a second."""
+    run = Run(options.program, folder, "log")
+    with run.connect() as first, run.connect() as second:
+        ask(first, ["E " + "x" * 3000])
+        for _ in range(50):
+            ask(first, ["nonsense"] * 100)
+        ask(second, ["E " + "é" * 300])
+        time.sleep(APART)
+        ask(first, ["E \x7f\x80\x9b31m\u2028"])
+        ask(first, ["q", "q"])
+    run.end()
+    entries = entries_of(folder)
+    got = [(entry["connection"], entry["line"], entry.get("length"), entry.get("unwritten", 0)) for entry in entries if entry["what"] == "not judged"]
+    of_first = [one for one in got if one[0] == 1]
+    written = [one for one in of_first if one[1] == "nonsense"]
+    if of_first[0] != (1, "E " + "x" * 198, 3002, 0) or of_first[-1][1:3] != ("E \x7f\x80\x9b31m\u2028", None) or len(of_first) > 30:
+        yield f"the first connection has {of_first}"
+    ended = [entry.get("unwritten", 0) for entry in entries if entry["what"] == "ended" and entry["connection"] == 1]
+    if sum(one[3] for one in of_first) + len(of_first) + sum(ended) != 5004:
+        yield f"{of_first} and {ended} of {len(written)} don't make 5004"
+    if [one for one in got if one[0] == 2] != [(2, "E " + "é" * 99, 602, 0)]:
+        yield f"the second connection has {[one for one in got if one[0] == 2]}"
+    with open(os.path.join(folder, "log"), "rb") as file:
+        text = file.read()
+    if b"\\u007f\\u0080\\u009b31m" not in text or any(byte < 0x20 and byte != 0x0a or byte == 0x7f for byte in text):
+        yield "the log has characters that steer a terminal"
+
+
+def stays_within_its_size(options, folder):
+    run = Run(options.program, folder, "log", ["--until-idle", "--log-size", "8K"])
+    with run.connect() as link:
+        for _ in range(10):
+            ask(link, ["E b"] * 50)
+    run.end()
+    names = sorted(name for name in os.listdir(folder) if name.startswith("log"))
+    sizes = [os.path.getsize(os.path.join(folder, name)) for name in names]
+    if names != ["log", "log.1"] or max(sizes) > 8192 or sizes[1] < 7000:
+        yield f"the files are {names} with {sizes}"
+    places = [entry["place"] for name in ("log.1", "log") for entry in entries_of(folder, name) if entry["what"] == "rejected"]
+    if places != list(range(501 - len(places), 501)):
+        yield f"the places are {places}"
+
+
+def leaves_a_moved_log_alone(options, folder):
+    """Where somebody else moved the file, that one stays as it is."""
+    run = Run(options.program, folder, "log", ["--until-idle", "--log-size", "8K"])
+    with run.connect() as link:
+        ask(link, ["E b"])
+        await_lines(folder, 3)
+        os.rename(os.path.join(folder, "log"), os.path.join(folder, "moved"))
+        with open(os.path.join(folder, "log"), "w", encoding="utf-8") as file:
+            file.write("{\"time\":\"2026-01-01T00:00:00.000Z\",\"what\":\"another\"}\n")
+        ask(link, ["E b"] * 80)
+    run.end()
+    if sorted(name for name in os.listdir(folder) if name.startswith("log")) != ["log"] or entries_of(folder)[0]["what"] != "another":
+        yield f"the files are {sorted(os.listdir(folder))}"
+
+
+def tells_a_journal_that_fails(options, folder):
+    """At once on standard error, with the reason, and only once."""
+    with open(os.path.join(folder, "bounded"), "w", encoding="utf-8") as file:
+        file.write('#!/bin/sh\ntrap "" XFSZ\nulimit -f 1\nexec "%s" "$@"\n' % options.program)
+    os.chmod(os.path.join(folder, "bounded"), 0o700)
+    run = Run(os.path.join(folder, "bounded"), folder, "", script=ACCEPTING)
+    with run.connect() as link:
+        replies = ask(link, ["E a"] * 200)
+        with open(run.errors, encoding="utf-8") as file:
+            errors = file.read()
+        if "ERR 30 journal" not in replies or errors != said(options.program, "j: 30 journal", errno.EFBIG):
+            yield f"the replies end with {replies[-3:]}, and standard error has {errors!r}"
+    status, errors = run.end()
+    if (status, errors) != (4, said(options.program, "j: 30 journal", errno.EFBIG)):
+        yield f"it ended with {status} {errors!r}"
 
 
 def says_who_got_no_place(options, folder):
@@ -190,12 +280,12 @@ def goes_on_without(options, folder, log, wanted):
 
 
 def passes_over_a_full_log(options, folder):
-    return goes_on_without(options, folder, "/dev/full", "/dev/full: cannot write, the log ends\n")
+    return goes_on_without(options, folder, "/dev/full", said(options.program, "/dev/full: cannot write, the log ends", errno.ENOSPC))
 
 
 def passes_over_a_pipe(options, folder):
     os.mkfifo(os.path.join(folder, "pipe"))
-    return goes_on_without(options, folder, "pipe", "pipe: cannot write, the log ends\n")
+    return goes_on_without(options, folder, "pipe", said(options.program, "pipe: cannot write, the log ends", errno.EAGAIN))
 
 
 def writes_on_standard_error(options, folder):
@@ -248,19 +338,26 @@ def ends_beside_an_unread_pipe(options, folder):
 
 
 REFUSED = {
-    "there": "there: cannot write\n",
-    "gone/log": "gone/log: cannot write\n",
-    "j": "j: in use by this run\n",
-    "./j": "./j: in use by this run\n",
-    "p.csp": "p.csp: in use by this run\n"}
-"""By the word for the log, what is said of it."""
+    "there": ("there: cannot write", errno.EISDIR),
+    "gone/log": ("gone/log: cannot write", errno.ENOENT),
+    "j": ("j: in use by this run", None),
+    "./j": ("./j: in use by this run", None),
+    "p.csp": ("p.csp: in use by this run", None)}
+"""By the word for the log, what is said of it, and the reason."""
+
+REFUSED_LATER = {
+    "j.2": ("j.2: named as a part of the journal", None),
+    "./j.1000": ("./j.1000: named as a part of the journal", None)}
+"""The same of a program that has the option `--log-size`."""
 
 
 def refuses_some_files(options, folder):
     os.mkdir(os.path.join(folder, "there"))
     with open(os.path.join(folder, "p.csp"), "w", encoding="utf-8") as file:
         file.write(SCRIPT)
-    for log, wanted in REFUSED.items():
+    refused = {**REFUSED, **REFUSED_LATER} if has_reasons(options.program) else REFUSED
+    for log, (fault, reason) in refused.items():
+        wanted = fault + "\n" if reason is None else said(options.program, fault, reason)
         done = subprocess.run([options.program, "serve", "p.csp", "P", "j", "--listen", "127.0.0.1:0", "--log", log],
                               cwd=folder, stdout=subprocess.PIPE, stderr=subprocess.PIPE, timeout=SECONDS, check=False, text=True)
         if (done.returncode, done.stdout, done.stderr) != (5, "", wanted):
@@ -311,6 +408,9 @@ TESTS = [
     says_what_happens, counts_lines_of_a_run, says_each_fault, says_who_got_no_place, passes_over_a_full_log, passes_over_a_pipe, writes_on_standard_error,
     leaves_the_journal_alone, ends_beside_an_unread_pipe, refuses_some_files]
 
+LATER = [cuts_and_counts_nonsense, stays_within_its_size, leaves_a_moved_log_alone, tells_a_journal_that_fails]
+"""What a program of an earlier release isn't asked."""
+
 
 def main():
     parser = argparse.ArgumentParser()
@@ -321,7 +421,7 @@ def main():
     options = parser.parse_args()
     options.program = os.path.abspath(options.program)
     passed = failed = 0
-    for test in TESTS + [costs_little] * options.speed:
+    for test in TESTS + LATER * has_reasons(options.program) + [costs_little] * options.speed:
         with tempfile.TemporaryDirectory() as folder:
             try:
                 problems = list(test(options, folder))

@@ -16,6 +16,7 @@ from failing_calls import ALWAYS, ERRORS, built, failing  # noqa: E402
 from part_files import (  # noqa: E402
     EARLY, LARGE, LONG_PAUSE, PAUSE, SIZE, SYNC, WAYS, Wanted, ended_problems, files_in, files_with, held_by, held_problems, history_of,
     history_with, name_at, reading_problems, replay_problems, reports, state_of, write_files)
+from reasons import said_of_failed  # noqa: E402
 from sweeping import HERE, NAMES, SCRIPT, Link, Run, Server, read_file, run, shown, summary_of, write_file  # noqa: E402
 
 from reference import parts as reference  # noqa: E402
@@ -207,7 +208,7 @@ class Beginning:
         wanted = self.wanted[:done] + [b"ERR 30 journal"] + [b"ERR 31 closed"] * (len(self.lines) - done - 1)
         history = history_with(self.before + self.history.entries[len(self.before):len(self.before) + done])
         problems = [] if told.replies == wanted else ["the replies are %s, wanted %s" % (told.replies, wanted)]
-        end = Run(history.summary("closed") + b"\n", b"", 4)
+        end = Run(history.summary("closed") + b"\n", said_of_failed(self.options.program), 4)
         return problems + ([] if told.end == end else ["it ended with %s, wanted %s" % (told.end, end)])
 
     def is_passed_over(self, call, fault):

@@ -6,8 +6,8 @@
 First connections are made, one after the other and 64 at a time, that report ten times each and end: none is refused, and the memory
 stays as it was after the first 64. Then components that are seats by number report at random, lose their connections and come back
 (`clients/python`), while the service is killed again and again: each report is judged once, the journal has them all in the order of
-their seats, and what `show` prints of it is what the reference does. At last a journal in parts stands in a folder that is named by a
-link, as a service for systemd has it. The last line is `N passed, M failed`.
+their seats, and what `show` prints of it is what the reference does. A journal in parts stands in a folder that is named by a link, as a
+service for systemd has it. At last connections are read at a pace, and closed where they are silent. The last line is `N passed, M failed`.
 """
 import argparse
 import contextlib
@@ -27,6 +27,7 @@ PROGRAM = os.path.join(ROOT, "crates", "cspwatch", "out", "cspwatch")
 sys.path.insert(0, os.path.join(ROOT, "clients", "python"))
 
 from cspwatch_client import ReconnectingClient, VerdictLost  # noqa: E402
+from reasons import has_reasons  # noqa: E402
 from reference import program as reference  # noqa: E402
 
 SCRIPT = "channel a, b\nP = a -> b -> P\n"
@@ -244,6 +245,73 @@ def linked_folder(options, folder):
             yield f"{word} answers {done.returncode}, {done.stdout!r}, {done.stderr!r}"
 
 
+def read_at_a_pace(options, folder):
+    """Lines that come together are all answered, so many in a second; another connection isn't held up."""
+    run = Run(options.program, folder, words=["--reports-per-second", "20"])
+    try:
+        with socket.create_connection(("127.0.0.1", run.port), timeout=SECONDS) as first, first.makefile("rb") as replies:
+            begun = time.monotonic()
+            first.sendall(b"E a\nS\n" * 30)
+            for number in range(1, 61):
+                replies.readline()
+                if number == 20:
+                    with socket.create_connection(("127.0.0.1", run.port), timeout=SECONDS) as second, second.makefile("rb") as others:
+                        second.sendall(b"S\n")
+                        if not others.readline().startswith(b"S "):
+                            yield "the second connection isn't answered"
+                        if time.monotonic() - begun > SECONDS / 2:
+                            yield "the second connection was held up"
+            took = time.monotonic() - begun
+            if not 1.9 < took < SECONDS / 2:
+                yield f"60 lines took {took:.1f} s, 20 in a second"
+            first.sendall(b"Q\n")
+            if replies.readline() != b"BYE\n":
+                yield "the end isn't answered"
+    finally:
+        run.kill()
+
+
+def closed_where_silent(options, folder):
+    """One that sends no line is closed, also one that sends bytes without an end; one that reports in time isn't."""
+    run = Run(options.program, folder, words=["--silent", "2", "--log", "log"])
+    try:
+        links = [socket.create_connection(("127.0.0.1", run.port), timeout=SECONDS) for _ in range(3)]
+        silent, dribbling, busy = links
+        begun = time.monotonic()
+        open_links = {silent, dribbling}
+        while open_links and time.monotonic() - begun < SECONDS:
+            busy.sendall(b"S\n")
+            if not busy.recv(100).startswith(b"S "):
+                yield "one that asks in time was closed"
+                break
+            with contextlib.suppress(OSError):
+                dribbling.sendall(b"E")
+            for link in list(open_links):
+                link.settimeout(0.1)
+                with contextlib.suppress(socket.timeout):
+                    with contextlib.suppress(ConnectionError):
+                        link.recv(100)
+                    open_links.remove(link)
+        took = time.monotonic() - begun
+        if open_links or took < 1.9:
+            yield f"{len(open_links)} are open after {took:.1f} s"
+        busy.sendall(b"Q\n")
+        busy.recv(100)
+        for link in links:
+            link.close()
+        time.sleep(1)
+    finally:
+        run.kill()
+    with open(os.path.join(folder, "log"), encoding="utf-8") as file:
+        ends = sorted(line.split('"why":')[1].strip("}\n") for line in file if '"ended"' in line)
+    if ends != ['"quit"', '"silent"', '"silent"']:
+        yield f"they ended by {ends}"
+
+
+LATER = (read_at_a_pace, closed_where_silent)
+"""What a program of an earlier release isn't asked."""
+
+
 def main():
     parser = argparse.ArgumentParser(description=__doc__.split("\n", 1)[0])
     parser.add_argument("--program", default=PROGRAM)
@@ -254,7 +322,7 @@ def main():
     options = parser.parse_args()
     options.program = os.path.abspath(options.program)
     passed = failed = 0
-    for test in (come_and_go, come_back, linked_folder):
+    for test in (come_and_go, come_back, linked_folder) + LATER * has_reasons(options.program):
         with tempfile.TemporaryDirectory(prefix="service-") as folder:
             write_script(folder)
             problems = list(test(options, folder))

@@ -6,6 +6,7 @@ ghost use Rattle.command_line.specs.Endings.{IsUnserved};
 
 use crate::groups::group_number;
 use crate::journal_files::keep_name;
+use crate::limited::{LimitedAccept, Limits};
 use crate::logged::Known;
 use crate::reasons::tell_failed;
 use crate::sockets::{Rights, leave, listener_at};
@@ -94,6 +95,17 @@ fn keep_journal<R: Files<File = File>, E: Write>(
     }
 }
 
+// What is asked of the connections.
+fn limits_of(service: &Service<'_>) -> Limits {
+    Limits {
+        pace: service.pace,
+        silence: match service.silence {
+            Some(seconds) => Some(Duration::from_secs(u64::from(seconds))),
+            None => None,
+        },
+    }
+}
+
 // Listens at the address. The answer has the port that clients can connect to.
 fn tcp_accept<R: Net<Stream = TcpStream, Listener = TcpListener>>(
     rt: &R,
@@ -167,16 +179,23 @@ fn tell_listening<T: Display, O: Sink, E: Write>(
     }
 }
 
-impl<R: Files<File = File> + Net<Stream = TcpStream, Listener = TcpListener> + AllocGlobal> Door
-    for AtTcp<'_, '_, R> {
-    type Accept = TcpAccept;
+impl<
+    'a,
+    R: Files<File = File>
+        + Net<Stream = TcpStream, Listener = TcpListener>
+        + AllocGlobal
+        + Wait
+        + Clock
+        + Sync,
+> Door for AtTcp<'a, '_, R> {
+    type Accept = LimitedAccept<'a, R, TcpAccept>;
 
     #[tactic(auto, using(crate::proofs::Told::file_failed))]
     fn open<O: Sink, E: Write>(
         &mut self,
         output: &mut O,
         errors: &mut E,
-    ) -> Result<(TcpAccept, Option<SocketAddr>), Shut> {
+    ) -> Result<(LimitedAccept<'a, R, TcpAccept>, Option<SocketAddr>), Shut> {
         keep_journal(self.rt, self.service.journal, errors)?;
         let (accept, address) = match tcp_accept(self.rt, self.address, self.service.until) {
             Ok(opened) => opened,
@@ -185,7 +204,11 @@ impl<R: Files<File = File> + Net<Stream = TcpStream, Listener = TcpListener> + A
             }
         };
         match tell_listening(self.rt.alloc(), self.service.spec, &address, output, errors) {
-            Ok(()) => Ok((accept, Some(address))),
+            Ok(()) => {
+                let limits = limits_of(self.service);
+                let accept = LimitedAccept::new(self.rt, self.rt.alloc(), accept, limits);
+                Ok((accept, Some(address)))
+            }
             Err(shut) => {
                 drop(accept);
                 Err(shut)
@@ -199,20 +222,22 @@ impl<R: Files<File = File> + Net<Stream = TcpStream, Listener = TcpListener> + A
 }
 
 impl<
+    'a,
     R: Files<File = File>
         + Net<Stream = TcpStream, Listener = TcpListener>
         + AllocGlobal
         + Wait
-        + Clock,
-> Door for AtUnix<'_, '_, R> {
-    type Accept = UnixAccept;
+        + Clock
+        + Sync,
+> Door for AtUnix<'a, '_, R> {
+    type Accept = LimitedAccept<'a, R, UnixAccept>;
 
     #[tactic(auto, using(crate::proofs::Told::file_failed))]
     fn open<O: Sink, E: Write>(
         &mut self,
         output: &mut O,
         errors: &mut E,
-    ) -> Result<(UnixAccept, Option<SocketAddr>), Shut> {
+    ) -> Result<(LimitedAccept<'a, R, UnixAccept>, Option<SocketAddr>), Shut> {
         keep_journal(self.rt, self.service.journal, errors)?;
         let accept = match unix_accept(self.rt, self.file, self.service) {
             Ok(accept) => accept,
@@ -227,7 +252,11 @@ impl<
             output,
             errors,
         ) {
-            Ok(()) => Ok((accept, None)),
+            Ok(()) => {
+                let limits = limits_of(self.service);
+                let accept = LimitedAccept::new(self.rt, self.rt.alloc(), accept, limits);
+                Ok((accept, None))
+            }
             Err(shut) => {
                 drop(accept);
                 self.close();

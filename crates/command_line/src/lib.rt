@@ -15,6 +15,7 @@ mod forms;
 mod groups;
 mod hints;
 mod journal_files;
+mod limited;
 mod limits;
 mod log_files;
 mod log_lines;
