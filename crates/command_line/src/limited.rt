@@ -7,7 +7,7 @@ use crate::logged::{Known, copied};
 use connections::Close;
 use disk::Count;
 use serving::{Accept, AcceptFault, Listen, TcpAccept, UnixAccept};
-use std::alloc::{AllocError, Global};
+use std::alloc::Global;
 use std::io::{self, ErrorKind, Read};
 use std::net::{SocketAddr, TcpStream};
 use std::os::unix::net::UnixStream;
@@ -359,7 +359,7 @@ fn quiet_of(alloc: Global, limits: Limits) -> Result<Option<Quiet>, AcceptFault>
     };
     match Arc::new(alloc, AtomicBool::new(false)) {
         Ok(is_silent) => Ok(Some(Quiet::new(longest, is_silent))),
-        Err(AllocError) => Err(AcceptFault),
+        Err(_) => Err(AcceptFault),
     }
 }
 
