@@ -180,7 +180,7 @@ def cuts_and_counts_nonsense(options, folder):
         for _ in range(50):
             ask(first, ["nonsense"] * 100)
         ask(second, ["E " + "é" * 300])
-        time.sleep(APART)
+        time.sleep(5 * APART)
         ask(first, ["E \x7f\x80\x9b31m\u2028"])
         ask(first, ["q", "q"])
     run.end()

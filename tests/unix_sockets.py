@@ -184,7 +184,8 @@ def servers_that_start_together(program, folder):
     path = os.path.join(folder, "s")
     for turn in range(5):
         listening(path).close()
-        runs = [subprocess.Popen([program, *words(path, f"together{turn}.{number}")], cwd=folder, stdout=subprocess.PIPE, stderr=subprocess.PIPE, text=True)
+        # Services: the look of another server whether somebody listens is a connection too.
+        runs = [subprocess.Popen([program, *words(path, f"together{turn}.{number}")[:-2]], cwd=folder, stdout=subprocess.PIPE, stderr=subprocess.PIPE, text=True)
                 for number in range(4)]
         ending = time.monotonic() + SECONDS
         while sum(run.poll() is None for run in runs) > 1 and time.monotonic() < ending:

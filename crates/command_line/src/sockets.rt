@@ -9,7 +9,7 @@ use std::fs::{
 use std::io::{self, ErrorKind};
 use std::net::Net;
 use std::os::unix::fs::{DirBuilderExt, FileTypeExt, PermissionsExt, lchown};
-use std::os::unix::net::{UnixListener, UnixStream};
+use std::os::unix::net::{SocketAddr, UnixListener, UnixStream};
 use std::rt::Files;
 use std::sync::Wait;
 use std::thread::sleep;
@@ -144,6 +144,8 @@ pub(crate) fn listener_at<R: Files<File = File> + Net + Wait + Clock>(
     name: &str,
     rights: Rights,
 ) -> io::Result<UnixListener> {
+    // A client can connect by a name alone that isn't too long for an address.
+    SocketAddr::from_pathname(name)?;
     let folder = held(rt, name)?;
     let listener = match make_room(rt, name) {
         Ok(()) => bound(rt, alloc, name, rights),
