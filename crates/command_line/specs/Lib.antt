@@ -2,5 +2,6 @@
 pub mod Commands
 pub mod Crossings
 pub mod Endings
+pub mod Unfinished
 -- Steps of the program.
 pub mod Statuses

@@ -7,9 +7,11 @@
 
 mod by_line;
 mod checking;
+mod cspm_forms;
 mod doors;
 mod entrance;
 mod evidence;
+mod explained;
 mod following;
 mod forms;
 mod hints;
@@ -24,11 +26,14 @@ mod marks;
 mod patient;
 mod replaying;
 mod running;
+mod script_pieces;
 mod scripts;
 mod server;
 mod showing;
 mod sockets;
 mod telling;
+mod unfinished;
+mod warnings;
 
 pub use by_line::check_in;
 pub use checking::check;

@@ -5,6 +5,7 @@ ghost use Rattle.answers.specs.Exits.{exit_code};
 
 use crate::by_line::{check_in, is_wanted};
 use crate::checking::check;
+use crate::explained::{Explained, is_asked_for};
 use crate::following::follow;
 use crate::forms::print;
 use crate::limits::names_by;
@@ -12,10 +13,12 @@ use crate::patient::Patient;
 use crate::replaying::{replay, replay_read_only};
 use crate::server::serve;
 use crate::showing::show;
-use crate::telling::tell_use;
+use crate::telling::{tell_unfinished, tell_use};
+use crate::unfinished::Lines;
 use file_disk::FileSystem;
 use program::{Exit, Manner, Options};
 use std::convert::AsStr;
+use std::env::Env;
 use std::fs::File;
 use std::io::{IsTerminal, Read, Write};
 use std::net::{Net, TcpListener, TcpStream};
@@ -30,20 +33,21 @@ use words::{Check, Wish, example_of, read_words};
 fn fulfil_check<R: Files + AllocGlobal + Wait, I: Read, O: Write, E: Write + IsTerminal>(
     rt: &R,
     wished: &Check<'_>,
+    explain: bool,
     input: &mut I,
     output: &mut O,
     errors: &mut E,
 ) -> Exit {
-    let mut reader = Plain::new(Patient::new(&mut *input));
+    let mut reader = Lines::new(Plain::new(Patient::new(&mut *input)));
     let mut writer = sink_of(output);
     let names = names_by(wished.large);
     let manner = Manner {
-        explain: wished.explain,
+        explain,
         quiet: wished.quiet,
         first: wished.first,
     };
-    if is_wanted(manner) {
-        return check_in(
+    let exit = if is_wanted(manner) {
+        check_in(
             rt,
             wished.spec,
             wished.process,
@@ -52,17 +56,22 @@ fn fulfil_check<R: Files + AllocGlobal + Wait, I: Read, O: Write, E: Write + IsT
             &mut reader,
             &mut writer,
             errors,
-        );
+        )
+    } else {
+        check(
+            rt,
+            wished.spec,
+            wished.process,
+            names,
+            &mut reader,
+            &mut writer,
+            errors,
+        )
+    };
+    match reader.unfinished() {
+        Some(line) => tell_unfinished(errors, line, wished.large, exit),
+        None => exit,
     }
-    check(
-        rt,
-        wished.spec,
-        wished.process,
-        names,
-        &mut reader,
-        &mut writer,
-        errors,
-    )
 }
 
 // The output, as what counts its failures.
@@ -90,7 +99,18 @@ fn fulfil_show<
     show(rt, journal, options, &mut output, errors)
 }
 
-// Does what is wished for, and answers the exit status.
+// Whether explanations of faults are wished for.
+fn is_explained(wish: &Wish<'_>) -> bool {
+    match wish {
+        Wish::Check(check) => check.explain,
+        Wish::Print { explain, .. } | Wish::Replay { explain, .. } | Wish::Show { explain, .. } => {
+            *explain
+        }
+        Wish::Serve(service) => service.explain,
+    }
+}
+
+// Does what is wished for, and answers the exit status. Of `check` it is said why reports are rejected, if `explain` says so.
 fn fulfil<
     R: Files<File = File>
         + FileSystem
@@ -107,22 +127,25 @@ fn fulfil<
     I: Read,
     O: Write,
     E: Write + IsTerminal,
->(rt: &R, wish: &Wish<'_>, input: &mut I, output: &mut O, errors: &mut E) -> Exit {
+>(rt: &R, wish: &Wish<'_>, explain: bool, input: &mut I, output: &mut O, errors: &mut E) -> Exit {
     match wish {
-        Wish::Check(wished) => fulfil_check(rt, wished, input, output, errors),
-        Wish::Print { spec, process } => print(rt, spec, process, output, errors),
+        Wish::Check(wished) => fulfil_check(rt, wished, explain, input, output, errors),
+        Wish::Print { spec, process, .. } => print(rt, spec, process, output, errors),
         Wish::Replay {
             journal,
             read_only: false,
+            ..
         } => replay(rt, journal, output, errors),
         Wish::Replay {
             journal,
             read_only: true,
+            ..
         } => replay_read_only(rt, journal, output, errors),
         Wish::Show {
             journal,
             options,
             follow,
+            ..
         } => fulfil_show(rt, journal, *options, *follow, output, errors),
         Wish::Serve(service) => serve(rt, service, &mut sink_of(output), errors),
     }
@@ -135,6 +158,7 @@ fn fulfil_words<
         + FileSystem
         + Net<Stream = TcpStream, Listener = TcpListener>
         + AllocGlobal
+        + Env
         + Threads
         + Wait
         + Clock
@@ -147,10 +171,19 @@ fn fulfil_words<
     O: Write,
     E: Write + IsTerminal,
 >(rt: &R, words: &[S], input: &mut I, output: &mut O, errors: &mut E) -> Exit {
+    let is_asked = is_asked_for(rt);
+    let is_terminal = errors.is_terminal();
     match read_words(rt.alloc(), words) {
-        Err(error) => tell_use(&error, example_of(words), output, errors),
+        Err(error) => {
+            let mut errors = Explained::new(errors, is_asked || is_terminal);
+            tell_use(&error, example_of(words), output, &mut errors)
+        }
         Ok(None) => Exit::Misuse,
-        Ok(Some(wish)) => fulfil(rt, &wish, input, output, errors),
+        Ok(Some(wish)) => {
+            let explain = is_asked || is_explained(&wish);
+            let mut errors = Explained::new(errors, explain || is_terminal);
+            fulfil(rt, &wish, explain, input, output, &mut errors)
+        }
     }
 }
 
@@ -166,6 +199,7 @@ pub fn run<
         + FileSystem
         + Net<Stream = TcpStream, Listener = TcpListener>
         + AllocGlobal
+        + Env
         + Threads
         + Wait
         + Clock
