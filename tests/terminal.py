@@ -209,7 +209,7 @@ def test_row_with_marks(program, tmp_path, words, given, fault, below, status):
     check_row(program, tmp_path, words, given, fault, below, status)
 
 
-CHANNELS = b"channel a, b, c : {0..3}\nchannel e\n"
+CHANNELS = b"channel a, b, c : {0..3}\nchannel e\ndatatype COLOUR = red | green\nchannel d : COLOUR\n"
 SEQUENCE = "sequences aren't read; write a parameter, or a channel's field, for each value"
 TUPLE = "tuples aren't read; write a parameter, or a channel's field, for each part"
 COMPREHENSION = "a set given by a condition isn't read; write its members, as {1, 3}, or union, inter, diff"
@@ -234,7 +234,7 @@ FORMS = [
     ("P = Q((1,2))", "3 expected", 8, TUPLE),
     ("P = a?(x,y) -> STOP", "3 expected", 6, "a pattern isn't read; write an input for each part, as c?x?y"),
     ("P = Q(\\ x @ x)", "3 expected", 6, "functions without a name aren't read; define a process with parameters"),
-    ("S = {1..}", "3 expected", 8, "a set without an end isn't read; write {x..y}"),
+    ("S = {1..}", "3 expected", 6, "a set without an end isn't read; write {x..y}"),
     ("Q(0) = STOP", "11 unsupported", 2, CLAUSES),
     ("datatype T = A.{0..1} | B", "11 unsupported", 14,
      "a datatype with fields isn't read; write a constant for each value, or channels with these fields"),
@@ -242,6 +242,8 @@ FORMS = [
     ("P = e -> STOP [> e -> STOP", "11 unsupported", 14, "P [> Q isn't read; write (P [] Q) |~| Q"),
     ("P = STOP [e <-> e] STOP", "11 unsupported", 12,
      "P [c <-> d] Q isn't read; rename both channels to one, share it by [| |], and hide it"),
+    ("P = d?red -> STOP", "11 unsupported", 5,
+     "an input can't have the name of a constant; write c.NAME for this value alone, or another name"),
     ("nametype T = {0..3}", "11 unsupported", 0, "nametype isn't read; write a definition, as T = {0..3}"),
 ]
 
@@ -271,8 +273,8 @@ def test_form_of_cspm(program, tmp_path, words, text, fault, place, advice):
     if words[0] != "print" and text not in (FORMS[0][0], FORMS[-1][0]):
         pytest.skip("told by print")
     (tmp_path / "p.csp").write_bytes(CHANNELS + text.encode() + b"\nR = STOP\n")
-    below = ["    3 | " + text, "      | " + " " * place + "^", "        " + advice]
-    explained(["p.csp:3: " + fault], below, program, words, tmp_path)
+    below = ["    5 | " + text, "      | " + " " * place + "^", "        " + advice]
+    explained(["p.csp:5: " + fault], below, program, words, tmp_path)
 
 
 @pytest.mark.parametrize("words", [["replay", "j"], ["replay", "--read-only", "j"], ["show", "j"], ["show", "--follow", "j"]],

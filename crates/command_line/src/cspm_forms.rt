@@ -90,6 +90,8 @@ const TUPLE: &str = "tuples aren't read; write a parameter, or a channel's field
 const COMPREHENSION: &str =
     "a set given by a condition isn't read; write its members, as {1, 3}, or union, inter, diff";
 
+const NO_END: &str = "a set without an end isn't read; write {x..y}";
+
 const FUNCTION: &str =
     "a call gives a process, and no value; write the value itself, as in c.(i + 1)";
 
@@ -127,9 +129,8 @@ fn advice_for_more(before: &[u8], rest: &[u8]) -> Option<&'static str> {
             "a pattern isn't read; write an input for each part, as c?x?y",
         ),
         [b'(', ..] if ends_in_field(before) => Some(FUNCTION),
-        [b'}', ..] if before.ends_with(b"..") => Some(
-            "a set without an end isn't read; write {x..y}",
-        ),
+        [b'.', b'.', b'}', ..] => Some(NO_END),
+        [b'}', ..] if before.ends_with(b"..") => Some(NO_END),
         [b'&', ..] if before.ends_with(b"&") => Some("&& is written and"),
         _ => None,
     }
@@ -186,7 +187,7 @@ fn advice_for_operator(before: &[u8], rest: &[u8]) -> Option<&'static str> {
         [b'.', ..] => Some(
             "a datatype with fields isn't read; write a constant for each value, or channels with these fields",
         ),
-        _ if before.ends_with(b"?") => Some(
+        [b'?', ..] => Some(
             "an input can't have the name of a constant; write c.NAME for this value alone, or another name",
         ),
         _ if is_in_call(before) => Some(

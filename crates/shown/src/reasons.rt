@@ -223,12 +223,14 @@ fn put_rest<A: Allocator, B: Allocator>(
 ) -> Result<(), AllocError>
     ensures { OnOk result (text.new.items ≡ text.old.items ++ rest_text alphabet.now events.now) }
 {
-    if events.is_empty() {
-        return Ok(());
+    match events {
+        [] => Ok(()),
+        [_, ..] => {
+            text.extend_from_slice(b" (and ")?;
+            put_spaced(text, alphabet, events)?;
+            text.extend_from_slice(b")")
+        }
     }
-    text.extend_from_slice(b" (and ")?;
-    put_spaced(text, alphabet, events)?;
-    text.extend_from_slice(b")")
 }
 
 /// Appends the events of the set that is offered, those that are refused first.

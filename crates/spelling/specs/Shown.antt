@@ -12,6 +12,6 @@ shown_byte b =
 abbrev pub shown : List ℕ → List ℕ
 shown bytes = flat_map shown_byte bytes
 
--- the first hundred of the bytes, and two dots where there are more
-abbrev pub shown_name : List ℕ → List ℕ
-shown_name bytes = shown (take 100 bytes) ++ cond (leb (length bytes) 100) [] (codes "..")
+-- the bytes, of more than a hundred the first hundred and two dots
+unfoldable pub shown_name : List ℕ → List ℕ
+shown_name bytes = cond (leb (length bytes) 100) (shown bytes) (shown (take 100 bytes) ++ codes "..")

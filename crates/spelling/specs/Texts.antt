@@ -11,10 +11,15 @@ use Rattle.spelling.specs.Distances.{nearest}
 abbrev pub prefixed : List ℕ → List Channel → Event → List ℕ
 prefixed prefix cs x = prefix ++ name_of cs x
 
--- the names of these events, each after a prefix: `: a, b, c?`; nothing where there are none
+-- the names of these events, each after a prefix: a, b, c
+abbrev pub choice_text : List ℕ → List Channel → List Event → List ℕ
+choice_text prefix cs [] = []
+choice_text prefix cs (x ∷ xs) = prefixed prefix cs x ++ flat_map (λ y. codes ", " ++ prefixed prefix cs y) xs
+
+-- the same as `: a, b, c?`; nothing where there are none
 abbrev pub near_text : List ℕ → List Channel → List Event → List ℕ
 near_text prefix cs [] = []
-near_text prefix cs (x ∷ xs) = codes ": " ++ prefixed prefix cs x ++ flat_map (λ y. codes ", " ++ prefixed prefix cs y) xs ++ codes "?"
+near_text prefix cs (x ∷ xs) = codes ": " ++ (choice_text prefix cs (x ∷ xs) ++ codes "?")
 
 -- the text has the names of the events that are nearest to this name, each after a prefix
 pub record IsNear (prefix : List ℕ) (cs : List Channel) (name text : List ℕ) : Type 0 where

@@ -5,7 +5,7 @@ ghost use Rattle.std.specs.List.{flat_map};
 ghost use Rattle.alphabet.specs.EventSets.{members};
 ghost use Rattle.alphabet.specs.Channels.{name_of};
 ghost use Rattle.spelling.specs.Distances.{by_distance, distance, so_far};
-ghost use Rattle.spelling.specs.Texts.{IsNear, near_text, prefixed};
+ghost use Rattle.spelling.specs.Texts.{choice_text, IsNear, near_text, prefixed};
 
 use crate::distance::distance;
 use alphabet::{Alphabet, Event, EventSet};
@@ -97,8 +97,38 @@ fn put_others<A: Allocator, B: Allocator>(
     Ok(())
 }
 
-/// Appends the names of the events after a colon, with a comma between each two, each after a prefix, and a question mark; nothing where there
-/// are none.
+/// Appends the name of the event after a prefix.
+fn put_prefixed<A: Allocator, B: Allocator>(
+    text: &mut Vec<u8, B>,
+    alphabet: &Alphabet<A>,
+    prefix: &[u8],
+    event: Event,
+) -> Result<(), AllocError>
+    ensures { OnOk result (text.new.items ≡ text.old.items ++ prefixed prefix.now alphabet.now event) }
+{
+    text.extend_from_slice(prefix)?;
+    put_name(text, alphabet, event)
+}
+
+/// Appends the names of the events with a comma between each two, each after a prefix.
+fn put_choice<A: Allocator, B: Allocator>(
+    text: &mut Vec<u8, B>,
+    alphabet: &Alphabet<A>,
+    prefix: &[u8],
+    events: &[Event],
+) -> Result<(), AllocError>
+    ensures { OnOk result (text.new.items ≡ text.old.items ++ choice_text prefix.now alphabet.now events.now) }
+{
+    match events {
+        [] => Ok(()),
+        [first, others @ ..] => {
+            put_prefixed(text, alphabet, prefix, *first)?;
+            put_others(text, alphabet, prefix, others)
+        }
+    }
+}
+
+/// Appends the same after a colon, and a question mark; nothing where there are no events.
 fn put_near<A: Allocator, B: Allocator>(
     text: &mut Vec<u8, B>,
     alphabet: &Alphabet<A>,
@@ -109,11 +139,9 @@ fn put_near<A: Allocator, B: Allocator>(
 {
     match events {
         [] => Ok(()),
-        [first, others @ ..] => {
+        [_, ..] => {
             text.extend_from_slice(b": ")?;
-            text.extend_from_slice(prefix)?;
-            put_name(text, alphabet, *first)?;
-            put_others(text, alphabet, prefix, others)?;
+            put_choice(text, alphabet, prefix, events)?;
             text.extend_from_slice(b"?")
         }
     }

@@ -1,6 +1,6 @@
 //! Bytes as they are shown.
 
-ghost use Rattle.std.specs.Prelude.{◌≡◌, ◌++◌, OnOk};
+ghost use Rattle.std.specs.Prelude.{◌≡◌, ◌≤◌, ◌++◌, OnOk, codes, length, take};
 ghost use Rattle.spelling.specs.Shown.{shown, shown_byte, shown_name};
 
 use std::alloc::{AllocError, Allocator};
@@ -35,14 +35,23 @@ fn put_bytes<B: Allocator>(text: &mut Vec<u8, B>, bytes: &[u8]) -> Result<(), Al
     Ok(())
 }
 
-/// Appends the first hundred of the bytes, each as it is shown, and two dots where there are more. A byte that prints is itself; a tab is
-/// `\t`, a CR `\r`, a quote `\'`, a backslash `\\`, and any other byte `\?`. So what is shown is never obeyed.
+/// Appends the first hundred of the bytes, and two dots.
+fn put_first<B: Allocator>(text: &mut Vec<u8, B>, bytes: &[u8]) -> Result<(), AllocError>
+    requires { 100 ≤ length bytes.now }
+    ensures { OnOk result (text.new.items ≡ text.old.items ++ (shown (take 100 bytes.now) ++ codes "..")) }
+{
+    put_bytes(text, &bytes[..MOST])?;
+    text.extend_from_slice(b"..")
+}
+
+/// Appends the bytes as they are shown, of more than a hundred the first hundred and two dots. A byte that prints is itself; a tab is `\t`, a
+/// CR `\r`, a quote `\'`, a backslash `\\`, and any other byte `\?`. So what is shown is never obeyed.
+#[tactic(auto, unfolding(crate::specs::Shown::shown_name))]
 pub fn put_shown<B: Allocator>(text: &mut Vec<u8, B>, bytes: &[u8]) -> Result<(), AllocError>
     ensures { OnOk result (text.new.items ≡ text.old.items ++ shown_name bytes.now) }
 {
     if bytes.len() <= MOST {
         return put_bytes(text, bytes);
     }
-    put_bytes(text, &bytes[..MOST])?;
-    text.extend_from_slice(b"..")
+    put_first(text, bytes)
 }
