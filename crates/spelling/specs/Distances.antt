@@ -1,5 +1,5 @@
 -- How far a name is from another, and which are the nearest.
-use Rattle.std.specs.Prelude.{ℕ, ◌+◌, ◌==◌, not, List, [], ◌∷◌, ◌++◌, filter, take, count_by}
+use Rattle.std.specs.Prelude.{ℕ, ◌+◌, ◌==◌, not, List, ◌++◌, filter, take, count_by}
 use Rattle.std.specs.List.{list_any}
 use Rattle.alphabet.specs.declared.events.Event.{Event}
 use Rattle.alphabet.specs.Channels.{Channel, name_of}
