@@ -37,9 +37,10 @@ _cspwatch() {
     if [[ $current == -* ]]; then
         case $command in
             check) COMPREPLY=($(compgen -W "--large --explain --quiet --first --help -h" -- "$current")) ;;
-            serve) COMPREPLY=($(compgen -W "--listen --connections --until-idle --log --log-size --mode --group --reports-per-second --silent --large --help -h" -- "$current")) ;;
-            replay) COMPREPLY=($(compgen -W "--read-only --help -h" -- "$current")) ;;
-            show) COMPREPLY=($(compgen -W "--rejected --coverage --format --follow --help -h" -- "$current")) ;;
+            serve) COMPREPLY=($(compgen -W "--listen --connections --until-idle --log --log-size --mode --group --reports-per-second --silent --large --explain --help -h" -- "$current")) ;;
+            replay) COMPREPLY=($(compgen -W "--read-only --explain --help -h" -- "$current")) ;;
+            show) COMPREPLY=($(compgen -W "--rejected --coverage --format --follow --explain --help -h" -- "$current")) ;;
+            print) COMPREPLY=($(compgen -W "--explain --help -h" -- "$current")) ;;
             *) COMPREPLY=($(compgen -W "--help -h" -- "$current")) ;;
         esac
         return

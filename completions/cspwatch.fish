@@ -38,7 +38,8 @@ complete -c cspwatch -n "not __fish_seen_subcommand_from $commands" -a print -d 
 complete -c cspwatch -n "not __fish_seen_subcommand_from $commands" -a help -d 'print help'
 complete -c cspwatch -n "__fish_seen_subcommand_from help" -a "$commands"
 complete -c cspwatch -n "__fish_seen_subcommand_from check serve" -l large -d 'use the limits for large systems'
-complete -c cspwatch -n "__fish_seen_subcommand_from check" -l explain -d 'say why reports were rejected'
+complete -c cspwatch -n "__fish_seen_subcommand_from check" -l explain -d 'say why reports were rejected, and what a fault means'
+complete -c cspwatch -n "__fish_seen_subcommand_from serve print replay show" -l explain -d 'say what a fault means'
 complete -c cspwatch -n "__fish_seen_subcommand_from check" -l quiet -d 'leave out the replies to accepted reports'
 complete -c cspwatch -n "__fish_seen_subcommand_from check" -l first -d 'end after the first rejected report'
 complete -c cspwatch -n "__fish_seen_subcommand_from serve" -l listen -x -a '127.0.0.1:0 unix:' -d 'the address to listen on'

@@ -40,10 +40,16 @@ def meets_limit(case):
     return case.get("status") == LIMIT or any(line.endswith(LIMITS) for line in wanted)
 
 
+def is_unfinished(case):
+    """Whether the input ends within a line, which with the word is said, and counts for the status."""
+    given = octets(case.get("input_bytes", ""))
+    return bool(given) and not given.endswith(b"\n")
+
+
 def with_word(case):
-    """The case of `check` with the word; None of another command, of one that has the word, and of one that meets a limit."""
+    """The case of `check` with the word; None of another command, and of one that has the word, meets a limit, or ends within a line."""
     words = case.get("args", ["check", "p.csp", case.get("process", "P")])
-    if "runs" in case or words[:1] != ["check"] or has_word(case) or meets_limit(case):
+    if "runs" in case or words[:1] != ["check"] or has_word(case) or meets_limit(case) or is_unfinished(case):
         return None
     return {**case, "args": ["check", WORD] + words[1:]}
 

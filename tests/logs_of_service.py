@@ -29,6 +29,7 @@ ROOT = os.path.dirname(HERE)
 PROGRAM = os.path.join(ROOT, "crates", "cspwatch", "out", "cspwatch")
 
 SCRIPT = "channel a, b\nP = a -> b -> P\n"
+MANY_STATES = "channel a, b : {0..11}\nQ(i) = a.i -> b.i -> Q(i)\nSYSTEM = ||| i:{0..11} @ Q(i)\nchannel go\nP = go -> SYSTEM\n"
 ACCEPTING = "channel a\nP = a -> P\n"
 SECONDS = 60
 TIME = r"20[0-9]{2}-[01][0-9]-[0-3][0-9]T[0-2][0-9]:[0-5][0-9]:[0-5][0-9]\.[0-9]{3}Z"
@@ -248,6 +249,39 @@ def tells_a_journal_that_fails(options, folder):
         yield f"it ended with {status} {errors!r}"
 
 
+def says_lines_without_an_end(options, folder):
+    run = Run(options.program, folder, "log")
+    with run.connect() as link:
+        if (got := ask(link, ["E a"])) != ["OK 1"]:
+            yield f"the reply is {got}"
+        link.sendall(b"E b\x1b")
+        link.shutdown(socket.SHUT_WR)
+        if (more := link.recv(64)) != b"":
+            yield f"the line without an LF got {more!r}"
+    run.end()
+    got = entries_of(folder)[2:]
+    wanted = [
+        {"what": "unfinished", "connection": 1, "line": "E b\x1b"},
+        {"what": "ended", "connection": 1, "reports": 1, "why": "finished"},
+        {"what": "closed"}]
+    if got != wanted:
+        yield f"the log is {got}"
+
+
+def notes_events_that_meet_a_limit(options, folder):
+    run = Run(options.program, folder, "log", script=MANY_STATES)
+    with run.connect() as link:
+        if (got := ask(link, ["E go", "R a.0", "E c", "Q"])) != ["ERR 21 states", "OK 1", "ERR 11 event", "BYE"]:
+            yield f"the replies are {got}"
+    run.end()
+    got = [entry for entry in entries_of(folder) if entry["what"] == "not judged"]
+    wanted = [
+        {"what": "not judged", "connection": 1, "code": 21, "line": "E go", "note": "later verdicts are of a trace without this event"},
+        {"what": "not judged", "connection": 1, "code": 11, "line": "E c"}]
+    if got != wanted:
+        yield f"the log is {got}"
+
+
 def says_who_got_no_place(options, folder):
     run = Run(options.program, folder, "log")
     with contextlib.ExitStack() as stack:
@@ -405,8 +439,8 @@ def costs_little(options, _):
 
 
 TESTS = [
-    says_what_happens, counts_lines_of_a_run, says_each_fault, says_who_got_no_place, passes_over_a_full_log, passes_over_a_pipe, writes_on_standard_error,
-    leaves_the_journal_alone, ends_beside_an_unread_pipe, refuses_some_files]
+    says_what_happens, counts_lines_of_a_run, says_each_fault, says_lines_without_an_end, notes_events_that_meet_a_limit, says_who_got_no_place,
+    passes_over_a_full_log, passes_over_a_pipe, writes_on_standard_error, leaves_the_journal_alone, ends_beside_an_unread_pipe, refuses_some_files]
 
 LATER = [cuts_and_counts_nonsense, stays_within_its_size, leaves_a_moved_log_alone, tells_a_journal_that_fails]
 """What a program of an earlier release isn't asked."""

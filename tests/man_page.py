@@ -28,13 +28,15 @@ LINES = [
     (["check", "p.csp", ""], {"P", "Q'"}),
     (["serve", "--listen", "127.0.0.1:4070", "p.csp", ""], {"P", "Q'"}),
     (["serve", "p.csp", "P", ""], {"p.csp"}),
-    (["serve", "p.csp", "P", "j", "--"], {"--listen", "--connections", "--until-idle", "--log", "--large"}),
+    (["serve", "p.csp", "P", "j", "--"], {"--listen", "--connections", "--until-idle", "--log", "--large", "--explain"}),
     (["check", "--l"], {"--large"}),
     (["check", "--"], {"--large", "--explain", "--quiet", "--first"}),
     (["check", "--large", "p.csp", ""], {"P", "Q'"}),
     (["serve", "--large", ""], {"p.csp"}),
     (["show", "--format", ""], {"text", "json"}),
     (["show", "--r"], {"--rejected"}),
+    (["print", "--"], {"--explain"}),
+    (["replay", "--"], {"--read-only", "--explain"}),
 ]
 """Lines after `cspwatch`, of which the last word is begun, and some of what has to be offered for it."""
 

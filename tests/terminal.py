@@ -5,6 +5,7 @@
 
 Standard error is a pseudo-terminal of its own.
 """
+import functools
 import os
 import pty
 import select
@@ -49,6 +50,7 @@ TWO_OF_MORE = b"cspwatch journal 2\nroot P\nscript 33\n" + GOOD + b"Q = STOP\n\n
 LARGE = b"cspwatch large journal 1\nroot P\npart 1\nbefore 0\nprevious -\nscript 24\n" + GOOD + b"\n."
 
 LATER = COMPONENTS + b"channel go\nSTART = go -> SYSTEM\n"
+WITHOUT = "        after an event that was answered 20, 21, 23 or 40, later verdicts are of a trace without it"
 LIMIT_MET = "        a limit was met; --large helps against 21 states (components that rest are one state) and 23 history (it has no end)"
 
 # The same for a program that knows `--large`; in place of the script there may be all files by their names. One that is named `input`
@@ -62,10 +64,10 @@ ROWS_WITH_LARGE = [
     ("the same when serving with --large", SERVE + ["1", "--large"], CHOICES, ["p.csp: 21 states"], [MANY], 6),
     ("a state that is too deep", ["check", "p.csp", "P"], GROWING, ["p.csp: 20 depth"], [DEEP], 6),
     ("a state that is too deep with --large", ["check", "--large", "p.csp", "P"], GROWING, ["p.csp: 20 depth"], [DEEP], 6),
-    ("too many states after a report", ["check", "p.csp", "START"], {"p.csp": LATER, "input": b"E go\nE a.0\n"}, [], [LIMIT_MET], 1),
-    ("the same line by line", ["check", "--quiet", "p.csp", "START"], {"p.csp": LATER, "input": b"E go\n"}, [], [LIMIT_MET], 6),
+    ("too many states after a report", ["check", "p.csp", "START"], {"p.csp": LATER, "input": b"E go\nE a.0\n"}, [], [WITHOUT, LIMIT_MET], 1),
+    ("the same line by line", ["check", "--quiet", "p.csp", "START"], {"p.csp": LATER, "input": b"E go\n"}, [], [WITHOUT, LIMIT_MET], 6),
     ("no more than that with --large", ["check", "--large", "p.csp", "P"], {"p.csp": b"channel go\n" + CHOICES.replace(b"P =", b"P = go ->"),
-     "input": b"E go\n"}, [], [], 6),
+     "input": b"E go\n"}, [], [WITHOUT], 6),
     ("nothing where no limit was met", ["check", "p.csp", "START"], {"p.csp": LATER, "input": b"E a.0\n"}, [], [], 1),
     ("a large journal without --large", SERVE + ["1"], {"p.csp": GOOD, "j": LARGE}, ["j: 54 specification"], [OTHER], 4),
     ("a journal of version 2 with --large", SERVE + ["1", "--large"], {"p.csp": GOOD, "j": TWO}, ["j: 54 specification"], [OTHER], 4),
@@ -165,7 +167,18 @@ def elsewhere(command, folder):
     return done.stderr.decode("utf-8", "replace").splitlines(), done.returncode
 
 
+@functools.lru_cache(maxsize=None)
+def explains_all(program):
+    """Whether the program explains faults of each command where that is asked for, or has to."""
+    if os.path.realpath(program) == os.path.realpath(large.BUILT):
+        return True
+    done = subprocess.run([program, "serve", "--help"], stdin=subprocess.DEVNULL, capture_output=True, timeout=SECONDS)
+    return b"--explain" in done.stdout
+
+
 def check_row(program, folder, words, given, fault, below, status):
+    if not explains_all(program):
+        below = [line for line in below if line != WITHOUT]
     for name, content in (given if isinstance(given, dict) else {"p.csp": given}).items():
         (folder / name).write_bytes(content)
     shown = on_terminal([program] + words, folder)
@@ -194,3 +207,129 @@ def test_row_with_marks(program, tmp_path, words, given, fault, below, status):
     if not knows_marks(program):
         pytest.skip("the program doesn't know --explain")
     check_row(program, tmp_path, words, given, fault, below, status)
+
+
+CHANNELS = b"channel a, b, c : {0..3}\nchannel e\ndatatype COLOUR = red | green\nchannel d : COLOUR\n"
+SEQUENCE = "sequences aren't read; write a parameter, or a channel's field, for each value"
+TUPLE = "tuples aren't read; write a parameter, or a channel's field, for each part"
+COMPREHENSION = "a set given by a condition isn't read; write its members, as {1, 3}, or union, inter, diff"
+CLAUSES = "several clauses of one name aren't read; write one, as P(n) = if n == 0 then Q else R"
+
+# Definitions after two channels, the number and the word of the fault, its line and the mark below it, and what to write in place of what is there.
+FORMS = [
+    ("P = || i:{0..3} @ [{a.i}] a.i -> STOP", "3 expected", 4,
+     "|| x:S @ [A] P isn't read; write out the processes, with [ A || B ] or [| A |] between them"),
+    ("P = [| {e} |] i:{0..3} @ a.i -> STOP", "3 expected", 4,
+     "[| A |] x:S @ P isn't read; write out the processes, with [| A |] between them"),
+    ("P = ; i:{0..3} @ a.i -> SKIP", "3 expected", 4, "; x:S @ P isn't read; write out the processes, with ; between them"),
+    ("P = ||| x <- {0..3} @ a.x -> STOP", "3 expected", 10, "a generator is written x:S"),
+    ("P = a.f(1) -> STOP", "3 expected", 7, "a call gives a process, and no value; write the value itself, as in c.(i + 1)"),
+    ("P = e -> Q({x | x <- {0..3}})", "3 expected", 14, COMPREHENSION),
+    ("Q = {| a.x | x <- {0..1} |}", "3 expected", 11, COMPREHENSION),
+    ("P = STOP [[ a.x <- b.x | x <- {0..3} ]]", "3 expected", 23, "a renaming with a condition isn't read; write out its pairs"),
+    ("P = Q(<1,2>)", "3 expected", 6, SEQUENCE),
+    ("P = Q(s^t)", "2 token", 7, SEQUENCE),
+    ("P = Q(#s)", "2 token", 6, SEQUENCE),
+    ("P = a$x -> STOP", "2 token", 5, "c$x isn't read; write |~| x:S @ c.x -> P"),
+    ("P = Q((1,2))", "3 expected", 8, TUPLE),
+    ("P = a?(x,y) -> STOP", "3 expected", 6, "a pattern isn't read; write an input for each part, as c?x?y"),
+    ("P = Q(\\ x @ x)", "3 expected", 6, "functions without a name aren't read; define a process with parameters"),
+    ("S = {1..}", "3 expected", 6, "a set without an end isn't read; write {x..y}"),
+    ("Q(0) = STOP", "11 unsupported", 2, CLAUSES),
+    ("datatype T = A.{0..1} | B", "11 unsupported", 14,
+     "a datatype with fields isn't read; write a constant for each value, or channels with these fields"),
+    ("P = let Q = e -> Q within Q", "11 unsupported", 4, "let isn't read; write a definition with parameters"),
+    ("P = e -> STOP [> e -> STOP", "11 unsupported", 14, "P [> Q isn't read; write (P [] Q) |~| Q"),
+    ("P = STOP [e <-> e] STOP", "11 unsupported", 12,
+     "P [c <-> d] Q isn't read; rename both channels to one, share it by [| |], and hide it"),
+    ("P = d?red -> STOP", "11 unsupported", 5,
+     "an input can't have the name of a constant; write c.NAME for this value alone, or another name"),
+    ("nametype T = {0..3}", "11 unsupported", 0, "nametype isn't read; write a definition, as T = {0..3}"),
+]
+
+
+def asked_to_explain(program, words, folder, environment=None):
+    """Standard error and the status of a command that isn't on a terminal."""
+    done = subprocess.run([program] + words, cwd=folder, stdin=subprocess.DEVNULL, capture_output=True, timeout=SECONDS,
+                          env={**os.environ, **(environment or {})})
+    return done.stderr.decode("utf-8", "replace").splitlines(), done.returncode
+
+
+def explained(fault, below, program, words, folder):
+    """Checks that the command says its fault alone, and what it means where that is asked for in one of two ways, and on a terminal."""
+    status = elsewhere([program] + words, folder)[1]
+    assert elsewhere([program] + words, folder) == (fault, status)
+    assert asked_to_explain(program, words, folder, {"CSPWATCH_EXPLAIN": "0"}) == (fault, status)
+    assert asked_to_explain(program, words, folder, {"CSPWATCH_EXPLAIN": "1"}) == (fault + below, status)
+    assert asked_to_explain(program, words[:1] + ["--explain"] + words[1:], folder) == (fault + below, status)
+    assert on_terminal([program] + words, folder) == (fault + below, status)
+
+
+@pytest.mark.parametrize("words", [["print", "p.csp", "P"], ["check", "p.csp", "P"], SERVE + ["1"]], ids=["print", "check", "serve"])
+@pytest.mark.parametrize("text, fault, place, advice", FORMS, ids=[row[0] for row in FORMS])
+def test_form_of_cspm(program, tmp_path, words, text, fault, place, advice):
+    if not explains_all(program):
+        pytest.skip("the program doesn't explain faults of all commands")
+    if words[0] != "print" and text not in (FORMS[0][0], FORMS[-1][0]):
+        pytest.skip("told by print")
+    (tmp_path / "p.csp").write_bytes(CHANNELS + text.encode() + b"\nR = STOP\n")
+    below = ["    5 | " + text, "      | " + " " * place + "^", "        " + advice]
+    explained(["p.csp:5: " + fault], below, program, words, tmp_path)
+
+
+@pytest.mark.parametrize("words", [["replay", "j"], ["replay", "--read-only", "j"], ["show", "j"], ["show", "--follow", "j"]],
+                         ids=["replay", "replay --read-only", "show", "show --follow"])
+def test_journal_that_is_none(program, tmp_path, words):
+    if not explains_all(program):
+        pytest.skip("the program doesn't explain faults of all commands")
+    (tmp_path / "j").write_bytes(b"nothing")
+    explained(["j: 50 header"], ["        the file doesn't begin as a journal of cspwatch does"], program, words, tmp_path)
+
+
+WARNED = b"""channel c : {0..1}.{0..1}
+datatype T = R | G
+channel d : {0..1}.T
+P(y) = c?x.y -> STOP -- c?x.y
+Q = P(1) [] d?x.R -> STOP
+assert Q :[deadlock free
+  {- c?x.y -} [FD]]
+"""
+AFTER_ASSERT = b"channel a\nP = a -> STOP\nassert P [T=\n\n-- Q\n [] a -> P\nassert STOP\nQ = STOP\nassert Q\n\nR(x) = STOP\n"
+VALUE = "p.csp:4: warning: after ?, .y takes the value of y; an input is written ?y"
+ASSERT = "warning: an assert ends with its line; this line is read as part of the definition before it"
+
+
+def test_warnings(program, tmp_path):
+    if not explains_all(program):
+        pytest.skip("the program warns of nothing")
+    (tmp_path / "p.csp").write_bytes(AFTER_ASSERT)
+    for words in (["check", "p.csp", "P"], SERVE[:3] + ["missing/j"] + SERVE[4:] + ["1"]):
+        plain = elsewhere([program] + words, tmp_path)[0]
+        assert "p.csp:6: " + ASSERT not in plain
+        assert asked_to_explain(program, words[:1] + ["--explain"] + words[1:], tmp_path)[0] == ["p.csp:6: " + ASSERT] + plain
+        assert on_terminal([program] + words, tmp_path)[0] == ["p.csp:6: " + ASSERT] + plain
+    assert elsewhere([program, "print", "p.csp", "P"], tmp_path) == (["p.csp:6: " + ASSERT], 0)
+    (tmp_path / "p.csp").write_bytes(WARNED)
+    shown, status = asked_to_explain(program, ["print", "--explain", "p.csp", "Q"], tmp_path)
+    assert (shown[0], shown[-2:], status) == ("p.csp:7: 3 expected", [VALUE, "p.csp:7: " + ASSERT], 3)
+    (tmp_path / "p.csp").write_bytes(b"\n".join(WARNED.splitlines()[:6]) + b"\n")
+    assert elsewhere([program, "print", "p.csp", "Q"], tmp_path) == ([VALUE], 0)
+
+
+UNFINISHED = "line 2: the last line has no LF, and was not judged"
+
+
+@pytest.mark.parametrize("words, given, told, status", [
+    ([], b"E a\nE a", False, 0), (["--explain"], b"E a\nE a", True, 0), (["--quiet", "--explain"], b"E a\nE a", True, 0),
+    (["--large"], b"E a\nE a", True, 2), (["--large", "--quiet"], b"E a\nE a", True, 2), (["--large"], b"E b\nE a", True, 1),
+    (["--large"], b"E a\nE a\n", False, 0), (["--large"], b"Q\nE a", False, 0), (["--large"], b"", False, 0),
+])
+def test_last_line_without_an_end(program, tmp_path, words, given, told, status):
+    if not explains_all(program):
+        pytest.skip("the program says nothing of a last line without an LF")
+    (tmp_path / "p.csp").write_bytes(b"channel a, b\nP = a -> P\n")
+    (tmp_path / "input").write_bytes(given)
+    errors, ended = elsewhere([program, "check"] + words + ["p.csp", "P"], tmp_path)
+    assert ([line for line in errors if "LF" in line], ended) == ([UNFINISHED] if told else [], status)
+    unfinished = given.endswith(b"E a") and not given.startswith(b"Q")
+    assert (UNFINISHED in on_terminal([program, "check"] + words + ["p.csp", "P"], tmp_path)[0]) == unfinished

@@ -17,7 +17,9 @@ use Rattle.session.specs.Monitors.{MeetsNone}
 use Rattle.session.specs.Legal.{IsJudged}
 use Rattle.term.specs.Verdict.{Verdict}
 use Rattle.shown.specs.Reasons.{IsReason}
-use Rattle.attending.specs.Lines.{Explains, IsReasonIf}
+use Rattle.attending.specs.Lines.{Explains, IsReasonIf, IsUnknownIf, ending_text}
+use Rattle.spelling.specs.Lines.{IsUnknownCommand, IsUnknownEvent}
+use Rattle.alphabet.specs.Channels.{Channel}
 
 -- the entry that a judged report adds
 pub added : (spec : Specified) (old new : Course) (report : Report) (receipt : Receipt) →
@@ -60,14 +62,34 @@ unmoved spec old new asked.UnknownCommand answer not (same, told) = ap (λ (c : 
 unmoved spec old new asked.UnknownEvent answer not (same, told) = ap (λ (c : Course). c.history) same
 
 pub silent : (spec : Specified) (n : ℕ) (h : List Entry) (line text : List ℕ) (request : Request) (answer : Answer) → ((r : Report) → request ≡ asked.Judge r → ⊥) → (request ≡ asked.UnknownEvent → ⊥) →
-    text ≡ [] → Explains spec n h line request answer text
-silent spec n h line text (asked.Judge r) answer not other none = absurd (not r refl)
-silent spec n h line text asked.Status answer not other none = none
-silent spec n h line text asked.Next answer not other none = none
-silent spec n h line text (asked.Identify seat) answer not other none = none
-silent spec n h line text asked.Quit answer not other none = none
-silent spec n h line text asked.UnknownCommand answer not other none = none
-silent spec n h line text asked.UnknownEvent answer not other none = absurd (other refl)
+    (request ≡ asked.UnknownCommand → ⊥) → ((seat : ℕ) → request ≡ asked.Identify seat → ⊥) → text ≡ [] → Explains spec n h line request answer text
+silent spec n h line text (asked.Judge r) answer not other never seated none = absurd (not r refl)
+silent spec n h line text asked.Status answer not other never seated none = none
+silent spec n h line text asked.Next answer not other never seated none = none
+silent spec n h line text (asked.Identify seat) answer not other never seated none = absurd (seated seat refl)
+silent spec n h line text asked.Quit answer not other never seated none = none
+silent spec n h line text asked.UnknownCommand answer not other never seated none = absurd (never refl)
+silent spec n h line text asked.UnknownEvent answer not other never seated none = absurd (other refl)
+
+-- why a line names no event, and that one is no command
+pub ended_if : {T E : Type 0} (r : Result T E) (spec : Specified) (n : ℕ) (line : List ℕ) (b : Bool) (text : List ℕ) → b ≡ true → OnOk r (text ≡ ending_text n line) → OnOk r (IsUnknownIf b spec n line text)
+ended_if (Ok x) spec n line b text e is = subst (λ (v : Bool). IsUnknownIf v spec n line text) (sym e) is
+ended_if (Err x) spec n line b text e is = is
+
+pub unknown_if : {T E : Type 0} (r : Result T E) (spec : Specified) (cs : List Channel) (n : ℕ) (line : List ℕ) (b : Bool) (old new : List ℕ) → b ≡ false → old ≡ [] → cs ≡ spec.alphabet →
+    OnOk r ((added : List ℕ) × IsUnknownEvent cs n line added × (new ≡ old ++ added)) → OnOk r (IsUnknownIf b spec n line new)
+unknown_if (Ok x) spec cs n line b old new e none same (more, is, all) =
+    subst (λ (v : Bool). IsUnknownIf v spec n line new) (sym e)
+    (subst (λ (t : List ℕ). IsUnknownEvent spec.alphabet n line t) (sym (all ∙ ap (λ (l : List ℕ). l ++ more) none))
+    (subst (λ (ds : List Channel). IsUnknownEvent ds n line more) same is))
+unknown_if (Err x) spec cs n line b old new e none same all = all
+
+pub no_command : {T E : Type 0} (r : Result T E) (spec : Specified) (cs : List Channel) (n : ℕ) (line old new : List ℕ) → old ≡ [] → cs ≡ spec.alphabet →
+    OnOk r ((added : List ℕ) × IsUnknownCommand cs n line added × (new ≡ old ++ added)) → OnOk r (IsUnknownCommand spec.alphabet n line new)
+no_command (Ok x) spec cs n line old new none same (more, is, all) =
+    subst (λ (t : List ℕ). IsUnknownCommand spec.alphabet n line t) (sym (all ∙ ap (λ (l : List ℕ). l ++ more) none))
+    (subst (λ (ds : List Channel). IsUnknownCommand ds n line more) same is)
+no_command (Err x) spec cs n line old new none same all = all
 
 -- the last of some entries
 pub last_of : (xs : List Entry) (e d : Entry) → get_or (xs ++ e ∷ []) (length xs) d ≡ e

@@ -1,17 +1,18 @@
 -- What is replied to a line, and what is written on the errors.
-use Rattle.std.specs.Prelude.{◌≡◌, ◌==◌, ◌-◌, ℕ, suc, ◌&&◌, not, cond, List, [], ◌∷◌, ◌++◌, length, get_or, Bool, true, false, Option, codes, decimal}
+use Rattle.std.specs.Prelude.{◌≡◌, ◌==◌, ◌-◌, ℕ, suc, ◌&&◌, ◌||◌, not, cond, List, [], ◌∷◌, ◌++◌, length, get_or, Bool, true, false, Option, codes, decimal}
 use Rattle.std.specs.Io.KnownBytes.{Appends}
 use Rattle.alphabet.specs.declared.events.Report.{Report}
 use Rattle.term.specs.Proc.{bodies_of}
 use Rattle.term.specs.Specs.{Specified}
 use Rattle.session.specs.Entry.{Entry}
 use Rattle.shown.specs.Reasons.{IsReason}
+use Rattle.spelling.specs.Lines.{IsUnknownCommand, IsUnknownEvent}
 use Rattle.wire.specs.Requests.{Asks}
 use Rattle.wire.specs.Replies.{Answers, answer_text, tallied, TakesNoName}
 use Rattle.wire.specs.declared.answer.Answer.{Answer}
 use Rattle.wire.specs.declared.answer.Answer.TheVariants as answered
 use Rattle.wire.specs.declared.requests.Request.{Request}
-use Rattle.wire.specs.declared.requests.Request.TheVariants.{Judge, UnknownEvent}
+use Rattle.wire.specs.declared.requests.Request.TheVariants.{Judge, UnknownEvent, UnknownCommand, Identify}
 use Rattle.attending.specs.Courses.{Course, Reports, Statuses, Nexts}
 use Rattle.attending.specs.Standing.{Standing}
 use Rattle.attending.specs.declared.manner.Manner.{Manner}
@@ -35,17 +36,24 @@ ending_text n line =
     cond (ends_in 13 line) (codes "line " ++ decimal n ++ codes ": ERR 11 event, the line ends in CR\n")
     (cond (ends_in 32 line) (codes "line " ++ decimal n ++ codes ": ERR 11 event, the line ends in a blank\n") [])
 
+-- why the line with this number names no event: by its ending, if it ends so, else which name no event has, and what it may have been
+abbrev pub IsUnknownIf : Bool → Specified → ℕ → List ℕ → List ℕ → Type 0
+IsUnknownIf true spec n line text = text ≡ ending_text n line
+IsUnknownIf false spec n line text = IsUnknownEvent spec.alphabet n line text
+
 -- why the report was rejected, if it was
 abbrev pub IsReasonIf : Bool → Specified → ℕ → List Entry → ℕ → Report → List ℕ → Type 0
 IsReasonIf true spec n h place report text = IsReason spec n h place report text
 IsReasonIf false spec n h place report text = text ≡ []
 
 -- What is written on the errors for the line with this number, which came after this history: why its report was rejected, or why it names
--- no event.
+-- no event, or that it is no command.
 abbrev pub Explains : Specified → ℕ → List Entry → List ℕ → Request → Answer → List ℕ → Type 0
 Explains spec n h line (Judge report) (answered.Judged receipt) text = IsReasonIf (not receipt.verdict) spec n h receipt.place report text
 Explains spec n h line (Judge report) answer text = text ≡ []
-Explains spec n h line UnknownEvent answer text = text ≡ ending_text n line
+Explains spec n h line UnknownEvent answer text = IsUnknownIf (ends_in 13 line || ends_in 32 line) spec n line text
+Explains spec n h line UnknownCommand answer text = IsUnknownCommand spec.alphabet n line text
+Explains spec n h line (Identify seat) answer text = IsUnknownCommand spec.alphabet n line text
 Explains spec n h line request answer text = text ≡ []
 
 -- so with --explain, and nothing without it

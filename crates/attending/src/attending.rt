@@ -132,7 +132,7 @@ fn hear<R: Wait, D: Disk + Drop, A: Allocator + Copy, T: Source, W: Sink, E: Wri
 /// this disk, and answers them on the writer: one line after the other, each reply before the next line is looked at.
 ///
 /// With `explain` a line on the errors follows the reply to each rejected report, as `shown::put_reason` makes it, and one the reply to a line
-/// that names no event because it ends in CR or in a blank. Lines are counted from 1. Where the errors fail or memory is refused for a line, no more
+/// that names no event or is no command, as `spelling` makes it, or by the CR or the blank that it ends in. Lines are counted from 1. Where the errors fail or memory is refused for a line, no more
 /// are written, and `whole` is false. With `quiet` the replies to accepted reports are left out. With `first` the first rejected report
 /// ends it; the reader may have given more.
 ///

@@ -1,19 +1,21 @@
 //! What is written on the errors for a line.
 
-ghost use Rattle.std.specs.Prelude.{◌≡◌, ◌<◌, ◌++◌, [], ◌∷◌, not, length, List, OnOk, decimal};
+ghost use Rattle.std.specs.Prelude.{◌≡◌, ◌<◌, ◌++◌, ◌||◌, [], ◌∷◌, not, length, List, OnOk, decimal};
 ghost use Rattle.term.specs.Proc.{bodies_of};
 ghost use Rattle.session.specs.Entry.{Entry as entry_type};
 ghost use Rattle.session.specs.Entries.{events};
 ghost use Rattle.session.specs.Legal.{IsJudged};
 ghost use Rattle.wire.specs.Replies.{Answers, TakesNoName};
 ghost use Rattle.attending.specs.Courses.{Course, Reports, Statuses, Nexts};
-ghost use Rattle.attending.specs.Lines.{Explains, IsReasonIf, ending_text};
+ghost use Rattle.attending.specs.Lines.{Explains, IsReasonIf, IsUnknownIf, ending_text, ends_in};
+ghost use Rattle.spelling.specs.Lines.{IsUnknownCommand};
 ghost use Rattle.attending.specs.Preparing.{HasLast, Moves};
 
 use disk::Disk;
 use itoa::Buffer;
 use session::{Entry, Session};
 use shown::{Monitor, follow, put_reason};
+use spelling::{put_unknown_command, put_unknown_event};
 use std::alloc::{AllocError, Allocator};
 use wire::{Answer, Request};
 
@@ -49,6 +51,48 @@ fn put_ending<A: Allocator>(
         return text.extend_from_slice(b": ERR 11 event, the line ends in a blank\n");
     }
     Ok(())
+}
+
+/// Whether the line ends in CR or in a blank.
+fn ends_blank(line: &[u8]) -> bool
+    ensures { result ≡ (ends_in 13 line.now || ends_in 32 line.now) }
+{
+    if line.is_empty() {
+        return false;
+    }
+    let last = line[line.len() - 1];
+    last == b'\r' || last == b' '
+}
+
+/// Makes why the line names no event.
+fn put_unknown<A: Allocator + Copy>(
+    text: &mut Vec<u8, A>,
+    monitor: &Monitor<A>,
+    alloc: A,
+    number: u64,
+    line: &[u8],
+) -> Result<(), AllocError>
+    requires { text.old.items ≡ [] }
+    ensures { OnOk result (IsUnknownIf (ends_in 13 line.now || ends_in 32 line.now) monitor.now.spec number line.now text.new.items) }
+{
+    if ends_blank(line) {
+        return put_ending(text, number, line);
+    }
+    put_unknown_event(text, alloc, monitor.spec().alphabet(), number, line)
+}
+
+/// Makes that the line is no command.
+fn put_no_command<A: Allocator + Copy>(
+    text: &mut Vec<u8, A>,
+    monitor: &Monitor<A>,
+    alloc: A,
+    number: u64,
+    line: &[u8],
+) -> Result<(), AllocError>
+    requires { text.old.items ≡ [] }
+    ensures { OnOk result (IsUnknownCommand monitor.now.spec.alphabet number line.now text.new.items) }
+{
+    put_unknown_command(text, alloc, monitor.spec().alphabet(), number, line)
 }
 
 /// Makes why the report was rejected, if it was.
@@ -129,7 +173,10 @@ pub(crate) fn put_explanation<D: Disk, A: Allocator + Copy>(
             }
             _ => Ok(()),
         },
-        Request::UnknownEvent => put_ending(text, number, line),
+        Request::UnknownEvent => put_unknown(text, monitor, alloc, number, line),
+        Request::UnknownCommand | Request::Identify(_) => {
+            put_no_command(text, monitor, alloc, number, line)
+        }
         _ => Ok(()),
     }
 }

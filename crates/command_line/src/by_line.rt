@@ -5,7 +5,7 @@ ghost use Rattle.program.specs.Exits.{attended_exit};
 ghost use Rattle.command_line.specs.Commands.{AttendedTo, IsRefusal};
 
 use crate::checking::tell_unopened;
-use crate::hints::show_limit_met;
+use crate::hints::{show_limit_met, show_warnings_of};
 use crate::scripts::{Script, text_of};
 use crate::telling::tell_fault;
 use disk::Disk;
@@ -114,6 +114,12 @@ pub fn check_in<R: Files + AllocGlobal + Wait, T: Source, W: Sink, E: Write + Is
         Err(exit) => return exit,
     };
     let process = process.as_bytes();
+    let script = Script {
+        name,
+        text: &text,
+        process,
+    };
+    show_warnings_of(errors, rt.alloc(), &script);
     match talk(
         rt,
         rt.alloc(),
@@ -126,13 +132,6 @@ pub fn check_in<R: Files + AllocGlobal + Wait, T: Source, W: Sink, E: Write + Is
         errors,
     ) {
         Ok(ended) => tell_end(errors, name, names, ended),
-        Err(error) => {
-            let script = Script {
-                name,
-                text: &text,
-                process,
-            };
-            tell_unopened(errors, rt.alloc(), &script, names, manner.explain, error)
-        }
+        Err(error) => tell_unopened(errors, rt.alloc(), &script, names, error),
     }
 }

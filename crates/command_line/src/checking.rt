@@ -3,9 +3,9 @@
 ghost use Rattle.std.specs.Prelude.{◌≡◌, ◌⊎◌, IfOk, IfErr};
 ghost use Rattle.command_line.specs.Commands.{IsRefusal, Judged};
 
-use crate::hints::show_limit_met;
+use crate::hints::{show_limit_met, show_warnings_of};
 use crate::scripts::{Script, text_of};
-use crate::telling::{explain_script, tell_fault, tell_opening};
+use crate::telling::{tell_fault, tell_opening, tell_script};
 use disk::Disk;
 use file_disk::NoFile;
 use program::{Checked, Exit, SessionError};
@@ -24,20 +24,18 @@ struct Talked {
     limit: bool,
 }
 
-// Reports why no session of the script opens, where it is to be explained with the line of a fault, and answers the exit status. A disk in
-// memory fails only where memory runs out.
+// Reports why no session of the script opens, and answers the exit status. A disk in memory fails only where memory runs out.
 pub(crate) fn tell_unopened<E: Write + IsTerminal>(
     errors: &mut E,
     alloc: Global,
     script: &Script<'_>,
     names: Names,
-    explain: bool,
     error: SessionError,
 ) -> Exit
     ensures { IsRefusal result }
 {
     match error {
-        SessionError::Script(fault) => explain_script(errors, alloc, script, &fault, explain),
+        SessionError::Script(fault) => tell_script(errors, alloc, script, &fault),
         SessionError::Device => tell_opening(errors, script.name, names, SessionError::Memory),
         error => tell_opening(errors, script.name, names, error),
     }
@@ -110,15 +108,14 @@ pub fn check<R: Files + AllocGlobal + Wait, T: Source, W: Sink, E: Write + IsTer
         Err(exit) => return exit,
     };
     let process = process.as_bytes();
+    let script = Script {
+        name,
+        text: &text,
+        process,
+    };
+    show_warnings_of(errors, rt.alloc(), &script);
     match talk(rt, rt.alloc(), &text, process, names, reader, writer) {
         Ok(talked) => tell_end(errors, name, names, talked),
-        Err(error) => {
-            let script = Script {
-                name,
-                text: &text,
-                process,
-            };
-            tell_unopened(errors, rt.alloc(), &script, names, false, error)
-        }
+        Err(error) => tell_unopened(errors, rt.alloc(), &script, names, error),
     }
 }

@@ -8,6 +8,7 @@ ghost use Rattle.command_line.specs.Commands.{Printed};
 use crate::reasons::tell_failed;
 use crate::scripts::{Script, text_of};
 use crate::telling::{tell_fault, tell_script};
+use crate::warnings::show_warnings;
 use program::{Exit, PrintError};
 use std::io::{IsTerminal, Write};
 use std::rt::Files;
@@ -61,7 +62,10 @@ pub fn print<R: Files + AllocGlobal, O: Write, E: Write + IsTerminal>(
     };
     let process = process.as_bytes();
     match program::print(rt.alloc(), &text, process) {
-        Ok(printed) => write(&printed, Exit::Done, output, errors),
+        Ok(printed) => {
+            show_warnings(errors, name, &text);
+            write(&printed, Exit::Done, output, errors)
+        }
         Err(PrintError::Script(fault)) => {
             let script = Script {
                 name,

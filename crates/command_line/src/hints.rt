@@ -1,9 +1,13 @@
 //! What a terminal shows below a fault: of a script its line, where it is there, and what it means, of a limit what it means, of the
 //! words an example.
 
+ghost use Rattle.std.specs.Prelude.{◌≤◌, length};
+
+use crate::cspm_forms::advice_at;
 use crate::evidence::beginning;
-use crate::marks::{declares, first_word, place_of_fault};
+use crate::marks::{declares, first_word, place_of_fault, reads};
 use crate::scripts::Script;
+use crate::warnings::{is_warned, show_warnings};
 use program::SessionError;
 use std::alloc::Global;
 use std::fs::File;
@@ -123,6 +127,13 @@ fn words_about(
     }
 }
 
+/// Writes a line with this name.
+fn write_named<E: Write>(errors: &mut E, before: &str, name: &[u8], after: &str) -> io::Result<()> {
+    write!(errors, "        {before}")?;
+    errors.write_all(name)?;
+    writeln!(errors, "{after}")
+}
+
 /// Writes what the fault means, which is about this name.
 fn write_about<E: Write>(
     errors: &mut E,
@@ -132,12 +143,31 @@ fn write_about<E: Write>(
     name: &[u8],
 ) -> io::Result<()> {
     match words_about(alloc, script, kind, name) {
-        Some((before, after)) => {
-            write!(errors, "        {before}")?;
-            errors.write_all(name)?;
-            writeln!(errors, "{after}")
-        }
+        Some((before, after)) => write_named(errors, before, name, after),
         None => writeln!(errors, "        {}", meaning_of(kind)),
+    }
+}
+
+/// Writes what the fault at this place of the line means, and what to write where a form of CSPM that isn't read is the cause.
+fn write_meaning<E: Write>(
+    errors: &mut E,
+    alloc: Global,
+    script: &Script<'_>,
+    kind: ScriptErrorKind,
+    line: &[u8],
+    place: usize,
+) -> io::Result<()>
+    requires { place ≤ length line.now }
+{
+    let name = first_word(&line[place..]);
+    match advice_at(kind, line, place) {
+        Some(advice) => {
+            if let Some((before, after)) = words_about(alloc, script, kind, name) {
+                write_named(errors, before, name, after)?;
+            }
+            writeln!(errors, "        {advice}")
+        }
+        None => write_about(errors, alloc, script, kind, name),
     }
 }
 
@@ -155,13 +185,7 @@ fn write_on_line<E: Write>(
     match place_of_fault(alloc, before, line, after, script.process, fault) {
         Some(place) if place < MOST_SHOWN => {
             write_mark(errors, number, place)?;
-            write_about(
-                errors,
-                alloc,
-                script,
-                fault.kind,
-                first_word(&line[place..]),
-            )
+            write_meaning(errors, alloc, script, fault.kind, line, place)
         }
         _ => writeln!(errors, "        {}", meaning_of(fault.kind)),
     }
@@ -179,9 +203,9 @@ fn write_on_phrase<E: Write>(
     write_line(errors, script.process)?;
     let place = column.saturating_sub(1) as usize;
     match script.process.get(place..) {
-        Some(rest) if place < MOST_SHOWN => {
+        Some(_) if place < MOST_SHOWN => {
             write_mark(errors, 0, place)?;
-            write_about(errors, alloc, script, kind, first_word(rest))
+            write_meaning(errors, alloc, script, kind, script.process, place)
         }
         _ => writeln!(errors, "        {}", meaning_of(kind)),
     }
@@ -200,6 +224,21 @@ pub(crate) fn show_fault<E: Write>(
         Position::Line(number) => write_on_line(errors, alloc, script, fault, number),
         Position::Column(column) => write_on_phrase(errors, alloc, script, fault.kind, column),
     };
+}
+
+/// Shows, where the errors go to a terminal, what a script reads otherwise than in CSPM, if it is read for the process. Where it isn't, its
+/// fault will be shown, and this with it.
+pub(crate) fn show_warnings_of<E: Write + IsTerminal>(
+    errors: &mut E,
+    alloc: Global,
+    script: &Script<'_>,
+) {
+    if errors.is_terminal()
+        && is_warned(errors, script.text)
+        && reads(alloc, script.text, script.process)
+    {
+        show_warnings(errors, script.name, script.text);
+    }
 }
 
 /// What the limit means, where names are kept so.
@@ -223,9 +262,16 @@ pub(crate) fn show_limit<E: Write + IsTerminal>(errors: &mut E, names: Names, er
     }
 }
 
-/// Shows, where the errors go to a terminal, what helps where a report met a limit and names are kept so, if something may.
+/// Shows, where the errors go to a terminal, what it means that a report met a limit, and what helps where names are kept so, if something
+/// may.
 pub(crate) fn show_limit_met<E: Write + IsTerminal>(errors: &mut E, names: Names) {
-    if names == Names::Steps && errors.is_terminal() {
+    if !errors.is_terminal() {
+        return;
+    }
+    let _ = errors.write_all(
+        b"        after an event that was answered 20, 21, 23 or 40, later verdicts are of a trace without it\n",
+    );
+    if names == Names::Steps {
         let _ = errors.write_all(
             b"        a limit was met; --large helps against 21 states (components that rest are one state) and 23 history (it has no end)\n",
         );

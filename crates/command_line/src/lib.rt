@@ -7,9 +7,11 @@
 
 mod by_line;
 mod checking;
+mod cspm_forms;
 mod doors;
 mod entrance;
 mod evidence;
+mod explained;
 mod following;
 mod forms;
 mod groups;
@@ -27,11 +29,14 @@ mod patient;
 mod reasons;
 mod replaying;
 mod running;
+mod script_pieces;
 mod scripts;
 mod server;
 mod showing;
 mod sockets;
 mod telling;
+mod unfinished;
+mod warnings;
 mod watching;
 
 pub use by_line::check_in;

@@ -24,7 +24,7 @@ enum Class {
 }
 
 /// Whether names and numbers have such bytes.
-fn is_of_word(byte: u8) -> bool
+pub(crate) fn is_of_word(byte: u8) -> bool
     ensures { result ≡ (is_name_byte byte || is_prime byte) }
 {
     byte.is_ascii_alphanumeric() || byte == b'_' || byte == b'\''
@@ -116,6 +116,11 @@ fn fault_in(alloc: Global, text: &[u8], process: &[u8]) -> Option<ScriptError> {
     }
 }
 
+/// Whether the text is read for the process.
+pub(crate) fn reads(alloc: Global, text: &[u8], process: &[u8]) -> bool {
+    fault_in(alloc, text, process).is_none()
+}
+
 /// The text with this line in it set apart.
 fn set_apart(
     alloc: Global,
@@ -167,7 +172,7 @@ pub(crate) fn place_of_fault(
 }
 
 /// How many bytes of a name, a number or a word the text begins with.
-fn word_len(text: &[u8]) -> usize
+pub(crate) fn word_len(text: &[u8]) -> usize
     ensures { result ≡ run (λ c. is_name_byte c || is_prime c) text.now }
 {
     text.iter().take_while(|byte| is_of_word(**byte)).count()

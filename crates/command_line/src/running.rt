@@ -5,6 +5,7 @@ ghost use Rattle.answers.specs.Exits.{exit_code};
 
 use crate::by_line::{check_in, is_wanted};
 use crate::checking::check;
+use crate::explained::{Explained, is_asked_for};
 use crate::following::follow;
 use crate::forms::print;
 use crate::limits::names_by;
@@ -13,10 +14,12 @@ use crate::reasons::{Noting, Reason};
 use crate::replaying::{replay, replay_read_only};
 use crate::server::serve;
 use crate::showing::show;
-use crate::telling::tell_use;
+use crate::telling::{tell_unfinished, tell_use};
+use crate::unfinished::Lines;
 use file_disk::FileSystem;
 use program::{Exit, Manner, Options};
 use std::convert::AsStr;
+use std::env::Env;
 use std::fs::File;
 use std::io::{IsTerminal, Read, Write};
 use std::net::{Net, TcpListener, TcpStream};
@@ -31,21 +34,22 @@ use words::{Check, Service, Wish, example_of, read_words};
 fn fulfil_check<R: Files + AllocGlobal + Wait, I: Read, O: Write, E: Write + IsTerminal>(
     rt: &R,
     wished: &Check<'_>,
+    explain: bool,
     input: &mut I,
     output: &mut O,
     errors: &mut E,
     reason: &Reason,
 ) -> Exit {
-    let mut reader = Plain::new(Noting::new(Patient::new(&mut *input), reason));
+    let mut reader = Lines::new(Plain::new(Noting::new(Patient::new(&mut *input), reason)));
     let mut writer = sink_of(output, reason);
     let names = names_by(wished.large);
     let manner = Manner {
-        explain: wished.explain,
+        explain,
         quiet: wished.quiet,
         first: wished.first,
     };
-    if is_wanted(manner) {
-        return check_in(
+    let exit = if is_wanted(manner) {
+        check_in(
             rt,
             wished.spec,
             wished.process,
@@ -54,17 +58,22 @@ fn fulfil_check<R: Files + AllocGlobal + Wait, I: Read, O: Write, E: Write + IsT
             &mut reader,
             &mut writer,
             errors,
-        );
+        )
+    } else {
+        check(
+            rt,
+            wished.spec,
+            wished.process,
+            names,
+            &mut reader,
+            &mut writer,
+            errors,
+        )
+    };
+    match reader.unfinished() {
+        Some(line) => tell_unfinished(errors, line, wished.large, exit),
+        None => exit,
     }
-    check(
-        rt,
-        wished.spec,
-        wished.process,
-        names,
-        &mut reader,
-        &mut writer,
-        errors,
-    )
 }
 
 // The output, as what counts its failures.
@@ -96,12 +105,24 @@ fn fulfil_show<
     show(rt, journal, options, &mut output, errors)
 }
 
+// Whether explanations of faults are wished for.
+fn is_explained(wish: &Wish<'_>) -> bool {
+    match wish {
+        Wish::Check(check) => check.explain,
+        Wish::Print { explain, .. } | Wish::Replay { explain, .. } | Wish::Show { explain, .. } => {
+            *explain
+        }
+        Wish::Serve(service) => service.explain,
+    }
+}
+
 // Whether the reason for which a standard stream failed can be shown: lines of a log may still wait for standard error.
 fn is_shown(wish: &Wish<'_>) -> bool {
     !matches!(wish, Wish::Serve(Service { log: Some("-"), .. }))
 }
 
-// Does what is wished for, shows why a standard stream failed, where one has, and answers the exit status.
+// Does what is wished for, shows why a standard stream failed, where one has, and answers the exit status. Of `check` it is said why
+// reports are rejected, if `explain` says so.
 fn fulfil<
     R: Files<File = File>
         + FileSystem
@@ -118,9 +139,9 @@ fn fulfil<
     I: Read,
     O: Write,
     E: Write + IsTerminal,
->(rt: &R, wish: &Wish<'_>, input: &mut I, output: &mut O, errors: &mut E) -> Exit {
+>(rt: &R, wish: &Wish<'_>, explain: bool, input: &mut I, output: &mut O, errors: &mut E) -> Exit {
     let reason = Reason::new();
-    let exit = fulfil_noted(rt, wish, input, output, errors, &reason);
+    let exit = fulfil_noted(rt, wish, explain, input, output, errors, &reason);
     if is_shown(wish) {
         reason.show(errors);
     }
@@ -144,22 +165,33 @@ fn fulfil_noted<
     I: Read,
     O: Write,
     E: Write + IsTerminal,
->(rt: &R, wish: &Wish<'_>, input: &mut I, output: &mut O, errors: &mut E, reason: &Reason) -> Exit {
+>(
+    rt: &R,
+    wish: &Wish<'_>,
+    explain: bool,
+    input: &mut I,
+    output: &mut O,
+    errors: &mut E,
+    reason: &Reason,
+) -> Exit {
     match wish {
-        Wish::Check(wished) => fulfil_check(rt, wished, input, output, errors, reason),
-        Wish::Print { spec, process } => print(rt, spec, process, output, errors),
+        Wish::Check(wished) => fulfil_check(rt, wished, explain, input, output, errors, reason),
+        Wish::Print { spec, process, .. } => print(rt, spec, process, output, errors),
         Wish::Replay {
             journal,
             read_only: false,
+            ..
         } => replay(rt, journal, output, errors),
         Wish::Replay {
             journal,
             read_only: true,
+            ..
         } => replay_read_only(rt, journal, output, errors),
         Wish::Show {
             journal,
             options,
             follow,
+            ..
         } => fulfil_show(rt, journal, *options, *follow, output, errors, reason),
         Wish::Serve(service) => serve(rt, service, &mut sink_of(output, reason), errors),
     }
@@ -172,6 +204,7 @@ fn fulfil_words<
         + FileSystem
         + Net<Stream = TcpStream, Listener = TcpListener>
         + AllocGlobal
+        + Env
         + Threads
         + Wait
         + Clock
@@ -184,10 +217,19 @@ fn fulfil_words<
     O: Write,
     E: Write + IsTerminal,
 >(rt: &R, words: &[S], input: &mut I, output: &mut O, errors: &mut E) -> Exit {
+    let is_asked = is_asked_for(rt);
+    let is_terminal = errors.is_terminal();
     match read_words(rt.alloc(), words) {
-        Err(error) => tell_use(&error, example_of(words), output, errors),
+        Err(error) => {
+            let mut errors = Explained::new(errors, is_asked || is_terminal);
+            tell_use(&error, example_of(words), output, &mut errors)
+        }
         Ok(None) => Exit::Misuse,
-        Ok(Some(wish)) => fulfil(rt, &wish, input, output, errors),
+        Ok(Some(wish)) => {
+            let explain = is_asked || is_explained(&wish);
+            let mut errors = Explained::new(errors, explain || is_terminal);
+            fulfil(rt, &wish, explain, input, output, &mut errors)
+        }
     }
 }
 
@@ -203,6 +245,7 @@ pub fn run<
         + FileSystem
         + Net<Stream = TcpStream, Listener = TcpListener>
         + AllocGlobal
+        + Env
         + Threads
         + Wait
         + Clock

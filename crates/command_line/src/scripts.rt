@@ -3,7 +3,8 @@ ghost use Rattle.std.specs.Prelude.{◌≡◌, IfOk, IfErr};
 ghost use Rattle.command_line.specs.Commands.{IsRefusal};
 
 use crate::reasons::tell_failed;
-use crate::telling::tell_script;
+use crate::telling::{tell_fault, tell_script};
+use crate::warnings::show_warnings;
 use program::{Exit, ReadScript};
 use std::alloc::Global;
 use std::fs::OpenOptions;
@@ -85,7 +86,12 @@ pub(crate) fn tell_read<'a, E: Write + IsTerminal>(
     ensures unread { IfErr result IsRefusal }
 {
     match ReadScript::read(alloc, script, process) {
-        Ok(read) => Ok(read),
+        Ok(read) => {
+            if errors.is_terminal() {
+                show_warnings(errors, name, script);
+            }
+            Ok(read)
+        }
         Err(fault) => {
             let script = Script {
                 name,

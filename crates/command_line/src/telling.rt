@@ -4,10 +4,13 @@ ghost use Rattle.answers.specs.Exits.{exit_code};
 ghost use Rattle.program.specs.Exits.{script_exit, journal_exit};
 ghost use Rattle.answers.specs.declared.exit.Exit.TheVariants.{Limit};
 ghost use Rattle.command_line.specs.Statuses.{open_exit};
+ghost use Rattle.command_line.specs.Unfinished.{unfinished_exit};
 
 use crate::hints::{show_example, show_fault, show_header, show_limit, show_other, show_part};
 use crate::reasons::{Reason, tell_failed};
 use crate::scripts::Script;
+use crate::unfinished::exit_of_unfinished;
+use crate::warnings::show_warnings;
 use clap::Error;
 use clap::error::ErrorKind;
 use program::{Exit, SessionError, exit_of_journal, exit_of_script};
@@ -35,6 +38,25 @@ pub(crate) fn tell_unjudged<E: Write>(errors: &mut E, count: u64) {
     }
 }
 
+/// Reports that the last line of the input, which has this number, has no LF: with the limits for large systems everywhere, else on a
+/// terminal alone. Answers the exit status, which is this one without it.
+pub(crate) fn tell_unfinished<E: Write + IsTerminal>(
+    errors: &mut E,
+    line: u64,
+    large: bool,
+    exit: Exit,
+) -> Exit
+    ensures { result ≡ unfinished_exit large exit }
+{
+    if large || errors.is_terminal() {
+        let _ = writeln!(
+            errors,
+            "line {line}: the last line has no LF, and was not judged"
+        );
+    }
+    exit_of_unfinished(exit, large)
+}
+
 /// Reports that there is no memory for the words, and answers the exit status.
 pub fn tell_no_memory<E: Write>(errors: &mut E) -> u8
     ensures { result ≡ exit_code Limit }
@@ -55,26 +77,8 @@ fn write_whose<E: Write>(
     }
 }
 
-/// Reports why the script is refused for the process, on a terminal, or where it is to be explained, with its line: a fault of the phrase for
-/// the process by that, with a column.
-pub(crate) fn explain_script<E: Write + IsTerminal>(
-    errors: &mut E,
-    alloc: Global,
-    script: &Script<'_>,
-    fault: &ScriptError,
-    explain: bool,
-) -> Exit
-    ensures { result ≡ script_exit fault.now }
-{
-    let _ = write_whose(errors, script, fault.line);
-    let _ = writeln!(errors, ":{fault}");
-    if explain || errors.is_terminal() {
-        show_fault(errors, alloc, script, fault);
-    }
-    exit_of_script(fault)
-}
-
-/// Reports why the script is refused, on a terminal with its line.
+/// Reports why the script is refused for the process, on a terminal with its line: a fault of the phrase for the process by that, with a
+/// column.
 pub(crate) fn tell_script<E: Write + IsTerminal>(
     errors: &mut E,
     alloc: Global,
@@ -83,7 +87,13 @@ pub(crate) fn tell_script<E: Write + IsTerminal>(
 ) -> Exit
     ensures { result ≡ script_exit fault.now }
 {
-    explain_script(errors, alloc, script, fault, false)
+    let _ = write_whose(errors, script, fault.line);
+    let _ = writeln!(errors, ":{fault}");
+    if errors.is_terminal() {
+        show_fault(errors, alloc, script, fault);
+        show_warnings(errors, script.name, script.text);
+    }
+    exit_of_script(fault)
 }
 
 /// Reports which limit the specification's opening meets, where names are kept so, or that memory ran out; on a terminal with what the

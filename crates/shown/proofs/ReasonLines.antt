@@ -27,11 +27,11 @@ choice_from r cs start text new [] x d h e is all = absurd (omega arith)
 choice_from r cs start text new (w ∷ ws) x d h e is all = joined_from r (codes " or ") (name_text Text cs) start text new (w ∷ ws) x d h e is all
 
 -- what is offered, after its first word
-pub offers_from : {T E : Type 0} (r : Result T E) (cs : List Channel) (start mid new : List ℕ) (sets : List Set) → 1 ≤ length sets → mid ≡ start ++ codes "offers " →
-    OnOk r (new ≡ mid ++ joined (codes " or ") (map (offer_text cs) sets)) → OnOk r (new ≡ start ++ offers_text cs sets)
-offers_from r cs start mid new [] h is all = absurd (omega arith)
-offers_from (Ok x) cs start mid new (X ∷ Xs) h is all = grown start mid new (codes "offers ") (joined (codes " or ") (map (offer_text cs) (X ∷ Xs))) is all
-offers_from (Err x) cs start mid new (X ∷ Xs) h is all = all
+pub offers_from : {T E : Type 0} (r : Result T E) (cs : List Channel) (X : Set) (start mid new : List ℕ) (sets : List Set) → 1 ≤ length sets → mid ≡ start ++ codes "offers " →
+    OnOk r (new ≡ mid ++ joined (codes " or ") (map (offer_text cs X) sets)) → OnOk r (new ≡ start ++ offers_text cs X sets)
+offers_from r cs X start mid new [] h is all = absurd (omega arith)
+offers_from (Ok x) cs X start mid new (Y ∷ Ys) h is all = grown start mid new (codes "offers ") (joined (codes " or ") (map (offer_text cs X) (Y ∷ Ys))) is all
+offers_from (Err x) cs X start mid new (Y ∷ Ys) h is all = all
 
 -- why an event was rejected
 pub why_event : {T E : Type 0} (r : Result T E) (B : ℕ → Proc) (before : List Entry) (said : Report) (x : Event) (X : Set) (cs ds : List Channel) (start new : List ℕ) →
@@ -44,11 +44,11 @@ why_event (Err t) B before said x X cs ds start new same is next all = all
 
 -- why a refusal was
 pub why_refusal : {T E : Type 0} (r : Result T E) (B : ℕ → Proc) (before : List Entry) (said : Report) (X : Set) (Xs : List Set) (cs ds : List Channel) (start new : List ℕ) →
-    cs ≡ ds → said ≡ report.Refusal X → AreAcceptances B root (events before) Xs → OnOk r (new ≡ start ++ offers_text cs Xs)
+    cs ≡ ds → said ≡ report.Refusal X → AreAcceptances B root (events before) Xs → OnOk r (new ≡ start ++ offers_text cs X Xs)
     → OnOk r ((f : Finding) × Finds B before false said f × (new ≡ start ++ why_text ds said f))
 why_refusal (Ok t) B before said X Xs cs ds start new same is are all =
     subst (λ (w : Report). (f : Finding) × Finds B before false w f × (new ≡ start ++ why_text ds w f)) (sym is)
-    (offered Xs, (Xs, are, refl), all ∙ ap (λ (es : List Channel). start ++ offers_text es Xs) same)
+    (offered Xs, (Xs, are, refl), all ∙ ap (λ (es : List Channel). start ++ offers_text es X Xs) same)
 why_refusal (Err t) B before said X Xs cs ds start new same is are all = all
 
 -- the whole line from its parts

@@ -1,9 +1,9 @@
 -- The line that says why a report was rejected.
-use Rattle.std.specs.Prelude.{◌≡◌, ℕ, ◌-◌, leb, cond, false, List, [], ◌∷◌, ◌++◌, map, length, take, codes, decimal}
+use Rattle.std.specs.Prelude.{◌≡◌, ℕ, ◌-◌, leb, cond, not, false, List, [], ◌∷◌, ◌++◌, filter, map, length, take, codes, decimal}
 use Rattle.alphabet.specs.declared.events.Event.{Event}
 use Rattle.alphabet.specs.declared.events.Report.{Report}
 use Rattle.alphabet.specs.declared.events.Report.TheVariants as report
-use Rattle.alphabet.specs.EventSets.{Set, members}
+use Rattle.alphabet.specs.EventSets.{Set, member, members}
 use Rattle.alphabet.specs.Channels.{Channel, name_of}
 use Rattle.term.specs.Proc.{bodies_of}
 use Rattle.term.specs.Specs.{Specified}
@@ -25,19 +25,28 @@ unfoldable pub expected_text : List Channel → List ℕ → List Event → List
 expected_text cs name xs =
     cond (leb (length xs) 8) (choice_text cs xs) (choice_text cs (take 8 (nearest_first cs name xs)) ++ codes " and " ++ decimal (length xs - 8) ++ codes " more")
 
--- the events of a set that is offered: a b
-abbrev pub offer_text : List Channel → Set → List ℕ
-offer_text cs X = joined (codes " ") (map (name_text Text cs) (members X))
+-- these events: a b
+abbrev pub spaced_text : List Channel → List Event → List ℕ
+spaced_text cs xs = joined (codes " ") (map (name_text Text cs) xs)
 
--- which sets of events are offered where it rests: a or b c
-abbrev pub offers_text : List Channel → List Set → List ℕ
-offers_text cs [] = codes "never comes to rest"
-offers_text cs (X ∷ Xs) = codes "offers " ++ joined (codes " or ") (map (offer_text cs) (X ∷ Xs))
+-- the events of a set that aren't refused: ` (and a b)`, or nothing
+abbrev pub rest_text : List Channel → List Event → List ℕ
+rest_text cs [] = []
+rest_text cs (x ∷ xs) = codes " (and " ++ spaced_text cs (x ∷ xs) ++ codes ")"
+
+-- the events of a set Y that is offered where X was reported as refused: those of X, and then the others
+abbrev pub offer_text : List Channel → Set → Set → List ℕ
+offer_text cs X Y = spaced_text cs (filter (λ x. member X x) (members Y)) ++ rest_text cs (filter (λ x. not (member X x)) (members Y))
+
+-- which sets of events are offered where it rests, and X was reported as refused: a or b (and c)
+abbrev pub offers_text : List Channel → Set → List Set → List ℕ
+offers_text cs X [] = codes "never comes to rest"
+offers_text cs X (Y ∷ Ys) = codes "offers " ++ joined (codes " or ") (map (offer_text cs X) (Y ∷ Ys))
 
 -- why the report was rejected
 abbrev pub why_text : List Channel → Report → Finding → List ℕ
 why_text cs (report.Event x) (expected X) = codes "expected " ++ expected_text cs (name_of cs x) (members X)
-why_text cs r (offered Xs) = offers_text cs Xs
+why_text cs (report.Refusal X) (offered Xs) = offers_text cs X Xs
 why_text cs r finding = []
 
 -- The line: the number of the input's line, the report, the number of the reply, and why.

@@ -1,9 +1,9 @@
 //! The line that says why a report was rejected.
 
-ghost use Rattle.std.specs.Prelude.{◌≡◌, ◌++◌, ◌≤◌, ◌-◌, [], false, List, ℕ, OnOk, codes, decimal, map, length, take};
+ghost use Rattle.std.specs.Prelude.{◌≡◌, ◌++◌, ◌≤◌, ◌-◌, [], not, false, List, ℕ, OnOk, codes, decimal, filter, map, length, take};
 ghost use Rattle.std.specs.List.{flat_map};
 ghost use Rattle.term.specs.Proc.{bodies_of};
-ghost use Rattle.alphabet.specs.EventSets.{members};
+ghost use Rattle.alphabet.specs.EventSets.{member, members};
 ghost use Rattle.alphabet.specs.Channels.{name_of};
 ghost use Rattle.history.specs.declared.entry.Entry.{Entry as entry_type};
 ghost use Rattle.history.specs.Entries.{events};
@@ -11,10 +11,10 @@ ghost use Rattle.shown.specs.declared.options.Format.TheVariants.{Text as text_f
 ghost use Rattle.shown.specs.Names.{joined, name_text};
 ghost use Rattle.shown.specs.Lines.{Finding, report_text};
 ghost use Rattle.shown.specs.Findings.{Finds};
-ghost use Rattle.shown.specs.Reasons.{IsReason, choice_text, expected_text, offer_text, offers_text, why_text};
+ghost use Rattle.shown.specs.Reasons.{IsReason, choice_text, expected_text, offer_text, offers_text, rest_text, spaced_text, why_text};
 
 use crate::lines::put_report;
-use crate::names::{put_joined, put_marked, put_name, put_plain};
+use crate::names::{put_marked, put_name, put_plain};
 use crate::nearness::add_nearest;
 use crate::options::Format;
 use alphabet::{Alphabet, Event, EventSet, Report};
@@ -151,17 +151,119 @@ fn put_instead<A: Allocator, B: Allocator + Copy>(
     put
 }
 
+/// Appends the members of the set that are refused, in alphabet order.
+fn refused_into<B: Allocator>(
+    list: &mut Vec<Event, B>,
+    set: EventSet,
+    refused: EventSet,
+) -> Result<(), AllocError>
+    ensures { OnOk result (list.new.items ≡ list.old.items ++ filter (λ x. member refused x) (members set)) }
+{
+    for event in set.iter() {
+        if refused.contains(event) {
+            list.push(event)?;
+        }
+    }
+    Ok(())
+}
+
+/// Appends the members of the set that aren't refused, in alphabet order.
+fn others_into<B: Allocator>(
+    list: &mut Vec<Event, B>,
+    set: EventSet,
+    refused: EventSet,
+) -> Result<(), AllocError>
+    ensures { OnOk result (list.new.items ≡ list.old.items ++ filter (λ x. not (member refused x)) (members set)) }
+{
+    for event in set.iter() {
+        if !refused.contains(event) {
+            list.push(event)?;
+        }
+    }
+    Ok(())
+}
+
+/// Appends the names of the events, each after a blank.
+fn put_more<A: Allocator, B: Allocator>(
+    text: &mut Vec<u8, B>,
+    alphabet: &Alphabet<A>,
+    events: &[Event],
+) -> Result<(), AllocError>
+    ensures { OnOk result (text.new.items ≡ text.old.items ++ flat_map (λ x. codes " " ++ name_text text_format alphabet.now x) events.now) }
+{
+    for event in events {
+        text.extend_from_slice(b" ")?;
+        put_name(text, alphabet, *event, Format::Text)?;
+    }
+    Ok(())
+}
+
+/// Appends the names of the events with blanks between them.
+fn put_spaced<A: Allocator, B: Allocator>(
+    text: &mut Vec<u8, B>,
+    alphabet: &Alphabet<A>,
+    events: &[Event],
+) -> Result<(), AllocError>
+    ensures { OnOk result (text.new.items ≡ text.old.items ++ spaced_text alphabet.now events.now) }
+{
+    match events {
+        [] => Ok(()),
+        [first, others @ ..] => {
+            put_name(text, alphabet, *first, Format::Text)?;
+            put_more(text, alphabet, others)
+        }
+    }
+}
+
+/// Appends the events of an offer that aren't refused, if there are any.
+fn put_rest<A: Allocator, B: Allocator>(
+    text: &mut Vec<u8, B>,
+    alphabet: &Alphabet<A>,
+    events: &[Event],
+) -> Result<(), AllocError>
+    ensures { OnOk result (text.new.items ≡ text.old.items ++ rest_text alphabet.now events.now) }
+{
+    match events {
+        [] => Ok(()),
+        [_, ..] => {
+            text.extend_from_slice(b" (and ")?;
+            put_spaced(text, alphabet, events)?;
+            text.extend_from_slice(b")")
+        }
+    }
+}
+
+/// Appends the events of the set that is offered, those that are refused first.
+fn put_offer<A: Allocator, B: Allocator>(
+    text: &mut Vec<u8, B>,
+    list: &mut Vec<Event, B>,
+    alphabet: &Alphabet<A>,
+    refused: EventSet,
+    set: EventSet,
+) -> Result<(), AllocError>
+    ensures { OnOk result (text.new.items ≡ text.old.items ++ offer_text alphabet.now refused set) }
+{
+    list.clear();
+    refused_into(list, set, refused)?;
+    put_spaced(text, alphabet, list)?;
+    list.clear();
+    others_into(list, set, refused)?;
+    put_rest(text, alphabet, list)
+}
+
 /// Appends the sets, each after ` or `.
 fn put_other_offers<A: Allocator, B: Allocator>(
     text: &mut Vec<u8, B>,
+    list: &mut Vec<Event, B>,
     alphabet: &Alphabet<A>,
+    refused: EventSet,
     sets: &[EventSet],
 ) -> Result<(), AllocError>
-    ensures { OnOk result (text.new.items ≡ text.old.items ++ flat_map (λ X. codes " or " ++ offer_text alphabet.now X) sets.now) }
+    ensures { OnOk result (text.new.items ≡ text.old.items ++ flat_map (λ X. codes " or " ++ offer_text alphabet.now refused X) sets.now) }
 {
     for set in sets {
         text.extend_from_slice(b" or ")?;
-        put_joined(text, alphabet, *set, Format::Text)?;
+        put_offer(text, list, alphabet, refused, *set)?;
     }
     Ok(())
 }
@@ -169,16 +271,18 @@ fn put_other_offers<A: Allocator, B: Allocator>(
 /// Appends the sets that are offered with ` or ` between them.
 fn put_sets<A: Allocator, B: Allocator>(
     text: &mut Vec<u8, B>,
+    list: &mut Vec<Event, B>,
     alphabet: &Alphabet<A>,
+    refused: EventSet,
     sets: &[EventSet],
 ) -> Result<(), AllocError>
-    ensures { OnOk result (text.new.items ≡ text.old.items ++ joined (codes " or ") (map (offer_text alphabet.now) sets.now)) }
+    ensures { OnOk result (text.new.items ≡ text.old.items ++ joined (codes " or ") (map (offer_text alphabet.now refused) sets.now)) }
 {
     match sets {
         [] => Ok(()),
         [first, others @ ..] => {
-            put_joined(text, alphabet, *first, Format::Text)?;
-            put_other_offers(text, alphabet, others)
+            put_offer(text, list, alphabet, refused, *first)?;
+            put_other_offers(text, list, alphabet, refused, others)
         }
     }
 }
@@ -186,18 +290,36 @@ fn put_sets<A: Allocator, B: Allocator>(
 /// Appends which sets are offered, or that it never comes to rest.
 fn put_offers<A: Allocator, B: Allocator>(
     text: &mut Vec<u8, B>,
+    list: &mut Vec<Event, B>,
     alphabet: &Alphabet<A>,
+    refused: EventSet,
     sets: &[EventSet],
 ) -> Result<(), AllocError>
-    ensures { OnOk result (text.new.items ≡ text.old.items ++ offers_text alphabet.now sets.now) }
+    ensures { OnOk result (text.new.items ≡ text.old.items ++ offers_text alphabet.now refused sets.now) }
 {
     match sets {
         [] => text.extend_from_slice(b"never comes to rest"),
         [_, ..] => {
             text.extend_from_slice(b"offers ")?;
-            put_sets(text, alphabet, sets)
+            put_sets(text, list, alphabet, refused, sets)
         }
     }
+}
+
+/// Appends which sets are offered in the place of the refusal that was rejected.
+fn put_offered_to<A: Allocator, B: Allocator + Copy>(
+    text: &mut Vec<u8, B>,
+    alloc: B,
+    alphabet: &Alphabet<A>,
+    refused: EventSet,
+    sets: &[EventSet],
+) -> Result<(), AllocError>
+    ensures { OnOk result (text.new.items ≡ text.old.items ++ offers_text alphabet.now refused sets.now) }
+{
+    let mut list = Vec::new(alloc);
+    let put = put_offers(text, &mut list, alphabet, refused, sets);
+    drop(list);
+    put
 }
 
 /// Appends why the report was rejected after the monitor's trace.
@@ -212,18 +334,21 @@ fn put_why<A: Allocator + Copy>(
         × (text.new.items ≡ text.old.items ++ why_text monitor.now.spec.alphabet report.now finding)) }
 {
     let alphabet = monitor.spec().alphabet();
-    if let Report::Event(event) = *report {
-        return put_instead(text, alloc, alphabet, event, monitor.next());
+    match *report {
+        Report::Event(event) => put_instead(text, alloc, alphabet, event, monitor.next()),
+        Report::Refusal(refused) => {
+            let acceptances = monitor.acceptances(alloc)?;
+            put_offered_to(text, alloc, alphabet, refused, &acceptances)
+        }
     }
-    let acceptances = monitor.acceptances(alloc)?;
-    put_offers(text, alphabet, &acceptances)
 }
 
 /// Appends the line that says why the report was rejected after the monitor's trace: the number of the line that it came in, the report, its
 /// place, and what `show` finds of it.
 ///
 /// Of a rejected event the events that could have come are named, in alphabet order; of more than eight those eight that are nearest to it: of
-/// its channel first, then those that share a value with it. Of a rejected refusal the minimal acceptances are named.
+/// its channel first, then those that share a value with it. Of a rejected refusal the minimal acceptances are named, of each the events that
+/// are refused first.
 ///
 /// Costs what the text costs, and of a refusal its acceptances. `AllocError` where memory is refused; a part may have been appended then.
 pub fn put_reason<A: Allocator + Copy>(

@@ -34,6 +34,9 @@ Exit status: 0 done, 1 a report was rejected, 2 bad use, 3 the script was refuse
 // What the option for large systems does.
 const LARGE_HELP: &str = "Use the limits for large systems: components that rest are one state";
 
+// What the option for explanations does, of each command but `check`.
+const EXPLAIN_HELP: &str = "Say on standard error what a fault means, as on a terminal";
+
 // An example of each command, at the end of its help.
 const CHECK_EXAMPLE: &str = "Example: printf 'E a\\nR a b\\n' | cspwatch check p.csp P";
 
@@ -68,6 +71,11 @@ fn on_process<'a>(
         .arg(word(alloc, "PROCESS", help))
 }
 
+// The option for explanations of faults.
+fn explain_option<'a>(alloc: Global) -> Arg<'a> {
+    flag(alloc, "explain", EXPLAIN_HELP)
+}
+
 // The option for the limits of large systems.
 fn large_option<'a>(alloc: Global) -> Arg<'a> {
     flag(alloc, "large", LARGE_HELP)
@@ -98,7 +106,8 @@ fn print_command<'a>(alloc: Global) -> Result<Command<'a>, AllocError> {
         "Prints what a process of the script means, with numbers for its definitions",
         "The process to print: one of the script, or a phrase",
         PRINT_EXAMPLE,
-    )
+    )?
+    .arg(explain_option(alloc))
 }
 
 fn replay_command<'a>(alloc: Global) -> Result<Command<'a>, AllocError> {
@@ -110,7 +119,8 @@ fn replay_command<'a>(alloc: Global) -> Result<Command<'a>, AllocError> {
             alloc,
             "read-only",
             "Only read the file: without this, what stands after the last record is cut off",
-        ))
+        ))?
+        .arg(explain_option(alloc))
 }
 
 // An option without a value.
@@ -150,7 +160,8 @@ fn show_command<'a>(alloc: Global) -> Result<Command<'a>, AllocError> {
             "Print after the reports how often each event came, and could have come",
         ))?
         .arg(format_option(alloc))?
-        .arg(follow_option(alloc)?)
+        .arg(follow_option(alloc)?)?
+        .arg(explain_option(alloc))
 }
 
 // The option to go on with a journal.
@@ -263,7 +274,8 @@ fn serve_command<'a>(alloc: Global) -> Result<Command<'a>, AllocError> {
     .arg(group_option(alloc))?
     .arg(pace_option(alloc)?)?
     .arg(silence_option(alloc)?)?
-    .arg(large_option(alloc))
+    .arg(large_option(alloc))?
+    .arg(explain_option(alloc))
 }
 
 // The command with one more below it, where there was memory for that one.
@@ -346,6 +358,7 @@ fn wish_at<'a>(matches: &ArgMatches<'a>, address: Address<'a>) -> Option<Wish<'a
         listen: matches.get_str("ADDR")?,
         address,
         large: matches.get_flag("large"),
+        explain: matches.get_flag("explain"),
         until: until_of(matches)?,
         log: matches.get_str("FILE"),
         log_size: log_size_of(matches)?,
@@ -400,6 +413,7 @@ fn wish_to_show<'a>(matches: &ArgMatches<'a>) -> Option<Wish<'a>> {
             format,
         },
         follow: matches.get_flag("follow"),
+        explain: matches.get_flag("explain"),
     })
 }
 
@@ -407,8 +421,11 @@ fn wish_of<'a>(matches: &ArgMatches<'a>) -> Option<Wish<'a>> {
     let (name, inner) = matches.subcommand()?;
     if name == "replay" {
         let journal = inner.get_str("JOURNAL")?;
-        let read_only = inner.get_flag("read-only");
-        return Some(Wish::Replay { journal, read_only });
+        return Some(Wish::Replay {
+            journal,
+            read_only: inner.get_flag("read-only"),
+            explain: inner.get_flag("explain"),
+        });
     }
     let spec = inner.get_str("SPEC")?;
     let process = inner.get_str("PROCESS")?;
@@ -421,7 +438,11 @@ fn wish_of<'a>(matches: &ArgMatches<'a>) -> Option<Wish<'a>> {
             quiet: inner.get_flag("quiet"),
             first: inner.get_flag("first"),
         })),
-        "print" => Some(Wish::Print { spec, process }),
+        "print" => Some(Wish::Print {
+            spec,
+            process,
+            explain: inner.get_flag("explain"),
+        }),
         _ => None,
     }
 }

@@ -13,11 +13,13 @@ pub enum Wish<'a> {
     Print {
         spec: &'a str,
         process: &'a str,
+        explain: bool,
     },
     /// To judge the records of the journal in the file again; without a change of the file where `read_only` says so.
     Replay {
         journal: &'a str,
         read_only: bool,
+        explain: bool,
     },
     /// To print the reports of the journal in the file, and why those that were rejected were; then those that come, where `follow`
     /// says so.
@@ -25,6 +27,7 @@ pub enum Wish<'a> {
         journal: &'a str,
         options: Options,
         follow: bool,
+        explain: bool,
     },
     /// To judge the reports of connections by a process of the script in the file `spec`, with the journal in its file.
     Serve(Service<'a>),
@@ -39,7 +42,7 @@ pub struct Check<'a> {
     pub process: &'a str,
     /// Whether the limits are those for large systems.
     pub large: bool,
-    /// Whether it is said why reports are rejected.
+    /// Whether it is said why reports are rejected, and what faults mean.
     pub explain: bool,
     /// Whether the replies to accepted reports are left out.
     pub quiet: bool,
@@ -82,6 +85,8 @@ pub struct Service<'a> {
     pub address: Address<'a>,
     /// Whether the limits are those for large systems.
     pub large: bool,
+    /// Whether it is said what faults mean.
+    pub explain: bool,
     /// When the server ends.
     pub until: Until,
     /// The file of the log, if there is to be one; `-` for standard error.

@@ -21,6 +21,9 @@ SECONDS = 20.0
 REASON = re.compile(rb"line \d+: R.*: NO \d+, (?:offers (.+)|(never comes to rest))")
 """Why a refusal was rejected."""
 
+WARNING = re.compile(rb".*: (?:warning: .*|\d+ more warnings)")
+"""What the check may say of the script before it answers."""
+
 
 class Next(NamedTuple):
     """What may come after the last accepted event, and what must."""
@@ -81,7 +84,10 @@ class Asker:
         while view:
             come, to, _ = select.select([self.come] if is_silent else [], [self.to], [], SECONDS)
             if come:
-                raise Unknown(self.line().decode("ascii", "replace")[:200])
+                line = self.next_line()
+                if WARNING.fullmatch(line):
+                    continue
+                raise Unknown(line.decode("ascii", "replace")[:200])
             if not to:
                 raise Unknown("the check takes no more lines")
             try:
@@ -92,6 +98,12 @@ class Asker:
                 raise Unknown("the check has ended: %s" % error.strerror) from None
 
     def line(self) -> bytes:
+        """The next line of the check that is no warning of the script."""
+        while WARNING.fullmatch(line := self.next_line()):
+            pass
+        return line
+
+    def next_line(self) -> bytes:
         """The next line of the check."""
         ending = time.monotonic() + SECONDS
         while b"\n" not in self.rest:
