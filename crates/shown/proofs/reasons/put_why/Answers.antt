@@ -22,9 +22,9 @@ returns-in_ok-acceptances-in-Refusal g c before is =
     let spec = c.args.monitor.now.spec in
     let B = bodies_of spec.bodies in
     let same = c.alphabet-alphabet.ensures ∙ ap (λ s. s.alphabet) c.spec.ensures in
-    let sets = c.in_ok-acceptances.acceptances.items in
+    let sets = c.in_ok-acceptances-in-Refusal.acceptances.items in
     let start = c.args.text.now.items in
     let new = c.put_offered_to.new.text.items in
     why_refusal c.put_offered_to.result B before c.args.report.now c.in-Refusal.refused sets c.alphabet-alphabet.result.now spec.alphabet start new
-    same c.in-Refusal.is (subst (λ u. AreAcceptances B root u sets) is c.in_ok-acceptances.ensures)
+    same c.in-Refusal.is (subst (λ u. AreAcceptances B root u sets) is c.in_ok-acceptances-in-Refusal.ensures)
     (subst (λ (l : List Set). OnOk c.put_offered_to.result (new ≡ start ++ offers_text c.alphabet-alphabet.result.now c.in-Refusal.refused l)) c.deref.ensures.value c.put_offered_to.ensures)
