@@ -185,8 +185,8 @@ def servers_that_start_together(program, folder):
     for turn in range(5):
         listening(path).close()
         # Services: the look of another server whether somebody listens is a connection too.
-        runs = [subprocess.Popen([program, *words(path, f"together{turn}.{number}")[:-2]], cwd=folder, stdout=subprocess.PIPE, stderr=subprocess.PIPE, text=True)
-                for number in range(4)]
+        runs = [subprocess.Popen([program, *words(path, f"together{turn}.{number}")[:-2]], cwd=folder, stdout=subprocess.PIPE,
+                                 stderr=subprocess.PIPE, text=True) for number in range(4)]
         ending = time.monotonic() + SECONDS
         while sum(run.poll() is None for run in runs) > 1 and time.monotonic() < ending:
             time.sleep(0.02)
@@ -211,7 +211,7 @@ def a_path_that_is_too_long(program, folder):
 
 def a_folder_that_is_not_there(program, folder):
     path = os.path.join(folder, "gone", "s")
-    run = subprocess.run([program, *words(path, "gone")], cwd=folder, capture_output=True, text=True, timeout=SECONDS, check=False)
+    run = subprocess.run([program, *words(path, "absent")], cwd=folder, capture_output=True, text=True, timeout=SECONDS, check=False)
     if (run.returncode, run.stderr) != (5, said(program, f"unix:{path}: cannot listen", errno.ENOENT)):
         yield f"{run.returncode} {run.stderr!r}"
 
