@@ -183,4 +183,17 @@
     list.addEventListener("contentvisibilityautostatechange", later, true);
     later();
   }
+
+  // The entry that an anchor names; null where it names none.
+  const named = () => {
+    const found = /^#p([0-9]+)$/.exec(location.hash);
+    return found && Number(found[1]);
+  };
+  addEventListener("hashchange", () => named() !== null && goTo(named()));
+  // What is fixed above the entries is as high as the window is narrow. An anchor's row comes below it.
+  const above = () => list.style.setProperty("--above", get("top").offsetHeight + 8 + "px");
+  addEventListener("resize", above);
+  above();
+  if (named() !== null) goTo(named());
+  else if (!location.hash && places.length) showRejected(0);
 })();

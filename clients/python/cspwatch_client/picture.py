@@ -7,12 +7,15 @@ from __future__ import annotations
 import argparse
 import json
 import math
+import os
 import pkgutil
 import sys
 from collections import Counter
 from html import escape
 from typing import Dict, Iterable, List, Optional, Tuple
 
+from . import recorded
+from .logs.packed import LogFault
 from .replies import Status
 from .shown import BadLine, Count, Coverage, Entry, Names, Shown, read
 
@@ -36,8 +39,8 @@ WIDE, LANES = 28, 640
 CROWDED = 8
 """Below so many pixels for each, the lifelines are drawn as one field."""
 
-BUCKETS = 400
-"""The most parts of the strip that shows where in the history entries were rejected."""
+BUCKETS = 150
+"""The most parts of the strip that shows where in the history entries were rejected. At 400 pixels its marks still stand apart."""
 
 PAGE = """<!DOCTYPE html>
 <html lang="en">
@@ -61,7 +64,7 @@ PAGE = """<!DOCTYPE html>
 %(coverage)s
 %(notes)s
 </main>
-<footer>Made from what <code>cspwatch show</code> printed.</footer>
+<footer>Made from what <code>cspwatch show</code> printed, or from a record of <code>cspwatch-logs</code>.</footer>
 <script>
 %(script)s</script>
 </body>
@@ -141,7 +144,16 @@ class Notes:
 
 def render(lines: Iterable[str], title: str = TITLE) -> str:
     """The page of what `cspwatch show --format json` printed. A line that isn't of that form raises `BadLine`."""
-    shown = read(lines)
+    return page_of_entries(read(lines), title)
+
+
+def render_record(record: Iterable[str], log: str, title: str = TITLE) -> str:
+    """The page of a record of `cspwatch-logs` and of the log in this file. A line that is none of a record raises `BadLine`."""
+    return page_of_entries(recorded.read(record, log), title)
+
+
+def page_of_entries(shown: Shown, title: str) -> str:
+    """The page."""
     notes = Notes()
     return PAGE % {
         "title": escape(title),
@@ -247,7 +259,7 @@ def whole(shown: Shown) -> str:
     buckets = min(last, BUCKETS)
     marked = Counter((place - 1) * buckets // last for place in rejected)
     most = max(marked.values())
-    path = "".join("M%d 9h1v-%dh-1z" % (bucket, 3 + 6 * count // most) for bucket, count in sorted(marked.items()))
+    path = "".join("M%d 9h.6v-%dh-.6z" % (bucket, 3 + 6 * count // most) for bucket, count in sorted(marked.items()))
     return (
         '<div class="whole" id="whole" data-last="%d" aria-hidden="true" title="Where entries were rejected, from the first place to the last">'
         '<svg viewBox="0 0 %d 9" preserveAspectRatio="none"><path d="%s"/></svg><div hidden></div></div>\n'
@@ -332,15 +344,28 @@ def row(entry: Entry, before: Optional[Entry], column: int, notes: Notes) -> Row
         entry.seat,
         entry.number,
         report(entry, notes),
-        "accepted" if entry.accepted else "<strong>rejected</strong>: " + reason(entry, notes),
+        "accepted" if entry.accepted else "<strong>rejected</strong>" + ("" if entry.line else ": " + reason(entry, notes)),
     )
 
 
 def report(entry: Entry, notes: Notes) -> str:
     """What was reported, as a cell."""
     if entry.refusal:
-        return '<span><span class="kind">refusal</span> %s</span>' % notes.short(braced(entry.events))
-    return '<span><span class="kind">event</span> %s</span>' % notes.short(entry.events[0])
+        return '<span><span class="kind">refusal</span> %s%s</span>' % (notes.short(braced(entry.events)), line(entry, notes))
+    return '<span><span class="kind">event</span> %s%s</span>' % (notes.short(entry.events[0]), line(entry, notes))
+
+
+def line(entry: Entry, notes: Notes) -> str:
+    """The line of the log that reported it, with its time in front."""
+    if not entry.line:
+        return ""
+    time = "<time>%s</time> " % escape(entry.time) if entry.time is not None else ""
+    return '<small class="line">%s%s %s</small>' % (time, escape(shown_text(entry.line)), notes.short(shown_text(entry.text)))
+
+
+def shown_text(text: str) -> str:
+    """The text without control characters, and without those that turn the direction of writing."""
+    return "".join(letter if letter.isprintable() else ascii(letter)[1:-1] for letter in text)
 
 
 def reason(entry: Entry, notes: Notes) -> str:
@@ -431,15 +456,22 @@ def main(words: Optional[List[str]] = None) -> int:
     parser = argparse.ArgumentParser(prog="python -m cspwatch_client.picture", description=(__doc__ or "").split("\n")[0])
     parser.add_argument("--title", default=TITLE, help="the title of the page")
     parser.add_argument("file", metavar="FILE", nargs="?", help="what `cspwatch show --format json` printed; standard input where there is none")
+    parser.add_argument("--record", metavar="FILE", help="what `cspwatch-logs --record` wrote, in place of that")
+    parser.add_argument("--log", metavar="LOG", help="the log that the record is of")
     options = parser.parse_args(words)
-    name = options.file or "standard input"
+    if (options.record is None) != (options.log is None) or options.record is not None and options.file is not None:
+        parser.error("--record goes with --log, and without FILE")
+    name = options.record or options.file or "standard input"
     try:
-        page = page_of(options.file, options.title)
+        page = page_of(options.file, options.title) if options.record is None else page_of_record(options.record, options.log, options.title)
         name = "standard output"
         with open(sys.stdout.fileno(), "wb", closefd=False) as out:
             out.write(page.encode("utf-8", "replace"))
+    except LogFault as error:
+        print(shown_text(str(error)), file=sys.stderr)
+        return 5
     except OSError as error:
-        print("%s: %s" % (name, error.strerror), file=sys.stderr)
+        print("%s: %s" % (shown_text(os.fsdecode(error.filename or name)), error.strerror), file=sys.stderr)
         return 5
     except BadLine as error:
         print("%s: %s" % (name, error), file=sys.stderr)
@@ -453,6 +485,12 @@ def page_of(file: Optional[str], title: str) -> str:
         return render(text_of(sys.stdin.buffer), title)
     with open(file, "rb") as lines:
         return render(text_of(lines), title)
+
+
+def page_of_record(record: str, log: str, title: str) -> str:
+    """The page of a record and its log."""
+    with open(record, "rb") as lines:
+        return render_record(text_of(lines), log, title)
 
 
 def text_of(lines: Iterable[bytes]) -> Iterable[str]:

@@ -43,6 +43,15 @@ class Entry:
     acceptances: Tuple[Names, ...] = ()
     """Of a rejected refusal: the least sets of events that the process may come to rest on."""
 
+    line: str = ""
+    """Where the line stands in a log that reported it; empty where that isn't known, and then so is all that follows."""
+
+    time: Optional[str] = None
+    """The time in that line."""
+
+    text: str = ""
+    """The line. What was expected isn't known of such an entry."""
+
 
 @dataclass(frozen=True)
 class Count:
