@@ -378,25 +378,30 @@ impl<'a, R, L: Streams> LimitedAccept<'a, R, L> {
             limits,
         }
     }
+}
 
-    // What a connection that was taken is read from.
-    fn reader(&self, reader: L::Reader, quiet: Option<Quiet>) -> LimitedReader<'a, R, L::Stream> {
-        let stream = L::stream(reader);
-        if let Some(longest) = self.limits.silence {
-            // Where that can't be had, a peer that takes no replies holds its place.
-            let _ = stream.limit_writes(longest);
-        }
-        let pace = match self.limits.pace {
-            Some(lines) => Some(Pace::new(self.alloc, lines)),
-            None => None,
-        };
-        LimitedReader {
-            rt: self.rt,
-            stream,
-            failures: Count::new(),
-            pace,
-            quiet,
-        }
+// What a connection that was taken is read from.
+fn limited<'a, R, S: Socket>(
+    rt: &'a R,
+    alloc: Global,
+    limits: Limits,
+    stream: S,
+    quiet: Option<Quiet>,
+) -> LimitedReader<'a, R, S> {
+    if let Some(longest) = limits.silence {
+        // Where that can't be had, a peer that takes no replies holds its place.
+        let _ = stream.limit_writes(longest);
+    }
+    let pace = match limits.pace {
+        Some(lines) => Some(Pace::new(alloc, lines)),
+        None => None,
+    };
+    LimitedReader {
+        rt,
+        stream,
+        failures: Count::new(),
+        pace,
+        quiet,
     }
 }
 
@@ -413,7 +418,11 @@ impl<'a, R: Wait + Clock + Sync, L: Streams> Accept for LimitedAccept<'a, R, L> 
     fn accept(&mut self) -> Result<(LimitedReader<'a, R, L::Stream>, L::Writer), AcceptFault> {
         let quiet = quiet_of(self.alloc, self.limits)?;
         match self.inner.accept() {
-            Ok((reader, writer)) => Ok((self.reader(reader, quiet), writer)),
+            Ok((reader, writer)) => {
+                let stream = L::stream(reader);
+                let reader = limited(self.rt, self.alloc, self.limits, stream, quiet);
+                Ok((reader, writer))
+            }
             Err(fault) => {
                 drop(quiet);
                 Err(fault)
@@ -430,7 +439,11 @@ impl<'a, R: Wait + Clock + Sync, L: Streams> Listen for LimitedAccept<'a, R, L> 
     ) -> Result<Option<(LimitedReader<'a, R, L::Stream>, L::Writer)>, AcceptFault> {
         let quiet = quiet_of(self.alloc, self.limits)?;
         match self.inner.accept_soon() {
-            Ok(Some((reader, writer))) => Ok(Some((self.reader(reader, quiet), writer))),
+            Ok(Some((reader, writer))) => {
+                let stream = L::stream(reader);
+                let reader = limited(self.rt, self.alloc, self.limits, stream, quiet);
+                Ok(Some((reader, writer)))
+            }
             Ok(None) => {
                 drop(quiet);
                 Ok(None)

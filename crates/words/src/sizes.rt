@@ -38,7 +38,7 @@ pub(crate) fn mode_of(word: &str) -> Option<u32> {
     let mut mode = 0u32;
     for byte in word.bytes() {
         match byte {
-            b'0'..=b'7' => mode = mode * 8 + u32::from(byte & 7),
+            b'0'..=b'7' => mode = mode.saturating_mul(8).saturating_add(u32::from(byte & 7)),
             _ => return None,
         }
     }
