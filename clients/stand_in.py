@@ -18,7 +18,7 @@ HOLD = object()
 RESET = object()
 """As the last step of a conversation: the connection is cut, not ended."""
 
-SECONDS = 60
+SECONDS = 120
 """The longest that a test waits for anything."""
 
 

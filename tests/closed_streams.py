@@ -22,7 +22,7 @@ PROGRAM = os.path.join(os.path.dirname(HERE), "crates", "cspwatch", "out", "cspw
 SCRIPT = "channel a, b\nP = a -> b -> P\n"
 HEADER = "cspwatch journal 2\nroot P\nscript 29\n" + SCRIPT + "\n"
 JOURNAL = HEADER + "+1001 1 E+ 1\n+1001 2 E- 1\n."
-SECONDS = 20
+SECONDS = 120
 STREAMS = {"standard input": "<&-", "standard output": ">&-", "standard error": "2>&-"}
 
 

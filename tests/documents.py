@@ -40,7 +40,7 @@ import page_facts
 
 ROOT = os.path.dirname(os.path.dirname(os.path.abspath(__file__)))
 PROGRAM = os.path.join("crates", "cspwatch", "out", "cspwatch")
-SECONDS = 60
+SECONDS = 240
 
 PROVES = re.compile(r"(?:^|[;&|] *)(rt|\.ci/run)\b", re.MULTILINE)
 """A command that needs the kit."""

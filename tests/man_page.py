@@ -17,7 +17,7 @@ import pytest
 ROOT = os.path.dirname(os.path.dirname(os.path.abspath(__file__)))
 PAGE = os.path.join(ROOT, "man", "cspwatch.1")
 COMPLETIONS = os.path.join(ROOT, "completions")
-SECONDS = 60
+SECONDS = 180
 
 SCRIPT = "channel a\nP = a -> Q'\nQ' = STOP\n"
 """The file p.csp of the lines that are tried."""

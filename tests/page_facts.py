@@ -18,7 +18,7 @@ import tables  # noqa: E402 (bench/tables.py)
 BUDGETS = {
     "README.md": 800,
     "CONTRIBUTING.md": 900,
-    "SECURITY.md": 550,
+    "SECURITY.md": 600,
     "bench/README.md": 750,
     "docs/ADDING-AN-OPERATOR.md": 600,
     "docs/ARCHITECTURE.md": 1600,
@@ -27,7 +27,7 @@ BUDGETS = {
     "docs/JOURNAL.md": 2900,
     "docs/LANGUAGE.md": 2100,
     "docs/PERFORMANCE.md": 1200,
-    "docs/PROTOCOL.md": 2800,
+    "docs/PROTOCOL.md": 2900,
     "docs/PROVED.md": 2500,
     "docs/SEMANTICS.md": 2750,
     "tests/README.md": 1900,
@@ -276,6 +276,43 @@ def check_tables():
     yield "docs/PERFORMANCE.md", "has %d tables that no script makes" % unmarked if unmarked else None
 
 
+LIMITS = [
+    ("README.md", r"a script; its events \| ([\d,]+) bytes; ", "crates/tokens/src/script.rt", "MAX_SCRIPT_LEN"),
+    ("README.md", r"a script; its events \| [\d,]+ bytes; ([\d,]+) ", "crates/alphabet/src/table.rt", "SIGMA_LIMIT"),
+    ("README.md", r"their depth \| ([\d,]+); ", "crates/transitions/src/transitions.rt", "MOST_STATES"),
+    ("README.md", r"their depth \| [\d,]+; ([\d,]+) ", "crates/targets/src/labels.rt", "DEEPEST_STATE"),
+    ("README.md", r"reports of one history \| ([\d,]+) ", "crates/history/src/history.rt", "HISTORY_LIMIT"),
+    ("README.md", r"connections of one server at one time \| ([\d,]+) ", "crates/serving/src/services.rt", "PLACES"),
+    ("SECURITY.md", r"([\d,]+) entries of a journal", "crates/history/src/history.rt", "HISTORY_LIMIT"),
+    ("SECURITY.md", r"all that a run has, ([\d,]+) at most", "crates/connections/src/number.rt", "MOST"),
+    ("SECURITY.md", r"A line has at most ([\d,]+) bytes", "crates/wire/src/engine.rt", "LINE"),
+    ("SECURITY.md", r"A script\*\* of ([\d,]+) bytes", "crates/tokens/src/script.rt", "MAX_SCRIPT_LEN"),
+]
+"""Where a page states a limit, and the constant that has it."""
+
+OF_OTHERS = {"--jobs", "--must-fail", "--only", "--rules", "--user", "--write", "--facts", "--program", "--output", "--all", "--tool"}
+"""Options of tools of the repository and of others, which pages name too."""
+
+
+def check_limits():
+    """The limits that pages state are those of the program."""
+    for name, statement, source, constant in LIMITS:
+        stated = re.search(statement, text_of(name))
+        has = re.search(r"\bconst %s: \w+ = ([\d_]+);" % constant, text_of(source))
+        same = stated and has and stated[1].replace(",", "") == has[1].replace("_", "")
+        yield name, None if same else "doesn't state %s of %s as it is" % (constant, source)
+
+
+def check_options():
+    """Each option that these pages name is one of a manual page, which is compared with its command's help."""
+    known = set(OF_OTHERS)
+    for path in glob.glob(os.path.join(ROOT, "man", "*.1")):
+        known |= set(re.findall(r"--[a-z][a-z-]*", re.sub(r"\\f.", "", text_of(os.path.relpath(path, ROOT))).replace("\\-", "-")))
+    for name in ("README.md", "SECURITY.md", "docs/ARCHITECTURE.md", "docs/PERFORMANCE.md"):
+        gone = set(re.findall(r"(?<![\w-])--[a-z][a-z-]*", text_of(name))) - known
+        yield name, "names %s, which no command has" % ", ".join(sorted(gone)) if gone else None
+
+
 def checks(pages):
     """Of each comparison its place, and what is wrong there or None."""
     pages = list(pages)
@@ -289,3 +326,5 @@ def checks(pages):
     yield from check_wrong_bodies(of_today)
     yield from check_codes(pages)
     yield from check_tables()
+    yield from check_limits()
+    yield from check_options()

@@ -104,11 +104,12 @@ def run(case, program, folder):
         command = bounded(case["output_bytes"], command)
     if "stack_bytes" in case:
         command = shallow(case["stack_bytes"], command)
-    if "processor_seconds" in case:
-        command = brief(case["processor_seconds"], command)
+    limit = case.get("processor_seconds", case.get("seconds"))
+    if limit is not None:
+        command = brief(limit, command)
     ends = {**input_of(case), **output_of(case)}
     try:
-        done = subprocess.run(command, cwd=folder, timeout=case.get("seconds", SECONDS), stderr=subprocess.PIPE, **ends)
+        done = subprocess.run(command, cwd=folder, timeout=max(SECONDS, 10 * (limit or 0)), stderr=subprocess.PIPE, **ends)
         out = done.stdout or b""
         if "output_bytes" in case:
             ends["stdout"].seek(0)
@@ -131,7 +132,7 @@ def problems_of(case, program):
         try:
             out, err, status, after = run(case, program, folder)
         except subprocess.TimeoutExpired:
-            return ["took more than %d seconds" % case.get("seconds", SECONDS)]
+            return ["took more than %d seconds" % max(SECONDS, 10 * case.get("seconds", 0))]
     problems = []
     for name, got in (("stdout", out), ("stderr", err)):
         if name in case and got != lines(case[name]):

@@ -15,8 +15,8 @@ import time
 from contents import bounded, lines, octets, shown
 
 EXAMPLES = os.path.join(os.path.dirname(os.path.dirname(os.path.abspath(__file__))), "examples")
-CASE_SECONDS = 60
-STEP_SECONDS = 20
+CASE_SECONDS = 240
+STEP_SECONDS = 60
 # A peer that takes nothing for so long is taken to be stuck.
 STUCK_SECONDS = 1.0
 

@@ -1,7 +1,7 @@
 #!/usr/bin/env python3
 """A service with 16 reporters, with `cspwatch-metrics` and `cspwatch-web` beside it and without: its speed, and their memory.
 
-    tests/soak_watching.py [--program FILE] [--seconds 24] [--phase 4] [--percent 50] [--reporters 16] [--folder DIR]
+    tests/soak_watching.py [--program FILE] [--seconds 24] [--phase 4] [--percent 80] [--reporters 16] [--folder DIR]
     tests/soak_watching.py --seconds 600 --phase 30 --percent 3
 
 Phases with the tools and without them take turns (without, with, with, without, ..), so that what else the machine does falls on both. In
@@ -214,7 +214,7 @@ def main():
     parser.add_argument("--program", default=PROGRAM)
     parser.add_argument("--seconds", type=float, default=24, help="how long all phases take together")
     parser.add_argument("--phase", type=float, default=4, help="how long one takes")
-    parser.add_argument("--percent", type=float, default=50, help="by how much the service may be slower")
+    parser.add_argument("--percent", type=float, default=80, help="by how much the service may be slower")
     parser.add_argument("--reporters", type=int, default=16)
     parser.add_argument("--folder", help="where the journal is made")
     options = parser.parse_args()

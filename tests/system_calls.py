@@ -19,7 +19,7 @@ import pytest
 SCRIPT = "channel a, b\nP = a -> b -> P\n"
 TALK = [("E a", "OK 1"), ("E a", "NO 2"), ("R a", "OK 3"), ("E b", "OK 4")]
 CALLS = "openat,pwrite64,fsync,fdatasync,write,sendto,close,accept4,setsockopt"
-SECONDS = 30
+SECONDS = 120
 
 CALL = re.compile(r"\d+\s+(\w+)\((.*)\)\s+= (-?\d+)")
 """A line of the trace: the call, its arguments, its result."""

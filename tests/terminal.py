@@ -14,7 +14,7 @@ import subprocess
 import large
 import pytest
 
-SECONDS = 60
+SECONDS = 180
 
 NOT_FOUND = "        a name isn't declared, or a value depends on itself"
 UNKNOWN = "        unknown name 'Q'"

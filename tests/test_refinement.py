@@ -7,6 +7,7 @@ import random
 from typing import Any
 
 import pytest
+from reference import terms
 from reference.alphabet import Alphabet
 from reference.elaboration import read
 from reference.meaning import Meaning
@@ -108,7 +109,11 @@ def test_search_is_the_definition(seed: int, with_failures: bool) -> None:
     alphabet = Alphabet()
     for name in "ab":
         alphabet.declare(name, [])
-    spec, made = (Spec(alphabet, [some_term(rng, 2, 2, 0)]) for _ in range(2))
+    one, other = some_term(rng, 2, 2, 0), some_term(rng, 2, 2, 0)
+    one = rng.choice([one, terms.internal(one, other), terms.external(one, other)])
+    for event in [rng.randrange(2) for _ in range(rng.randrange(3))]:
+        one, other = terms.prefix(event, one), terms.prefix(event, other)
+    spec, made = Spec(alphabet, [one]), Spec(alphabet, [other])
     wanted = of_definition(Meaning(spec, 0), Meaning(made, 0), with_failures)
     found = counterexample(spec, made, with_failures, 5)
     assert (None if found is None else len(found.trace)) == wanted

@@ -23,7 +23,7 @@ from reasons import has_reasons, said
 HERE = os.path.dirname(os.path.abspath(__file__))
 PROGRAM = os.path.join(os.path.dirname(HERE), "crates", "cspwatch", "out", "cspwatch")
 SCRIPT = "channel a, b\nP = a -> b -> P\n"
-SECONDS = 20
+SECONDS = 120
 
 
 def words(path, journal, connections=1, more=()):

@@ -553,7 +553,7 @@ enum cspwatch_result cspwatch_next(cspwatch_client *client, const char *const **
         blanks += *at == ' ';
     if (client->input[0] != 'N' || (end > client->input + 1 && client->input[1] != ' '))
         return bad_reply(client);
-    if (make_room(client, blanks) != 0)
+    if (make_room(client, blanks + 1) != 0)
         return ended(client, CSPWATCH_OUT_OF_MEMORY);
     if (!cut_names(client, client->input + 1, end))
         return bad_reply(client);
@@ -563,6 +563,39 @@ enum cspwatch_result cspwatch_next(cspwatch_client *client, const char *const **
 }
 
 /* ---- the rest ---- */
+
+enum cspwatch_result cspwatch_expected(cspwatch_client *client, const struct cspwatch_verdict *verdict,
+                                       const char *const **names, size_t *count) {
+    struct cspwatch_counts counts;
+    char *input, *rest;
+    size_t capacity, reply, more;
+    enum cspwatch_result result = cspwatch_next(client, names, count);
+    if (result != CSPWATCH_ANSWERED)
+        return result;
+    /* The names are in the reply, so the next one is read to another place, with what has come of it by now. */
+    more = client->filled - client->reply;
+    rest = malloc(more + 1);
+    if (rest == NULL)
+        return ended(client, CSPWATCH_OUT_OF_MEMORY);
+    memcpy(rest, client->input + client->reply, more);
+    input = client->input;
+    capacity = client->capacity;
+    reply = client->reply;
+    client->input = rest;
+    client->capacity = more + 1;
+    client->filled = more;
+    client->reply = 0;
+    result = cspwatch_status(client, &counts);
+    free(client->input);
+    client->input = input;
+    client->capacity = capacity;
+    client->filled = client->reply = reply;
+    if (result == CSPWATCH_ANSWERED && counts.judged != verdict->place) {
+        *names = NULL;
+        *count = 0;
+    }
+    return result;
+}
 
 struct cspwatch_fault cspwatch_last_fault(const cspwatch_client *client) {
     return client->fault;

@@ -154,6 +154,13 @@ enum cspwatch_result cspwatch_status(cspwatch_client *client, struct cspwatch_co
  * stay until its next call. */
 enum cspwatch_result cspwatch_next(cspwatch_client *client, const char *const **names, size_t *count);
 
+/* What could have come when the report was rejected that was answered by this verdict, in the order of the script's
+ * channels, `_tick` last. It asks what may come next and how many reports were judged, so it has to be the client's next
+ * call. Where another client has reported since, it isn't known, and *names is NULL. The names belong to the client, and
+ * stay until its next call. */
+enum cspwatch_result cspwatch_expected(cspwatch_client *client, const struct cspwatch_verdict *verdict,
+                                       const char *const **names, size_t *count);
+
 /* The fault of the last call that ended by CSPWATCH_FAULT. */
 struct cspwatch_fault cspwatch_last_fault(const cspwatch_client *client);
 

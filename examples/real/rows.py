@@ -8,6 +8,7 @@ the reports that the map makes of it, and the replies to them. Without --program
 rejected reports are left out, since not every version gives them. The last line is `N passed, M failed`.
 """
 import argparse
+import glob
 import json
 import os
 import re
@@ -19,8 +20,13 @@ HERE = os.path.dirname(os.path.abspath(__file__))
 ROOT = os.path.dirname(os.path.dirname(HERE))
 ROWS = os.path.join(ROOT, "tests", "cases", "real_examples.json")
 COMMAND = os.path.join(ROOT, "clients", "python", "bin", "cspwatch-logs")
-NAMES = ["sqlite", "mosquitto", "redis", "smtp"]
-LOGS = ["good", "bad"]
+EXAMPLES = [(name, name, {"good": ["good.log"], "bad": ["bad.log"]}) for name in ("sqlite", "mosquitto", "redis", "smtp")]
+EXAMPLES += [
+    (folder, name, {"%s-%s" % (name, kind): sorted(os.path.basename(path) for path in glob.glob(os.path.join(HERE, folder, "%s-%s*.log" % (name, kind))))
+                    for kind in ("good", "bad")})
+    for folder, name in (("postgres", "rows"), ("postgres", "deadlock"), ("etcd", "lock"), ("etcd", "raft"))
+]
+"""Folders, the names of script and map, and the logs by the names of what is kept of them."""
 SECONDS = 120
 
 RECORDER = """#!/bin/sh
@@ -35,34 +41,35 @@ def text_of(*path):
 
 
 def without_reasons(verdicts):
-    return re.sub(r"(: NO \d+(?: \(first\))?), .*", r"\1", verdicts)
+    return re.sub(r"(: NO \d+(?: \([^)]*\))*), .*", r"\1", verdicts)
 
 
-def run(program, name, log):
-    """What the command prints of a log, and the reports that each check was given."""
+def run(program, folder_of, name, logs):
+    """What the command prints of logs, and the reports that each check was given."""
     with tempfile.TemporaryDirectory() as folder:
         recorder, records = os.path.join(folder, "cspwatch"), os.path.join(folder, "records")
         os.mkdir(records)
         with open(recorder, "w", encoding="ascii") as file:
             file.write(RECORDER)
         os.chmod(recorder, 0o755)
-        words = [sys.executable, "-B", COMMAND, "--program", recorder, name + ".toml", log + ".log"]
+        words = [sys.executable, "-B", COMMAND, "--program", recorder, name + ".toml", *logs]
         environment = {**os.environ, "RECORDED": program, "RECORDS": records}
-        done = subprocess.run(words, cwd=os.path.join(HERE, name), env=environment, stdout=subprocess.PIPE, stderr=subprocess.STDOUT, timeout=SECONDS)
+        done = subprocess.run(words, cwd=os.path.join(HERE, folder_of), env=environment, stdout=subprocess.PIPE, stderr=subprocess.STDOUT, timeout=SECONDS)
         # Sorted, since checks that begin at once come in any order.
         reports = sorted(text_of(records, each).splitlines() for each in os.listdir(records))
     return without_reasons(done.stdout.decode("utf-8")), reports
 
 
-def row_of(program, name, title, reports):
+def row_of(program, folder, name, title, reports):
     """The row of these reports, with the program's replies."""
     script = name + ".csp"
-    words = [program, "check", os.path.join(HERE, name, script), "SYSTEM"]
+    options = ["--large"] if re.search("(?m)^large = true$", text_of(HERE, folder, name + ".toml")) else []
+    words = [program, "check", *options, os.path.join(HERE, folder, script), "SYSTEM"]
     done = subprocess.run(words, input="".join(line + "\n" for line in reports).encode(), stdout=subprocess.PIPE, timeout=SECONDS)
     return {
         "name": title,
-        "args": ["check", script, "SYSTEM"],
-        "files": {script: text_of(HERE, name, script)},
+        "args": ["check", *options, script, "SYSTEM"],
+        "files": {script: text_of(HERE, folder, script)},
         "input": reports,
         "stdout": done.stdout.decode("ascii").splitlines(),
         "stderr": [],
@@ -81,13 +88,13 @@ def main():
     options = parser.parse_args()
     program = os.path.abspath(options.program)
     kept, rows = {}, []
-    for name in NAMES:
-        for log in LOGS:
-            verdicts, sessions = run(program, name, log)
-            kept[os.path.join(HERE, name, log + ".verdicts")] = verdicts
+    for folder, name, logs in EXAMPLES:
+        for kind, files in logs.items():
+            verdicts, sessions = run(program, folder, name, files)
+            kept[os.path.join(HERE, folder, kind + ".verdicts")] = verdicts
             for number, reports in enumerate(sessions, 1):
-                title = "%s, %s log" % (name, log) + (", session %d" % number if len(sessions) > 1 else "")
-                rows.append(row_of(program, name, title, reports))
+                title = "%s, %s log" % (name, kind.rpartition("-")[2]) + (", session %d" % number if len(sessions) > 1 else "")
+                rows.append(row_of(program, folder, name, title, reports))
     kept[ROWS] = written(rows)
     failed = 0
     for path, text in kept.items():

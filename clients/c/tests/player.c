@@ -1,6 +1,6 @@
 /* Plays calls of the client that stand on standard input, a line each, and prints what came of each:
  *
- *     event NAME, refusal NAME NAME .., status, next, identify SEAT, patience MILLISECONDS, judged
+ *     event NAME, refusal NAME NAME .., status, next, expected PLACE, identify SEAT, patience MILLISECONDS, judged
  *
  * In a name `\n` is an LF and `\s` a blank. tests/test_client.py drives it.
  */
@@ -94,6 +94,22 @@ static void next(cspwatch_client *client) {
     printf("\n");
 }
 
+/* What could have come in place of the report at this place. */
+static void expected(cspwatch_client *client, const char *place) {
+    struct cspwatch_verdict verdict = {0, (uint64_t)atoi(place)};
+    const char *const *names = NULL;
+    size_t at, count = 0;
+    enum cspwatch_result result = cspwatch_expected(client, &verdict, &names, &count);
+    if (result != CSPWATCH_ANSWERED) {
+        print_result(client, result);
+        return;
+    }
+    printf(names == NULL ? "not known" : "expected");
+    for (at = 0; at < count; at++)
+        printf(" %s", names[at]);
+    printf("\n");
+}
+
 /* Plays one line; answers 0 where there is no such call. */
 static int play(cspwatch_client *client, char *line) {
     if (strncmp(line, "event ", 6) == 0)
@@ -104,6 +120,8 @@ static int play(cspwatch_client *client, char *line) {
         status(client);
     else if (strcmp(line, "next") == 0)
         next(client);
+    else if (strncmp(line, "expected ", 9) == 0)
+        expected(client, line + 9);
     else if (strncmp(line, "identify ", 9) == 0)
         print_result(client, cspwatch_identify(client, (unsigned)atoi(line + 9)));
     else if (strncmp(line, "patience ", 9) == 0)

@@ -100,6 +100,20 @@ class Answers(Plays):
             ("next", "next a c.0 _tick"),
         ])
 
+    def test_what_was_expected(self):
+        names = " ".join("c.%d" % number for number in range(2000))
+        steps = [(b"E a", b"NO 2\n"), (b"N", b"N " + names.encode() + b"\n"), (b"S", b"S 2 1 0 1 open\n"), (b"E a", b"NO 3\n"), (b"N", b"N\n"),
+                 (b"S", b"S 3 1 0 2 open\n"), (b"N", b"N b\n"), (b"S", b"S 9 1 0 8 open\n"), (b"N", b"N b\nS 3 1 0 2 open\n"), (b"S", b""), (b"N", b"OK 1\n")]
+        self.play(steps, [
+            ("event a", "rejected 2"),
+            ("expected 2", "expected " + names),
+            ("event a", "rejected 3"),
+            ("expected 3", "expected"),
+            ("expected 3", "not known"),
+            ("expected 3", "expected b"),
+            ("expected 3", "bad reply"),
+        ])
+
     def test_a_long_reply(self):
         names = " ".join("c.%d" % number for number in range(20000))
         self.play([(b"N", b"N " + names.encode() + b"\n"), (b"E a", b"OK 1\n"), BYE], [("next", "next " + names), ("event a", "accepted 1")])

@@ -121,6 +121,38 @@ class OfACommand(InFolder):
 
 
 @NEEDS
+class AfterANo(InFolder):
+    RULES = "".join("[[rule]]\nname = '%s'\nmatch = '^(?P<id>.) %s$'\nevent = '%s'\n" % (name, name, event)
+                    for name, event in (("in", "open.0"), ("out", "close.0"), ("bad", "bad")))
+
+    def judged(self, more, given, *words):
+        self.file("m.toml", SPECIFICATION + "[sessions]\n" + more + self.RULES)
+        return self.logs(*words, "m.toml", given=given)
+
+    def test_a_session_stops(self):
+        """What the first session does after its NO isn't judged, and the second one is."""
+        given = b"a in\na bad\na bad\na in\nb in\nb bad\na out\n"
+        found = self.judged("key = '{id}'\nafter_no = 'stop'\n", given, "--quiet", "--junit", "j.xml")
+        reason = "NO 2 (first), expected open.0 or open.1"
+        self.assertEqual(found, (1, ["-:2: a: E bad: %s" % reason, "-:6: b: E bad: %s" % reason], []))
+        self.assertIn("<system-out>3 reports after the first NO were not judged</system-out>", self.text("j.xml"))
+        self.assertIn('tests="2" failures="2" errors="0"', self.text("j.xml"))
+
+    def test_the_whole_log_stops(self):
+        out = ["-:2: E bad: NO 2, expected open.0 or open.1", "    a bad",
+               "4 lines, 4 reports: 1 accepted, 1 rejected, 0 not judged; 0 ignored, 0 without a rule, 2 after a NO"]
+        self.assertEqual(self.judged("after_no = 'stop'\n", b"a in\na bad\na bad\na in\n"), (1, out, []))
+
+    def test_a_log_that_is_joined_in_the_middle(self):
+        given = b"a bad\na out\na in\nb bad\na bad\nb in\n"
+        out = ["-:4: E bad: NO 2, expected open.0 or open.1", "    b bad", "-:5: E bad: NO 3, expected open.0 or open.1", "    a bad",
+               "6 lines, 4 reports: 2 accepted, 2 rejected, 0 not judged; 0 ignored, 0 without a rule, 2 before the first that is judged"]
+        self.assertEqual(self.judged("skip_until = 'in'\n", given), (1, out, []))
+        status, out, _ = self.judged("key = '{id}'\nskip_until = 'in'\n", given, "--quiet")
+        self.assertEqual((status, out), (1, ["-:5: a: E bad: NO 2 (first), expected open.0 or open.1"]))
+
+
+@NEEDS
 class Json(unittest.TestCase):
     def test_fields_by_path(self):
         form = JsonForm((), {"name": ("name",), "holder": ("attributes", "lock.holder"), "count": ("counts", "1"), "all": ("counts",)})

@@ -15,7 +15,7 @@ import unittest
 
 sys.path[:0] = [os.path.dirname(os.path.abspath(__file__))]
 
-from logs_folder import NEEDS, SPECIFICATION, InFolder  # noqa: E402
+from logs_folder import CLIENTS, NEEDS, SPECIFICATION, InFolder  # noqa: E402
 from stand_in import SECONDS, program  # noqa: E402
 
 if sys.version_info >= (3, 11):
@@ -103,6 +103,13 @@ class Redis:
     def stop(self):
         self.process.kill()
         self.process.wait()
+
+
+@NEEDS
+class Page(unittest.TestCase):
+    def test_its_map_is_the_one_that_is_tested(self):
+        with open(os.path.join(os.path.dirname(CLIENTS), "docs", "SCALING.md"), encoding="utf-8") as file:
+            self.assertIn("```toml\n" + MAP + "```", file.read())
 
 
 @NEEDS

@@ -195,6 +195,23 @@ class OverTheProgram(InFolder):
 
 
 @NEEDS
+class Many(InFolder):
+    def test_a_hundred_followed_logs(self):
+        self.file("m.toml", SPECIFICATION + "[[rule]]\nmatch = 'in'\nevent = 'open.0'\n[[rule]]\nmatch = 'bad'\nevent = 'bad'\n")
+        names = ["n%02d.log" % number for number in range(100)]
+        for name in names:
+            self.file(name, "in\n")
+        run = self.start("--follow", "--quiet", "m.toml", *names)
+        self.addCleanup(run.kill)
+        with open(self.path(names[-1]), "a", encoding="ascii") as file:
+            file.write("in\nbad\n")
+        self.assertRegex(run.stdout.readline(), rb"^n99\.log:3: E bad: NO ")
+        run.send_signal(signal.SIGTERM)
+        run.communicate(timeout=60)
+        self.assertEqual(run.returncode, 1)
+
+
+@NEEDS
 class TooLong(InFolder):
     def test_an_expression_that_goes_back_for_ever(self):
         self.file("m.toml", SPECIFICATION + "[[rule]]\nmatch = '^(a+)+$'\nevent = 'open.0'\n[[rule]]\nmatch = 'bad'\nevent = 'close.0'\n")

@@ -386,7 +386,7 @@ class Runs(unittest.TestCase):
             stdout=subprocess.PIPE,
             stderr=subprocess.PIPE,
             env={**os.environ, "PYTHONPATH": os.path.dirname(HERE), "PYTHONIOENCODING": "ascii"},
-            timeout=60,
+            timeout=300,
         )
         return done.returncode, done.stdout.decode("utf-8"), done.stderr.decode("utf-8")
 
@@ -423,7 +423,7 @@ class Runs(unittest.TestCase):
                 stdout=full,
                 stderr=subprocess.PIPE,
                 env={**os.environ, "PYTHONPATH": os.path.dirname(HERE)},
-                timeout=60,
+                timeout=300,
             )
         self.assertEqual((done.returncode, done.stderr), (5, b"standard output: No space left on device\n"))
 

@@ -179,7 +179,8 @@ class BesideAService(WithMetrics):
             for report in ("a", "b", "b", "a"):
                 client.event(report)
             client.refusal(["a"])
-            self.reaches(port, "cspwatch_reports_total", 3, kind="event", seat="7", verdict="accepted")
+            self.reaches(port, "cspwatch_reports_total", 1, kind="refusal", seat="7", verdict="accepted")
+            self.assertEqual(self.value(port, "cspwatch_reports_total", kind="event", seat="7", verdict="accepted"), 3)
             self.assertLess(self.value(port, "cspwatch_last_entry_age_seconds"), SECONDS)
             before = {key: value for key, value in self.samples(port).items() if key[0].endswith("_total")}
             self.assertEqual(self.end(run), -signal.SIGTERM)

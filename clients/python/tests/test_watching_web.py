@@ -6,16 +6,17 @@ import signal
 import socket
 import subprocess
 import sys
+import tempfile
 import time
 import unittest
 
 sys.path[:0] = [os.path.dirname(os.path.abspath(__file__))]
 
-from watching_folder import BOTH, IS_SERVICE, PYTHON, SECONDS, Watching, children, cycles, fetched, journal, needs, soon  # noqa: E402
+from watching_folder import BOTH, IS_SERVICE, PROGRAM, PYTHON, SCRIPT, SECONDS, Watching, children, cycles, fetched, journal, needs, soon  # noqa: E402
 
 WEB = needs("aiohttp")
 SERVICE = unittest.skipUnless(IS_SERVICE, "the program has no service")
-MANY = 300_000
+MANY = 150_000
 """Entries of a journal that takes a while to read."""
 
 
@@ -69,24 +70,6 @@ class Journals(WithPage):
         self.assertEqual([row["place"] for row in found["newest"]["rows"]], [4, 3, 2, 1])
         self.assertEqual([(row["seat"], row["number"], row["events"], row["at"], row["rejected"]) for row in found["seats"]["rows"]], [(1, 3, ["b"], None, 1), (2, 1, ["a"], None, 0)])
         self.assertEqual(found["coverage"], {"known": True, "rows": [["a", 1, 1], ["b", 1, 0], ["c", 0, 0]], "never": ["c"]})
-
-    def test_what_must_come(self):
-        # By the definition: the least acceptances of each process.
-        for process, may, must in (
-            ("a -> STOP |~| b -> STOP", ["a", "b"], [["a"], ["b"]]),
-            ("a -> STOP [] b -> STOP", ["a", "b"], [["a", "b"]]),
-            ("a -> STOP |~| STOP", ["a"], [[]]),
-            ("STOP", [], [[]]),
-            ("SKIP", ["_tick"], [["_tick"]]),
-            ("Q \\ {c}\nQ = c -> Q", [], []),
-            ("(a -> STOP [] b -> STOP) |~| c -> STOP", ["a", "b", "c"], [["a", "b"], ["c"]]),
-        ):
-            script = "channel a, b, c\nP = %s\n" % process
-            self.write("j", journal([], script))
-            run, port = self.start("j")
-            found = self.reaches(port, "following")["next"]
-            self.assertEqual((found["may"], [one["names"] for one in found["must"]["sets"]]), (may, must), process)
-            self.end(run)
 
     def test_names_that_fit_in_no_line(self):
         # 20 names of 300 characters: a refusal of all of them is longer than a line.
@@ -149,6 +132,44 @@ class Journals(WithPage):
         self.assertLess(len(json.dumps(found)), 60_000)
 
 
+@needs()
+class WhatComesNext(unittest.TestCase):
+    def test_what_must_come(self):
+        from cspwatch_client.watching.next_events import Asker
+
+        # By the definition: the least acceptances of each process.
+        for process, may, must in (
+            ("a -> STOP |~| b -> STOP", ("a", "b"), (("a",), ("b",))),
+            ("a -> STOP [] b -> STOP", ("a", "b"), (("a", "b"),)),
+            ("a -> STOP |~| STOP", ("a",), ((),)),
+            ("STOP", (), ((),)),
+            ("SKIP", ("_tick",), (("_tick",),)),
+            ("Q \\ {c}\nQ = c -> Q", (), ()),
+            ("(a -> STOP [] b -> STOP) |~| c -> STOP", ("a", "b", "c"), (("a", "b"), ("c",))),
+        ):
+            with tempfile.NamedTemporaryFile("w", suffix=".csp") as file:
+                file.write("channel a, b, c\nP = %s\n" % process)
+                file.flush()
+                asker = Asker(PROGRAM, file.name, "P")
+                self.addCleanup(asker.close)
+                self.assertEqual(asker.ask(), (may, must), process)
+
+    def test_what_the_check_doesnt_accept(self):
+        from cspwatch_client.watching.next_events import Asker, Unknown
+
+        with tempfile.NamedTemporaryFile("w", suffix=".csp") as file:
+            file.write(SCRIPT)
+            file.flush()
+            asker = Asker(PROGRAM, file.name, "P")
+            self.addCleanup(asker.close)
+            asker.tell([b"a"])
+            self.assertEqual(asker.ask(), (("b",), (("b",),)))
+            with self.assertRaises(Unknown):
+                # More than the pipes hold: none of both waits for the other.
+                asker.tell([b"a"] * 200_000)
+                asker.ask()
+
+
 @WEB
 @SERVICE
 class BesideAService(WithPage):
@@ -205,9 +226,7 @@ class Requests(WithPage):
     def test_a_thousand_readers(self):
         run, port = self.start("j")
         with contextlib.ExitStack() as stack:
-            links = [stack.enter_context(reader(port)) for _ in range(600)]
-            for _ in range(400):
-                links.append(stack.enter_context(reader(port)))
+            links = [stack.enter_context(reader(port)) for _ in range(1000)]
             firsts = [link.recv(12) for link in links]
             self.assertEqual(firsts[:200], [b"HTTP/1.1 200"] * 200)
             self.assertEqual(set(firsts[200:]), {b"HTTP/1.1 503"})
@@ -254,20 +273,20 @@ class Requests(WithPage):
             away = [stack.enter_context(reader(port, 4096)) for _ in range(100)]
             client = stack.enter_context(Client(address, SECONDS, seat=1))
             before = None
-            for turn in range(20):
+            for turn in range(12):
                 for number in range(50):
                     client.event("ab"[number % 2])
                 client.event("c")
                 self.reaches(port, "following", (turn + 1) * 51)
                 before = before or memory()
-            # Each message has some kilobytes; what piled up would be 100 readers times 20 messages.
+            # Each message has some kilobytes; what piled up would be 100 readers times 12 messages.
             self.assertLess(memory() - before, 20_000)
             # Who comes back gets what is so now.
             lines = away[0].makefile("rb")
             ending = time.monotonic() + SECONDS
             while time.monotonic() < ending:
                 line = lines.readline()
-                if line.startswith(b"data: ") and json.loads(line[6:]).get("state", {}).get("entries") == 20 * 51:
+                if line.startswith(b"data: ") and json.loads(line[6:]).get("state", {}).get("entries") == 12 * 51:
                     break
             else:
                 self.fail("the newest state didn't come")

@@ -19,6 +19,7 @@ def connected():
     address = "file:%s/store.db%s" % (folder.name, "?cache=shared" if IS_DIRTY else "")
     found = sqlite3.connect(address, uri=True, timeout=0, isolation_level=None)
     found.execute("PRAGMA journal_mode = WAL")
+    found.execute("PRAGMA synchronous = OFF")  # No run crashes.
     found.execute("PRAGMA read_uncommitted = %d" % IS_DIRTY)
     return found
 

@@ -6,8 +6,9 @@ import time
 from collections import Counter, deque
 from dataclasses import dataclass
 from typing import Callable, List, Optional, Sequence, Set, Tuple
+from unittest import SkipTest
 
-from hypothesis import HealthCheck, Phase, Verbosity, given, seed, settings
+from hypothesis import HealthCheck, Phase, Verbosity, given, reject, seed, settings
 from hypothesis.errors import Flaky
 from hypothesis.strategies import SearchStrategy, composite, sampled_from
 
@@ -113,7 +114,8 @@ class Campaign:
         self._is_cancelled, self._watch = is_cancelled, watch
         self._result = result_for(system.adapter, wishes.seed)
         self._tried: Counter[str] = Counter()
-        self._batches = 0
+        self._is_making_new = False
+        """Whether hypothesis makes runs that are new, and doesn't play kept ones or make one shorter."""
         self._shrinking: Optional[Shrinking] = None
         self._begun = time.monotonic()
 
@@ -122,9 +124,12 @@ class Campaign:
         interrupts."""
         result, seeds = self._result, random.Random(self._wishes.seed)
         try:
+            self._play_first()
+            self._play_batch(seeds.getrandbits(64), Phase.reuse)
+            self._is_making_new = True
             while not self._is_over():
                 steps = result.steps
-                self._play_batch(seeds.getrandbits(64))
+                self._play_batch(seeds.getrandbits(64), Phase.generate)
                 if result.steps == steps:
                     break
         except KeyboardInterrupt:
@@ -142,16 +147,32 @@ class Campaign:
             return True
         return wishes.seconds is not None and time.monotonic() - self._begun >= wishes.seconds
 
-    def _play_batch(self, number: int) -> None:
-        wishes, self._batches = self._wishes, self._batches + 1
-        choices = Choices(list(self._system.adapter.inputs), dict(self._tried), wishes.robust)
-        left = BATCH if wishes.runs is None else min(BATCH, wishes.runs - self._result.runs)
+    def _choices(self) -> Choices:
+        return Choices(list(self._system.adapter.inputs), dict(self._tried), self._wishes.robust)
 
-        # hypothesis tries the empty run in each batch, and it counts in the first alone. `seed` takes the database from the
-        # settings below it, so they stand above.
+    # The run without an input.
+    def _play_first(self) -> None:
+        choices = self._choices()
+        try:
+            self._play_next(EMPTY, choices)
+        except Failure as failure:
+            try:
+                self._play(EMPTY, choices)
+            except Failure:
+                self._found(failure, flaky=False)
+            else:
+                self._found(failure, flaky=True)
+
+    def _play_batch(self, number: int, phase: Phase) -> None:
+        wishes, choices = self._wishes, self._choices()
+        left = BATCH if wishes.runs is None else min(BATCH, wishes.runs - self._result.runs)
+        if self._is_over() or phase is Phase.reuse and wishes.database is None:
+            return
+
+        # `seed` takes the database from the settings below it, so they stand above.
         @settings(
-            max_examples=left + 1,
-            phases=[Phase.reuse, Phase.generate, Phase.shrink] if self._batches == 1 else [Phase.generate, Phase.shrink],
+            max_examples=left,
+            phases=[phase, Phase.shrink],
             database=self._database(),
             deadline=None,
             suppress_health_check=list(HealthCheck),
@@ -165,6 +186,9 @@ class Campaign:
 
         try:
             play()
+        except SkipTest:
+            # There was no kept run.
+            return
         except Failure as failure:
             assert self._shrinking is not None
             self._found(self._searched(failure, self._shrinking, choices), flaky=False)
@@ -176,7 +200,10 @@ class Campaign:
         if self._shrinking is not None:
             if self._shrinking.is_wanted(numbers) and not self._is_cancelled():
                 self._try_shorter(self._shrinking, numbers, choices)
-        elif not self._is_over() and (numbers or self._batches == 1):
+        elif self._is_making_new and len(numbers) < self._wishes.steps:
+            # hypothesis begins with the smallest runs, and gives that up where they aren't wanted.
+            reject()
+        elif not self._is_over():
             self._play_next(numbers, choices)
         self._watch(self._result, self._shrinking.attempts if self._shrinking is not None else 0)
 

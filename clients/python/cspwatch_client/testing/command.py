@@ -16,6 +16,7 @@ if sys.version_info < (3, 11):
 from ..logs.junit import JUnit
 from ..logs.maps import Specification
 from ..logs.program import ProgramFault
+from ..logs.showing import printable
 from ..replies import Fault
 from .adapters import AdapterFault, loaded
 from .calls import Hung
@@ -99,7 +100,8 @@ def main(words: Optional[Sequence[str]] = None) -> int:
 
 def said(fault: object, status: int) -> int:
     """Says what is wrong."""
-    print(fault, file=sys.stderr)
+    for line in str(fault).splitlines():
+        print(printable(line), file=sys.stderr)
     return status
 
 
@@ -137,7 +139,7 @@ def check_use(options: argparse.Namespace) -> None:
 def system_of(options: argparse.Namespace) -> System:
     """The system, from the words."""
     specification = Specification(options.spec, options.process, options.large)
-    return system_for(specification, loaded(options.adapter), options.adapter, options.program, options.timeout)
+    return system_for(specification, loaded(options.adapter), printable(options.adapter), options.program, options.timeout)
 
 
 def campaign(options: argparse.Namespace, progress: Progress) -> Result:
