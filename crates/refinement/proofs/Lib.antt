@@ -1,0 +1,12 @@
+pub mod Sets
+pub mod Growing
+pub mod Placing
+pub mod Keeping
+pub mod Following
+pub mod Expanding
+pub mod Tracing
+pub mod Refusing
+pub mod Closing
+pub mod NodesGrowing
+pub mod KeepingNodes
+pub mod Having
