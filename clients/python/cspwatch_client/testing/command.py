@@ -163,7 +163,9 @@ def campaign(options: argparse.Namespace, progress: Progress) -> Result:
     try:
         if options.jobs == 1:
             return play(1, lambda: False, progress.show)
-        return play_side_by_side(play, len(parts), progress.show)
+        whole = play_side_by_side(play, len(parts), progress.show)
+        whole.seed = seed
+        return whole
     finally:
         progress.end()
 

@@ -85,7 +85,7 @@ class Parts:
     def whole(self) -> Result:
         """What all parts have told."""
         results = [result for result, _ in self._told.values()]
-        whole = Result(Coverage(()), False, results[0].seed if results else 0)
+        whole = Result(Coverage(()), False)
         for one in results:
             whole.merge(one)
         if self._lost:
