@@ -363,7 +363,7 @@ fn quiet_of(alloc: Global, limits: Limits) -> Result<Option<Quiet>, AcceptFault>
     }
 }
 
-impl<'a, R, L: Streams> LimitedAccept<'a, R, L> {
+impl<'a, R, L> LimitedAccept<'a, R, L> {
     /// The connections of this one, within these limits.
     pub(crate) fn new(
         rt: &'a R,
