@@ -1,0 +1,4 @@
+-- To believe.
+pub mod Graphs
+-- Steps of the program.
+pub mod Walks
