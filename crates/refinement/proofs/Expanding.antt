@@ -47,7 +47,7 @@ module _ (S T : Spaced) (ps : List Step) {es : List (ℕ × ℕ)} {most : ℕ} (
   pub next-here : (N : Set) (q : Step) → q ≡ step_at ps at → ((u : List Event) → Belongs T q.made u → (x : Event) → IsTrue (member N x) ↔ Does T (u ++ x ∷ [])) → (u : List Event) → Both S T (step_at ps at) u → (x : Event) → IsTrue (member N x) ↔ Does T (u ++ x ∷ [])
   next-here N q is k u b x = k u (subst (λ (p : Step). Belongs T p.made u) (sym is) b.made) x
 
-  module _ (S1 T1 : Spaced) (ps1 : List Step) (g : Grew S T ps S1 T1 ps1) where
+  module _ (S1 T1 : Spaced) (ps1 : List Step) (g : Grew S T ps at S1 T1 ps1) where
     pub same-step : step_at ps1 at ≡ step_at ps at
     same-step = begins-at ps ps1 at g.steps here
 
@@ -77,7 +77,7 @@ module _ (S T : Spaced) (ps : List Step) {es : List (ℕ × ℕ)} {most : ℕ} (
         let l : a < event_count T.spec.alphabet = next-in T.spec closed u a (subst (λ (s : Specified). Trace (bodies_of s.bodies) root (u ++ ev a ∷ [])) g.made.spec t) in
         all a (omega arith) u b t
 
-    module _ (S2 T2 : Spaced) (ps2 : List Step) (h : Grew S1 T1 ps1 S2 T2 ps2) where
+    module _ (S2 T2 : Spaced) (ps2 : List Step) (h : Grew S1 T1 ps1 at S2 T2 ps2) where
       pub kept : (x : Event) → IsTaken S1 T1 ps1 (step_at ps at) x → IsTaken S2 T2 ps2 (step_at ps at) x
       kept x k = taken-on S1 T1 S2 T2 h.spec h.made ps1 ps2 h.steps (step_at ps at) x some-trace.0 (both-on S T S1 T1 g.spec g.made (step_at ps at) some-trace.0 some-trace.1) k
 
@@ -98,7 +98,7 @@ module _ (S T : Spaced) (ps : List Step) {es : List (ℕ × ℕ)} {most : ℕ} (
       taken-all all one (ev a) = kept (ev a) (all a)
 
 -- ---- all pairs before a place
-module _ (r : Refinement) (S T : Spaced) (ps : List Step) (S1 T1 : Spaced) (ps1 : List Step) (g : Grew S T ps S1 T1 ps1) {es : List (ℕ × ℕ)} {most : ℕ} (sound : AreSound S T ps es most) where
+module _ (r : Refinement) (S T : Spaced) (ps : List Step) (S1 T1 : Spaced) (ps1 : List Step) {front : ℕ} (g : Grew S T ps front S1 T1 ps1) {es : List (ℕ × ℕ)} {most : ℕ} (sound : AreSound S T ps es most) where
   done-kept : (i : ℕ) → i < length ps → IsDone r S T ps (step_at ps i) → IsDone r S1 T1 ps1 (step_at ps1 i)
   done-kept i l d =
       let some = (sound.linked i l).reached in

@@ -85,12 +85,25 @@ module _ (S T S' T' : Spaced) (g : GrewFrom S S') (h : GrewFrom T T') where
 
 -- ---- all of it
 module _ (S T : Spaced) (ps : List Step) where
-  pub same : Grew S T ps S T ps
-  same = record { spec = grew-same S; made = grew-same T; steps = begins-same ps }
+  -- by no pair
+  pub spaces-grew : {at : ℕ} (S1 T1 : Spaced) → GrewFrom S S1 → GrewFrom T T1 → Grew S T ps at S1 T1 ps
+  spaces-grew S1 T1 g h = record { spec = g; made = h; steps = begins-same ps; came = λ i l k. absurd (omega (arith, l, k)) }
+
+  pub same : {at : ℕ} → Grew S T ps at S T ps
+  same = spaces-grew S T (grew-same S) (grew-same T)
 
   module _ (S1 T1 : Spaced) (ps1 : List Step) (S2 T2 : Spaced) (ps2 : List Step) where
-    pub on : Grew S T ps S1 T1 ps1 → Grew S1 T1 ps1 S2 T2 ps2 → Grew S T ps S2 T2 ps2
-    on g h = record { spec = grew-on S S1 S2 g.spec h.spec; made = grew-on T T1 T2 g.made h.made; steps = begins-on ps ps1 ps2 g.steps h.steps }
+    pub on : {at : ℕ} → Grew S T ps at S1 T1 ps1 → Grew S1 T1 ps1 at S2 T2 ps2 → Grew S T ps at S2 T2 ps2
+    on g h =
+        record {
+          spec = grew-on S S1 S2 g.spec h.spec;
+          made = grew-on T T1 T2 g.made h.made;
+          steps = begins-on ps ps1 ps2 g.steps h.steps;
+          came = λ i l k. elim (cases_lt i (length ps1)) [
+            | inl b ↦ ap (λ (p : Step). p.parent) (begins-at ps1 ps2 i h.steps b) ∙ g.came i l b
+            | inr b ↦ h.came i (omega (arith, b)) k
+          ];
+        }
 
 -- ---- one pair more
 module _ (S T : Spaced) (ps : List Step) (p : Step) where
@@ -138,13 +151,22 @@ pub found-listed : (S T : Spaced) (ps : List Step) (p : Step) → IsListed ps p.
 found-listed S T ps p (j, l, e, f) u b =
     (j, l, record { spec = subst (λ (n : ℕ). Belongs S n u) (sym e) b.spec; made = subst (λ (n : ℕ). Belongs T n u) (sym f) b.made })
 
--- ---- one pair put
 pub found-put : {X E : Type 0} (r : Result X E) (S T : Spaced) (ps ps' : List Step) (p : Step) → OnOk r (ps' ≡ ps ++ p ∷ []) → OnOk r ((u : List Event) → Both S T p u → IsFound S T ps' u)
 found-put (Ok y) S T ps ps' p e = λ u b. subst (λ (l : List Step). IsFound S T l u) (sym e) (found-end S T ps p u b)
 found-put (Err y) S T ps ps' p e = tt
 
-pub grew-put : {X E : Type 0} (r : Result X E) (S T S' T' : Spaced) (ps ps' : List Step) (p : Step) → S' ≡ S → T' ≡ T → OnOk r (ps' ≡ ps ++ p ∷ []) → OnOk r (Grew S T ps S' T' ps')
+-- by one pair
+pub grew-put : {X E : Type 0} (r : Result X E) (S T S' T' : Spaced) (ps ps' : List Step) (p : Step) → S' ≡ S → T' ≡ T → OnOk r (ps' ≡ ps ++ p ∷ []) → OnOk r (Grew S T ps p.parent S' T' ps')
 grew-put (Ok y) S T S' T' ps ps' p a b e =
-    subst (λ (Q : Spaced). Grew S T ps Q T' ps') (sym a)
-    (subst (λ (Q : Spaced). Grew S T ps S Q ps') (sym b) (record { spec = grew-same S; made = grew-same T; steps = (p ∷ [], e) }))
+    subst (λ (Q : Spaced). Grew S T ps p.parent Q T' ps') (sym a)
+    (subst (λ (Q : Spaced). Grew S T ps p.parent S Q ps') (sym b)
+    (record {
+      spec = grew-same S;
+      made = grew-same T;
+      steps = (p ∷ [], e);
+      came = λ i l h.
+          let longer : length ps' ≡ length ps + 1 = ap length e ∙ length-append ps (p ∷ []) in
+          let k : i ≡ length ps = omega (arith, l, h, longer) in
+          ap (λ (q : Step). q.parent) (ap (λ (n : ℕ). step_at ps' n) k ∙ ap (λ (l : List Step). step_at l (length ps)) e ∙ at-end S T ps p);
+    }))
 grew-put (Err y) S T S' T' ps ps' p a b e = tt

@@ -10,7 +10,8 @@ use Rattle.spaces.specs.Spaces.{Spaced}
 use Rattle.refinement.specs.declared.outcome.Fault.{Fault}
 use Rattle.refinement.specs.declared.outcome.Fault.TheVariants as fault
 use Rattle.refinement.specs.declared.pairs.Step.{Step}
-use Rattle.refinement.specs.Pairs.{AllLinked, AreKept, AreSound, Both, IsLinked, IsListed, key, no_step, step_at, step_key}
+use Rattle.refinement.specs.Pairs.{AllLinked, AreKept, AreSound, Both, IsLinked, IsListed, key, no_step, parent_of, step_at, step_key}
+use Rattle.refinement.specs.Depths.{AreOrdered}
 use Rattle.refinement.specs.Places.{ArePlaced, IsFull}
 use Rattle.refinement.specs.Refinement.{AreMet, IsUndecided}
 use Rattle.refinement.proofs.Following.{sound-put}
@@ -131,3 +132,14 @@ module _ (S T : Spaced) (ps : List Step) (es : List (ℕ × ℕ)) (p : Step) (no
       subst (λ (w : Specified). IsUndecided most w t k) e
       (subst (λ (w : Specified). IsUndecided most S.spec w k) f
       (undecided-full ps es (none-kept ps es none) p (none-listed ps p.spec p.made none) S T first-all first-link most k h))
+
+pub first-ordered : {X E : Type 0} (ps : List Step) (p : Step) → ps ≡ [] → (r : Result X E) (ps' : List Step) → OnOk r (ps' ≡ ps ++ p ∷ []) → p.parent ≡ 0 → OnOk r (AreOrdered (parent_of ps') (length ps') 0)
+first-ordered ps p none (Ok y) ps' e z =
+    let f : ps' ≡ p ∷ [] = e ∙ ap (λ (l : List Step). l ++ p ∷ []) none in
+    subst (λ (l : List Step). AreOrdered (parent_of l) (length l) 0) (sym f)
+    (record {
+      earlier = λ i h l. absurd (omega (arith, h, l));
+      rising = λ i j m l. let a : i ≡ 0 = omega (arith, m, l) in let b : j ≡ 0 = omega (arith, l) in let q : parent_of (p ∷ []) i ≡ parent_of (p ∷ []) j = ap (λ (n : ℕ). parent_of (p ∷ []) n) (a ∙ sym b) in omega (arith, q);
+      before = λ i l. let a : i ≡ 0 = omega (arith, l) in let q : parent_of (p ∷ []) i ≡ 0 = ap (λ (n : ℕ). parent_of (p ∷ []) n) a ∙ z in omega (arith, q);
+    })
+first-ordered ps p none (Err y) ps' e z = tt

@@ -7,6 +7,8 @@ pub mod Expanding
 pub mod Tracing
 pub mod Refusing
 pub mod Closing
+pub mod Deepening
+pub mod Shortest
 pub mod NodesGrowing
 pub mod KeepingNodes
 pub mod Having

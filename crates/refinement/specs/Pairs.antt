@@ -58,15 +58,29 @@ IsAllowed Failures S T p =
     (u : List Event) → Both S T p u → (X : Set)
     → Failure (bodies_of T.spec.bodies) root u (member X) → Failure (bodies_of S.spec.bodies) root u (member X)
 
+-- Some pair that comes of one at no later place than `front` belongs to the trace u.
+abbrev pub IsFoundBy : Spaced → Spaced → List Step → ℕ → List Event → Type 0
+IsFoundBy S T ps front u = (j : ℕ) × (j < length ps) × (parent_of ps j ≤ front) × Both S T (step_at ps j) u
+
 pub record IsDone (r : Refinement) (S T : Spaced) (ps : List Step) (p : Step) : Type 0 where
   pub taken : (x : Event) → IsTaken S T ps p x
   pub allowed : IsAllowed r S T p
 
--- All grew: the spaces by sets, and the list by pairs at its end.
-pub record Grew (S T : Spaced) (ps : List Step) (S' T' : Spaced) (ps' : List Step) : Type 0 where
+-- The same of the pair at place i, where what comes of it comes of no later pair.
+pub record IsDoneBy (r : Refinement) (S T : Spaced) (ps : List Step) (i : ℕ) : Type 0 where
+  pub taken : (x : Event) (u : List Event) → Both S T (step_at ps i) u → Trace (bodies_of T.spec.bodies) root (u ++ x ∷ []) → Trace (bodies_of S.spec.bodies) root (u ++ x ∷ []) × IsFoundBy S T ps i (u ++ x ∷ [])
+  pub allowed : IsAllowed r S T (step_at ps i)
+
+-- The place of the pair of which the pair at place i came.
+abbrev pub parent_of : List Step → ℕ → ℕ
+parent_of ps i = (step_at ps i).parent
+
+-- All grew: the spaces by sets, and the list by pairs at its end, which came of the pair at this place.
+pub record Grew (S T : Spaced) (ps : List Step) (at : ℕ) (S' T' : Spaced) (ps' : List Step) : Type 0 where
   pub spec : GrewFrom S S'
   pub made : GrewFrom T T'
   pub steps : (more : List Step) × (ps' ≡ ps ++ more)
+  pub came : (i : ℕ) → length ps ≤ i → i < length ps' → parent_of ps' i ≡ at
 
 -- The number by which the pair of these sets is found.
 abbrev pub key : ℕ → ℕ → ℕ

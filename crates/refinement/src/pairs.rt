@@ -4,7 +4,8 @@ ghost use Rattle.std.specs.Prelude.{◌≡◌, ◌++◌, ◌∷◌, [], ◌↔�
 ghost use Rattle.alphabet.specs.declared.events.Event.{Event};
 ghost use Rattle.term.specs.Meaning.{Trace};
 ghost use Rattle.term.specs.Proc.{bodies_of, root};
-ghost use Rattle.refinement.specs.Pairs.{AreKept, AreSound, Both, Grew, IsFound, IsLinked, IsListed, IsTaken, key, step_at};
+ghost use Rattle.refinement.specs.Depths.{AreOrdered};
+ghost use Rattle.refinement.specs.Pairs.{AreKept, AreSound, Both, Grew, IsFound, IsLinked, IsListed, IsTaken, key, parent_of, step_at};
 ghost use Rattle.refinement.specs.Places.{IsFull};
 ghost use Rattle.refinement.specs.Refinement.{IsUndecided};
 
@@ -64,6 +65,7 @@ impl<A: Allocator + Copy> Pairs<A> {
         ensures most { self.new.most ≡ self.old.most }
         ensures sound { OnOk result (AreSound self.new.spec self.new.made self.new.steps.items self.new.places.entries self.new.most) }
         ensures one { OnOk result (0 < length self.new.steps.items) }
+        ensures ordered { OnOk result (AreOrdered (parent_of self.new.steps.items) (length self.new.steps.items) 0) }
         ensures spec { self.new.spec.spec ≡ self.old.spec.spec }
         ensures made { self.new.made.spec ≡ self.old.made.spec }
         ensures fault { IfErr result (IsUndecided self.old.most self.old.spec.spec self.old.made.spec) }
@@ -90,7 +92,7 @@ impl<A: Allocator + Copy> Pairs<A> {
         requires here { at < length self.old.steps.items }
         ensures most { self.new.most ≡ self.old.most }
         ensures sound { OnOk result (AreSound self.new.spec self.new.made self.new.steps.items self.new.places.entries self.new.most) }
-        ensures grown { OnOk result (Grew self.old.spec self.old.made self.old.steps.items self.new.spec self.new.made self.new.steps.items) }
+        ensures grown { OnOk result (Grew self.old.spec self.old.made self.old.steps.items at self.new.spec self.new.made self.new.steps.items) }
         ensures taken { IfOk result (λ all. all ≡ true → IsTaken self.new.spec self.new.made self.new.steps.items (step_at self.old.steps.items at) event) }
         ensures beyond { IfOk result (λ all. all ≡ false → (u : List Event) → Both self.old.spec self.old.made (step_at self.old.steps.items at) u → Trace (bodies_of self.old.spec.spec.bodies) root (u ++ event ∷ []) → ⊥) }
         ensures fault { IfErr result (IsUndecided self.old.most self.old.spec.spec self.old.made.spec) }
@@ -124,7 +126,7 @@ impl<A: Allocator> Pairs<A> {
         ensures most { self.new.most ≡ self.old.most }
         ensures sound { OnOk result (AreSound self.new.spec self.new.made self.new.steps.items self.new.places.entries self.new.most) }
         ensures found { OnOk result ((u : List Event) → Both self.new.spec self.new.made step u → IsFound self.new.spec self.new.made self.new.steps.items u) }
-        ensures grown { OnOk result (Grew self.old.spec self.old.made self.old.steps.items self.new.spec self.new.made self.new.steps.items) }
+        ensures grown { OnOk result (Grew self.old.spec self.old.made self.old.steps.items step.parent self.new.spec self.new.made self.new.steps.items) }
         ensures spec { self.new.spec ≡ self.old.spec }
         ensures made { self.new.made ≡ self.old.made }
         ensures fault { IfErr result (IsUndecided self.old.most self.old.spec.spec self.old.made.spec) }

@@ -6,9 +6,11 @@ ghost use Rattle.alphabet.specs.declared.events.Event.{Event};
 ghost use Rattle.alphabet.specs.declared.events.Event.TheVariants.{Tick as tick, Of as ev};
 ghost use Rattle.term.specs.Meaning.{Trace};
 ghost use Rattle.term.specs.Proc.{bodies_of, root};
+ghost use Rattle.refinement.specs.declared.outcome.Broken.{Broken};
 ghost use Rattle.refinement.specs.declared.outcome.Broken.TheVariants.{Refusal as refusal};
 ghost use Rattle.refinement.specs.declared.outcome.Refinement.TheVariants.{Failures};
-ghost use Rattle.refinement.specs.Pairs.{AreSound, Both, Grew, IsAllowed, IsDone, IsTaken, step_at};
+ghost use Rattle.refinement.specs.Depths.{AreOrdered, IsDeep};
+ghost use Rattle.refinement.specs.Pairs.{AreSound, Both, Grew, IsAllowed, IsDone, IsTaken, parent_of, step_at};
 ghost use Rattle.refinement.specs.Refinement.{Breaks, IsUndecided, Refines};
 
 use crate::comparing::refused_beyond;
@@ -19,7 +21,7 @@ use std::alloc::{AllocError, Allocator};
 use term::Spec;
 
 /// Whether the implementation refines the specification: none where it does, else a trace of both after which only the
-/// implementation takes an event or refuses a set. Of such traces it is a shortest one, which no clause says. Events are compared by
+/// implementation takes an event or refuses a set. No such trace is shorter. Events are compared by
 /// their numbers: both processes are of one alphabet. It isn't decided where a process meets a limit, or where there are more pairs
 /// of sets of states than `most`. Takes memory for each pair that it finds, and for both spaces.
 pub fn refines<A: Allocator + Copy>(
@@ -31,6 +33,7 @@ pub fn refines<A: Allocator + Copy>(
 ) -> Result<Option<Counterexample<A>>, Fault>
     ensures refines { IfOk result (λ found. IfNone found (Refines refinement (bodies_of spec.bodies) (bodies_of made.bodies))) }
     ensures breaks { IfOk result (λ found. IfSome found (λ c. Breaks refinement (bodies_of spec.bodies) (bodies_of made.bodies) c.trace.items c.broken)) }
+    ensures shortest { IfOk result (λ found. IfSome found (λ c. (v : List Event) (b : Broken) → Breaks refinement (bodies_of spec.bodies) (bodies_of made.bodies) v b → length c.trace.items ≤ length v)) }
     ensures undecided { IfErr result (IsUndecided most spec made) }
 {
     let mut pairs = Pairs::new(alloc, spec, made, most);
@@ -48,6 +51,7 @@ impl<A: Allocator + Copy> Pairs<A> {
         requires { self.old.steps.items ≡ [] }
         ensures refines { IfOk result (λ found. IfNone found (Refines refinement (bodies_of self.old.spec.spec.bodies) (bodies_of self.old.made.spec.bodies))) }
         ensures breaks { IfOk result (λ found. IfSome found (λ c. Breaks refinement (bodies_of self.old.spec.spec.bodies) (bodies_of self.old.made.spec.bodies) c.trace.items c.broken)) }
+        ensures shortest { IfOk result (λ found. IfSome found (λ c. (v : List Event) (b : Broken) → Breaks refinement (bodies_of self.old.spec.spec.bodies) (bodies_of self.old.made.spec.bodies) v b → length c.trace.items ≤ length v)) }
         ensures undecided { IfErr result (IsUndecided self.old.most self.old.spec.spec self.old.made.spec) }
     {
         self.begin()?;
@@ -64,6 +68,7 @@ impl<A: Allocator + Copy> Pairs<A> {
     fn search(&mut self, alloc: A, refinement: Refinement) -> Result<Option<(usize, Broken)>, Fault>
         requires sound { AreSound self.old.spec self.old.made self.old.steps.items self.old.places.entries self.old.most }
         requires some { 0 < length self.old.steps.items }
+        requires ordered { AreOrdered (parent_of self.old.steps.items) (length self.old.steps.items) 0 }
         ensures most { self.new.most ≡ self.old.most }
         ensures sound { OnOk result (AreSound self.new.spec self.new.made self.new.steps.items self.new.places.entries self.new.most) }
         ensures spec { OnOk result (self.new.spec.spec ≡ self.old.spec.spec) }
@@ -71,6 +76,7 @@ impl<A: Allocator + Copy> Pairs<A> {
         ensures refines { IfOk result (λ found. IfNone found (Refines refinement (bodies_of self.old.spec.spec.bodies) (bodies_of self.old.made.spec.bodies))) }
         ensures within { IfOk result (λ found. IfSome found (λ f. f.0 < length self.new.steps.items)) }
         ensures breaks { IfOk result (λ found. IfSome found (λ f. (u : List Event) → Both self.new.spec self.new.made (step_at self.new.steps.items f.0) u → Breaks refinement (bodies_of self.old.spec.spec.bodies) (bodies_of self.old.made.spec.bodies) u f.1)) }
+        ensures shortest { IfOk result (λ found. IfSome found (λ f. (n : ℕ) → IsDeep (parent_of self.new.steps.items) f.0 n → (v : List Event) (b : Broken) → Breaks refinement (bodies_of self.old.spec.spec.bodies) (bodies_of self.old.made.spec.bodies) v b → n ≤ length v)) }
         ensures undecided { IfErr result (IsUndecided self.old.most self.old.spec.spec self.old.made.spec) }
     {
         let mut at = 0;
@@ -89,7 +95,7 @@ impl<A: Allocator + Copy> Pairs<A> {
         requires here { at < length self.old.steps.items }
         ensures most { self.new.most ≡ self.old.most }
         ensures sound { OnOk result (AreSound self.new.spec self.new.made self.new.steps.items self.new.places.entries self.new.most) }
-        ensures grown { OnOk result (Grew self.old.spec self.old.made self.old.steps.items self.new.spec self.new.made self.new.steps.items) }
+        ensures grown { OnOk result (Grew self.old.spec self.old.made self.old.steps.items at self.new.spec self.new.made self.new.steps.items) }
         ensures done { IfOk result (λ found. IfNone found (IsDone refinement self.new.spec self.new.made self.new.steps.items (step_at self.old.steps.items at))) }
         ensures breaks { IfOk result (λ found. IfSome found (λ broken. (u : List Event) → Both self.old.spec self.old.made (step_at self.old.steps.items at) u → Breaks refinement (bodies_of self.old.spec.spec.bodies) (bodies_of self.old.made.spec.bodies) u broken)) }
         ensures undecided { IfErr result (IsUndecided self.old.most self.old.spec.spec self.old.made.spec) }
@@ -138,7 +144,7 @@ impl<A: Allocator + Copy> Pairs<A> {
         requires here { at < length self.old.steps.items }
         ensures most { self.new.most ≡ self.old.most }
         ensures sound { OnOk result (AreSound self.new.spec self.new.made self.new.steps.items self.new.places.entries self.new.most) }
-        ensures grown { OnOk result (Grew self.old.spec self.old.made self.old.steps.items self.new.spec self.new.made self.new.steps.items) }
+        ensures grown { OnOk result (Grew self.old.spec self.old.made self.old.steps.items at self.new.spec self.new.made self.new.steps.items) }
         ensures taken { IfOk result (λ found. IfNone found ((x : Event) → IsTaken self.new.spec self.new.made self.new.steps.items (step_at self.old.steps.items at) x)) }
         ensures breaks { IfOk result (λ found. IfSome found (λ event. (u : List Event) → Both self.old.spec self.old.made (step_at self.old.steps.items at) u → Trace (bodies_of self.old.made.spec.bodies) root (u ++ event ∷ []) × (Trace (bodies_of self.old.spec.spec.bodies) root (u ++ event ∷ []) → ⊥))) }
         ensures undecided { IfErr result (IsUndecided self.old.most self.old.spec.spec self.old.made.spec) }
@@ -161,7 +167,7 @@ impl<A: Allocator + Copy> Pairs<A> {
         requires next { (u : List Event) → Both self.old.spec self.old.made (step_at self.old.steps.items at) u → (x : Event) → IsTrue (member next.now x) ↔ Trace (bodies_of self.old.made.spec.bodies) root (u ++ x ∷ []) }
         ensures most { self.new.most ≡ self.old.most }
         ensures sound { OnOk result (AreSound self.new.spec self.new.made self.new.steps.items self.new.places.entries self.new.most) }
-        ensures grown { OnOk result (Grew self.old.spec self.old.made self.old.steps.items self.new.spec self.new.made self.new.steps.items) }
+        ensures grown { OnOk result (Grew self.old.spec self.old.made self.old.steps.items at self.new.spec self.new.made self.new.steps.items) }
         ensures taken { IfOk result (λ found. IfNone found ((a : ℕ) → IsTaken self.new.spec self.new.made self.new.steps.items (step_at self.old.steps.items at) (ev a))) }
         ensures breaks { IfOk result (λ found. IfSome found (λ event. (u : List Event) → Both self.old.spec self.old.made (step_at self.old.steps.items at) u → Trace (bodies_of self.old.made.spec.bodies) root (u ++ event ∷ []) × (Trace (bodies_of self.old.spec.spec.bodies) root (u ++ event ∷ []) → ⊥))) }
         ensures undecided { IfErr result (IsUndecided self.old.most self.old.spec.spec self.old.made.spec) }
@@ -183,7 +189,7 @@ impl<A: Allocator + Copy> Pairs<A> {
         requires next { (u : List Event) → Both self.old.spec self.old.made (step_at self.old.steps.items at) u → (x : Event) → IsTrue (member next.now x) ↔ Trace (bodies_of self.old.made.spec.bodies) root (u ++ x ∷ []) }
         ensures most { self.new.most ≡ self.old.most }
         ensures sound { OnOk result (AreSound self.new.spec self.new.made self.new.steps.items self.new.places.entries self.new.most) }
-        ensures grown { OnOk result (Grew self.old.spec self.old.made self.old.steps.items self.new.spec self.new.made self.new.steps.items) }
+        ensures grown { OnOk result (Grew self.old.spec self.old.made self.old.steps.items at self.new.spec self.new.made self.new.steps.items) }
         ensures taken { IfOk result (λ all. all ≡ true → IsTaken self.new.spec self.new.made self.new.steps.items (step_at self.old.steps.items at) event) }
         ensures beyond { IfOk result (λ all. all ≡ false → (u : List Event) → Both self.old.spec self.old.made (step_at self.old.steps.items at) u → Trace (bodies_of self.old.made.spec.bodies) root (u ++ event ∷ []) × (Trace (bodies_of self.old.spec.spec.bodies) root (u ++ event ∷ []) → ⊥)) }
         ensures fault { IfErr result (IsUndecided self.old.most self.old.spec.spec self.old.made.spec) }
@@ -200,7 +206,8 @@ impl<A: Allocator> Pairs<A> {
     fn trace_to(&self, alloc: A, at: usize) -> Result<Vec<Event, A>, AllocError>
         requires sound { AreSound self.now.spec self.now.made self.now.steps.items self.now.places.entries self.now.most }
         requires here { at < length self.now.steps.items }
-        ensures { IfOk result (λ trace. Both self.now.spec self.now.made (step_at self.now.steps.items at) trace.items) }
+        ensures both { IfOk result (λ trace. Both self.now.spec self.now.made (step_at self.now.steps.items at) trace.items) }
+        ensures deep { IfOk result (λ trace. IsDeep (parent_of self.now.steps.items) at (length trace.items)) }
     {
         let mut trace = Vec::new(alloc);
         let mut place = at;

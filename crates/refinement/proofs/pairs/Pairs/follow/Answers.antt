@@ -3,6 +3,7 @@ use Rattle.std.proofs.lemmas.List.{get_or_read}
 use Rattle.std.proofs.lemmas.Result.{err_from_is_err_and}
 use Rattle.spaces.proofs.Growing.{grew-same}
 use Rattle.refinement.specs.Pairs.{no_step, step_at}
+use Rattle.refinement.proofs.Growing.{on, spaces-grew}
 use Rattle.refinement.proofs.Following.{beyond-spec, linked-next, made-reached, none-made, sound-grown, spec-reached, taken-next, undecided-grown}
 use Rattle.refinement.proofs.pairs.Pairs.follow.Goals as goal
 
@@ -71,3 +72,20 @@ returns-clause-taken g c = λ _.
     taken-next s.spec s.made c.advance.new.space c.advance-2.new.space s.steps.items c.args.at c.args.event c.index-step.result.now c.requires.here is c.requires.sound c.advance.ensures.space c.advance-2.ensures.space
     c.in-Ok-Some.field-0 c.in-Ok-Some-advance.field-0 c.in-Ok-Some.set c.in-Ok-Some-advance.set c.in-Ok-Some.field-0-is c.in-Ok-Some-advance.field-0-is c.in-Ok-Some.ensures.some c.in-Ok-Some-advance.ensures.some
     c.enter.new.self.spec c.enter.new.self.made c.enter.new.self.steps.items c.enter.ensures.spec c.enter.ensures.made c.in_ok-enter.ensures.found
+
+pub returns-in-Ok-None-clause-grown : goal.returns-in-Ok-None-clause-grown
+returns-in-Ok-None-clause-grown g c =
+    let s = c.args.self.now in
+    spaces-grew s.spec s.made s.steps.items c.advance.new.space s.made c.advance.ensures.space (grew-same s.made)
+
+pub returns-in-Ok-None-advance-clause-grown : goal.returns-in-Ok-None-advance-clause-grown
+returns-in-Ok-None-advance-clause-grown g c =
+    let s = c.args.self.now in
+    spaces-grew s.spec s.made s.steps.items c.advance.new.space c.advance-2.new.space c.advance.ensures.space c.advance-2.ensures.space
+
+pub returns-clause-grown : goal.returns-clause-grown
+returns-clause-grown g c =
+    let s = c.args.self.now in
+    let n = c.enter.new.self in
+    on s.spec s.made s.steps.items c.advance.new.space c.advance-2.new.space s.steps.items n.spec n.made n.steps.items
+    (spaces-grew s.spec s.made s.steps.items c.advance.new.space c.advance-2.new.space c.advance.ensures.space c.advance-2.ensures.space) c.in_ok-enter.ensures.grown

@@ -55,8 +55,7 @@ returns-else-number g c =
 pub returns-in_default : goal.returns-in_default
 returns-in_default g c =
     let s = c.args.self.now in
-    let n = none-left c.get.result c.in_default.not-Some in
-    let e : lookup (nat_eq c.key_of.result) s.places.entries ≡ None = sym (rw n at c.get.ensures.value) in (
+    let e : lookup (nat_eq c.key_of.result) s.places.entries ≡ None = sym (rw none-left c.get.result c.in_default.not-Some at c.get.ensures.value) in (
       (λ t. absurd (true≢false (sym t))),
       (λ h. absurd (not-listed s.steps.items s.places.entries c.requires c.args.spec c.args.made c.key_of.result c.key_of.ensures.key e h)),
     )

@@ -1,5 +1,6 @@
 use Rattle.std.proofs.Common.{◌≡◌, ◌<◌, ◌≤◌, ◌-◌, ℕ, length}
-use Rattle.refinement.specs.Pairs.{AreSound, IsDone, step_at}
+use Rattle.refinement.specs.Depths.{AreOrdered}
+use Rattle.refinement.specs.Pairs.{AreSound, IsDoneBy, parent_of}
 use Rattle.refinement.proofs.pairs.Pairs.search.Given as goal
 
 abbrev pub invariant-loop-at : goal.invariant-loop-at
@@ -10,7 +11,8 @@ invariant-loop-at g l = record {
   spec : l.self.spec.spec ≡ l.fn.self.spec.spec;
   made : l.self.made.spec ≡ l.fn.self.made.spec;
   here : l.at ≤ length l.self.steps.items;
-  done : (i : ℕ) → i < l.at → IsDone l.refinement l.self.spec l.self.made l.self.steps.items (step_at l.self.steps.items i);
+  order : AreOrdered (parent_of l.self.steps.items) (length l.self.steps.items) l.at;
+  done : (i : ℕ) → i < l.at → IsDoneBy l.refinement l.self.spec l.self.made l.self.steps.items i;
 }
 
 abbrev pub decreases-loop-at : goal.decreases-loop-at
