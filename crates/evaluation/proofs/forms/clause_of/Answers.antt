@@ -1,0 +1,6 @@
+use Rattle.std.proofs.Common.{◌∙◌}
+use Rattle.evaluation.proofs.Phrases.{clause_is}
+use Rattle.evaluation.proofs.forms.clause_of.Goals as goal
+
+pub returns-in-Node : goal.returns-in-Node
+returns-in-Node g c = c.clause_form.ensures ∙ clause_is c.args.tree.now _ c.in-Node.form c.in-Node.parts c.deref.result.now c.in-Node.is c.deref.ensures.value
