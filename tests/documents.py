@@ -54,11 +54,11 @@ TESTS = re.compile(r"\b(?:tests/\w+\.py|clients/run_tests\.py|dist/make_release\
 ROOTS = re.compile(r"^install .* /(?:usr|etc)/", re.MULTILINE)
 """A command that only root can run."""
 
-PACKAGES = {"pytest": re.compile(r"\bpython3 -m pytest\b"), "hypothesis": re.compile(r"\bcspwatch-test\b"), "redis": re.compile(r"testing/redis")}
-"""Packages of Python, and the commands that need them."""
+REDIS = re.compile(r"testing/redis|failed\.reports")
+"""A command that needs a server of Redis, or what was made by one that does."""
 
-REDIS = re.compile(r"testing/redis")
-"""A command that needs a server of Redis."""
+PACKAGES = {"pytest": re.compile(r"\bpython3 -m pytest\b"), "hypothesis": re.compile(r"\bcspwatch-test\b"), "redis": REDIS}
+"""Packages of Python, and the commands that need them."""
 
 FILE = re.compile(r"`([\w.-]+\.\w+)`:$")
 """The end of a line that names the file below it."""
