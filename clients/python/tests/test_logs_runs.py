@@ -311,7 +311,8 @@ class OverTheProgram(InFolder):
 
     def test_a_script_that_is_refused(self):
         self.file("p.csp", "channel open\nP = opn -> STOP\n")
-        self.assertEqual(self.logs("m.toml")[::2], (3, ["p.csp:2: 4 unknown"]))
+        lines = ["p.csp:2: 4 unknown", "    2 | P = opn -> STOP", "      |     ^", "        unknown name 'opn'"]
+        self.assertEqual(self.logs("m.toml")[::2], (3, lines))
 
     def test_a_hundred_thousand_lines(self):
         self.file("m.toml", SPECIFICATION + "".join("[[rule]]\nmatch = 'kind%d of (?P<n>\\S+)$'\nevent = \"bad\"\n" % n for n in range(8)) + RULES)
