@@ -210,7 +210,7 @@ class Streams(InFolder):
         self.assertEqual(worker.stdout.readline(), b"log:1:2: s1: E get.2: NO 2 (first), expected put.0 or put.1 or put.2 or put.3 or get.1\n")
         worker.stdout.readline()
         self.redis.add(["s2 put 1", "s2 get 0"], 1)
-        self.assertEqual(worker.stdout.readline(), b"log:1:4: s2: E get.0: NO 2, expected put.0 or put.1 or put.2 or put.3 or get.1\n")
+        self.assertEqual(worker.stdout.readline(), b"log:1:4: s2: E get.0: NO 2 (first), expected put.0 or put.1 or put.2 or put.3 or get.1\n")
         worker.terminate()
         self.finish(worker)
 

@@ -162,6 +162,9 @@ def coin():
         self.assertIn("needs Python's package hypothesis (Debian: python3-hypothesis)", errors[0])
 
     def test_an_interrupt_ends_with_the_counts(self):
+        # Where these tests run in the background the signal is ignored, and what they start would ignore it too.
+        before = signal.signal(signal.SIGINT, signal.default_int_handler)
+        self.addCleanup(signal.signal, signal.SIGINT, before)
         self.file("a.py", RIGHT)
         for name in ("SIGINT", "SIGTERM"):
             for jobs in ("1", "2"):
