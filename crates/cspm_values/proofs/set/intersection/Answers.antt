@@ -1,0 +1,9 @@
+use Rattle.std.proofs.Common.{arith}
+use Rattle.cspm_values.proofs.Members.{kept_next, kept_end}
+use Rattle.cspm_values.proofs.set.intersection.Goals as goal
+
+pub loop-value-preserved : goal.loop-value-preserved
+loop-value-preserved g c = kept_next c.args.first.now c.args.second.now c.in_ok-set.set.keys c.loop-value.value-index c.loop-value.kept.items _ c.in_ok-set.ensures c.value-item.result c.in_ok-kept.kept.items c.has-is_wanted.result c.loop-value.invariant (omega (arith, c.loop-value-test.true)) c.value-item.is c.has-is_wanted.ensures c.in_ok-kept.ensures
+
+pub returns : goal.returns
+returns g c = kept_end c.args.first.now c.args.second.now c.in_ok-set.set.keys c.loop-value.value-index c.loop-value.kept.items _ c.in_ok-set.ensures c.loop-value.invariant (omega (arith, c.loop-value-test.false))
